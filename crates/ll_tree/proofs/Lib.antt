@@ -1,0 +1,3 @@
+pub mod LinesLemmas
+pub mod MembersLemmas
+pub mod ReadingLemmas

@@ -1,0 +1,5 @@
+pub mod Fault
+pub mod Lines
+pub mod LineView
+pub mod Members
+pub mod Reading
