@@ -1,0 +1,232 @@
+-- Members of a set of bits, place by place: what `|`, `&` and `!` make of them.
+use Rattle.std.proofs.Common.{◌≡◌, ◌≢◌, ℕ, zero, suc, ◌+◌, ◌-◌, ◌^◌, ◌<◌, ◌≤◌, min, max, Bool, true, false, not, ◌&&◌, ◌||◌, eqb, leb, List, [], ◌∷◌, length, get_or, refl, sym, ap, subst, ◌∙◌, arith, inl, inr, bit_and, bit_or}
+use Rattle.std.specs.Int.{bit_at, w32, bit_not}
+use Rattle.std.specs.List.{list_any, list_all, range_with_len}
+use Rattle.std.proofs.lemmas.Bool.{cases_Bool, cases_lt, cases_eq, and_parts, leb-false, le-leb, lt-leb, lt-ltb, le-ltb, eqb-false, eq-eqb, ne_eqb, false≢true}
+use Rattle.std.proofs.lemmas.Nat.{pow_pos, pow_below, or_lt, le_or_l, le_or_r, and_le_l, and_le_r}
+use Rattle.std.proofs.lemmas.Nat.Bits.{bit_at_or, bit_at_and, bit_at_not, bit_at-lt, bit_at-zero, bit_at-pow_same, bit_at-pow_other, same_from_bits_below}
+use Rattle.std.proofs.lemmas.List.FromFn.{get_or-range_with_len, length-range_with_len}
+use Rattle.std.proofs.lemmas.List.Folds.{list_any-from_Any}
+use Rattle.ll_rights.specs.Bits.{has_place}
+
+one_of_max : (x y : ℕ) → x < 2 → y < 2 → eqb (max x y) 1 ≡ (eqb x 1 || eqb y 1)
+one_of_max zero zero p q = refl
+one_of_max zero (suc zero) p q = refl
+one_of_max (suc zero) zero p q = refl
+one_of_max (suc zero) (suc zero) p q = refl
+one_of_max (suc (suc x)) y p q = absurd (omega arith)
+one_of_max x (suc (suc y)) p q = absurd (omega arith)
+
+one_of_min : (x y : ℕ) → x < 2 → y < 2 → eqb (min x y) 1 ≡ (eqb x 1 && eqb y 1)
+one_of_min zero zero p q = refl
+one_of_min zero (suc zero) p q = refl
+one_of_min (suc zero) zero p q = refl
+one_of_min (suc zero) (suc zero) p q = refl
+one_of_min (suc (suc x)) y p q = absurd (omega arith)
+one_of_min x (suc (suc y)) p q = absurd (omega arith)
+
+one_of_not : (x : ℕ) → x < 2 → eqb (1 - x) 1 ≡ not (eqb x 1)
+one_of_not zero p = refl
+one_of_not (suc zero) p = refl
+one_of_not (suc (suc x)) p = absurd (omega arith)
+
+-- ---- each place
+
+pub has_place-named : (named bits place : ℕ) → place < named → has_place named bits place ≡ eqb (bit_at bits place) 1
+has_place-named named bits place lt = rw (lt-ltb place named lt) refl
+
+pub has_place-other : (named bits place : ℕ) → named ≤ place → has_place named bits place ≡ leb (2 ^ named) bits
+has_place-other named bits place le = rw (le-ltb place named le) refl
+
+-- a single bit is that place's alone
+pub has_place-power : (named one place : ℕ) → one ≤ named → place ≤ named → has_place named (2 ^ one) place ≡ eqb place one
+has_place-power named one place one_in place_in =
+    elim (cases_lt place named) [
+      | inl lt ↦
+          rw (has_place-named named (2 ^ one) place lt)
+          (elim (cases_eq place one) [
+            | inl same ↦ rw (same, bit_at-pow_same one) (sym (eq-eqb one one refl))
+            | inr differs ↦ rw (bit_at-pow_other one place differs, ne_eqb place one differs) refl
+          ])
+      | inr le ↦
+          let last : place ≡ named = omega arith in
+          rw (has_place-other named (2 ^ one) place le)
+          (elim (cases_eq place one) [
+            | inl same ↦ rw (eq-eqb place one same) (le-leb (2 ^ named) (2 ^ one) (rw (← same, last) (omega arith)))
+            | inr differs ↦ rw (ne_eqb place one differs) (lt-leb (2 ^ named) (2 ^ one) (pow_below one named (omega arith)))
+          ])
+    ]
+
+or_above : (named a b : ℕ) → leb (2 ^ named) (bit_or a b) ≡ (leb (2 ^ named) a || leb (2 ^ named) b)
+or_above named a b =
+    elim (cases_lt a (2 ^ named)) [
+      | inl low_a ↦ elim (cases_lt b (2 ^ named)) [
+        | inl low_b ↦ rw (lt-leb (2 ^ named) (bit_or a b) (or_lt named a b low_a low_b), lt-leb (2 ^ named) a low_a, lt-leb (2 ^ named) b low_b) refl
+        | inr high_b ↦ rw (le-leb (2 ^ named) (bit_or a b) (omega (arith, le_or_r a b)), lt-leb (2 ^ named) a low_a, le-leb (2 ^ named) b high_b) refl
+      ]
+      | inr high_a ↦ rw (le-leb (2 ^ named) (bit_or a b) (omega (arith, le_or_l a b)), le-leb (2 ^ named) a high_a) refl
+    ]
+
+pub has_place-or : (named a b place : ℕ) → has_place named (bit_or a b) place ≡ (has_place named a place || has_place named b place)
+has_place-or named a b place =
+    elim (cases_lt place named) [
+      | inl lt ↦ rw (has_place-named named (bit_or a b) place lt, has_place-named named a place lt, has_place-named named b place lt, bit_at_or a b place) (one_of_max (bit_at a place) (bit_at b place) (bit_at-lt a place) (bit_at-lt b place))
+      | inr le ↦ rw (has_place-other named (bit_or a b) place le, has_place-other named a place le, has_place-other named b place le) (or_above named a b)
+    ]
+
+-- what is known has no bit from the first unnamed place on
+pub known_below : (named bits : ℕ) → has_place named bits named ≡ false → bits < 2 ^ named
+known_below named bits e = leb-false (2 ^ named) bits (sym (has_place-other named bits named (omega arith)) ∙ e)
+
+and_false : (x y : Bool) → y ≡ false → (x && y) ≡ false
+and_false true y e = e
+and_false false y e = refl
+
+pub has_place-lacking : (named wanted handled granted place : ℕ) → named ≤ 32 → granted < 2 ^ 32 → handled < 2 ^ named
+    → has_place named (bit_and (bit_and wanted handled) (bit_not w32 granted)) place ≡ (has_place named wanted place && has_place named handled place && not (has_place named granted place))
+has_place-lacking named wanted handled granted place narrow fits known =
+    elim (cases_lt place named) [
+      | inl lt ↦
+          let within : place < 32 = omega arith in
+          rw (has_place-named named (bit_and (bit_and wanted handled) (bit_not w32 granted)) place lt, has_place-named named wanted place lt, has_place-named named handled place lt, has_place-named named granted place lt, bit_at_and (bit_and wanted handled) (bit_not w32 granted) place, bit_at_and wanted handled place, bit_at_not w32 granted place fits within)
+          (one_of_min (min (bit_at wanted place) (bit_at handled place)) (1 - bit_at granted place) (omega (arith, bit_at-lt wanted place)) (omega arith)
+          ∙ ap (λ (b : Bool). b && eqb (1 - bit_at granted place) 1) (one_of_min (bit_at wanted place) (bit_at handled place) (bit_at-lt wanted place) (bit_at-lt handled place))
+          ∙ ap (λ (b : Bool). (eqb (bit_at wanted place) 1 && eqb (bit_at handled place) 1) && b) (one_of_not (bit_at granted place) (bit_at-lt granted place)))
+      | inr le ↦
+          let low : bit_and (bit_and wanted handled) (bit_not w32 granted) < 2 ^ named = omega (arith, and_le_l (bit_and wanted handled) (bit_not w32 granted), and_le_r wanted handled) in
+          let nothing : has_place named handled place ≡ false = has_place-other named handled place le ∙ lt-leb (2 ^ named) handled known in
+          has_place-other named (bit_and (bit_and wanted handled) (bit_not w32 granted)) place le ∙ lt-leb (2 ^ named) (bit_and (bit_and wanted handled) (bit_not w32 granted)) low
+          ∙ sym (ap (λ (b : Bool). b && not (has_place named granted place)) (and_false (has_place named wanted place) (has_place named handled place) nothing))
+    ]
+
+-- ---- all places
+
+-- a test that no place passes, place by place
+pub any_false : (f : ℕ → Bool) (n place : ℕ) → list_any f (range_with_len 0 n) ≡ false → place < n → f place ≡ false
+any_false f n place none lt =
+    elim (cases_Bool (f place)) [
+      | inl holds ↦
+          let at : get_or (range_with_len 0 n) place place ≡ place = get_or-range_with_len 0 n place place lt ∙ omega arith in
+          let some = list_any-from_Any f (range_with_len 0 n) (place, place, omega (arith, length-range_with_len 0 n), at, holds) in
+          absurd (false≢true (sym none ∙ some))
+      | inr fails ↦ fails
+    ]
+
+all_true : (f : ℕ → Bool) (xs : List ℕ) (k : ℕ) → list_all f xs ≡ true → k < length xs → f (get_or xs k 0) ≡ true
+all_true f [] k e lt = absurd (omega arith)
+all_true f (x ∷ xs) zero e lt = (and_parts (f x) (list_all f xs) e).0
+all_true f (x ∷ xs) (suc k) e lt = all_true f xs k (and_parts (f x) (list_all f xs) e).1 (omega arith)
+
+-- a test that all places pass, place by place
+pub all_at : (f : ℕ → Bool) (n place : ℕ) → list_all f (range_with_len 0 n) ≡ true → place < n → f place ≡ true
+all_at f n place e lt =
+    let at : get_or (range_with_len 0 n) place 0 ≡ place = get_or-range_with_len 0 n place 0 lt ∙ omega arith in
+    subst (λ (k : ℕ). f k ≡ true) at (all_true f (range_with_len 0 n) place e (omega (arith, length-range_with_len 0 n)))
+
+pub all_from_each : (f : ℕ → Bool) → ((k : ℕ) → f k ≡ true) → (xs : List ℕ) → list_all f xs ≡ true
+all_from_each f each [] = refl
+all_from_each f each (x ∷ xs) = rw (each x) (all_from_each f each xs)
+
+pub any_same : (f g : ℕ → Bool) → ((k : ℕ) → f k ≡ g k) → (xs : List ℕ) → list_any f xs ≡ list_any g xs
+any_same f g same [] = refl
+any_same f g same (x ∷ xs) = rw (same x, any_same f g same xs) refl
+
+not_not : (b : Bool) → not (not b) ≡ b
+not_not true = refl
+not_not false = refl
+
+-- a set without a member has no bit
+pub nothing_from_places : (named bits : ℕ) → list_any (has_place named bits) (range_with_len 0 (named + 1)) ≡ false → bits ≡ 0
+nothing_from_places named bits none =
+    let low : bits < 2 ^ named = known_below named bits (any_false (has_place named bits) (named + 1) named none (omega arith)) in
+    same_from_bits_below named bits 0 low (omega arith)
+    (λ i lt.
+    let off : eqb (bit_at bits i) 1 ≡ false = sym (has_place-named named bits i lt) ∙ any_false (has_place named bits) (named + 1) i none (omega arith) in
+    let small : bit_at bits i < 2 = bit_at-lt bits i in
+    let not_one : bit_at bits i ≢ 1 = eqb-false (bit_at bits i) 1 off in
+    rw bit_at-zero (omega arith))
+
+zero_place : (named place : ℕ) → has_place named 0 place ≡ false
+zero_place named place =
+    elim (cases_lt place named) [
+      | inl lt ↦ has_place-named named 0 place lt ∙ ap (λ (k : ℕ). eqb k 1) (bit_at-zero place)
+      | inr le ↦ has_place-other named 0 place le ∙ lt-leb (2 ^ named) 0 (pow_pos named)
+    ]
+
+any_none : (f : ℕ → Bool) → ((k : ℕ) → f k ≡ false) → (xs : List ℕ) → list_any f xs ≡ false
+any_none f none [] = refl
+any_none f none (x ∷ xs) = rw (none x) (any_none f none xs)
+
+-- a number is 0 exactly if no place of it is a member
+pub is_zero_by_places : (named bits : ℕ) → eqb bits 0 ≡ not (list_any (has_place named bits) (range_with_len 0 (named + 1)))
+is_zero_by_places named bits =
+    elim (cases_eq bits 0) [
+      | inl zero_is ↦ rw zero_is (sym (ap not (any_none (has_place named 0) (zero_place named) (range_with_len 0 (named + 1)))))
+      | inr some ↦
+          rw (ne_eqb bits 0 some)
+          (elim (cases_Bool (list_any (has_place named bits) (range_with_len 0 (named + 1)))) [
+            | inl found ↦ sym (ap not found)
+            | inr none ↦ absurd (some (nothing_from_places named bits none))
+          ])
+    ]
+
+-- what is wanted and handled and not granted is nothing exactly if no place of the three says so
+pub is_lacking_by_places : (named wanted handled granted : ℕ) → named ≤ 32 → granted < 2 ^ 32 → has_place named handled named ≡ false
+    → not (eqb (bit_and (bit_and wanted handled) (bit_not w32 granted)) 0) ≡ list_any (λ place. has_place named wanted place && has_place named handled place && not (has_place named granted place)) (range_with_len 0 (named + 1))
+is_lacking_by_places named wanted handled granted narrow fits known =
+    let left = bit_and (bit_and wanted handled) (bit_not w32 granted) in
+    ap not (is_zero_by_places named left)
+    ∙ not_not (list_any (has_place named left) (range_with_len 0 (named + 1)))
+    ∙ any_same (has_place named left) (λ place. has_place named wanted place && has_place named handled place && not (has_place named granted place)) (λ place. has_place-lacking named wanted handled granted place narrow fits (known_below named handled known)) (range_with_len 0 (named + 1))
+
+implied : (x y : ℕ) → x < 2 → y < 2 → min x y ≡ x → (not (eqb x 1) || eqb y 1) ≡ true
+implied zero y p q e = refl
+implied (suc zero) zero p q e = absurd (omega arith)
+implied (suc zero) (suc zero) p q e = refl
+implied (suc zero) (suc (suc y)) p q e = absurd (omega arith)
+implied (suc (suc x)) y p q e = absurd (omega arith)
+
+min_from_implied : (x y : ℕ) → x < 2 → y < 2 → (not (eqb x 1) || eqb y 1) ≡ true → min x y ≡ x
+min_from_implied zero y p q e = omega arith
+min_from_implied (suc zero) zero p q e = absurd cc
+min_from_implied (suc zero) (suc zero) p q e = refl
+min_from_implied (suc zero) (suc (suc y)) p q e = absurd (omega arith)
+min_from_implied (suc (suc x)) y p q e = absurd (omega arith)
+
+or_from_false : (x y : Bool) → y ≡ false → (not x || y) ≡ true → x ≡ false
+or_from_false true true f e = absurd cc
+or_from_false true false f e = absurd cc
+or_from_false false y f e = refl
+
+-- a set is within known ones exactly if each place of it is a place of theirs
+pub is_within_by_places : (named set whole : ℕ) → has_place named whole named ≡ false
+    → eqb (bit_and set whole) set ≡ list_all (λ place. not (has_place named set place) || has_place named whole place) (range_with_len 0 (named + 1))
+is_within_by_places named set whole known =
+    let low : whole < 2 ^ named = known_below named whole known in
+    let test : ℕ → Bool = λ place. not (has_place named set place) || has_place named whole place in
+    elim (cases_eq (bit_and set whole) set) [
+      | inl same ↦
+          let set_low : set < 2 ^ named = omega (arith, and_le_r set whole) in
+          rw (eq-eqb (bit_and set whole) set same)
+          (sym (all_from_each test
+          (λ place.
+          elim (cases_lt place named) [
+            | inl lt ↦
+                rw (has_place-named named set place lt, has_place-named named whole place lt)
+                (implied (bit_at set place) (bit_at whole place) (bit_at-lt set place) (bit_at-lt whole place) (sym (bit_at_and set whole place) ∙ ap (λ (k : ℕ). bit_at k place) same))
+            | inr le ↦ rw (has_place-other named set place le, lt-leb (2 ^ named) set set_low) refl
+          ])
+          (range_with_len 0 (named + 1))))
+      | inr differs ↦
+          rw (ne_eqb (bit_and set whole) set differs)
+          (elim (cases_Bool (list_all test (range_with_len 0 (named + 1)))) [
+            | inl all ↦
+                let set_low : set < 2 ^ named = known_below named set (or_from_false (has_place named set named) (has_place named whole named) known (all_at test (named + 1) named all (omega arith))) in
+                absurd (differs (same_from_bits_below named (bit_and set whole) set (omega (arith, and_le_l set whole)) set_low
+                (λ i lt.
+                let here : (not (has_place named set i) || has_place named whole i) ≡ true = all_at test (named + 1) i all (omega arith) in
+                let bits : (not (eqb (bit_at set i) 1) || eqb (bit_at whole i) 1) ≡ true = rw (← has_place-named named set i lt, ← has_place-named named whole i lt) here in
+                bit_at_and set whole i ∙ min_from_implied (bit_at set i) (bit_at whole i) (bit_at-lt set i) (bit_at-lt whole i) bits)))
+            | inr not_all ↦ sym not_all
+          ])
+    ]

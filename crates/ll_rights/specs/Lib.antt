@@ -1,0 +1,5 @@
+pub mod Bits
+pub mod Rights
+pub mod NetRights
+pub mod Abis
+pub mod Kinds

@@ -1,0 +1,78 @@
+//! The versions of Landlock's interface.
+
+use crate::fs::Fs;
+use crate::net::Net;
+
+/// A version of Landlock's interface, as landlock_create_ruleset(2) reports it.
+#[derive(Clone, Copy, Debug, PartialEq, Eq, PartialOrd, Ord)]
+pub enum Abi {
+    /// Linux 5.13: the rights on files and directories.
+    V1,
+    /// Linux 5.19: `refer`.
+    V2,
+    /// Linux 6.2: `truncate`.
+    V3,
+    /// Linux 6.7: TCP ports.
+    V4,
+    /// Linux 6.10: `ioctl_dev`.
+    V5,
+}
+
+impl Abi {
+    ghost use Rattle.std.specs.Prelude.{◌≡◌, ◌≤◌, ◌↔◌, IsSome, IfSome};
+    ghost use Rattle.ll_rights.specs.Rights as files;
+    ghost use Rattle.ll_rights.specs.NetRights as network;
+    ghost use Rattle.ll_rights.specs.Abis.{number_of, knows_fs, knows_net};
+
+    /// The version of a number: there for 1 to 5.
+    pub fn new(number: u64) -> Option<Abi>
+        ensures supported { IsSome result ↔ (1 ≤ number × number ≤ 5) }
+        ensures same { IfSome result (λ abi. number_of abi ≡ number) }
+    {
+        match number {
+            1 => Some(Abi::V1),
+            2 => Some(Abi::V2),
+            3 => Some(Abi::V3),
+            4 => Some(Abi::V4),
+            5 => Some(Abi::V5),
+            _ => None,
+        }
+    }
+
+    /// The version's number, 1 to 5.
+    pub fn number(self) -> u64
+        ensures { result ≡ number_of self }
+    {
+        match self {
+            Abi::V1 => 1,
+            Abi::V2 => 2,
+            Abi::V3 => 3,
+            Abi::V4 => 4,
+            Abi::V5 => 5,
+        }
+    }
+
+    /// The rights for files that the version knows.
+    #[tactic(auto, unfolding(crate::specs::Rights::has))]
+    pub fn fs(self) -> Fs
+        ensures { (right : files.FsRight) → files.has result right ≡ knows_fs self right }
+    {
+        match self {
+            Abi::V1 => Fs::SINCE_1,
+            Abi::V2 => Fs::SINCE_2,
+            Abi::V3 | Abi::V4 => Fs::SINCE_3,
+            Abi::V5 => Fs::SINCE_5,
+        }
+    }
+
+    /// The rights for the network that the version knows.
+    #[tactic(auto, unfolding(crate::specs::NetRights::has))]
+    pub fn net(self) -> Net
+        ensures { (right : network.NetRight) → network.has result right ≡ knows_net self right }
+    {
+        match self {
+            Abi::V1 | Abi::V2 | Abi::V3 => Net::NONE,
+            Abi::V4 | Abi::V5 => Net::SINCE_4,
+        }
+    }
+}

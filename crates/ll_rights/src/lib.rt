@@ -1,0 +1,18 @@
+//! Landlock's access rights: sets of them, the versions of the interface that know them, and the
+//! kinds of files that they speak of.
+#![tactic(auto)]
+
+mod abi;
+mod fs;
+mod kind;
+mod laws;
+mod net;
+
+pub use abi::Abi;
+pub use fs::{Fs, fs_of_name};
+pub use kind::Kind;
+pub use laws::{file_rights, sets_by_rights};
+pub use net::{Net, net_of_name};
+
+#[cfg(test)]
+mod tests;

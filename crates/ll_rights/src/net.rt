@@ -1,0 +1,92 @@
+//! Sets of access rights for the network.
+
+ghost use Rattle.std.specs.Prelude.{⊤, ◌≡◌, ◌∷◌, [], false, codes};
+ghost use Rattle.ll_rights.specs.NetRights as rights;
+
+use bitflags::{Flag, Flags, bitflag_items};
+
+/// A set of access rights for TCP ports (the kernel's userspace document on Landlock, "Network
+/// flags").
+#[derive(Clone, Copy, Debug, PartialEq, Eq)]
+pub struct Net(u32);
+
+bitflag_items! {
+    impl Net: u32 {
+        const BIND_TCP = 0x1;
+        const CONNECT_TCP = 0x2;
+        const OTHER = 0x4;
+    }
+}
+
+impl Flags for Net {
+    type Bits = u32;
+
+    ghost exact = { ⊤ };
+
+    ghost table = { (codes "BIND_TCP", 0x1) ∷ (codes "CONNECT_TCP", 0x2) ∷ (codes "OTHER", 0x4) ∷ [] };
+
+    ghost set_of = { λ set. set.0 };
+
+    fn flags<'a>() -> &'a [Flag<Net>] {
+        Net::FLAGS
+    }
+
+    fn bits(&self) -> u32 {
+        self.0
+    }
+
+    fn from_bits_retain(bits: u32) -> Net {
+        Net(bits)
+    }
+}
+
+impl Net {
+    /// No right.
+    pub const NONE: Net = Net(0);
+
+    pub(crate) const SINCE_4: Net = Net(0x3);
+
+    /// Whether the set has no right.
+    pub fn is_empty(self) -> bool
+        ensures { result ≡ rights.is_empty self }
+    {
+        self.0 == 0
+    }
+
+    /// The rights of either set.
+    #[tactic(auto, unfolding(crate::specs::NetRights::united))]
+    pub fn union(self, other: Net) -> Net
+        ensures { result ≡ rights.united self other }
+    {
+        Net(self.0 | other.0)
+    }
+
+    /// Whether each right of the set is one of `whole`, a set of known rights.
+    pub fn is_within(self, whole: Net) -> bool
+        requires known { rights.has whole rights.other ≡ false }
+        ensures { result ≡ rights.is_within self whole }
+    {
+        self.0 & whole.0 == self.0
+    }
+
+    /// Whether some right of the set is handled and not granted, where what is handled are known
+    /// rights.
+    pub fn lacks(self, handled: Net, granted: Net) -> bool
+        requires known { rights.has handled rights.other ≡ false }
+        ensures { result ≡ rights.is_lacking (rights.has self) (rights.has handled) (rights.has granted) }
+    {
+        self.0 & handled.0 & !granted.0 != 0
+    }
+}
+
+/// The set of the one right that a name stands for; any name that is no right's is `OTHER`.
+#[tactic(auto, unfolding(crate::specs::NetRights::right_named, crate::specs::NetRights::only))]
+pub fn net_of_name(name: &str) -> Net
+    ensures { result ≡ rights.only (rights.right_named name.now) }
+{
+    match name {
+        "bind_tcp" => Net::BIND_TCP,
+        "connect_tcp" => Net::CONNECT_TCP,
+        _ => Net::OTHER,
+    }
+}
