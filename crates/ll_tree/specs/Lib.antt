@@ -1,3 +1,4 @@
+pub mod Paths
 pub mod Fault
 pub mod Lines
 pub mod LineView
