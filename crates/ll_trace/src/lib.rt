@@ -5,6 +5,11 @@ mod members;
 mod op;
 mod operations;
 mod path_text;
+mod reader;
+mod record;
+mod trace;
 
 pub use op::{Mode, Op, Sort};
 pub use path_text::PathText;
+pub use record::{ProcessId, Record};
+pub use trace::Trace;

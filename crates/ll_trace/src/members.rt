@@ -22,13 +22,7 @@ pub fn fs_of(value: &Value) -> Result<Fs, Cause>
     fs_in_list(names)
 }
 
-#[tactic(
-    auto,
-    using(
-        ll_tree::proofs::MembersLemmas::fold_texts_fault,
-        ll_tree::proofs::MembersLemmas::fold_texts_end
-    )
-)]
+#[tactic(auto, using(ll_tree::proofs::MembersLemmas::fold_texts_fault, ll_tree::proofs::MembersLemmas::fold_texts_end))]
 fn fs_in_list(names: &[Value]) -> Result<Fs, Cause>
     ensures { Gives (λ set. set) result
         (fold_texts with_fs files.no_right (items_view names.now)) }
@@ -49,13 +43,7 @@ pub fn net_of(value: &Value) -> Result<Net, Cause>
     net_in_list(names)
 }
 
-#[tactic(
-    auto,
-    using(
-        ll_tree::proofs::MembersLemmas::fold_texts_fault,
-        ll_tree::proofs::MembersLemmas::fold_texts_end
-    )
-)]
+#[tactic(auto, using(ll_tree::proofs::MembersLemmas::fold_texts_fault, ll_tree::proofs::MembersLemmas::fold_texts_end))]
 fn net_in_list(names: &[Value]) -> Result<Net, Cause>
     ensures { Gives (λ set. set) result
         (fold_texts with_net network.no_right (items_view names.now)) }

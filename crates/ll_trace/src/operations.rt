@@ -131,7 +131,13 @@ fn open_of(alloc: Global, value: &Value) -> Result<Op, Cause>
     let create = flag_of(value, "create")?;
     let trunc = flag_of(value, "trunc")?;
     let path = PathText::read(alloc, path)?;
-    Ok(Op::OpenFile { path, fd, mode, create, trunc })
+    Ok(Op::OpenFile {
+        path,
+        fd,
+        mode,
+        create,
+        trunc,
+    })
 }
 
 #[tactic(auto, unfolding(crate::specs::Operations::adopt_at))]
