@@ -1,4 +1,6 @@
 pub mod Paths
+pub mod Trees
+pub mod Kept
 pub mod Fault
 pub mod Lines
 pub mod LineView

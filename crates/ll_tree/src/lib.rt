@@ -6,7 +6,11 @@ mod fault;
 pub mod lines;
 pub mod members;
 mod path;
+mod place;
 pub mod reading;
+mod tree;
 
 pub use fault::{Cause, ReadFault};
-pub use path::path_ok;
+pub use path::{path_ok, path_texts};
+pub use place::{NodeId, Place};
+pub use tree::Tree;
