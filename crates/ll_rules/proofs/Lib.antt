@@ -1,0 +1,2 @@
+pub mod LayerNumbers
+pub mod RightSets

@@ -1,0 +1,3 @@
+pub mod LayerNumbers
+pub mod Layers
+pub mod Rulesets
