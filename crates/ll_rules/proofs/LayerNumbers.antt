@@ -1,7 +1,6 @@
 -- Which numbers are in a set of layers, and how a set changes with its bits.
-use Rattle.std.proofs.Common.{◌≡◌, ◌≢◌, ℕ, zero, suc, ◌+◌, ◌-◌, ◌*◌, ◌/◌, ◌%◌, ◌^◌, ◌<◌, ◌≤◌, max, Bool, true, false, not, ◌&&◌, ◌||◌, eqb, leb, cond, List, [], ◌∷◌, ◌++◌, length, get_or, refl, sym, ap, subst, ◌∙◌, arith, inl, inr, bit_and, bit_or, append-nil, ◌⊎◌}
-use Rattle.std.specs.Prelude.{All, Contains}
-use Rattle.std.specs.List.{list_any}
+use Rattle.std.proofs.Common.{◌≡◌, ◌≢◌, ℕ, zero, suc, ◌-◌, ◌*◌, ◌/◌, ◌%◌, ◌^◌, ◌<◌, ◌≤◌, max, Bool, true, false, ◌&&◌, ◌||◌, eqb, cond, List, [], ◌∷◌, ◌++◌, length, refl, sym, ap, ◌∙◌, arith, inl, inr, bit_and, bit_or, append-nil, ◌⊎◌}
+use Rattle.std.specs.Prelude.{All}
 use Rattle.std.specs.Int.{bit_at}
 use Rattle.std.proofs.lemmas.Bool.{cases_eq, eq-eqb, ne_eqb, eqb-true, false≢true, or_cases, or_right, false_from_ne_true}
 use Rattle.std.proofs.lemmas.Nat.Bits.{bit_at_or, bit_at-lt, bit_at-pow_same, bit_at-pow_other, shr_and_one}
@@ -114,9 +113,9 @@ empty_kept set fits =
       | inr some ↦ rw (ne_eqb set.places 0 some) (no_numbers (numbers_of set) set.places again some)
     ]
   where
-  no_numbers : (numbers : List ℕ) (places : ℕ) → places_of numbers ≡ places → (places ≡ 0 → ⊥) → false ≡ eqb (length numbers) 0
-  no_numbers [] places again some = absurd (some (sym again))
-  no_numbers (x ∷ xs) places again some = sym (ne_eqb (length (x ∷ xs)) 0 (λ same. absurd (omega arith)))
+    no_numbers : (numbers : List ℕ) (places : ℕ) → places_of numbers ≡ places → (places ≡ 0 → ⊥) → false ≡ eqb (length numbers) 0
+    no_numbers [] places again some = absurd (some (sym again))
+    no_numbers (x ∷ xs) places again some = sym (ne_eqb (length (x ∷ xs)) 0 (λ same. absurd (omega arith)))
 
 either_bit : (x y : ℕ) → x < 2 → y < 2 → eqb (max x y) 1 ≡ (eqb x 1 || eqb y 1)
 either_bit zero zero p q = refl
@@ -164,9 +163,9 @@ pub noted_kept : (set : Inside) (place : ℕ) → suc place ≤ 16 → All (λ o
 noted_kept set place le above =
     let t : ℕ → Bool = is_at_place set.places in
     let none : (number : ℕ) → suc place ≤ number → number ≤ 16 → t number ≡ false = λ number p q.
-        false_from_ne_true (t number) (λ there.
-        let below : number < suc place = below_from_among (numbers_of set) number (suc place) (is_among-passing_upto t 16 number (omega arith) q ∙ there) above in
-        omega arith) in
+    false_from_ne_true (t number) (λ there.
+    let below : number < suc place = below_from_among (numbers_of set) number (suc place) (is_among-passing_upto t 16 number (omega arith) q ∙ there) above in
+    omega arith) in
     passing_upto-one_more t (is_at_place (bit_or set.places (2 ^ place))) 16 (suc place) (omega arith) le
     (λ number p q. rw (is_at_place-or set.places (2 ^ place) number, is_at_place-power_other place number (λ same. omega arith)) (or_false (t number)))
     (rw (is_at_place-or set.places (2 ^ place) (suc place), is_at_place-power_same place) (or_right (t (suc place)) true refl))

@@ -12,7 +12,7 @@ pub struct LayerId(pub u32);
 
 /// The layers that a process has stacked, the oldest first; at most sixteen
 /// (landlock_restrict_self(2), "ERRORS").
-#[derive(Debug, Drop)]
+#[derive(Clone, Debug, Drop)]
 pub struct Domain {
     ids: ArrayVec<LayerId, 16>,
 }

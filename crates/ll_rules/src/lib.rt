@@ -2,11 +2,13 @@
 //! what a domain refuses.
 #![tactic(auto)]
 
+mod check;
 mod domain;
 mod errno;
 mod layer_set;
 mod ruleset;
 
+pub use check::check_path;
 pub use domain::{Domain, LayerId};
 pub use errno::{Errno, Full, NoMemory, RuleFault};
 pub use layer_set::LayerSet;

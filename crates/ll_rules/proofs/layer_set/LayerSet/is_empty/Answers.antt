@@ -1,4 +1,3 @@
-use Rattle.std.proofs.Common.{◌∙◌, sym, ap, rules, eqb, length}
 use Rattle.ll_rules.proofs.LayerNumbers.{empty_kept}
 use Rattle.ll_rules.proofs.layer_set.LayerSet.is_empty.Goals as goal
 

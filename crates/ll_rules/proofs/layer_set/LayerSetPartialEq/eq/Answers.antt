@@ -1,5 +1,4 @@
-use Rattle.std.proofs.Common.{rules, arith}
-use Rattle.std.proofs.lemmas.Grind.{common_steps}
+use Rattle.std.proofs.Common.{rules}
 use Rattle.ll_rules.proofs.LayerNumbers.{places_kept}
 use Rattle.ll_rules.proofs.layer_set.LayerSetPartialEq.eq.Goals as goal
 
