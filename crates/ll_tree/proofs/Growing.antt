@@ -33,7 +33,7 @@ gap_dir tree (Some dir) up is = go (is_dir (kind_at tree dir)) refl is where
   go true test same = let dirs : dir ≡ up = cc in (ap (λ (n : NodeId). Some n) dirs, ap (λ n. is_dir (kind_at tree n)) (sym dirs) ∙ test)
   go false test same = cc
 
-not_at : (tree : List Entry) (path : Path) → node_at tree path ≡ None → position_of path tree ≡ None
+pub not_at : (tree : List Entry) (path : Path) → node_at tree path ≡ None → position_of path tree ≡ None
 unfolding node_at
 not_at tree path is = go (position_of path tree) is where
   go : (place : Option ℕ) → option_map node place ≡ None → place ≡ None
@@ -73,7 +73,7 @@ length-front (name ∷ next ∷ names) other = let rest = length-front (next ∷
 
 module _ (tree : List Entry) (new : Entry) (up : NodeId) (listed : IsTree tree) (fits : Fits tree new up) where
   -- the directory above the new entry, in the tree
-  above_at : (up.0 < length tree) × (path_in tree up.0 ≡ front new.path)
+  pub above_at : (up.0 < length tree) × (path_in tree up.0 ≡ front new.path)
   unfolding node_at
   above_at = go (position_of (front new.path) tree) refl fits.above where
     go : (place : Option ℕ) → position_of (front new.path) tree ≡ place → option_map node place ≡ Some up → (up.0 < length tree) × (path_in tree up.0 ≡ front new.path)

@@ -15,3 +15,4 @@ pub mod RootAlone
 pub mod LinesLemmas
 pub mod MembersLemmas
 pub mod ReadingLemmas
+pub mod TreeLines

@@ -6,3 +6,4 @@ pub mod Lines
 pub mod LineView
 pub mod Members
 pub mod Reading
+pub mod TreeReading

@@ -5,6 +5,7 @@
 mod fault;
 pub mod lines;
 pub mod members;
+mod object;
 mod path;
 mod place;
 pub mod reading;
