@@ -3,6 +3,7 @@
 #![tactic(auto)]
 
 mod fault;
+pub mod laws;
 pub mod lines;
 pub mod members;
 mod object;
