@@ -1,9 +1,8 @@
 -- A small tree file and its tree.
 -- Source: docs/FORMATS.md, "The tree file".
-use Rattle.std.specs.Prelude.{◌≡◌, ℕ, List, [], ◌∷◌, ◌++◌, codes, Result, Ok, Err}
+use Rattle.std.specs.Prelude.{◌≡◌, ℕ, List, [], ◌∷◌, ◌++◌, codes, Ok, Err}
 use Rattle.ll_rights.specs.declared.kind.Kind.TheVariants.{Dir, Reg, Char}
 use Rattle.ll_tree.specs.declared.fault.Cause.{Cause}
-use Rattle.ll_tree.specs.declared.fault.ReadFault.{ReadFault}
 use Rattle.ll_tree.specs.Trees.{Entry, root}
 use Rattle.ll_tree.specs.Reading.{reading}
 use Rattle.ll_tree.specs.TreeReading.{tree_format}

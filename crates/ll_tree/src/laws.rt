@@ -16,8 +16,7 @@ pub fn a_tree_file_reads_in_one_way()
     ensures not_both { (bytes : List ℕ) (tree : List Entry) (fault : Fault) → IsTreeOf bytes tree → IsBad tree_format bytes fault → ⊥ }
     ensures one_tree { (bytes : List ℕ) (tree other : List Entry) → IsTreeOf bytes tree → IsTreeOf bytes other → tree ≡ other }
     ensures one_fault { (bytes : List ℕ) (fault other : Fault) → IsBad tree_format bytes fault → IsBad tree_format bytes other → fault ≡ other }
-{
-}
+{}
 
 /// What a small tree file and some faulty ones read as.
 pub fn worked_files()
@@ -32,8 +31,7 @@ pub fn worked_files()
     ensures in_a_file { IsRefused (line (codes "{\"path\":\"/f\",\"kind\":\"reg\"}") ++ line (codes "{\"path\":\"/f/g\",\"kind\":\"reg\"}")) 2 Cause.NoParent }
     ensures after_a_blank { IsRefused (line [] ++ line (codes "[]")) 2 Cause.Field }
     ensures not_text { IsRefused (255 ∷ []) 1 Cause.Json }
-{
-}
+{}
 
 /// What texts name in the tree of the small file.
 pub fn worked_places()
@@ -46,5 +44,4 @@ pub fn worked_places()
     ensures no_path { place worked_tree (codes "/a/") ≡ Place.Nowhere }
     ensures dots { path_of (codes "/a/..") ≡ None }
     ensures three_dots { path_of (codes "/a/...") ≡ Some (codes "a" ∷ codes "..." ∷ []) }
-{
-}
+{}
