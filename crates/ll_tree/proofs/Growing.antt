@@ -12,7 +12,7 @@ use Rattle.ll_tree.specs.declared.place.NodeId.{NodeId}
 use Rattle.ll_tree.specs.declared.place.Place.TheVariants as places
 use Rattle.ll_tree.specs.Paths.{Path, is_name, is_path, text_of, path_of, front}
 use Rattle.ll_tree.specs.Trees.{Entry, root, IsNode, IsTree, is_dir, is_dir_in, path_at, kind_at, position_of, node_at, parent_of, parent_at, depth_at, gap_in, place_or_gap, place_of, place}
-use Rattle.ll_tree.proofs.Tests.{both}
+use Rattle.ll_tree.proofs.Bools.{both}
 use Rattle.ll_tree.proofs.Positions.{path_in, at_position, position_of-some, position_of-kept, is_dir_in-from_place}
 use Rattle.ll_tree.proofs.Standing.{node, is_root, parent_of-root, parent_of-other, parent_found, empty_or_not, is_dir-Dir}
 use Rattle.ll_tree.proofs.PathLaws.{is_path-path_of}

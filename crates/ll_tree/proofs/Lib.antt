@@ -1,4 +1,4 @@
-pub mod Tests
+pub mod Bools
 pub mod PathText
 pub mod PathLaws
 pub mod Positions

@@ -7,3 +7,4 @@ pub mod LineView
 pub mod Members
 pub mod Reading
 pub mod TreeReading
+pub mod WorkedTree

@@ -16,15 +16,14 @@ use crate::members::value_of;
 use crate::object::object_of;
 use crate::path::{front_text, path_ok};
 use crate::place::{NodeId, Place};
-
-/// The most nodes that a tree has, the root counted.
-const NODES: u32 = 65_536;
-
 use ll_rights::Kind;
 use serde_json::Value;
 use std::alloc::{AllocError, Global};
 use std::collections::BTreeMap;
 use std::marker::Model;
+
+/// The most nodes that a tree has, the root counted.
+const NODES: u32 = 65_536;
 
 /// What is kept of an object beside its path.
 #[derive(Drop)]
