@@ -1,2 +1,6 @@
 pub mod KeptLemmas
 pub mod RecordLemmas
+pub mod TableLemmas
+pub mod RangeLemmas
+pub mod IndexLemmas
+pub mod ProcessLemmas

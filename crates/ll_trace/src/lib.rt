@@ -7,6 +7,7 @@ mod operations;
 mod path_text;
 mod reader;
 mod record;
+mod tables;
 mod trace;
 
 pub use op::{Mode, Op, Sort};
