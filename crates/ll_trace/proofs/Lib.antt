@@ -4,3 +4,4 @@ pub mod TableLemmas
 pub mod RangeLemmas
 pub mod IndexLemmas
 pub mod ProcessLemmas
+pub mod LawLemmas

@@ -1,5 +1,5 @@
 -- Laws of the processes of a trace.
-use Rattle.std.proofs.Common.{◌≡◌, ℕ, zero, suc, ◌+◌, ◌<◌, ◌≤◌, Bool, true, false, not, ◌&&◌, List, [], ◌∷◌, length, map, get_or, Option, Some, None, Vec, cond, eqb, refl, sym, ap, subst, ◌∙◌, arith}
+use Rattle.std.proofs.Common.{◌≡◌, ℕ, zero, suc, ◌+◌, ◌<◌, ◌≤◌, Bool, true, false, not, ◌&&◌, List, [], ◌∷◌, length, map, take, add-zero, get_or, Option, Some, None, Vec, cond, eqb, refl, sym, ap, subst, ◌∙◌, arith}
 use Rattle.std.specs.Prelude.{is_some, All, IfSome}
 use Rattle.std.specs.List.{slice_get, AllByRecursion}
 use Rattle.std.proofs.lemmas.List.Elements.{All-from_recursion}
@@ -8,14 +8,14 @@ use Rattle.ll_trace.specs.declared.op.Op.TheVariants.{Fork}
 use Rattle.ll_trace.specs.declared.record.ProcessId.{ProcessId}
 use Rattle.ll_trace.specs.declared.record.Record.{Record}
 use Rattle.ll_trace.specs.Entries.{Entry, is_start, started_pid, is_live, process_count, process_named}
-use Rattle.ll_trace.specs.Records.{entry_of, process_of, records_after, ArePlaced, AreRecords}
-use Rattle.ll_trace.specs.Processes.{forked_by, parents, parent_in, parent_of, places_from}
+use Rattle.ll_trace.specs.Records.{entry_of, record_of, process_of, records_after, ArePlaced, AreRecords}
+use Rattle.ll_trace.specs.Processes.{starts_one, forked_by, parents, parent_in, parent_of, started_from, started_by, places_from}
 use Rattle.std.specs.declared.alloc.Global.{Global}
 use Rattle.std.proofs.lemmas.Option.{slice_get_read}
 use Rattle.ll_trace.specs.declared.tables.Tables.{Tables}
 use Rattle.ll_trace.specs.Indexed.{Indexes}
 use Rattle.ll_trace.proofs.TableLemmas.{list_at}
-use Rattle.ll_trace.proofs.RangeLemmas.{HasPlace, has_place, live_is_named, named_below, unwrapped}
+use Rattle.ll_trace.proofs.RangeLemmas.{HasPlace, has_place, live_is_named, named_below, start_starts, unwrapped}
 
 -- ---- a process has its parent's number above its own
 
@@ -98,3 +98,42 @@ places_read tables records process own places indexes lt is read =
     let within : process < length tables.own.items = rw indexes.size lt in
     let same : places ≡ places_from 0 records process = read ∙ (sym (list_at tables.own.items process own within is) ∙ indexes.places process) in
     rw same (own_places_within records process)
+
+-- ---- which process a record starts
+
+started_rest : (b : Bool) (n : ℕ) (others : List Record) (k : ℕ) (r : Option (Option ProcessId)) → slice_get (started_from (cond b (n + 1) n) others) k ≡ r
+    → slice_get (cond b (Some (record { 0 = n }) ∷ started_from (n + 1) others) (None ∷ started_from n others)) (suc k) ≡ r
+started_rest true n others k r e = e
+started_rest false n others k r e = e
+
+started_at_start : (past entries : List Entry) (k : ℕ) (of : Record) → slice_get (records_after past entries) k ≡ Some of → is_start of.op ≡ true
+    → slice_get (started_from (process_count past) (records_after past entries)) k ≡ Some (Some of.process)
+started_at_start past [] k of is start = absurd (cc)
+started_at_start past (entry ∷ entries) zero of is start =
+    let own : record_of past entry ≡ of = cc in
+    let begins : is_start entry.op ≡ true = ap (λ (r : Record). is_start r.op) own ∙ start in
+    let some : is_some (started_pid entry) ≡ true = start_starts entry.op entry.pid begins in
+    rw (← own, some, begins) refl
+started_at_start past (entry ∷ entries) (suc k) of is start =
+    started_rest (is_some (started_pid entry)) (process_count past) (records_after (entry ∷ past) entries) k (Some (Some of.process)) (started_at_start (entry ∷ past) entries k of is start)
+
+pub own_start : (records : List Record) → AreRecords records → (place : ℕ) (of : Record) → slice_get records place ≡ Some of → is_start of.op ≡ true → started_by records place ≡ Some of.process
+own_start records are place of is start =
+    let from : slice_get (records_after [] (map entry_of records)) place ≡ Some of = ap (λ rs. slice_get rs place) (sym are.processes) ∙ is in
+    ap (λ rs. parent_in (slice_get (started_from 0 rs) place)) are.processes ∙ ap parent_in (started_at_start [] (map entry_of records) place of from start)
+
+count_at : (b : Bool) (n : ℕ) (others : List Record) (parent : Option ProcessId) (k : ℕ) (p : ProcessId) → parent_in (slice_get (cond b (Some (record { 0 = n }) ∷ started_from (n + 1) others) (None ∷ started_from n others)) k) ≡ Some p
+    → ((m j : ℕ) → parent_in (slice_get (started_from m others) j) ≡ Some p → p.0 ≡ m + length (parents (take j others)))
+    → (rest : ℕ → List (Option ProcessId)) → ((j : ℕ) → rest (suc j) ≡ cond b (parent ∷ parents (take j others)) (parents (take j others))) → rest 0 ≡ [] → p.0 ≡ n + length (rest k)
+count_at true n others parent zero p is later rest more none = let own : record { 0 = n } ≡ p = cc in rw (← own, none) (sym (add-zero n))
+count_at true n others parent (suc k) p is later rest more none = let here : p.0 ≡ n + 1 + length (parents (take k others)) = later (n + 1) k is in rw (more k) (omega arith)
+count_at false n others parent zero p is later rest more none = absurd (cc)
+count_at false n others parent (suc k) p is later rest more none = rw (more k) (later n k is)
+
+started_count : (n : ℕ) (records : List Record) (k : ℕ) (p : ProcessId) → parent_in (slice_get (started_from n records) k) ≡ Some p → p.0 ≡ n + length (parents (take k records))
+started_count n [] k p is = absurd (cc)
+started_count n (of ∷ others) k p is =
+    count_at (starts_one of) n others (forked_by of.op of.process) k p is (λ m j at. started_count m others j p at) (λ j. parents (take j (of ∷ others))) (λ j. refl) refl
+
+pub in_order : (records : List Record) (place : ℕ) (process : ProcessId) → started_by records place ≡ Some process → process.0 ≡ length (parents (take place records))
+in_order records place process is = omega (arith, started_count 0 records place process is)

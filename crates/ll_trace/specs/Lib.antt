@@ -6,3 +6,4 @@ pub mod Kept
 pub mod Processes
 pub mod Indexed
 pub mod Traces
+pub mod SingleUse
