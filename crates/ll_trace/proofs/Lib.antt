@@ -5,3 +5,4 @@ pub mod RangeLemmas
 pub mod IndexLemmas
 pub mod ProcessLemmas
 pub mod LawLemmas
+pub mod OnLiterals

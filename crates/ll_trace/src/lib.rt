@@ -8,6 +8,7 @@ mod operations;
 mod path_text;
 mod reader;
 mod record;
+mod rows;
 mod tables;
 mod trace;
 
@@ -15,4 +16,8 @@ pub use laws::{files_read_as_one_trace, processes_are_numbered, traces_of_single
 pub use op::{Mode, Op, Sort};
 pub use path_text::PathText;
 pub use record::{ProcessId, Record};
+pub use rows::{faulty_traces, whole_traces};
 pub use trace::Trace;
+
+#[cfg(test)]
+mod tests;
