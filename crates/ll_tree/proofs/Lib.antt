@@ -1,4 +1,4 @@
-pub mod Tests
+pub mod Bools
 pub mod PathText
 pub mod PathLaws
 pub mod Positions
@@ -12,3 +12,7 @@ pub mod Climbing
 pub mod Growing
 pub mod Keeping
 pub mod RootAlone
+pub mod LinesLemmas
+pub mod MembersLemmas
+pub mod ReadingLemmas
+pub mod TreeLines
