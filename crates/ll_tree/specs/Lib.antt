@@ -1,1 +1,3 @@
 pub mod Paths
+pub mod Trees
+pub mod Kept

@@ -2,5 +2,9 @@
 #![tactic(auto)]
 
 mod path;
+mod place;
+mod tree;
 
-pub use path::path_ok;
+pub use path::{path_ok, path_texts};
+pub use place::{NodeId, Place};
+pub use tree::Tree;
