@@ -12,3 +12,6 @@ pub mod Climbing
 pub mod Growing
 pub mod Keeping
 pub mod RootAlone
+pub mod LinesLemmas
+pub mod MembersLemmas
+pub mod ReadingLemmas
