@@ -5,3 +5,4 @@ pub mod Lookups
 pub mod Climbs
 pub mod Adding
 pub mod Domains
+pub mod Ports

@@ -8,7 +8,7 @@ mod errno;
 mod layer_set;
 mod ruleset;
 
-pub use check::check_path;
+pub use check::{check_mount, check_path, check_port};
 pub use domain::{Domain, LayerId};
 pub use errno::{Errno, Full, NoMemory, RuleFault};
 pub use layer_set::LayerSet;
