@@ -11,7 +11,7 @@ use Rattle.ll_tree.specs.Paths.{Path}
 use Rattle.ll_tree.specs.Trees.{Entry}
 use Rattle.ll_rules.specs.declared.domain.LayerId.{LayerId}
 use Rattle.ll_rules.specs.Layers.{RulesOn, in_tree}
-use Rattle.ll_rules.specs.Checks.{numbers_from, layer_at, domain_of, all_in_tree, lacks, refusing, lacks_on_port, refusing_port, refusing_mount}
+use Rattle.ll_rules.specs.Checks.{numbers_from, layer_at, domain_of, all_in_tree, lacks, refusing, lacks_on_port, refusing_port, refusing_mount, numbers_where}
 
 -- the layers that a list of names stands for
 pub numbers_from-map : {A B : Type 0} (test : B → Bool) (h : A → B) (number : ℕ) (xs : List A) → numbers_from test number (map h xs) ≡ numbers_from (λ x. test (h x)) number xs
@@ -71,3 +71,12 @@ refuses_mount layers id = not (is_empty (layer_at layers id).handled_files)
 pub refusing_mount_by_name : (layers : List (RulesOn ℕ)) (ids : List LayerId) → numbers_from (refuses_mount layers) 1 ids ≡ refusing_mount (domain_of layers ids)
 unfolding refuses_mount
 refusing_mount_by_name layers ids = sym (numbers_from-map (λ layer. not (is_empty layer.handled_files)) (layer_at layers) 1 ids)
+
+-- whether the layer of a name passes a test of layers with rules on paths
+unfoldable pub passes : List Entry → List (RulesOn ℕ) → (RulesOn Path → Bool) → LayerId → Bool
+passes tree layers test id = test (in_tree tree (layer_at layers id))
+
+pub passing_by_name : (tree : List Entry) (layers : List (RulesOn ℕ)) (ids : List LayerId) (test : RulesOn Path → Bool) → numbers_from (passes tree layers test) 1 ids ≡ numbers_where test (all_in_tree tree (domain_of layers ids))
+unfolding passes
+passing_by_name tree layers ids test =
+    sym (numbers_from-map test (in_tree tree) 1 (domain_of layers ids) ∙ numbers_from-map (λ rules. test (in_tree tree rules)) (layer_at layers) 1 ids)

@@ -6,3 +6,5 @@ pub mod Climbs
 pub mod Adding
 pub mod Domains
 pub mod Ports
+pub mod AskedRights
+pub mod Verdicts

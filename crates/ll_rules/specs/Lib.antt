@@ -2,3 +2,4 @@ pub mod LayerNumbers
 pub mod Layers
 pub mod Rulesets
 pub mod Checks
+pub mod Moves

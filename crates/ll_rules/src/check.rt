@@ -10,7 +10,7 @@ use ll_rights::{Fs, Net};
 use ll_tree::{NodeId, Tree};
 
 /// The layer at a place of a slice.
-fn layer_of(layers: &[Layer], id: LayerId) -> &Layer
+pub(crate) fn layer_of(layers: &[Layer], id: LayerId) -> &Layer
     requires { id.0 < length layers.now }
     ensures { result.now ≡ layer_at layers.now id }
 {

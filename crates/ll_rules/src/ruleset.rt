@@ -1,12 +1,14 @@
 //! Rulesets, and the layers that they become.
 
-ghost use Rattle.std.specs.Prelude.{◌≡◌, OnOk, OnErr, IfOk, MatchOption, IsOkUnless};
+ghost use Rattle.std.specs.Prelude.{◌≡◌, ◌&&◌, ◌||◌, false, OnOk, OnErr, IfOk, MatchOption, IsOkUnless};
 ghost use Rattle.std.specs.Result.{result_err};
+ghost use Rattle.ll_rights.specs.Rights.{FsRight, has, other, is_file_right};
 ghost use Rattle.ll_tree.specs.Trees.{is_dir};
 ghost use Rattle.ll_rules.specs.Layers.{without_rules, SameRules, GrantsOnPort, in_tree, AreInTree};
 ghost use Rattle.ll_rules.specs.Rulesets.{has_ports, create_fault, IsOfTree, are_file_rights, add_path_fault, with_rule_at, add_port_fault};
 
 use crate::{Errno, NoMemory, RuleFault};
+use bitflags::Flags;
 use ll_rights::{Abi, Fs, Kind, Net};
 use ll_tree::{NodeId, Place, Tree};
 use std::alloc::Global;
@@ -59,9 +61,10 @@ impl Layer {
     ghost use Rattle.std.specs.Prelude.{◌≡◌, false, not, OnOk, OnErr, IfOk, IsOkUnless};
     ghost use Rattle.ll_rights.specs.Rights.{FsRight, has, other, is_empty, is_within};
     ghost use Rattle.ll_rights.specs.NetRights as for_ports;
-    ghost use Rattle.ll_tree.specs.Trees.{IsNode, path_at};
+    ghost use Rattle.ll_tree.specs.Trees.{IsNode, path_at, kind_at};
     ghost use Rattle.ll_rules.specs.Layers.{handles, granted, granted_on_node, in_tree, AreInTree, granted_on_port, GrantsOn, GrantsOnPort};
     ghost use Rattle.ll_rules.specs.Checks.{lacks, lacks_on_port};
+    ghost use Rattle.ll_rules.specs.Moves.{gains};
 
     /// The rights that the rule on a node grants; none where there is no rule.
     #[tactic(auto, unfolding(crate::specs::Layers::granted_on_node))]
@@ -106,6 +109,19 @@ impl Layer {
         ensures { result ≡ for_ports.is_within network self.now.handled_network }
     {
         network.is_within(self.network)
+    }
+
+    /// Whether an object gains a right by going to a directory: one that the layer handles and that counts
+    /// for the object is granted there and not on the object.
+    pub(crate) fn gains(&self, tree: &Tree, object: NodeId, directory: NodeId) -> bool
+        requires object { IsNode tree.now object }
+        requires directory { IsNode tree.now directory }
+        requires within { AreInTree tree.now self.now }
+        ensures { result ≡ gains (in_tree tree.now self.now) (kind_at tree.now object) (path_at tree.now object) (path_at tree.now directory) }
+    {
+        let counted = counting_for(tree.kind(object), self.handled());
+        let granted_there = self.granted(tree, directory);
+        granted_there.lacks(counted, self.granted(tree, object))
     }
 
     /// Whether the layer refuses something of what is wanted on a port.
@@ -191,6 +207,19 @@ fn are_for_files(files: Fs) -> bool
     ensures { result ≡ are_file_rights files }
 {
     files.is_within(Fs::FILE)
+}
+
+/// Those of some known rights that count for an object of a kind.
+fn counting_for(kind: Kind, rights: Fs) -> Fs
+    requires { has rights other ≡ false }
+    ensures counted { (right : FsRight) → has result right ≡ (has rights right && (is_dir kind || is_file_right right)) }
+    ensures known { has result other ≡ false }
+{
+    if is_directory(kind) {
+        rights
+    } else {
+        rights.intersection(Fs::FILE)
+    }
 }
 
 /// Whether a version of the interface has rules for ports.

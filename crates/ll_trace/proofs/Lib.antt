@@ -1,2 +1,7 @@
 pub mod KeptLemmas
 pub mod RecordLemmas
+pub mod TableLemmas
+pub mod RangeLemmas
+pub mod IndexLemmas
+pub mod ProcessLemmas
+pub mod LawLemmas
