@@ -5,3 +5,4 @@ pub mod Answers
 pub mod Changes
 pub mod Worlds
 pub mod Notes
+pub mod Agreement
