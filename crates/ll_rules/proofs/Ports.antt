@@ -16,7 +16,7 @@ use Rattle.ll_rights.specs.NetRights.{NetRight, bind_tcp, has, united, no_right}
 use Rattle.ll_rights.proofs.Sets.{net_has-united}
 use Rattle.ll_rules.specs.Layers.{RulesOn, granted_on_port, with_port_rule, GrantsOnPort}
 use Rattle.ll_rules.proofs.Lookups.{any_at-lookup}
-use Rattle.ll_rules.proofs.Tests.{or_false, or_comm, list_any-agree}
+use Rattle.ll_rules.proofs.Booleans.{or_false, or_comm, list_any-agree}
 
 -- a look-up finds all that is granted on a port
 granted_by_lookup : {P : Type 0} (rules : RulesOn P) (port : ℕ) (right : NetRight) → IsStrictlySortedBy nat_cmp (keys_of rules.port_rules)

@@ -25,7 +25,7 @@ use Rattle.ll_rules.specs.Moves.{lacks_one_of, gains, other_gains, denies, holds
 use Rattle.ll_rules.proofs.Climbs.{granted-split, granted-root}
 use Rattle.ll_rules.proofs.AskedRights.{some_agree}
 use Rattle.ll_rules.proofs.Domains.{numbers_from-map}
-use Rattle.ll_rules.proofs.Tests.{list_any-agree}
+use Rattle.ll_rules.proofs.Booleans.{list_any-agree}
 
 -- ---- one layer
 
