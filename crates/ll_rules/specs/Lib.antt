@@ -1,0 +1,4 @@
+pub mod LayerNumbers
+pub mod Layers
+pub mod Rulesets
+pub mod Checks

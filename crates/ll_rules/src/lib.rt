@@ -1,0 +1,15 @@
+//! Landlock's rulesets, the layers that they become, the domains that stack layers, and the checks of
+//! what a domain refuses.
+#![tactic(auto)]
+
+mod check;
+mod domain;
+mod errno;
+mod layer_set;
+mod ruleset;
+
+pub use check::check_path;
+pub use domain::{Domain, LayerId};
+pub use errno::{Errno, Full, NoMemory, RuleFault};
+pub use layer_set::LayerSet;
+pub use ruleset::{Layer, Ruleset};
