@@ -1,0 +1,4 @@
+pub mod Worlds
+pub mod Places
+pub mod HeldNumbers
+pub mod Frozen

@@ -1,0 +1,5 @@
+//! The rulebook.
+
+pub struct Rulebook {
+    pub number: u32,
+}
