@@ -29,7 +29,7 @@ AreRecords-append records entry r are here is =
     let entries : map entry_of (records ++ r ∷ []) ≡ map entry_of records ++ entry ∷ [] = map-append entry_of records (r ∷ []) ∙ ap (λ (x : Record). map entry_of records ++ entry_of x ∷ []) is in
     let same : past ++ [] ≡ past = append-nil past in
     let numbered : records_after [] (map entry_of records ++ entry ∷ []) ≡ records_after [] (map entry_of records) ++ record_of past entry ∷ [] =
-        records_after-append [] (map entry_of records) entry ∙ ap (λ (p : List Entry). records_after [] (map entry_of records) ++ record_of p entry ∷ []) same in
+    records_after-append [] (map entry_of records) entry ∙ ap (λ (p : List Entry). records_after [] (map entry_of records) ++ record_of p entry ∷ []) same in
     record {
       placed = rw entries (ArePlaced-append [] (map entry_of records) entry are.placed (ap (λ (p : List Entry). misplacement p entry) same ∙ here));
       processes = ap (λ rs. rs ++ r ∷ []) are.processes ∙ (ap (λ x. records_after [] (map entry_of records) ++ x ∷ []) is ∙ (sym numbered ∙ ap (records_after []) (sym entries)));
