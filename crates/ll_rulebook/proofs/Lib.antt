@@ -2,3 +2,8 @@ pub mod Worlds
 pub mod Places
 pub mod HeldNumbers
 pub mod Frozen
+pub mod Quiet
+pub mod Sameness
+pub mod Settling
+pub mod Calls
+pub mod Started

@@ -1,5 +1,5 @@
 -- What a step does to a world, seen at one process and at the rulesets.
-use Rattle.std.proofs.Common.{◌≡◌, ℕ, suc, zero, ◌+◌, ◌<◌, ◌≤◌, ◌≢◌, List, [], ◌∷◌, ◌++◌, length, take, drop, Bool, true, false, Option, Some, None, cond, get_or, refl, sym, ◌∙◌, ap, arith, eqb, ◌⊎◌, inl, inr, length-set, length-append}
+use Rattle.std.proofs.Common.{◌≡◌, ℕ, suc, zero, ◌+◌, ◌<◌, ◌≤◌, ◌≢◌, List, [], ◌∷◌, ◌++◌, length, take, drop, Bool, true, false, Option, Some, None, cond, get_or, refl, sym, ◌∙◌, ap, arith, eqb, ◌⊎◌, inl, inr, length-set, length-append, append-nil}
 use Rattle.std.proofs.Math.Dec.{eqb-suc-zero, eqb-zero-suc, eqb-suc-suc}
 use Rattle.std.proofs.lemmas.Bool.{cases_eq, eq-eqb, ne_eqb}
 use Rattle.std.proofs.Math.ListN.{set}
@@ -21,7 +21,7 @@ use Rattle.ll_state.specs.Answers.{answer}
 use Rattle.ll_state.specs.Changes.{change, rules, started}
 use Rattle.ll_state.specs.Notes.{is_on_rulesets}
 use Rattle.ll_state.specs.Worlds.{World, empty_world, state_of, state_after, rulesets_after, step, world_after, world_at, if_allowed}
-use Rattle.ll_rulebook.specs.Numbered.{is_start, starts_process}
+use Rattle.ll_trace.specs.Entries.{is_start}
 
 -- ---- one record more
 
@@ -84,21 +84,35 @@ own_or_stays tree abi world r own = elim own.is_own [
     | inr start ↦ inr (own_stays tree abi world.rulesets r.op (state_of world r.process.0) start ∙ state_is world r.process.0)
   ]
 
-pub state_of-step : (tree : List Entry) (abi : Abi) (world : World) (r : Record) (p : ℕ) → IsOwn world r →
-    let s = state_of world r.process.0 in
-    state_of (step tree abi world r) p ≡
-        cond (eqb p (length world.processes)) (unwrap_or (started r.op s) (fresh false false))
-        (cond (eqb p r.process.0) (state_after tree abi world.rulesets r.op s) (state_of world p))
-unfolding step
-state_of-step tree abi world r p own =
-    let s = state_of world r.process.0 in
-    let after = state_after tree abi world.rulesets r.op s in
-    state_is (step tree abi world r) p
-    ∙ one_more (set world.processes r.process.0 after) p (started r.op s) (fresh false false)
-    ∙ rw (length-set, one_set world.processes r.process.0 p after (fresh false false) (own_or_stays tree abi world r own), state_is world p) refl
+module _ (tree : List Entry) (abi : Abi) (world : World) (r : Record) where
+  -- after a call that starts no process: the state of its own process, or the state as before
+  pub state_of-step : (p : ℕ) → IsOwn world r → started r.op (state_of world r.process.0) ≡ None →
+      state_of (step tree abi world r) p ≡ cond (eqb p r.process.0) (state_after tree abi world.rulesets r.op (state_of world r.process.0)) (state_of world p)
+  unfolding step
+  state_of-step p own none =
+      let after : State = state_after tree abi world.rulesets r.op (state_of world r.process.0) in
+      state_is (step tree abi world r) p
+      ∙ ap (λ (added : Option State). get_or (set world.processes r.process.0 after ++ option_to_list added) p (fresh false false)) none
+      ∙ ap (λ (processes : List State). get_or processes p (fresh false false)) (append-nil (set world.processes r.process.0 after))
+      ∙ one_set world.processes r.process.0 p after (fresh false false) (own_or_stays tree abi world r own)
+      ∙ ap (λ (s : State). cond (eqb p r.process.0) after s) (sym (state_is world p))
 
-pub processes-step : (tree : List Entry) (abi : Abi) (world : World) (r : Record) →
-    length (step tree abi world r).processes ≡ length world.processes + length (option_to_list (started r.op (state_of world r.process.0)))
-unfolding step
-processes-step tree abi world r = simp (length-append, length-set)
+  -- after a call that starts a process: also the state of that one, under the next number
+  pub state_of-step_start : (p : ℕ) (child : State) → IsOwn world r → started r.op (state_of world r.process.0) ≡ Some child →
+      state_of (step tree abi world r) p ≡
+          cond (eqb p (length world.processes)) child (cond (eqb p r.process.0) (state_after tree abi world.rulesets r.op (state_of world r.process.0)) (state_of world p))
+  unfolding step
+  state_of-step_start p child own some =
+      let after : State = state_after tree abi world.rulesets r.op (state_of world r.process.0) in
+      state_is (step tree abi world r) p
+      ∙ ap (λ (added : Option State). get_or (set world.processes r.process.0 after ++ option_to_list added) p (fresh false false)) some
+      ∙ one_more (set world.processes r.process.0 after) p (Some child) (fresh false false)
+      ∙ rw (length-set, one_set world.processes r.process.0 p after (fresh false false) (own_or_stays tree abi world r own), state_is world p) refl
 
+  pub processes-step : length (step tree abi world r).processes ≡ length world.processes + length (option_to_list (started r.op (state_of world r.process.0)))
+  unfolding step
+  processes-step = simp (length-append, length-set)
+
+  pub rulesets-step : (step tree abi world r).rulesets ≡ rulesets_after tree abi world.rulesets r.op (state_of world r.process.0)
+  unfolding step
+  rulesets-step = refl

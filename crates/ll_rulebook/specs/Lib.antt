@@ -1,4 +1,4 @@
-pub mod Numbered
 pub mod Tables
 pub mod Stores
 pub mod Kept
+pub mod Passes

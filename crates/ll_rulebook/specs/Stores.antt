@@ -1,6 +1,7 @@
 -- The rulesets of a trace and the layers that they were frozen to, and what becomes of both.
 -- Source: the kernel's userspace document on Landlock, "Defining and enforcing a security policy".
 use Rattle.std.specs.Prelude.{◌≡◌, ℕ, ◌≤◌, List, ◌++◌, length, Result, Err, Option, Some, None, OnOk, OnErr, MatchOption, IsOkUnless, slice_get, slice_set}
+use Rattle.std.specs.Result.{result_err}
 use Rattle.ll_rights.specs.declared.abi.Abi.{Abi}
 use Rattle.ll_rights.specs.declared.fs.Fs.{Fs}
 use Rattle.ll_rights.specs.declared.net.Net.{Net}
@@ -8,6 +9,9 @@ use Rattle.ll_tree.specs.declared.place.Place.{Place}
 use Rattle.ll_tree.specs.Trees.{Entry}
 use Rattle.ll_rules.specs.declared.errno.RuleFault.{RuleFault}
 use Rattle.ll_rules.specs.declared.errno.RuleFault.TheVariants.{Memory}
+use Rattle.ll_state.specs.declared.note.Note.{Note}
+use Rattle.ll_state.specs.declared.note.Note.TheVariants.{Answered}
+use Rattle.ll_state.specs.Answers.{of_rule_fault}
 use Rattle.ll_rules.specs.Layers.{RulesOn, SameRules, in_tree, AreInTree, with_port_rule}
 use Rattle.ll_rules.specs.Rulesets.{add_path_fault, add_port_fault, with_rule_at}
 
@@ -43,3 +47,8 @@ pub record Extends (old new : List (RulesOn ℕ)) : Type 0 where
   pub more : List (RulesOn ℕ)
   pub is_more : new ≡ old ++ more
   pub one : length more ≤ 1
+
+-- the answer to a call that adds a rule, unless there is no memory for it
+pub record IsAnswerTo (outcome : Result (Unit {0}) RuleFault) (note : Note) : Type 0 where
+  pub answers : note ≡ Answered (of_rule_fault (result_err outcome))
+  pub remembered : outcome ≡ Err Memory → ⊥

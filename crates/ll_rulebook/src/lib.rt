@@ -4,6 +4,7 @@
 //! all processes before it. All else rests on the states of single processes.
 #![tactic(auto)]
 
+mod pass;
 mod rulebook;
 mod store;
 mod tables;

@@ -140,6 +140,7 @@ impl Store {
         ensures layer { IfOk result (λ id. slice_get self.new.layers id.0 ≡ slice_get self.old.rulesets place) }
         ensures rulesets { OnOk result (self.new.rulesets ≡ self.old.rulesets) }
         ensures layers { OnOk result (Extends self.old.layers self.new.layers) }
+        ensures in_tree { OnOk result ((tree : List Entry) → All (AreInTree tree) self.old.rulesets → All (AreInTree tree) self.old.layers → All (AreInTree tree) self.new.layers) }
     {
         let stored = &mut self.rulesets[place];
         if let Some(id) = stored.frozen {
