@@ -5,3 +5,7 @@ pub mod Lookups
 pub mod Climbs
 pub mod Adding
 pub mod Domains
+pub mod Ports
+pub mod AskedRights
+pub mod Verdicts
+pub mod SameLayers

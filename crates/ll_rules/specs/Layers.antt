@@ -41,6 +41,13 @@ module _ {P : Type 0} where
   unfoldable pub granted_on_port : RulesOn P → ℕ → network.NetRight → Bool
   granted_on_port rules port right = list_any (λ rule. port == rule.0 && network.has rule.1 right) rules.port_rules
 
+-- The new rules are the old ones with one rule for a port more. The rules on one port are kept as one.
+pub record GrantsOnPort {P : Type 0} (old new : RulesOn P) (port : ℕ) (set : Net) : Type 0 where
+  pub kept_files : new.handled_files ≡ old.handled_files
+  pub kept_network : new.handled_network ≡ old.handled_network
+  pub kept_rules : new.file_rules ≡ old.file_rules
+  pub grants : (other : ℕ) (right : network.NetRight) → granted_on_port new other right ≡ granted_on_port (with_port_rule old port set) other right
+
 -- ---- rules on paths
 
 -- whether some rule on just this path grants a right

@@ -1,6 +1,6 @@
 -- What creating a ruleset and adding rules to it answers.
 -- Source: landlock_create_ruleset(2), landlock_add_rule(2), "ERRORS"; where two errors meet, docs/DECISIONS.md says which comes first.
-use Rattle.std.specs.Prelude.{Bool, not, ◌&&◌, ◌||◌, nat_le, List, Option, Some, None, if◌then◌else◌}
+use Rattle.std.specs.Prelude.{ℕ, Bool, not, ◌&&◌, ◌||◌, nat_le, nat_lt, List, Option, Some, None, if◌then◌else◌}
 use Rattle.ll_rights.specs.declared.abi.Abi.{Abi}
 use Rattle.ll_rights.specs.declared.fs.Fs.{Fs}
 use Rattle.ll_rights.specs.declared.net.Net.{Net}
@@ -62,3 +62,13 @@ abbrev pub with_rule_at : List Entry → RulesOn Path → Place → Fs → Rules
 with_rule_at tree rules (Node node) granted = with_file_rule rules (path_at tree node) granted
 with_rule_at tree rules (Gap node) granted = rules
 with_rule_at tree rules Nowhere granted = rules
+
+-- ---- rules for ports
+
+-- why a rule for a port isn't added; a port has 16 bits
+abbrev pub add_port_fault : {P : Type 0} → Abi → RulesOn P → ℕ → Net → Option RuleFault
+add_port_fault abi rules port wanted =
+    if not (has_ports abi) then Some (faults.Errno Inval)
+    else (if network.is_empty wanted then Some (faults.Errno NoMsg)
+    else (if not (network.is_within wanted rules.handled_network) then Some (faults.Errno Inval)
+    else (if nat_lt 65535 port then Some (faults.Errno Inval) else None)))

@@ -1,7 +1,7 @@
 //! Sets of the layers of a domain.
 
 ghost use Rattle.std.specs.Prelude.{◌≡◌, ◌++◌, ◌∷◌, [], ◌≤◌, ◌<◌, ◌==◌, length, All, if◌then◌else◌};
-ghost use Rattle.ll_rules.specs.LayerNumbers.{is_among, united_numbers};
+ghost use Rattle.ll_rules.specs.LayerNumbers.{is_among, numbers_passing, united_numbers};
 
 use std::marker::Model;
 
@@ -38,7 +38,9 @@ impl LayerSet {
 
     /// Whether there is no layer in the set.
     pub fn is_empty(self) -> bool
-        ensures { result ≡ (length self == 0) }
+        ensures empty { result ≡ (length self == 0) }
+        // The list of its numbers is the rising one.
+        ensures rising { numbers_passing (λ number. is_among number self) ≡ self }
     {
         self.places == 0
     }

@@ -1,12 +1,14 @@
 //! Rulesets, and the layers that they become.
 
-ghost use Rattle.std.specs.Prelude.{◌≡◌, OnOk, OnErr, IfOk, MatchOption, IsOkUnless};
+ghost use Rattle.std.specs.Prelude.{◌≡◌, ◌&&◌, ◌||◌, false, OnOk, OnErr, IfOk, MatchOption, IsOkUnless};
 ghost use Rattle.std.specs.Result.{result_err};
+ghost use Rattle.ll_rights.specs.Rights.{FsRight, has, other, is_file_right};
 ghost use Rattle.ll_tree.specs.Trees.{is_dir};
-ghost use Rattle.ll_rules.specs.Layers.{without_rules, SameRules, in_tree, AreInTree};
-ghost use Rattle.ll_rules.specs.Rulesets.{has_ports, create_fault, IsOfTree, are_file_rights, add_path_fault, with_rule_at};
+ghost use Rattle.ll_rules.specs.Layers.{without_rules, SameRules, GrantsOnPort, in_tree, AreInTree};
+ghost use Rattle.ll_rules.specs.Rulesets.{has_ports, create_fault, IsOfTree, are_file_rights, add_path_fault, with_rule_at, add_port_fault};
 
 use crate::{Errno, NoMemory, RuleFault};
+use bitflags::Flags;
 use ll_rights::{Abi, Fs, Kind, Net};
 use ll_tree::{NodeId, Place, Tree};
 use std::alloc::Global;
@@ -56,11 +58,13 @@ impl Model for Ruleset {
 }
 
 impl Layer {
-    ghost use Rattle.std.specs.Prelude.{◌≡◌, false, OnOk, OnErr, IfOk, IsOkUnless};
-    ghost use Rattle.ll_rights.specs.Rights.{FsRight, has, other, is_within};
-    ghost use Rattle.ll_tree.specs.Trees.{IsNode, path_at};
-    ghost use Rattle.ll_rules.specs.Layers.{handles, granted, granted_on_node, in_tree, AreInTree, GrantsOn};
-    ghost use Rattle.ll_rules.specs.Checks.{lacks};
+    ghost use Rattle.std.specs.Prelude.{◌≡◌, false, not, OnOk, OnErr, IfOk, IsOkUnless};
+    ghost use Rattle.ll_rights.specs.Rights.{FsRight, has, other, is_empty, is_within};
+    ghost use Rattle.ll_rights.specs.NetRights as for_ports;
+    ghost use Rattle.ll_tree.specs.Trees.{IsNode, path_at, kind_at};
+    ghost use Rattle.ll_rules.specs.Layers.{handles, granted, granted_on_node, in_tree, AreInTree, granted_on_port, GrantsOn, GrantsOnPort};
+    ghost use Rattle.ll_rules.specs.Checks.{lacks, lacks_on_port};
+    ghost use Rattle.ll_rules.specs.Moves.{gains};
 
     /// The rights that the rule on a node grants; none where there is no rule.
     #[tactic(auto, unfolding(crate::specs::Layers::granted_on_node))]
@@ -80,6 +84,59 @@ impl Layer {
         let granted = self.rule_on(node).union(files);
         self.on_nodes.insert(node.index(), granted)?;
         Ok(())
+    }
+
+    /// The rights that the rule on a port grants; none where there is no rule.
+    fn rule_on_port(&self, port: u16) -> Net
+        ensures { (right : for_ports.NetRight) → for_ports.has result right ≡ granted_on_port self.now port right }
+    {
+        self.on_ports.get(&port).copied().unwrap_or(Net::NONE)
+    }
+
+    /// Grants rights on a port beside those that its rule grants already.
+    fn grant_on_port(&mut self, port: u16, network: Net) -> Result<(), RuleFault>
+        ensures ok { OnOk result (GrantsOnPort self.old self.new port network) }
+        ensures err { OnErr result (self.new ≡ self.old) }
+        ensures memory { IsOkUnless result RuleFault.Memory }
+    {
+        let granted = self.rule_on_port(port).union(network);
+        self.on_ports.insert(port, granted)?;
+        Ok(())
+    }
+
+    /// Whether the ruleset handles each of some rights for the network.
+    fn handles_all_network(&self, network: Net) -> bool
+        ensures { result ≡ for_ports.is_within network self.now.handled_network }
+    {
+        network.is_within(self.network)
+    }
+
+    /// Whether an object gains a right by going to a directory: one that the layer handles and that counts
+    /// for the object is granted there and not on the object.
+    pub(crate) fn gains(&self, tree: &Tree, object: NodeId, directory: NodeId) -> bool
+        requires object { IsNode tree.now object }
+        requires directory { IsNode tree.now directory }
+        requires within { AreInTree tree.now self.now }
+        ensures { result ≡ gains (in_tree tree.now self.now) (kind_at tree.now object) (path_at tree.now object) (path_at tree.now directory) }
+    {
+        let counted = counting_for(tree.kind(object), self.handled());
+        let granted_there = self.granted(tree, directory);
+        granted_there.lacks(counted, self.granted(tree, object))
+    }
+
+    /// Whether the layer refuses something of what is wanted on a port.
+    pub(crate) fn refuses_on_port(&self, port: u16, wanted: Net) -> bool
+        ensures { result ≡ lacks_on_port self.now port wanted }
+    {
+        let granted = self.rule_on_port(port);
+        wanted.lacks(self.network, granted)
+    }
+
+    /// Whether the layer handles any right for files.
+    pub(crate) fn handles_files(&self) -> bool
+        ensures { result ≡ not (is_empty self.now.handled_files) }
+    {
+        !self.files.is_empty()
     }
 
     /// Whether the ruleset handles each of some rights.
@@ -152,6 +209,19 @@ fn are_for_files(files: Fs) -> bool
     files.is_within(Fs::FILE)
 }
 
+/// Those of some known rights that count for an object of a kind.
+fn counting_for(kind: Kind, rights: Fs) -> Fs
+    requires { has rights other ≡ false }
+    ensures counted { (right : FsRight) → has result right ≡ (has rights right && (is_dir kind || is_file_right right)) }
+    ensures known { has result other ≡ false }
+{
+    if is_directory(kind) {
+        rights
+    } else {
+        rights.intersection(Fs::FILE)
+    }
+}
+
 /// Whether a version of the interface has rules for ports.
 fn ports_are_known(abi: Abi) -> bool
     ensures { result ≡ has_ports abi }
@@ -221,6 +291,36 @@ impl Ruleset {
     {
         let node = self.node_for(tree, place, files)?;
         self.layer.grant_on(node, files)?;
+        Ok(())
+    }
+
+    /// The port that a rule is for, or why there is no such rule.
+    fn port_for(&self, abi: Abi, port: u64, network: Net) -> Result<u16, RuleFault>
+        ensures fault { result_err result ≡ add_port_fault abi self.now port network }
+        ensures port { IfOk result (λ number. number ≡ port) }
+    {
+        if !ports_are_known(abi) {
+            return Err(RuleFault::Errno(Errno::Inval));
+        }
+        if network.is_empty() {
+            return Err(RuleFault::Errno(Errno::NoMsg));
+        }
+        if !self.layer.handles_all_network(network) || port > 65535 {
+            return Err(RuleFault::Errno(Errno::Inval));
+        }
+        Ok(port as u16)
+    }
+
+    /// Adds a rule that grants rights on one TCP port (landlock_add_rule(2)). `EINVAL` if the version has
+    /// no rules for ports, else `ENOMSG` if there is no right, else `EINVAL` if one isn't handled or the
+    /// port is above 65,535. Two rules on one port grant the rights of both.
+    pub fn add_port(&mut self, abi: Abi, port: u64, network: Net) -> Result<(), RuleFault>
+        ensures fault { MatchOption (add_port_fault abi self.old port network) (IsOkUnless result RuleFault.Memory) (λ fault. result ≡ Err fault) }
+        ensures ok { OnOk result (GrantsOnPort self.old self.new port network) }
+        ensures err { OnErr result (self.new ≡ self.old) }
+    {
+        let number = self.port_for(abi, port, network)?;
+        self.layer.grant_on_port(number, network)?;
         Ok(())
     }
 
