@@ -37,7 +37,8 @@ use Rattle.ll_rulebook.specs.Tables.{held_by}
 use Rattle.ll_rulebook.specs.Stores.{Stock, Extends, Replaces, AddsPathRule, AddsPortRule, IsAnswerTo}
 use Rattle.ll_rulebook.specs.Passes.{IsSound, Agrees, Settles}
 use Rattle.ll_rulebook.proofs.Places.{all_there}
-use Rattle.ll_rulebook.proofs.Sameness.{same_after, same_with_rule_at, same_with_port_rule, other_of}
+use Rattle.ll_rules.proofs.SameLayers.{SameRules-trans, SameRules-with_port_rule, SameRules-from_port}
+use Rattle.ll_rulebook.proofs.Sameness.{same_with_rule_at, other_of}
 use Rattle.ll_rulebook.proofs.Settling.{IsAlike, settles_refused, settles_open, settles_frozen, settles_added}
 
 -- the pass as it was is alike
@@ -120,9 +121,9 @@ module _ (tree : List Entry) (abi : Abi) (process rs : ℕ) (old : Pass) (found 
   unfolding is_on_rulesets starts_process enforced
   settles_restricted new at id held rulesets tables extends inside layer =
       settles_frozen tree abi process (calls.Restrict rs) old sound there refl refl new at id
-        (record { rulesets = rulesets; tables = ap (λ (t : Tables). t.held.items) tables }) extends inside
-        (sound.places process rs at (sym found_is ∙ held)) layer
-        (λ world agrees. let it : (state_of world process).held rs ≡ Some at = held_in world agrees ∙ held in rw it refl)
+      (record { rulesets = rulesets; tables = ap (λ (t : Tables). t.held.items) tables }) extends inside
+      (sound.places process rs at (sym found_is ∙ held)) layer
+      (λ world agrees. let it : (state_of world process).held rs ≡ Some at = held_in world agrees ∙ held in rw it refl)
 
 -- ---- rules that are added
 
@@ -156,17 +157,17 @@ module _ (tree : List Entry) (abi : Abi) (process rs : ℕ) (old new : Pass) (at
   unfolding is_on_rulesets rules change
   settles_path_rule path fs (Ok done) remembered replaces =
       settles_added tree abi process rs old new (calls.AddPath rs path fs) (λ other. with_rule_at tree other (place tree path) fs) at replaces.before replaces.after
-        sound there refl (λ rulesets s. refl) (λ rulesets s. refl) (sym found_is) replaces.was replaces.is_now layers tables_same
-        (λ other same. same_after replaces.becomes.ok (same_with_rule_at tree (in_tree tree replaces.before) other (place tree path) fs same))
-        replaces.becomes.stays_in_tree
-        (λ world agrees. path_answer path fs replaces.before replaces.was world agrees
-          ∙ ap (λ (f : Option RuleFault). of_rule_fault f) (fault_is (add_path_fault tree replaces.before (place tree path) fs) (Ok done) replaces.becomes.fault remembered))
+      sound there refl (λ rulesets s. refl) (λ rulesets s. refl) (sym found_is) replaces.was replaces.is_now layers tables_same
+      (λ other same. SameRules-trans (in_tree tree replaces.after) (with_rule_at tree (in_tree tree replaces.before) (place tree path) fs) (with_rule_at tree other (place tree path) fs) replaces.becomes.ok (same_with_rule_at tree (in_tree tree replaces.before) other (place tree path) fs same))
+      replaces.becomes.stays_in_tree
+      (λ world agrees. path_answer path fs replaces.before replaces.was world agrees
+      ∙ ap (λ (f : Option RuleFault). of_rule_fault f) (fault_is (add_path_fault tree replaces.before (place tree path) fs) (Ok done) replaces.becomes.fault remembered))
   settles_path_rule path fs (Err fault) remembered replaces =
       settles_refused tree abi process (calls.AddPath rs path fs) old new (of_rule_fault (Some fault)) sound there
-        (record { rulesets = replaces.is_now ∙ rw replaces.becomes.err (set_same old.store.rulesets at replaces.before replaces.was); tables = tables_same })
-        layers refl (rule_failure fault)
-        (λ world agrees. sym (path_answer path fs replaces.before replaces.was world agrees
-          ∙ ap (λ (f : Option RuleFault). of_rule_fault f) (fault_is (add_path_fault tree replaces.before (place tree path) fs) (Err fault) replaces.becomes.fault remembered)))
+      (record { rulesets = replaces.is_now ∙ rw replaces.becomes.err (set_same old.store.rulesets at replaces.before replaces.was); tables = tables_same })
+      layers refl (rule_failure fault)
+      (λ world agrees. sym (path_answer path fs replaces.before replaces.was world agrees
+      ∙ ap (λ (f : Option RuleFault). of_rule_fault f) (fault_is (add_path_fault tree replaces.before (place tree path) fs) (Err fault) replaces.becomes.fault remembered)))
 
   port_answer : (port : ℕ) (net : Net) (before : RulesOn ℕ) → slice_get old.store.rulesets at ≡ Some before → (world : World) → Agrees tree old world →
       answer tree abi world.rulesets (calls.AddPort rs port net) (state_of world process) ≡ of_rule_fault (add_port_fault abi before port net)
@@ -182,17 +183,18 @@ module _ (tree : List Entry) (abi : Abi) (process rs : ℕ) (old new : Pass) (at
   unfolding is_on_rulesets rules change
   settles_port_rule port net (Ok done) remembered replaces =
       settles_added tree abi process rs old new (calls.AddPort rs port net) (λ other. with_port_rule other port net) at replaces.before replaces.after
-        sound there refl (λ rulesets s. refl) (λ rulesets s. refl) (sym found_is) replaces.was replaces.is_now layers tables_same
-        (λ other same. same_after (replaces.becomes.ok tree) (same_with_port_rule (in_tree tree replaces.before) other port net same))
-        (replaces.becomes.stays_in_tree tree (all_there (AreInTree tree) old.store.rulesets at replaces.before sound.rulesets_in_tree replaces.was))
-        (λ world agrees. port_answer port net replaces.before replaces.was world agrees
-          ∙ ap (λ (f : Option RuleFault). of_rule_fault f) (fault_is (add_port_fault abi replaces.before port net) (Ok done) replaces.becomes.fault remembered))
+      sound there refl (λ rulesets s. refl) (λ rulesets s. refl) (sym found_is) replaces.was replaces.is_now layers tables_same
+      (λ other same. SameRules-trans (in_tree tree replaces.after) (with_port_rule (in_tree tree replaces.before) port net) (with_port_rule other port net)
+      (SameRules-from_port tree replaces.before replaces.after port net replaces.becomes.ok) (SameRules-with_port_rule (in_tree tree replaces.before) other port net same))
+      (rw replaces.becomes.ok.kept_rules (all_there (AreInTree tree) old.store.rulesets at replaces.before sound.rulesets_in_tree replaces.was))
+      (λ world agrees. port_answer port net replaces.before replaces.was world agrees
+      ∙ ap (λ (f : Option RuleFault). of_rule_fault f) (fault_is (add_port_fault abi replaces.before port net) (Ok done) replaces.becomes.fault remembered))
   settles_port_rule port net (Err fault) remembered replaces =
       settles_refused tree abi process (calls.AddPort rs port net) old new (of_rule_fault (Some fault)) sound there
-        (record { rulesets = replaces.is_now ∙ rw replaces.becomes.err (set_same old.store.rulesets at replaces.before replaces.was); tables = tables_same })
-        layers refl (rule_failure fault)
-        (λ world agrees. sym (port_answer port net replaces.before replaces.was world agrees
-          ∙ ap (λ (f : Option RuleFault). of_rule_fault f) (fault_is (add_port_fault abi replaces.before port net) (Err fault) replaces.becomes.fault remembered)))
+      (record { rulesets = replaces.is_now ∙ rw replaces.becomes.err (set_same old.store.rulesets at replaces.before replaces.was); tables = tables_same })
+      layers refl (rule_failure fault)
+      (λ world agrees. sym (port_answer port net replaces.before replaces.was world agrees
+      ∙ ap (λ (f : Option RuleFault). of_rule_fault f) (fault_is (add_port_fault abi replaces.before port net) (Err fault) replaces.becomes.fault remembered)))
 
 -- ---- what the code tells of an option or an outcome
 

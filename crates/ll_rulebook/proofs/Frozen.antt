@@ -22,18 +22,21 @@ stands_on xs k x y at =
     rw (slice_get-push xs k y, ne_eqb k (length xs) other) at
 
 pub frozen_push : (stored : List Stored) (layers : List (RulesOn ℕ)) (added : Stored) → added.frozen ≡ None → AreFrozen stored layers → AreFrozen (stored ++ added ∷ []) layers
-frozen_push stored layers added thawed are = record { is_layer = λ k one id at named. elim (cases_eq k (length stored)) [
+frozen_push stored layers added thawed are = record {
+  is_layer = λ k one id at named. elim (cases_eq k (length stored)) [
     | inl same ↦
         let last : slice_get (stored ++ added ∷ []) k ≡ Some added = rw (slice_get-push stored k added, eq-eqb k (length stored) same) refl in
         cc
     | inr other ↦
         let before : slice_get (stored ++ added ∷ []) k ≡ slice_get stored k = rw (slice_get-push stored k added, ne_eqb k (length stored) other) refl in
         are.is_layer k one id (sym before ∙ at) named
-  ] }
+  ];
+}
 
 pub frozen_set : (stored : List Stored) (layers : List (RulesOn ℕ)) (place : ℕ) (next : Stored) → place < length stored →
     ((id : LayerId) → next.frozen ≡ Some id → slice_get layers id.0 ≡ Some next.«ruleset») → AreFrozen stored layers → AreFrozen (set stored place next) layers
-frozen_set stored layers place next within is are = record { is_layer = λ k one id at named. elim (cases_eq k place) [
+frozen_set stored layers place next within is are = record {
+  is_layer = λ k one id at named. elim (cases_eq k place) [
     | inl same ↦
         let here : slice_get (set stored place next) k ≡ Some next = rw (slice_get-set stored place k next within, eq-eqb k place same) refl in
         let it : next ≡ one = cc in
@@ -42,7 +45,8 @@ frozen_set stored layers place next within is are = record { is_layer = λ k one
     | inr other ↦
         let before : slice_get (set stored place next) k ≡ slice_get stored k = rw (slice_get-set stored place k next within, ne_eqb k place other) refl in
         are.is_layer k one id (sym before ∙ at) named
-  ] }
+  ];
+}
 
 pub frozen_more : (stored : List Stored) (layers : List (RulesOn ℕ)) (layer : RulesOn ℕ) → AreFrozen stored layers → AreFrozen stored (layers ++ layer ∷ [])
 frozen_more stored layers layer are = record { is_layer = λ k one id at named. stands_on layers id.0 one.«ruleset» layer (are.is_layer k one id at named) }
@@ -93,8 +97,8 @@ pub frozen_now : (stored : List Stored) (layers : List (RulesOn ℕ)) (place : �
 frozen_now stored layers place one id within read last are =
     let next : Stored = record { «ruleset» = one.«ruleset»; frozen = Some (record { 0 = id }) } in
     frozen_set stored (layers ++ one.«ruleset» ∷ []) place next within
-        (λ other named. let it : id ≡ other.0 = cc in rw (← it, slice_get-push layers id one.«ruleset», eq-eqb id (length layers) last) refl)
-        (frozen_more stored layers one.«ruleset» are)
+    (λ other named. let it : id ≡ other.0 = cc in rw (← it, slice_get-push layers id one.«ruleset», eq-eqb id (length layers) last) refl)
+    (frozen_more stored layers one.«ruleset» are)
 
 pub same_ruleset : (one next : Stored) (result : Result (Unit {0}) RuleFault) → OnErr result (next ≡ one) → OnErr result (next.«ruleset» ≡ one.«ruleset»)
 same_ruleset one next (Ok done) err = tt

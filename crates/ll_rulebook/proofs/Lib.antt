@@ -7,3 +7,4 @@ pub mod Sameness
 pub mod Settling
 pub mod Calls
 pub mod Started
+pub mod Course

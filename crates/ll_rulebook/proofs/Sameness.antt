@@ -14,45 +14,19 @@ use Rattle.ll_tree.specs.declared.place.Place.{Place}
 use Rattle.ll_tree.specs.declared.place.Place.TheVariants.{Node, Gap, Nowhere}
 use Rattle.ll_rules.specs.Layers.{RulesOn, SameRules, in_tree, AreInTree, without_rules, with_file_rule, with_port_rule, granted_on, granted_on_port}
 use Rattle.ll_rules.specs.Rulesets.{with_rule_at}
+use Rattle.ll_rules.proofs.SameLayers.{SameRules-refl, SameRules-with_file_rule}
 use Rattle.ll_state.specs.States.{Layer}
 use Rattle.ll_rulebook.specs.Passes.{AreSame}
 use Rattle.ll_rulebook.proofs.Places.{slice_get-set, slice_get-push}
 
-pub same_after : {a b c : RulesOn Path} → SameRules a b → SameRules b c → SameRules a c
-same_after first second = record {
-  same_files = first.same_files ∙ second.same_files;
-  same_network = first.same_network ∙ second.same_network;
-  same_on = λ path right. first.same_on path right ∙ second.same_on path right;
-  same_on_port = λ port right. first.same_on_port port right ∙ second.same_on_port port right;
-}
-
 pub same_new : (tree : List Entry) (handled_files : Fs) (handled_network : Net) → SameRules (in_tree tree (without_rules handled_files handled_network)) (without_rules handled_files handled_network)
-same_new tree handled_files handled_network = record { same_files = refl; same_network = refl; same_on = λ path right. refl; same_on_port = λ port right. refl }
-
-same_with_file_rule : (a b : RulesOn Path) (at : Path) (rights : Fs) → SameRules a b → SameRules (with_file_rule a at rights) (with_file_rule b at rights)
-unfolding granted_on granted_on_port
-same_with_file_rule a b at rights same = record {
-  same_files = same.same_files;
-  same_network = same.same_network;
-  same_on = λ path right. ap (λ (rest : Bool). (path_eq at path && files.has rights right) || rest) (same.same_on path right);
-  same_on_port = same.same_on_port;
-}
+same_new tree handled_files handled_network = SameRules-refl (without_rules handled_files handled_network)
 
 -- one rule for files more on both
 pub same_with_rule_at : (tree : List Entry) (a b : RulesOn Path) (at : Place) (rights : Fs) → SameRules a b → SameRules (with_rule_at tree a at rights) (with_rule_at tree b at rights)
-same_with_rule_at tree a b (Node node) rights same = same_with_file_rule a b (path_at tree node) rights same
+same_with_rule_at tree a b (Node node) rights same = SameRules-with_file_rule a b (path_at tree node) rights same
 same_with_rule_at tree a b (Gap node) rights same = same
 same_with_rule_at tree a b Nowhere rights same = same
-
--- one rule for a port more on both
-pub same_with_port_rule : (a b : RulesOn Path) (port : ℕ) (rights : Net) → SameRules a b → SameRules (with_port_rule a port rights) (with_port_rule b port rights)
-unfolding granted_on granted_on_port
-same_with_port_rule a b port rights same = record {
-  same_files = same.same_files;
-  same_network = same.same_network;
-  same_on = same.same_on;
-  same_on_port = λ other right. ap (λ (rest : Bool). (other == port && network.has rights right) || rest) (same.same_on_port other right);
-}
 
 -- one ruleset more on both sides
 pub are_same_push : (tree : List Entry) (kept : List (RulesOn ℕ)) (rulesets : List Layer) (one : RulesOn ℕ) (other : Layer) →
@@ -81,19 +55,19 @@ pub are_same_set : (tree : List Entry) (kept : List (RulesOn ℕ)) (rulesets : L
 are_same_set tree kept rulesets place one other within are same = record {
   same_count = simp length-set are.same_count;
   same = λ k x y at_x at_y.
-    let also : place < length rulesets = omega (arith, are.same_count) in
-    elim (cases_eq k place) [
-    | inl here ↦
-        let x_is : slice_get (set kept place one) k ≡ Some one = rw (slice_get-set kept place k one within, eq-eqb k place here) refl in
-        let y_is : slice_get (set rulesets place other) k ≡ Some other = rw (slice_get-set rulesets place k other also, eq-eqb k place here) refl in
-        let e : one ≡ x = cc in
-        let f : other ≡ y = cc in
-        subst (λ (b : Layer). SameRules (in_tree tree x) b) f (subst (λ (a : RulesOn ℕ). SameRules (in_tree tree a) other) e same)
-    | inr elsewhere ↦
-        let x_is : slice_get (set kept place one) k ≡ slice_get kept k = rw (slice_get-set kept place k one within, ne_eqb k place elsewhere) refl in
-        let y_is : slice_get (set rulesets place other) k ≡ slice_get rulesets k = rw (slice_get-set rulesets place k other also, ne_eqb k place elsewhere) refl in
-        are.same k x y (sym x_is ∙ at_x) (sym y_is ∙ at_y)
-  ];
+      let also : place < length rulesets = omega (arith, are.same_count) in
+      elim (cases_eq k place) [
+        | inl here ↦
+            let x_is : slice_get (set kept place one) k ≡ Some one = rw (slice_get-set kept place k one within, eq-eqb k place here) refl in
+            let y_is : slice_get (set rulesets place other) k ≡ Some other = rw (slice_get-set rulesets place k other also, eq-eqb k place here) refl in
+            let e : one ≡ x = cc in
+            let f : other ≡ y = cc in
+            subst (λ (b : Layer). SameRules (in_tree tree x) b) f (subst (λ (a : RulesOn ℕ). SameRules (in_tree tree a) other) e same)
+        | inr elsewhere ↦
+            let x_is : slice_get (set kept place one) k ≡ slice_get kept k = rw (slice_get-set kept place k one within, ne_eqb k place elsewhere) refl in
+            let y_is : slice_get (set rulesets place other) k ≡ slice_get rulesets k = rw (slice_get-set rulesets place k other also, ne_eqb k place elsewhere) refl in
+            are.same k x y (sym x_is ∙ at_x) (sym y_is ∙ at_y)
+      ];
 }
 
 -- what stands at a place of the kept rulesets has one that is the same at this place of the others

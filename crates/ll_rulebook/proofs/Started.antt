@@ -69,7 +69,7 @@ there_after past (entry ∷ entries) placed zero r at other =
     rw (← it) (omega (arith, below))
 there_after past (entry ∷ entries) placed (suc k) r at other =
     rw length-first (count_first (is_some (started_pid entry)) r.process.0 (process_count past) (length (parents (take k (records_after (entry ∷ past) entries))))
-        (there_after (entry ∷ past) entries placed.1 k r at other))
+    (there_after (entry ∷ past) entries placed.1 k r at other))
 
 -- a record that is no start is of a process that the records before it start
 pub there_before : (records : List Record) → AreRecords records → (k : ℕ) (r : Record) → slice_get records k ≡ Some r → is_start r.op ≡ false → r.process.0 < length (parents (take k records))

@@ -10,7 +10,6 @@ use Rattle.std.proofs.lemmas.Option.{unwrap_or-slice_get}
 use Rattle.std.proofs.lemmas.List.{get_or-set_same, get_or-set_other}
 use Rattle.ll_rights.specs.declared.abi.Abi.{Abi}
 use Rattle.ll_tree.specs.Trees.{Entry}
-
 use Rattle.ll_trace.specs.declared.record.Record.{Record}
 use Rattle.ll_trace.specs.declared.op.Op.{Op}
 use Rattle.ll_trace.specs.declared.op.Op.TheVariants as calls
@@ -58,9 +57,9 @@ one_set : (processes : List State) (own p : ℕ) (state default : State) → (ow
     get_or (set processes own state) p default ≡ cond (eqb p own) state (get_or processes p default)
 one_set [] own p state default (inl there) = absurd (omega arith)
 one_set [] own p state default (inr same) = elim (cases_eq p own) [
-    | inl equal ↦ rw (eq-eqb p own equal) (sym same)
-    | inr other ↦ rw (ne_eqb p own other) refl
-  ]
+  | inl equal ↦ rw (eq-eqb p own equal) (sym same)
+  | inr other ↦ rw (ne_eqb p own other) refl
+]
 one_set (first ∷ processes) zero zero state default either = refl
 one_set (first ∷ processes) zero (suc p) state default either = rw eqb-suc-zero refl
 one_set (first ∷ processes) (suc own) zero state default either = rw eqb-zero-suc refl
@@ -80,9 +79,9 @@ own_stays tree abi rulesets _ s is = absurd (cc)
 own_or_stays : (tree : List Entry) (abi : Abi) (world : World) (r : Record) → IsOwn world r →
     (r.process.0 < length world.processes) ⊎ (state_after tree abi world.rulesets r.op (state_of world r.process.0) ≡ get_or world.processes r.process.0 (fresh false false))
 own_or_stays tree abi world r own = elim own.is_own [
-    | inl there ↦ inl there
-    | inr start ↦ inr (own_stays tree abi world.rulesets r.op (state_of world r.process.0) start ∙ state_is world r.process.0)
-  ]
+  | inl there ↦ inl there
+  | inr start ↦ inr (own_stays tree abi world.rulesets r.op (state_of world r.process.0) start ∙ state_is world r.process.0)
+]
 
 module _ (tree : List Entry) (abi : Abi) (world : World) (r : Record) where
   -- after a call that starts no process: the state of its own process, or the state as before
@@ -100,7 +99,7 @@ module _ (tree : List Entry) (abi : Abi) (world : World) (r : Record) where
   -- after a call that starts a process: also the state of that one, under the next number
   pub state_of-step_start : (p : ℕ) (child : State) → IsOwn world r → started r.op (state_of world r.process.0) ≡ Some child →
       state_of (step tree abi world r) p ≡
-          cond (eqb p (length world.processes)) child (cond (eqb p r.process.0) (state_after tree abi world.rulesets r.op (state_of world r.process.0)) (state_of world p))
+      cond (eqb p (length world.processes)) child (cond (eqb p r.process.0) (state_after tree abi world.rulesets r.op (state_of world r.process.0)) (state_of world p))
   unfolding step
   state_of-step_start p child own some =
       let after : State = state_after tree abi world.rulesets r.op (state_of world r.process.0) in

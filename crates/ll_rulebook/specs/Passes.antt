@@ -1,26 +1,23 @@
 -- What a pass over the records of a trace keeps, against the world that the semantics has there.
 -- Source: landlock(7); the kernel's userspace document on Landlock, "Inheritance".
-use Rattle.std.specs.Prelude.{◌≡◌, ℕ, ◌<◌, List, length, Option, Some, None, All, slice_get}
+use Rattle.std.specs.Prelude.{◌≡◌, ℕ, ◌<◌, ◌≤◌, List, [], ◌∷◌, ◌++◌, length, Option, Some, None, All, slice_get}
 use Rattle.ll_rights.specs.declared.abi.Abi.{Abi}
 use Rattle.ll_tree.specs.Trees.{Entry}
 use Rattle.ll_rules.specs.Layers.{RulesOn, SameRules, in_tree, AreInTree}
 use Rattle.ll_trace.specs.declared.op.Op.{Op}
 use Rattle.ll_state.specs.declared.note.Note.{Note}
 use Rattle.ll_state.specs.States.{State, Layer}
-use Rattle.ll_state.specs.Agreement.{Situation}
+use Rattle.ll_trace.specs.declared.record.Record.{Record}
 use Rattle.ll_state.specs.Notes.{NoteFits}
-use Rattle.ll_state.specs.Worlds.{World, state_of, step}
+use Rattle.ll_state.specs.Worlds.{World, state_of, step, world_at}
 use Rattle.ll_rulebook.specs.declared.pass.Pass.{Pass}
 use Rattle.ll_rulebook.specs.Tables.{held_by}
 use Rattle.ll_rulebook.specs.Stores.{Extends}
+use Rattle.ll_rulebook.specs.Settled.{met_by, FitUpTo}
 
 -- the world after a call of a process
 abbrev pub next_world : List Entry → Abi → World → ℕ → Op → World
 next_world tree abi world process op = step tree abi world (record { line = 0; process = record { 0 = process }; pid = 0; op = op })
-
--- what a call of a process meets in a world
-abbrev pub met_by : List Entry → Abi → List (RulesOn ℕ) → World → ℕ → Situation
-met_by tree abi layers world process = record { tree = tree; layers = layers; abi = abi; rulesets = world.rulesets; state = state_of world process }
 
 -- rulesets with rules on nodes of a tree are, one by one, the same as rulesets with rules on paths
 pub record AreSame (tree : List Entry) (kept : List (RulesOn ℕ)) (rulesets : List Layer) : Type 0 where
@@ -45,3 +42,17 @@ pub record Settles (tree : List Entry) (abi : Abi) (process : ℕ) (op : Op) (ol
   pub layers : Extends old.store.layers new.store.layers
   pub agrees : (world : World) → Agrees tree old world → Agrees tree new (next_world tree abi world process op)
   pub fits : (world : World) → Agrees tree old world → NoteFits (met_by tree abi new.store.layers world process) op note
+
+-- the first records are settled: the pass agrees with the world before the next one
+pub record HasSettled (tree : List Entry) (abi : Abi) (records : List Record) (count : ℕ) (pass : Pass) (notes : List Note) : Type 0 where
+  pub sound : IsSound tree pass
+  pub agrees : Agrees tree pass (world_at tree abi records count)
+  pub few : length pass.store.layers ≤ count
+  pub counted : length notes ≡ count
+  pub fits : FitUpTo tree abi records pass.store.layers notes
+
+-- one note more, of which something holds
+pub record Adds (old new : List Note) (Holds : Note → Type 0) : Type 0 where
+  pub note : Note
+  pub added : new ≡ old ++ note ∷ []
+  pub holds : Holds note

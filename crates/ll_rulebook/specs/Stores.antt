@@ -12,7 +12,7 @@ use Rattle.ll_rules.specs.declared.errno.RuleFault.TheVariants.{Memory}
 use Rattle.ll_state.specs.declared.note.Note.{Note}
 use Rattle.ll_state.specs.declared.note.Note.TheVariants.{Answered}
 use Rattle.ll_state.specs.Answers.{of_rule_fault}
-use Rattle.ll_rules.specs.Layers.{RulesOn, SameRules, in_tree, AreInTree, with_port_rule}
+use Rattle.ll_rules.specs.Layers.{RulesOn, SameRules, in_tree, AreInTree, GrantsOnPort}
 use Rattle.ll_rules.specs.Rulesets.{add_path_fault, add_port_fault, with_rule_at}
 
 -- the rulesets in the order in which they were created, and the layers in the order in which they were frozen
@@ -38,9 +38,8 @@ pub record AddsPathRule (tree : List Entry) (at : Place) (files : Fs) (result : 
 -- one rule for a port more, if it is added
 pub record AddsPortRule (abi : Abi) (port : ℕ) (network : Net) (result : Result (Unit {0}) RuleFault) (before after : RulesOn ℕ) : Type 0 where
   pub fault : MatchOption (add_port_fault abi before port network) (IsOkUnless result Memory) (λ fault. result ≡ Err fault)
-  pub ok : OnOk result ((tree : List Entry) → SameRules (in_tree tree after) (with_port_rule (in_tree tree before) port network))
+  pub ok : OnOk result (GrantsOnPort before after port network)
   pub err : OnErr result (after ≡ before)
-  pub stays_in_tree : (tree : List Entry) → AreInTree tree before → AreInTree tree after
 
 -- at most one layer more, at the end
 pub record Extends (old new : List (RulesOn ℕ)) : Type 0 where

@@ -1,9 +1,10 @@
 //! One pass over the records of a trace.
 
-ghost use Rattle.std.specs.Prelude.{◌≡◌, ℕ, ◌<◌, ◌^◌, Bool, false, List, length, IfOk};
+ghost use Rattle.std.specs.Prelude.{◌≡◌, ℕ, ◌<◌, ◌^◌, Bool, false, List, [], length, IfOk, OnOk};
 ghost use Rattle.ll_tree.specs.Trees.{Entry};
 ghost use Rattle.ll_state.specs.Answers.{fails};
 ghost use Rattle.ll_trace.specs.Entries.{is_start};
+ghost use Rattle.ll_trace.specs.Records.{AreRecords};
 ghost use Rattle.ll_rulebook.specs.Stores.{IsAnswerTo};
 
 use crate::store::Store;
@@ -13,7 +14,7 @@ use ll_rules::{Errno, Layer, LayerSet, NoMemory, RuleFault, Ruleset};
 use ll_state::{Answer, Note};
 use ll_trace::{Op, PathText, Record};
 use ll_tree::Tree;
-use std::alloc::Global;
+use std::alloc::{AllocError, Global};
 
 /// What the records so far made of the rulesets, and which of them each process holds.
 #[derive(Drop)]
@@ -42,7 +43,26 @@ fn added(outcome: Result<(), RuleFault>) -> Result<Note, NoMemory>
 }
 
 impl Pass {
-    ghost use Rattle.ll_rulebook.specs.Passes.{IsSound, Settles};
+    ghost use Rattle.ll_rulebook.specs.Passes.{IsSound, Settles, HasSettled, Adds};
+
+    /// No record yet.
+    pub(crate) fn new(alloc: Global) -> Pass
+        ensures rulesets { result.store.rulesets ≡ [] }
+        ensures layers { result.store.layers ≡ [] }
+        ensures tables { result.tables.held.items ≡ [] }
+    {
+        Pass {
+            store: Store::new(alloc),
+            tables: Tables::new(alloc),
+        }
+    }
+
+    /// The layers that rulesets were frozen to.
+    pub(crate) fn into_layers(self) -> Vec<Layer>
+        ensures { result.items ≡ self.store.layers }
+    {
+        self.store.into_layers()
+    }
 
     /// A ruleset is created, and held under its number if this is free.
     fn create(
@@ -176,5 +196,49 @@ impl Pass {
             Op::Restrict { rs } => self.restrict(alloc, process, *rs),
             _ => Ok(Note::Open),
         }
+    }
+
+    /// Settles one record, and adds its note to those of the records before it. (It is added by cases, since
+    /// the check of `push_reserved` must be shown the type that a note holds.)
+    fn settle_next(
+        &mut self,
+        alloc: Global,
+        tree: &Tree,
+        abi: Abi,
+        record: &Record,
+        notes: &mut Vec<Note>,
+    ) -> Result<(), NoMemory>
+        requires there { is_start record.now.op ≡ false → record.now.process.0 < length self.old.tables.held.items }
+        requires sound { IsSound tree.now self.old }
+        requires room { length self.old.store.layers < 2 ^ 32 }
+        ensures { OnOk result (Adds notes.old.items notes.new.items (Settles tree.now abi record.now.process.0 record.now.op self.old self.new)) }
+    {
+        notes.reserve(1)?;
+        match self.settle(alloc, tree, abi, record)? {
+            Note::Answered(answer) => notes.push_reserved(Note::Answered(answer)),
+            Note::Frozen(layer) => notes.push_reserved(Note::Frozen(layer)),
+            Note::Open => notes.push_reserved(Note::Open),
+        }
+        Ok(())
+    }
+
+    /// Settles all records of a trace, in their order.
+    pub(crate) fn settle_all(
+        &mut self,
+        alloc: Global,
+        tree: &Tree,
+        abi: Abi,
+        records: &[Record],
+    ) -> Result<Vec<Note>, NoMemory>
+        requires begins { HasSettled tree.now abi records.now 0 self.old [] }
+        requires are_records { AreRecords records.now }
+        requires few { length records.now < 2 ^ 32 }
+        ensures { IfOk result (λ notes. HasSettled tree.now abi records.now (length records.now) self.new notes.items) }
+    {
+        let mut notes = Vec::new(alloc);
+        for record in records {
+            self.settle_next(alloc, tree, abi, record, &mut notes)?;
+        }
+        Ok(notes)
     }
 }

@@ -2,7 +2,7 @@
 
 ghost use Rattle.std.specs.Prelude.{◌≡◌, None, ◌<◌, ◌+◌, [], ◌∷◌, ◌++◌, List, length, OnOk, IfOk, OnErr, MatchOption, IsOkUnless, All, ◌^◌, slice_get};
 ghost use Rattle.ll_tree.specs.Trees.{Entry};
-ghost use Rattle.ll_rules.specs.Layers.{SameRules, in_tree, AreInTree, with_port_rule};
+ghost use Rattle.ll_rules.specs.Layers.{SameRules, in_tree, AreInTree, GrantsOnPort};
 ghost use Rattle.ll_rulebook.specs.Stores.{Replaces, AddsPathRule, AddsPortRule, Extends};
 ghost use Rattle.ll_rules.specs.Rulesets.{IsOfTree, add_path_fault, add_port_fault, with_rule_at};
 
@@ -38,10 +38,9 @@ impl Stored {
     /// Adds a rule for a port; the ruleset then is no longer what it was frozen to.
     fn add_port(&mut self, abi: Abi, port: u64, network: Net) -> Result<(), RuleFault>
         ensures fault { MatchOption (add_port_fault abi self.old.ruleset port network) (IsOkUnless result RuleFault.Memory) (λ fault. result ≡ Err fault) }
-        ensures ok { OnOk result ((tree : List Entry) → SameRules (in_tree tree self.new.ruleset) (with_port_rule (in_tree tree self.old.ruleset) port network)) }
+        ensures ok { OnOk result (GrantsOnPort self.old.ruleset self.new.ruleset port network) }
         ensures thawed { OnOk result (self.new.frozen ≡ None) }
         ensures err { OnErr result (self.new ≡ self.old) }
-        ensures in_tree { (tree : List Entry) → AreInTree tree self.old.ruleset → AreInTree tree self.new.ruleset }
     {
         self.ruleset.add_port(abi, port, network)?;
         self.frozen = None;

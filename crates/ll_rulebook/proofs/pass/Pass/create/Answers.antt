@@ -14,5 +14,5 @@ returns-in-Err c = λ tree sound. rw c.failed.ensures
 pub returns-in_ok-hold-in-Ok : goal.returns-in_ok-hold-in-Ok
 returns-in_ok-hold-in-Ok c = λ tree sound.
     settles_created tree c.args.abi c.args.process c.args.rs c.args.self.now (record { store = c.add.new.self; tables = c.hold.new.self }) sound c.requires c.args.fs c.args.net
-        c.in-Ok.created c.in_ok-place-in-Ok.place (sym c.place.ensures ∙ none_of c.place.result (sym c.if-is_some.ensures)) (sym c.in-Ok.ensures.fault) c.in-Ok.ensures.made
-        c.in_ok-place-in-Ok.ensures.rulesets c.in_ok-place-in-Ok.ensures.layers c.in_ok-place-in-Ok.ensures.place c.in_ok-hold-in-Ok.ensures
+    c.in-Ok.created c.in_ok-place-in-Ok.place (sym c.place.ensures ∙ none_of c.place.result (sym c.if-is_some.ensures)) (sym c.in-Ok.ensures.fault) c.in-Ok.ensures.made
+    c.in_ok-place-in-Ok.ensures.rulesets c.in_ok-place-in-Ok.ensures.layers c.in_ok-place-in-Ok.ensures.place c.in_ok-hold-in-Ok.ensures

@@ -37,27 +37,27 @@ restrict-requires-clause-there c = c.requires.there (ap (λ (op : Op). is_start 
 pub returns-in-Start : goal.returns-in-Start
 returns-in-Start c = rw c.in-Start.is
     (if_ok_so (λ note. (tree : List Entry) (abi : Abi) (process : ℕ) (nnp admin : Bool) → IsSound tree c.args.self.now → Settles tree abi process (calls.Start nnp admin) c.args.self.now c.start.new.self note)
-        _ c.start.result c.start.ensures (λ note settled. settled c.args.tree.now c.args.abi c.args.record.now.process.0 c.in-Start.nnp c.in-Start.admin c.requires.sound))
+    _ c.start.result c.start.ensures (λ note settled. settled c.args.tree.now c.args.abi c.args.record.now.process.0 c.in-Start.nnp c.in-Start.admin c.requires.sound))
 
 pub returns-in-Fork : goal.returns-in-Fork
 returns-in-Fork c = rw c.in-Fork.is
     (if_ok_so (λ note. (tree : List Entry) (abi : Abi) (child : ℕ) → IsSound tree c.args.self.now → Settles tree abi c.args.record.now.process.0 (calls.Fork child) c.args.self.now c.fork.new.self note)
-        _ c.fork.result c.fork.ensures (λ note settled. settled c.args.tree.now c.args.abi c.in-Fork.child c.requires.sound))
+    _ c.fork.result c.fork.ensures (λ note settled. settled c.args.tree.now c.args.abi c.in-Fork.child c.requires.sound))
 
 pub returns-in-Create : goal.returns-in-Create
 returns-in-Create c = rw c.in-Create.is
     (if_ok_so (λ note. (tree : List Entry) → IsSound tree c.args.self.now → Settles tree c.args.abi c.args.record.now.process.0 (calls.Create c.in-Create.rs c.in-Create.fs c.in-Create.net) c.args.self.now c.create.new.self note)
-        _ c.create.result c.create.ensures (λ note settled. settled c.args.tree.now c.requires.sound))
+    _ c.create.result c.create.ensures (λ note settled. settled c.args.tree.now c.requires.sound))
 
 pub returns-in-AddPath : goal.returns-in-AddPath
 returns-in-AddPath c = rw c.in-AddPath.is
     (if_ok_so (λ note. (abi : Abi) → Settles c.args.tree.now abi c.args.record.now.process.0 (calls.AddPath c.in-AddPath.rs c.in-AddPath.path c.in-AddPath.fs) c.args.self.now c.add_path.new.self note)
-        _ c.add_path.result c.add_path.ensures (λ note settled. settled c.args.abi))
+    _ c.add_path.result c.add_path.ensures (λ note settled. settled c.args.abi))
 
 pub returns-in-AddPort : goal.returns-in-AddPort
 returns-in-AddPort c = rw c.in-AddPort.is
     (if_ok_so (λ note. (tree : List Entry) → IsSound tree c.args.self.now → Settles tree c.args.abi c.args.record.now.process.0 (calls.AddPort c.in-AddPort.rs c.in-AddPort.port c.in-AddPort.net) c.args.self.now c.add_port.new.self note)
-        _ c.add_port.result c.add_port.ensures (λ note settled. settled c.args.tree.now c.requires.sound))
+    _ c.add_port.result c.add_port.ensures (λ note settled. settled c.args.tree.now c.requires.sound))
 
 pub returns-in-CloseRs : goal.returns-in-CloseRs
 returns-in-CloseRs c = rw c.in-CloseRs.is (c.close_rs.ensures c.args.tree.now c.args.abi c.requires.sound)
@@ -65,7 +65,7 @@ returns-in-CloseRs c = rw c.in-CloseRs.is (c.close_rs.ensures c.args.tree.now c.
 pub returns-in-Restrict : goal.returns-in-Restrict
 returns-in-Restrict c = rw c.in-Restrict.is
     (if_ok_so (λ note. (tree : List Entry) (abi : Abi) → IsSound tree c.args.self.now → Settles tree abi c.args.record.now.process.0 (calls.Restrict c.in-Restrict.rs) c.args.self.now c.restrict.new.self note)
-        _ c.restrict.result c.restrict.ensures (λ note settled. settled c.args.tree.now c.args.abi c.requires.sound))
+    _ c.restrict.result c.restrict.ensures (λ note settled. settled c.args.tree.now c.args.abi c.requires.sound))
 
 pub returns-in_default : goal.returns-in_default
 returns-in_default c =

@@ -11,4 +11,4 @@ pub returns : goal.returns
 unfolding is_start is_on_rulesets started change enforced fresh
 returns c = λ tree abi process nnp admin sound.
     settles_begun tree abi process c.args.self.now (record { store = c.args.self.now.store; tables = c.start.new.self }) (calls.Start nnp admin) (λ _. None) (λ _. fresh nnp admin)
-        sound (inr refl) refl (λ world. refl) (λ rulesets s. refl) (λ rulesets s. refl) (λ world agrees q. refl) (λ q place is. cc) refl c.in_ok-start.ensures
+    sound (inr refl) refl (λ world. refl) (λ rulesets s. refl) (λ rulesets s. refl) (λ world agrees q. refl) (λ q place is. cc) refl c.in_ok-start.ensures

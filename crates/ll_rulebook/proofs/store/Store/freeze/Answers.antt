@@ -41,4 +41,4 @@ returns-clause-in_tree c = λ tree rulesets_in layers_in.
     let within : c.args.place < length stored = place_within stored layers c.args.self.now c.self.view_is c.args.place c.requires.there in
     let there : slice_get c.args.self.now.rulesets c.args.place ≡ Some one.«ruleset» = ruleset_there stored layers c.args.self.now c.self.view_is c.args.place one (stands stored c.args.place one within c.index_mut-stored.ensures.value) in
     rw (c.push_reserved.ensures.items, c.in_ok-reserve.ensures.items, c.in_ok-layer.ensures)
-        (All-push (AreInTree tree) layers one.«ruleset» (rw (ap (λ (s : Stock). s.layers) c.self.view_is) layers_in) (all_there (AreInTree tree) c.args.self.now.rulesets c.args.place one.«ruleset» rulesets_in there))
+    (All-push (AreInTree tree) layers one.«ruleset» (rw (ap (λ (s : Stock). s.layers) c.self.view_is) layers_in) (all_there (AreInTree tree) c.args.self.now.rulesets c.args.place one.«ruleset» rulesets_in there))
