@@ -1,0 +1,3 @@
+pub mod Worlds
+pub mod Steps
+pub mod LawOfOrders

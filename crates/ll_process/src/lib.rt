@@ -1,0 +1,6 @@
+//! Judging one process at a time.
+#![tactic(auto)]
+
+mod orders;
+
+pub use orders::law_of_orders;
