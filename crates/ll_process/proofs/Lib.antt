@@ -1,3 +1,6 @@
 pub mod Worlds
 pub mod Steps
 pub mod LawOfOrders
+pub mod Numbers
+pub mod OwnRecords
+pub mod Walks

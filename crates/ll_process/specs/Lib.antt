@@ -1,2 +1,3 @@
 pub mod Processes
 pub mod Orders
+pub mod Judging
