@@ -4,3 +4,5 @@ pub mod LawOfOrders
 pub mod Numbers
 pub mod OwnRecords
 pub mod Walks
+pub mod Forks
+pub mod Weighing

@@ -1,3 +1,4 @@
 pub mod Processes
 pub mod Orders
 pub mod Judging
+pub mod Weights
