@@ -1,3 +1,17 @@
 pub mod Tests
 pub mod PathText
 pub mod PathLaws
+pub mod Positions
+pub mod Listing
+pub mod Standing
+pub mod Objects
+pub mod Fronts
+pub mod Numbered
+pub mod Finding
+pub mod Climbing
+pub mod Growing
+pub mod Keeping
+pub mod RootAlone
+pub mod LinesLemmas
+pub mod MembersLemmas
+pub mod ReadingLemmas

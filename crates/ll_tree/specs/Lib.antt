@@ -1,1 +1,8 @@
 pub mod Paths
+pub mod Trees
+pub mod Kept
+pub mod Fault
+pub mod Lines
+pub mod LineView
+pub mod Members
+pub mod Reading
