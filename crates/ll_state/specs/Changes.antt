@@ -2,16 +2,16 @@
 -- Source: landlock_restrict_self(2); landlock(7), "Inheritance"; the kernel's userspace document on Landlock, "Truncating files".
 use Rattle.std.specs.Prelude.{ℕ, List, [], ◌∷◌, ◌++◌, length, Bool, true, false, Option, Some, None, nat_eq, slice_get, slice_set}
 use Rattle.std.specs.Map.{update}
-use Rattle.ll_rights.specs.declared.fs.Fs.{Fs}
-use Rattle.ll_rights.specs.declared.net.Net.{Net}
 use Rattle.ll_rights.specs.declared.kind.Kind.{Kind}
 use Rattle.ll_rights.specs.declared.kind.Kind.TheVariants.{Dir, Reg, Sym, Char, Block, Fifo, Sock}
-use Rattle.ll_rights.specs.Rights.{FsRight, truncate, ioctl_dev, only}
+use Rattle.ll_rights.specs.Rights.{truncate, ioctl_dev, only}
 use Rattle.ll_tree.specs.declared.place.NodeId.{NodeId}
 use Rattle.ll_tree.specs.declared.place.Place.{Place}
 use Rattle.ll_tree.specs.declared.place.Place.TheVariants.{Node, Gap, Nowhere}
 use Rattle.ll_tree.specs.Trees.{Entry, path_at, kind_at, place}
-use Rattle.ll_rules.specs.Stub.{Layer, new_ruleset, with_path_rule, with_port_rule, refusing}
+use Rattle.ll_rules.specs.Layers.{without_rules, with_port_rule}
+use Rattle.ll_rules.specs.Rulesets.{with_rule_at}
+use Rattle.ll_rules.specs.Checks.{refusing}
 use Rattle.ll_trace.specs.declared.op.Op.{Op}
 use Rattle.ll_trace.specs.declared.op.Op.TheVariants as calls
 use Rattle.ll_trace.specs.declared.op.Mode.{Mode}
@@ -19,7 +19,7 @@ use Rattle.ll_trace.specs.declared.op.Mode.TheVariants.{Read, Write, Both}
 use Rattle.ll_trace.specs.declared.op.Sort.{Sort}
 use Rattle.ll_trace.specs.declared.op.Sort.TheVariants.{Regular, Device, Other}
 use Rattle.ll_state.specs.declared.descriptor.Descriptor.{Descriptor}
-use Rattle.ll_state.specs.States.{State, fresh}
+use Rattle.ll_state.specs.States.{State, Layer, fresh}
 use Rattle.ll_state.specs.Answers.{named}
 
 -- ---- descriptors
@@ -73,6 +73,20 @@ change tree rulesets (calls.Dup fd to) s = with_descriptor s to (s.descriptors f
 change tree rulesets (calls.Close fd) s = with_descriptor s fd None
 change tree rulesets op s = s
 
+-- a call that may change its process's state
+unfoldable pub is_still : Op → Bool
+is_still calls.Nnp = false
+is_still (calls.Create rs fs net) = false
+is_still (calls.AddPath rs path fs) = false
+is_still (calls.AddPort rs port net) = false
+is_still (calls.CloseRs rs) = false
+is_still (calls.Restrict rs) = false
+is_still (calls.OpenFile path fd mode create trunc) = false
+is_still (calls.Adopt fd kind) = false
+is_still (calls.Dup fd to) = false
+is_still (calls.Close fd) = false
+is_still op = true
+
 -- ---- the rulesets, one list for all processes
 
 abbrev pub slice_set_by : List Layer → ℕ → Option Layer → (Layer → Layer) → List Layer
@@ -84,8 +98,8 @@ changed_at rulesets None f = rulesets
 changed_at rulesets (Some place) f = slice_set_by rulesets place (slice_get rulesets place) f
 
 unfoldable pub rules : List Entry → List Layer → Op → State → List Layer
-rules tree rulesets (calls.Create rs fs net) s = rulesets ++ new_ruleset fs net ∷ []
-rules tree rulesets (calls.AddPath rs path fs) s = changed_at rulesets (s.held rs) (λ old. with_path_rule tree old (place tree path) fs)
+rules tree rulesets (calls.Create rs fs net) s = rulesets ++ without_rules fs net ∷ []
+rules tree rulesets (calls.AddPath rs path fs) s = changed_at rulesets (s.held rs) (λ old. with_rule_at tree old (place tree path) fs)
 rules tree rulesets (calls.AddPort rs port net) s = changed_at rulesets (s.held rs) (λ old. with_port_rule old port net)
 rules tree rulesets op s = rulesets
 

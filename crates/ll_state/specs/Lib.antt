@@ -5,3 +5,7 @@ pub mod Answers
 pub mod Changes
 pub mod Worlds
 pub mod Notes
+pub mod Agreement
+pub mod WorkedWords
+pub mod WorkedLayers
+pub mod WorkedCalls

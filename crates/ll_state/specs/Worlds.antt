@@ -1,14 +1,13 @@
 -- The semantics of a trace: one fold of its records over the world of rulesets and processes.
 -- Source: landlock(7); the kernel's userspace document on Landlock, "Inheritance".
-use Rattle.std.specs.Prelude.{ℕ, List, [], ◌∷◌, ◌++◌, length, take, Bool, true, false, Option, Some, None, unwrap_or, slice_get, slice_set, option_to_list, fold}
+use Rattle.std.specs.Prelude.{ℕ, List, [], ◌∷◌, ◌++◌, take, false, unwrap_or, slice_get, slice_set, option_to_list}
 use Rattle.ll_rights.specs.declared.abi.Abi.{Abi}
 use Rattle.ll_tree.specs.Trees.{Entry}
-use Rattle.ll_rules.specs.Stub.{Layer}
-use Rattle.ll_trace.specs.declared.op.Record.{Record}
+use Rattle.ll_trace.specs.declared.record.Record.{Record}
 use Rattle.ll_trace.specs.declared.op.Op.{Op}
 use Rattle.ll_state.specs.declared.answer.Answer.{Answer}
 use Rattle.ll_state.specs.declared.answer.Answer.TheVariants.{Allowed, Moot, Refused}
-use Rattle.ll_state.specs.States.{State, fresh}
+use Rattle.ll_state.specs.States.{State, Layer, fresh}
 use Rattle.ll_state.specs.Answers.{answer}
 use Rattle.ll_state.specs.Changes.{change, rules, started}
 
@@ -45,8 +44,8 @@ unfoldable pub step : List Entry → Abi → World → Record → World
 step tree abi world r = record {
   rulesets = rulesets_after tree abi world.rulesets r.op (state_of world r.process.0);
   processes =
-    slice_set world.processes r.process.0 (state_after tree abi world.rulesets r.op (state_of world r.process.0))
-    ++ option_to_list (started r.op (state_of world r.process.0));
+      slice_set world.processes r.process.0 (state_after tree abi world.rulesets r.op (state_of world r.process.0))
+      ++ option_to_list (started r.op (state_of world r.process.0));
 }
 
 -- the answers to records, from a world on

@@ -1,5 +1,7 @@
 //! Open descriptors.
 
+ghost use Rattle.std.specs.Prelude.{◌≡◌, []};
+
 use ll_rules::LayerSet;
 use ll_trace::Sort;
 
@@ -9,4 +11,17 @@ use ll_trace::Sort;
 pub struct Descriptor {
     pub sort: Sort,
     pub kept: LayerSet,
+}
+
+impl Descriptor {
+    /// A descriptor to which no layer refused anything.
+    pub(crate) fn unrestricted(sort: Sort) -> Descriptor
+        ensures sort { result.sort ≡ sort }
+        ensures kept { result.kept ≡ [] }
+    {
+        Descriptor {
+            sort,
+            kept: LayerSet::new(),
+        }
+    }
 }
