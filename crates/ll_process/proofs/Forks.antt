@@ -7,7 +7,7 @@ use Rattle.std.proofs.lemmas.Option.{none-some, same_Some}
 use Rattle.std.proofs.lemmas.List.Sums.{sum_by-cons}
 use Rattle.ll_rights.specs.declared.abi.Abi.{Abi}
 use Rattle.ll_tree.specs.Trees.{Entry}
-use Rattle.ll_trace.specs.declared.op.Record.{Record}
+use Rattle.ll_trace.specs.declared.record.Record.{Record}
 use Rattle.ll_state.specs.States.{State}
 use Rattle.ll_state.specs.Worlds.{state_of, step, world_at}
 use Rattle.ll_process.specs.Processes.{is_start, is_fork, is_starting, process_count, started_at, forked_at, own_from, own_records, children, IsNumbered}
@@ -35,4 +35,3 @@ child_above records i r numbered at forks = numbered.goes_on i r at (fork_no_sta
 
 pub child_below : (records : List Record) (i : ℕ) (r : Record) → slice_get records i ≡ Some r → is_fork r.op ≡ true → process_count (take i records) < process_count records
 child_below records i r at forks = omega (arith, count-started records i r at (fork-starts r.op forks), count-all records (suc i))
-

@@ -4,7 +4,7 @@ use Rattle.std.specs.Prelude.{unwrap_or}
 use Rattle.std.proofs.lemmas.List.{get_or_past, get_or_at}
 use Rattle.ll_rights.specs.declared.abi.Abi.{Abi}
 use Rattle.ll_tree.specs.Trees.{Entry}
-use Rattle.ll_trace.specs.declared.op.Record.{Record}
+use Rattle.ll_trace.specs.declared.record.Record.{Record}
 use Rattle.ll_trace.specs.declared.op.Op.{Op}
 use Rattle.ll_state.specs.States.{State, fresh}
 use Rattle.ll_state.specs.Answers.{answer}
@@ -30,17 +30,17 @@ pub depends_on_own : DependsOnOwn
 depends_on_own tree abi r w v same = record {
   answer = answers_alike tree abi r w v same;
   rulesets =
-    step-rulesets tree abi w r
-    ∙ ap (λ rulesets. rulesets_after tree abi rulesets r.op (state_of w r.process.0)) same.rulesets
-    ∙ ap (λ s. rulesets_after tree abi v.rulesets r.op s) same.own
-    ∙ sym (step-rulesets tree abi v r);
+      step-rulesets tree abi w r
+      ∙ ap (λ rulesets. rulesets_after tree abi rulesets r.op (state_of w r.process.0)) same.rulesets
+      ∙ ap (λ s. rulesets_after tree abi v.rulesets r.op s) same.own
+      ∙ sym (step-rulesets tree abi v r);
   own = λ within there.
-    step-own tree abi w r within
-    ∙ ap (λ rulesets. state_after tree abi rulesets r.op (state_of w r.process.0)) same.rulesets
-    ∙ ap (λ s. state_after tree abi v.rulesets r.op s) same.own
-    ∙ sym (step-own tree abi v r there);
+      step-own tree abi w r within
+      ∙ ap (λ rulesets. state_after tree abi rulesets r.op (state_of w r.process.0)) same.rulesets
+      ∙ ap (λ s. state_after tree abi v.rulesets r.op s) same.own
+      ∙ sym (step-own tree abi v r there);
   started =
-    step-begun tree abi w r
-    ∙ ap (λ s. unwrap_or (started r.op s) none) same.own
-    ∙ sym (step-begun tree abi v r);
+      step-begun tree abi w r
+      ∙ ap (λ s. unwrap_or (started r.op s) none) same.own
+      ∙ sym (step-begun tree abi v r);
 }

@@ -6,3 +6,10 @@ pub mod OwnRecords
 pub mod Walks
 pub mod Forks
 pub mod Weighing
+pub mod TraceWords
+pub mod OwnSteps
+pub mod ChildJobs
+pub mod Walked
+pub mod HandingOut
+pub mod WalkSteps
+pub mod Descents

@@ -3,7 +3,7 @@ use Rattle.std.proofs.Common.{◌≡◌, ◌≢◌, ℕ, zero, suc, ◌+◌, ◌
 use Rattle.std.specs.Prelude.{◌⊎◌, slice_get}
 use Rattle.std.proofs.lemmas.Bool.{cases_lt}
 use Rattle.std.proofs.lemmas.Option.{none-some, same_Some}
-use Rattle.ll_trace.specs.declared.op.Record.{Record}
+use Rattle.ll_trace.specs.declared.record.Record.{Record}
 use Rattle.ll_trace.specs.declared.op.Op.{Op}
 use Rattle.ll_process.specs.Processes.{is_start, is_fork, is_starting, process_count, started_by, started_at, forked_by, forked_at, IsNumbered}
 use Rattle.ll_process.proofs.Steps.{process_count-cons, start-starts, fork-starts, starts_alone, fork_no_start}
@@ -69,6 +69,23 @@ started_at-is rs k p is = by_get (slice_get rs k) refl
         let parts = cond_some (is_starting r.op) (process_count (take k rs)) p (subst (λ (v : Option Record). started_by rs k v ≡ Some p) some is) in
         record { of = r; at = some; starts = parts.0; number = sym parts.1 }
 
+-- a record that forks a child, whose number counts the ones before
+pub record ForkedAt (rs : List Record) (k p : ℕ) : Type 0 where
+  pub of : Record
+  pub at : slice_get rs k ≡ Some of
+  pub forks : is_fork of.op ≡ true
+  pub number : p ≡ process_count (take k rs)
+
+pub forked_at-is : (rs : List Record) (k p : ℕ) → forked_at rs k ≡ Some p → ForkedAt rs k p
+unfolding forked_at forked_by
+forked_at-is rs k p is = by_get (slice_get rs k) refl
+  where
+    by_get : (o : Option Record) → slice_get rs k ≡ o → ForkedAt rs k p
+    by_get None none = absurd (none-some p (subst (λ (v : Option Record). forked_by rs k v ≡ Some p) none is))
+    by_get (Some r) some =
+        let parts = cond_some (is_fork r.op) (process_count (take k rs)) p (subst (λ (v : Option Record). forked_by rs k v ≡ Some p) some is) in
+        record { of = r; at = some; forks = parts.0; number = sym parts.1 }
+
 pub started_at-from : (rs : List Record) (k : ℕ) (r : Record) → slice_get rs k ≡ Some r → is_starting r.op ≡ true → started_at rs k ≡ Some (process_count (take k rs))
 unfolding started_at started_by
 started_at-from rs k r at starts = rw (at, starts) refl
@@ -85,10 +102,10 @@ forked_at-none rs k r at forks = rw (at, forks) refl
 pub started_once : (rs : List Record) (j k p : ℕ) → StartedAt rs j p → StartedAt rs k p → j ≡ k
 started_once rs j k p one two =
     elim (cases_lt j k) [
-      inl less ↦ absurd (omega (arith, count-started rs j one.of one.at one.starts, count-le rs (suc j) k (omega arith), one.number, two.number))
-    | inr more ↦ elim (cases_lt k j) [
-        inl less ↦ absurd (omega (arith, count-started rs k two.of two.at two.starts, count-le rs (suc k) j (omega arith), one.number, two.number))
-      | inr other ↦ omega arith
+      | inl less ↦ absurd (omega (arith, count-started rs j one.of one.at one.starts, count-le rs (suc j) k (omega arith), one.number, two.number))
+      | inr more ↦ elim (cases_lt k j) [
+        | inl less ↦ absurd (omega (arith, count-started rs k two.of two.at two.starts, count-le rs (suc k) j (omega arith), one.number, two.number))
+        | inr other ↦ omega arith
       ]
     ]
 
@@ -108,3 +125,22 @@ numbered_below rs k r numbered at = by_start (is_start r.op) refl
 pub not_own_before : (rs : List Record) (j k p : ℕ) (r : Record) → IsNumbered rs → StartedAt rs k p → j < k → slice_get rs j ≡ Some r → r.process.0 ≢ p
 not_own_before rs j k p r numbered one less at same =
     omega (arith, numbered_below rs j r numbered at, count-le rs (suc j) k (omega arith), one.number)
+
+-- each number below the count is that of a process which some record starts
+later_start : (r : Record) (rs : List Record) (n p : ℕ) → n ≡ cond (is_starting r.op) 1 0 → (k : ℕ) × StartedAt rs k p → (k : ℕ) × StartedAt (r ∷ rs) k (n + p)
+later_start r rs n p counts (k, one) = (suc k, record { of = one.of; at = one.at; starts = one.starts; number = omega (arith, one.number, process_count-cons r (take k rs)) })
+
+pub start_of : (rs : List Record) (p : ℕ) → p < process_count rs → (k : ℕ) × StartedAt rs k p
+start_of [] p below = absurd (omega (arith, nil_count 0, below))
+start_of (r ∷ rs) p below = by_start (is_starting r.op) refl p refl below (λ q less. start_of rs q less)
+  where
+    by_start : (b : Bool) → is_starting r.op ≡ b → (q : ℕ) → q ≡ p → q < process_count (r ∷ rs) → ((q : ℕ) → q < process_count rs → (k : ℕ) × StartedAt rs k q) → (k : ℕ) × StartedAt (r ∷ rs) k q
+    by_start true starts zero same less rest = (0, record { of = r; at = refl; starts = starts; number = sym (no_count (r ∷ rs)) })
+    by_start true starts (suc q) same less rest =
+        let one : (let n : ℕ = 1 in n ≡ cond (is_starting r.op) 1 0) = sym (counts_one (is_starting r.op) starts) in
+        let next : 1 + q ≡ suc q = omega arith in
+        subst (λ (m : ℕ). (k : ℕ) × StartedAt (r ∷ rs) k m) next (later_start r rs 1 q one (rest q (omega (arith, process_count-cons r rs, counts_one (is_starting r.op) starts))))
+    by_start false fails q same less rest =
+        let none : (let n : ℕ = 0 in n ≡ cond (is_starting r.op) 1 0) = ap (λ b. (let n : ℕ = cond b 1 0 in n)) (sym fails) in
+        let next : 0 + q ≡ q = omega arith in
+        subst (λ (m : ℕ). (k : ℕ) × StartedAt (r ∷ rs) k m) next (later_start r rs 0 q none (rest q (omega (arith, process_count-cons r rs, none))))

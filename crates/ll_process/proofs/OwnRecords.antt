@@ -3,7 +3,7 @@ use Rattle.std.proofs.Common.{◌≡◌, ◌≢◌, ℕ, zero, suc, ◌+◌, ◌
 use Rattle.std.specs.Prelude.{slice_get, ◌==◌}
 use Rattle.std.proofs.lemmas.Bool.{eqb-true, eqb-false, eq-eqb, ne_eqb}
 use Rattle.std.proofs.lemmas.Option.{none-some, same_Some}
-use Rattle.ll_trace.specs.declared.op.Record.{Record}
+use Rattle.ll_trace.specs.declared.record.Record.{Record}
 use Rattle.ll_process.specs.Processes.{own_from}
 
 pub own_from-yes : (p b : ℕ) (r : Record) (rs : List Record) → r.process.0 ≡ p → own_from p b (r ∷ rs) ≡ b ∷ own_from p (b + 1) rs
@@ -44,6 +44,7 @@ own_at p b (r ∷ rs) j i at = by_test (r.process.0 == p) refl (λ n. own_at p (
       rest = ap (λ n. own_from p (n + 1) rs) (same_Some b i here);
     }
     by_place (suc j) own more here = later p b r rs i _ (more j here)
+
     by_test : (t : Bool) → (r.process.0 == p) ≡ t → ((n : ℕ) → slice_get (own_from p (b + 1) rs) n ≡ Some i → OwnAt p (b + 1) rs i (drop (suc n) (own_from p (b + 1) rs))) → OwnAt p b (r ∷ rs) i (drop (suc j) (own_from p b (r ∷ rs)))
     by_test true own more =
         let is : own_from p b (r ∷ rs) ≡ b ∷ own_from p (b + 1) rs = own_from-yes p b r rs (eqb-true r.process.0 p own) in

@@ -7,13 +7,12 @@ use Rattle.std.proofs.lemmas.List.Sums.{sum_by-cons}
 use Rattle.std.proofs.lemmas.Grind.{common_steps}
 use Rattle.ll_rights.specs.declared.abi.Abi.{Abi}
 use Rattle.ll_tree.specs.Trees.{Entry}
-use Rattle.ll_rules.specs.Stub.{Layer}
-use Rattle.ll_trace.specs.declared.op.Record.{Record}
+use Rattle.ll_trace.specs.declared.record.Record.{Record}
 use Rattle.ll_trace.specs.declared.op.Op.{Op}
 use Rattle.ll_trace.specs.declared.op.Op.TheVariants.{Start, Fork, Create, AddPath, AddPort}
 use Rattle.ll_state.specs.declared.answer.Answer.{Answer}
 use Rattle.ll_state.specs.declared.answer.Answer.TheVariants.{Allowed}
-use Rattle.ll_state.specs.States.{State, fresh}
+use Rattle.ll_state.specs.States.{State, Layer, fresh}
 use Rattle.ll_state.specs.Answers.{answer}
 use Rattle.ll_state.specs.Changes.{change, rules as rules_of, started}
 use Rattle.ll_state.specs.Worlds.{World, state_of, if_allowed, answer_in, state_after, rulesets_after, step, world_after, world_at, empty_world}
@@ -183,3 +182,21 @@ pub fork_no_start : (op : Op) → is_fork op ≡ true → is_start op ≡ false
 unfolding is_start is_fork
 fork_no_start (Fork child) holds = refl
 fork_no_start op holds = cc
+
+pub is_fork-from : (op : Op) (child : ℕ) → op ≡ Fork child → is_fork op ≡ true
+unfolding is_fork
+is_fork-from op child is = ap (λ o. is_fork o) is
+
+pub is_fork-not : (op : Op) → ((child : ℕ) → op ≡ Fork child → ⊥) → is_fork op ≡ false
+unfolding is_fork
+is_fork-not (Fork child) other = absurd (other child refl)
+is_fork-not op other = refl
+
+pub is_start-from : (op : Op) (nnp admin : Bool) → op ≡ Start nnp admin → is_start op ≡ true
+unfolding is_start
+is_start-from op nnp admin is = ap (λ o. is_start o) is
+
+pub is_start-not : (op : Op) → ((nnp admin : Bool) → op ≡ Start nnp admin → ⊥) → is_start op ≡ false
+unfolding is_start
+is_start-not (Start nnp admin) other = absurd (other nnp admin refl)
+is_start-not op other = refl

@@ -6,7 +6,7 @@ use Rattle.std.proofs.Math.Nat.{pow-le-pow_right, two-pow-succ}
 use Rattle.std.proofs.lemmas.Nat.{pow_pos}
 use Rattle.std.proofs.lemmas.Bool.{cases_Bool, eqb-true, eqb-false}
 use Rattle.std.proofs.lemmas.List.Sums.{sum_by-cons, sum_by-append}
-use Rattle.ll_trace.specs.declared.op.Record.{Record}
+use Rattle.ll_trace.specs.declared.record.Record.{Record}
 use Rattle.ll_process.specs.Processes.{is_fork, process_count, forked_at, own_from, own_records, children, IsNumbered}
 use Rattle.ll_process.specs.Weights.{weight, weight_of}
 use Rattle.ll_process.proofs.Steps.{fork-starts}
@@ -52,24 +52,24 @@ children_weigh records [] b p n e numbered from all covers =
 children_weigh records (r ∷ rs) b p n e numbered from all covers =
     let at : slice_get records b ≡ Some r = at_place records b r rs from in
     let rest : (d : ℕ) → Covers records (b + 1) p n d → sum_by (weight n) (filter_map (forked_at records) (own_from p (b + 1) rs)) < 2 ^ d =
-      λ d covered. children_weigh records rs (b + 1) p n d numbered (next_place records b r rs from) all covered in
+    λ d covered. children_weigh records rs (b + 1) p n d numbered (next_place records b r rs from) all covered in
     elim (cases_Bool (r.process.0 == p)) [
-      inr other ↦
-        subst (λ (xs : List ℕ). sum_by (weight n) (filter_map (forked_at records) xs) < 2 ^ e) (sym (own_from-no p b r rs (eqb-false r.process.0 p other))) (rest e (covers_next records b p n e covers))
-    | inl own ↦
-        subst (λ (xs : List ℕ). sum_by (weight n) (filter_map (forked_at records) xs) < 2 ^ e) (sym (own_from-yes p b r rs (eqb-true r.process.0 p own)))
-        (elim (cases_Bool (is_fork r.op)) [
-          inr goes ↦
-            subst (λ (o : Option ℕ). sum_by (weight n) (cons_option o (filter_map (forked_at records) (own_from p (b + 1) rs))) < 2 ^ e) (sym (forked_at-none records b r at goes)) (rest e (covers_next records b p n e covers))
-        | inl forks ↦
-            (let c : ℕ = process_count (take b records) in
-            let above : p < process_count (take b records) = omega (arith, child_above records b r numbered at forks, eqb-true r.process.0 p own) in
-            let more : process_count (take (b + 1) records) ≡ process_count (take b records) + 1 = rw (add-one b) (count-started records b r at (fork-starts r.op forks)) in
-            let here : 2 ^ (n - process_count (take b records)) + sum_by (weight n) (filter_map (forked_at records) (own_from p (b + 1) rs)) < 2 ^ e =
-              child_and_rest n (process_count (take b records)) e _ (omega (arith, child_below records b r at forks)) (covers_fork records b p n e above covers) (λ d covered. rest d (inr (omega (arith, more)))) in
-            subst (λ (o : Option ℕ). sum_by (weight n) (cons_option o (filter_map (forked_at records) (own_from p (b + 1) rs))) < 2 ^ e) (sym (forked_at-from records b r at forks))
-              (subst (λ (m : ℕ). m < 2 ^ e) (sym (sum_by-cons (weight n) (process_count (take b records)) (filter_map (forked_at records) (own_from p (b + 1) rs)))) here))
-        ])
+      | inr other ↦
+          subst (λ (xs : List ℕ). sum_by (weight n) (filter_map (forked_at records) xs) < 2 ^ e) (sym (own_from-no p b r rs (eqb-false r.process.0 p other))) (rest e (covers_next records b p n e covers))
+      | inl own ↦
+          subst (λ (xs : List ℕ). sum_by (weight n) (filter_map (forked_at records) xs) < 2 ^ e) (sym (own_from-yes p b r rs (eqb-true r.process.0 p own)))
+          (elim (cases_Bool (is_fork r.op)) [
+            | inr goes ↦
+                subst (λ (o : Option ℕ). sum_by (weight n) (cons_option o (filter_map (forked_at records) (own_from p (b + 1) rs))) < 2 ^ e) (sym (forked_at-none records b r at goes)) (rest e (covers_next records b p n e covers))
+            | inl forks ↦
+                (let c : ℕ = process_count (take b records) in
+                let above : p < process_count (take b records) = omega (arith, child_above records b r numbered at forks, eqb-true r.process.0 p own) in
+                let more : process_count (take (b + 1) records) ≡ process_count (take b records) + 1 = rw (add-one b) (count-started records b r at (fork-starts r.op forks)) in
+                let here : 2 ^ (n - process_count (take b records)) + sum_by (weight n) (filter_map (forked_at records) (own_from p (b + 1) rs)) < 2 ^ e =
+                child_and_rest n (process_count (take b records)) e _ (omega (arith, child_below records b r at forks)) (covers_fork records b p n e above covers) (λ d covered. rest d (inr (omega (arith, more)))) in
+                subst (λ (o : Option ℕ). sum_by (weight n) (cons_option o (filter_map (forked_at records) (own_from p (b + 1) rs))) < 2 ^ e) (sym (forked_at-from records b r at forks))
+                (subst (λ (m : ℕ). m < 2 ^ e) (sym (sum_by-cons (weight n) (process_count (take b records)) (filter_map (forked_at records) (own_from p (b + 1) rs)))) here))
+          ])
     ]
 
 pub weight_of-children : (records : List Record) (p n : ℕ) → IsNumbered records → process_count records ≤ n → weight_of n (children records p) < weight n p

@@ -4,7 +4,7 @@ use Rattle.std.specs.Prelude.{unwrap_or, slice_get, slice_set, option_to_list, c
 use Rattle.std.proofs.lemmas.Grind.{common_steps}
 use Rattle.ll_rights.specs.declared.abi.Abi.{Abi}
 use Rattle.ll_tree.specs.Trees.{Entry}
-use Rattle.ll_trace.specs.declared.op.Record.{Record}
+use Rattle.ll_trace.specs.declared.record.Record.{Record}
 use Rattle.ll_trace.specs.declared.op.Op.{Op}
 use Rattle.ll_trace.specs.declared.op.Op.TheVariants.{Start, Fork}
 use Rattle.ll_state.specs.declared.answer.Answer.{Answer}

@@ -3,7 +3,7 @@
 use Rattle.std.specs.Prelude.{◌≡◌, ◌≢◌, ℕ, ◌<◌, Bool, true, false, List, length, Option, Some, None}
 use Rattle.ll_rights.specs.declared.abi.Abi.{Abi}
 use Rattle.ll_tree.specs.Trees.{Entry}
-use Rattle.ll_trace.specs.declared.op.Record.{Record}
+use Rattle.ll_trace.specs.declared.record.Record.{Record}
 use Rattle.ll_trace.specs.declared.op.Op.{Op}
 use Rattle.ll_trace.specs.declared.op.Op.TheVariants.{Create, AddPath, AddPort}
 use Rattle.ll_state.specs.Worlds.{World, state_of, answer_in, step}

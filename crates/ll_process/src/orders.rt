@@ -9,5 +9,4 @@ pub fn law_of_orders()
     ensures others { ChangesNoOther }
     ensures rulesets { ChangesRulesetsAlone }
     ensures own { DependsOnOwn }
-{
-}
+{}
