@@ -13,3 +13,5 @@ pub mod Walked
 pub mod HandingOut
 pub mod WalkSteps
 pub mod Descents
+pub mod Numbering
+pub mod Roots

@@ -24,7 +24,7 @@ pub own_places-is : (records : List Record) (process : ProcessId) → own_places
 unfolding own_records
 own_places-is records process = places_from-is 0 records process.0
 
-starting-op : (op : Op) (pid : ℕ) → is_some (pid_started op pid) ≡ is_starting op
+pub starting-op : (op : Op) (pid : ℕ) → is_some (pid_started op pid) ≡ is_starting op
 unfolding pid_started is_starting
 starting-op (Start nnp admin) pid = refl
 starting-op (Fork child) pid = refl

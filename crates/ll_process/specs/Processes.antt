@@ -64,6 +64,14 @@ children records process = filter_map (forked_at records) (own_records records p
 unfoldable pub kids : List Record → List ℕ → List ℕ
 kids records processes = flat_map (children records) processes
 
+-- the process that a start record begins
+unfoldable pub root_of : Option Record → Option ℕ
+root_of None = None
+root_of (Some r) = if is_start r.op then Some r.process.0 else None
+
+abbrev pub root_at : List Record → ℕ → Option ℕ
+root_at records k = root_of (slice_get records k)
+
 -- the processes of start records
 unfoldable pub roots : List Record → List ℕ
 roots records = map (λ r. r.process.0) (filter (λ r. is_start r.op) records)

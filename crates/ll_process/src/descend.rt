@@ -6,7 +6,7 @@ ghost use Rattle.ll_process.specs.Cases.{answers_in};
 ghost use Rattle.ll_process.specs.Jobs.{processes_of, AllOf, HandedOut, SharesOut};
 ghost use Rattle.ll_process.specs.Weights.{weight, weight_of};
 
-use crate::case::Case;
+use crate::adding::append;
 use crate::child::{child_job, offer};
 use crate::hand::Hand;
 use crate::job::Job;
@@ -16,16 +16,6 @@ use ll_rules::NoMemory;
 use ll_state::Answer;
 use ll_trace::ProcessId;
 use std::alloc::Global;
-
-/// Adds an item at the end.
-fn append<T: Drop>(items: &mut Vec<T>, item: T) -> Result<(), NoMemory>
-    ensures { OnOk result (items.new.items ≡ items.old.items ++ item ∷ []) }
-{
-    match items.push(item) {
-        Ok(()) => Ok(()),
-        Err(_) => Err(NoMemory),
-    }
-}
 
 /// Judges one process: its records, with their answers, go behind those that are there. Each child
 /// that it forks is offered to the hand; those that come back are still to do.

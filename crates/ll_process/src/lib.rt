@@ -1,6 +1,7 @@
 //! Judging one process at a time.
 #![tactic(auto)]
 
+mod adding;
 mod case;
 mod child;
 mod descend;
@@ -8,6 +9,7 @@ mod hand;
 mod job;
 mod orders;
 mod piece;
+mod starting;
 mod walk;
 
 pub use case::Case;
