@@ -18,3 +18,6 @@ pub use path_text::PathText;
 pub use record::{ProcessId, Record};
 pub use rows::{faulty_traces, whole_traces};
 pub use trace::Trace;
+
+#[cfg(test)]
+mod tests;

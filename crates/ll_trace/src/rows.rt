@@ -51,8 +51,7 @@ pub fn faulty_traces()
         (record { line = 2; cause = Field }) }
     ensures mode { IsBad trace_file (codes "{\"op\":\"start\",\"pid\":10}\n{\"op\":\"open\",\"pid\":10,\"path\":\"/a\",\"fd\":3,\"mode\":\"x\"}")
         (record { line = 2; cause = Field }) }
-{
-}
+{}
 
 /// Files that read, and their records.
 pub fn whole_traces()
@@ -80,5 +79,4 @@ pub fn whole_traces()
         ∷ record { line = 2; process = record { 0 = 0 }; pid = 10; op = Op.Create 3 (record { 0 = 6 }) (record { 0 = 0 }) }
         ∷ record { line = 3; process = record { 0 = 0 }; pid = 10; op = Op.AddPath 3 (codes "/a/f") (record { 0 = 65536 }) }
         ∷ record { line = 4; process = record { 0 = 0 }; pid = 10; op = Op.Rename (codes "/a") (codes "/b") false } ∷ []) }
-{
-}
+{}
