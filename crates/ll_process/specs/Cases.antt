@@ -1,16 +1,15 @@
 -- A case: a tree, the records of a trace and a version of the interface, with what the rulebook settles of them.
 -- Source: docs/FORMATS.md, "The tree file" and "The trace file"; landlock_restrict_self(2).
-use Rattle.std.specs.Prelude.{◌≡◌, ℕ, List, Some, All, length, slice_get}
+use Rattle.std.specs.Prelude.{◌≡◌, ℕ, List, Some}
 use Rattle.ll_rights.specs.declared.abi.Abi.{Abi}
 use Rattle.ll_tree.specs.Trees.{Entry}
-use Rattle.ll_rules.specs.Layers.{RulesOn, AreInTree}
+use Rattle.ll_rules.specs.Layers.{RulesOn}
 use Rattle.ll_trace.specs.declared.record.Record.{Record}
 use Rattle.ll_state.specs.declared.answer.Answer.{Answer}
 use Rattle.ll_state.specs.declared.note.Note.{Note}
 use Rattle.ll_state.specs.declared.own_state.OwnState.{OwnState}
-use Rattle.ll_state.specs.Agreement.{Situation, Agrees}
-use Rattle.ll_state.specs.Notes.{NoteFits}
-use Rattle.ll_state.specs.Worlds.{world_at, state_of}
+use Rattle.ll_state.specs.Agreement.{Agrees}
+use Rattle.ll_rulebook.specs.Settled.{IsSettled}
 use Rattle.ll_state.specs.States.{State}
 use Rattle.ll_process.specs.Processes.{IsNumbered, process_count, started_at}
 use Rattle.ll_process.specs.Judging.{state_left, answers_of}
@@ -23,27 +22,12 @@ pub record Matter : Type 0 where
   pub layers : List (RulesOn ℕ)
   pub notes : List Note
 
--- what a record of a case meets in the fold over the whole trace
-abbrev pub met_in : Matter → ℕ → Record → Situation
-met_in of k r = record {
-  tree = of.tree;
-  layers = of.layers;
-  abi = of.abi;
-  rulesets = (world_at of.tree of.abi of.records k).rulesets;
-  state = state_of (world_at of.tree of.abi of.records k) r.process.0;
-}
-
--- The rulebook says of each record what the fold over the whole trace says: the answer of a call that creates,
--- changes or closes a ruleset, and for a call that restricts by a ruleset the layer that this ruleset is then.
-pub record IsSettled (of : Matter) : Type 0 where
-  pub count : length of.notes ≡ length of.records
-  pub inside : All (AreInTree of.tree) of.layers
-  pub fits : (k : ℕ) (r : Record) (note : Note) → slice_get of.records k ≡ Some r → slice_get of.notes k ≡ Some note → NoteFits (met_in of k r) r.op note
-
--- the processes are numbered, and the rulebook is that of the trace
+-- The processes are numbered, and the rulebook says of each record what the fold over the whole trace says: the
+-- answer of a call that creates, changes or closes a ruleset, and for a call that restricts by a ruleset the layer
+-- that this ruleset is then.
 pub record IsCase (of : Matter) : Type 0 where
   pub numbered : IsNumbered of.records
-  pub settled : IsSettled of
+  pub settled : IsSettled of.tree of.abi of.records of.layers of.notes
 
 -- what is kept of a process agrees with a state, under the tree and the layers of a case
 abbrev pub AgreesIn : Matter → OwnState → State → Type 0

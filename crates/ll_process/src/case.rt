@@ -6,6 +6,7 @@ ghost use Rattle.ll_process.specs.Cases.{IsCase};
 ghost use Rattle.ll_process.specs.Processes.{process_count, own_records, forked_at};
 
 use ll_rights::Abi;
+use ll_rulebook::Rulebook;
 use ll_rules::{Layer, NoMemory};
 use ll_state::Note;
 use ll_trace::{Op, ProcessId, Record, Trace};
@@ -47,6 +48,23 @@ impl Model for Case {
 }
 
 impl Case {
+    /// Makes the rulebook: one pass over the records in the order of the trace.
+    pub fn new(alloc: Global, tree: Tree, trace: Trace, abi: Abi) -> Result<Case, NoMemory>
+        ensures tree { IfOk result (λ of. of.tree ≡ tree) }
+        ensures records { IfOk result (λ of. of.records ≡ trace) }
+        ensures abi { IfOk result (λ of. of.abi ≡ abi) }
+        ensures rulebook { IfOk result IsCase }
+    {
+        let book = Rulebook::of(alloc, &tree, &trace, abi)?;
+        Ok(Case {
+            tree,
+            trace,
+            abi,
+            notes: book.notes,
+            layers: book.layers,
+        })
+    }
+
     /// The tree that was handed in.
     pub fn tree(&self) -> &Tree
         ensures { result.now ≡ self.now.tree }
