@@ -1,0 +1,17 @@
+pub mod Worlds
+pub mod Steps
+pub mod LawOfOrders
+pub mod Numbers
+pub mod OwnRecords
+pub mod Walks
+pub mod Forks
+pub mod Weighing
+pub mod TraceWords
+pub mod OwnSteps
+pub mod ChildJobs
+pub mod Walked
+pub mod HandingOut
+pub mod WalkSteps
+pub mod Descents
+pub mod Numbering
+pub mod Roots
