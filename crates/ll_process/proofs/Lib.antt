@@ -15,3 +15,4 @@ pub mod WalkSteps
 pub mod Descents
 pub mod Numbering
 pub mod Roots
+pub mod EachOnce

@@ -9,6 +9,7 @@ mod hand;
 mod job;
 mod orders;
 mod piece;
+mod shares;
 mod starting;
 mod walk;
 
@@ -18,3 +19,4 @@ pub use hand::Hand;
 pub use job::Job;
 pub use orders::law_of_orders;
 pub use piece::Piece;
+pub use shares::each_process_once;
