@@ -1,11 +1,14 @@
 //! That rulebooks are made where memory is left, that what is frozen twice is one layer, and worked traces.
 
+ghost use Rattle.std.specs.Prelude.{◌<◌, length, All};
+ghost use Rattle.ll_rules.specs.Layers.{AreInTree};
+
 use super::*;
-use ll_rights::Abi;
-use ll_rules::{Errno, LayerId, LayerSet};
+use ll_rights::{Abi, fs_of_name};
+use ll_rules::{Domain, Errno, Layer, LayerId, LayerSet, check_path};
 use ll_state::{Answer, Note};
 use ll_trace::Trace;
-use ll_tree::Tree;
+use ll_tree::{Place, Tree};
 use std::process::Abort;
 use std::test::Fail;
 
@@ -165,4 +168,40 @@ fn layers_are_frozen(rt: HostRuntime) -> Result<(), Fail> {
     ];
     expect_notes(&rt, SHARED, 4, &notes, 3)?;
     expect_notes(&rt, "", 4, &[], 0)
+}
+
+/// Whether a layer alone refuses to let the object at a path be read.
+fn is_unread(tree: &Tree, layers: &[Layer], layer: LayerId, path: &str) -> bool
+    requires there { layer.0 < length layers.now }
+    requires inside { All (AreInTree tree.now) layers.now }
+{
+    let mut domain = Domain::new();
+    if domain.push(layer).is_err() {
+        return false;
+    }
+    match tree.resolve(path) {
+        Place::Node(node) => {
+            !check_path(tree, layers, &domain, node, fs_of_name("read_file")).is_empty()
+        }
+        _ => false,
+    }
+}
+
+#[test]
+fn later_rules_are_left_out(rt: HostRuntime) -> Result<(), Fail> {
+    let tree = Tree::read(rt.alloc(), TREE.as_bytes())?;
+    let abi = Abi::new(4).ok_or("a version")?;
+    let trace = Trace::read(rt.alloc(), LATER_RULE.as_bytes())?;
+    let book = Rulebook::of(rt.alloc(), &tree, &trace, abi)?;
+    assert_eq!(rt; book.layers.len(), 2);
+    assert!(rt; is_unread(&tree, &book.layers, LayerId(0), "/a/f"));
+    assert!(rt; !is_unread(&tree, &book.layers, LayerId(1), "/a/f"));
+    assert!(rt; is_unread(&tree, &book.layers, LayerId(1), "/b/g"));
+    let trace = Trace::read(rt.alloc(), SHARED.as_bytes())?;
+    let book = Rulebook::of(rt.alloc(), &tree, &trace, abi)?;
+    assert_eq!(rt; book.layers.len(), 3);
+    assert!(rt; is_unread(&tree, &book.layers, LayerId(0), "/a/f"));
+    assert!(rt; !is_unread(&tree, &book.layers, LayerId(1), "/a/f"));
+    assert!(rt; is_unread(&tree, &book.layers, LayerId(2), "/a/f"));
+    Ok(())
 }
