@@ -33,7 +33,7 @@ node_at-IsNode tree path (Some here) is = go (position_of path tree) refl is whe
   go (Some number) at same = subst (λ (n : NodeId). IsNode tree n) (same_Some (node number) here (sym same)) (at_position path tree number at).0
 
 -- the path of a text that has the shape of one
-read_of : (text : List ℕ) → is_some (path_of text) ≡ true → (path : Path) × (path_of text ≡ Some path)
+pub read_of : (text : List ℕ) → is_some (path_of text) ≡ true → (path : Path) × (path_of text ≡ Some path)
 read_of text shape = go (path_of text) refl shape where
   go : (read : Option Path) → path_of text ≡ read → is_some read ≡ true → (path : Path) × (path_of text ≡ Some path)
   go None is some = absurd (false≢true some)

@@ -12,7 +12,7 @@ use Rattle.ll_tree.specs.declared.place.NodeId.{NodeId}
 use Rattle.ll_tree.specs.declared.place.Place.TheVariants as places
 use Rattle.ll_tree.specs.Paths.{Path, is_name, is_path, text_of, path_of, front}
 use Rattle.ll_tree.specs.Trees.{Entry, root, IsNode, IsTree, is_dir, is_dir_in, path_at, kind_at, position_of, node_at, parent_of, parent_at, depth_at, gap_in, place_or_gap, place_of, place}
-use Rattle.ll_tree.proofs.Tests.{both}
+use Rattle.ll_tree.proofs.Bools.{both}
 use Rattle.ll_tree.proofs.Positions.{path_in, at_position, position_of-some, position_of-kept, is_dir_in-from_place}
 use Rattle.ll_tree.proofs.Standing.{node, is_root, parent_of-root, parent_of-other, parent_found, empty_or_not, is_dir-Dir}
 use Rattle.ll_tree.proofs.PathLaws.{is_path-path_of}
@@ -33,7 +33,7 @@ gap_dir tree (Some dir) up is = go (is_dir (kind_at tree dir)) refl is where
   go true test same = let dirs : dir ≡ up = cc in (ap (λ (n : NodeId). Some n) dirs, ap (λ n. is_dir (kind_at tree n)) (sym dirs) ∙ test)
   go false test same = cc
 
-not_at : (tree : List Entry) (path : Path) → node_at tree path ≡ None → position_of path tree ≡ None
+pub not_at : (tree : List Entry) (path : Path) → node_at tree path ≡ None → position_of path tree ≡ None
 unfolding node_at
 not_at tree path is = go (position_of path tree) is where
   go : (place : Option ℕ) → option_map node place ≡ None → place ≡ None
@@ -73,7 +73,7 @@ length-front (name ∷ next ∷ names) other = let rest = length-front (next ∷
 
 module _ (tree : List Entry) (new : Entry) (up : NodeId) (listed : IsTree tree) (fits : Fits tree new up) where
   -- the directory above the new entry, in the tree
-  above_at : (up.0 < length tree) × (path_in tree up.0 ≡ front new.path)
+  pub above_at : (up.0 < length tree) × (path_in tree up.0 ≡ front new.path)
   unfolding node_at
   above_at = go (position_of (front new.path) tree) refl fits.above where
     go : (place : Option ℕ) → position_of (front new.path) tree ≡ place → option_map node place ≡ Some up → (up.0 < length tree) × (path_in tree up.0 ≡ front new.path)

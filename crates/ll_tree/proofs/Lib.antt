@@ -1,4 +1,4 @@
-pub mod Tests
+pub mod Bools
 pub mod PathText
 pub mod PathLaws
 pub mod Positions
@@ -15,3 +15,4 @@ pub mod RootAlone
 pub mod LinesLemmas
 pub mod MembersLemmas
 pub mod ReadingLemmas
+pub mod TreeLines

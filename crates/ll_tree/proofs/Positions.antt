@@ -10,7 +10,7 @@ use Rattle.ll_tree.specs.Paths.{Path, path_eq}
 use Rattle.ll_tree.specs.Trees.{Entry, root, is_dir, is_dir_in, position_of}
 use Rattle.std.proofs.lemmas.List.{get_or_default}
 use Rattle.std.proofs.lemmas.List.Folds.{Any-from_list_any, list_any_at}
-use Rattle.ll_tree.proofs.Tests.{both}
+use Rattle.ll_tree.proofs.Bools.{both}
 
 pub path_eq-Decides : (a b : Path) → Decides (path_eq a b) (a ≡ b)
 unfolding path_eq

@@ -6,3 +6,5 @@ pub mod Lines
 pub mod LineView
 pub mod Members
 pub mod Reading
+pub mod TreeReading
+pub mod WorkedTree

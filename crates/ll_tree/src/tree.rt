@@ -1,15 +1,29 @@
 //! The tree in memory.
 
-ghost use Rattle.std.specs.Prelude.{◌≡◌, ◌≤◌, ◌<◌, [], ◌∷◌, ◌++◌, length, Some, IfOk, OnOk, OnErr, IsTrue, is_some, IfSome, IfNone};
+ghost use Rattle.std.specs.Prelude.{◌≡◌, ◌≤◌, ◌<◌, [], ◌∷◌, ◌++◌, length, Some, ◌≢◌, IfOk, IfErr, OnOk, OnErr, IsTrue, is_some, IfSome, IfNone};
+ghost use Rattle.ll_tree.specs.declared.fault.Cause.TheVariants.{Memory};
+ghost use Rattle.serde_json.specs.View.{view};
+ghost use Rattle.ll_tree.specs.Fault.{Gives};
+ghost use Rattle.ll_tree.specs.LineView.{line_view};
+ghost use Rattle.ll_tree.specs.Reading.{IsBad, GivesReading, reading, with_line, with_entry};
+ghost use Rattle.ll_tree.specs.TreeReading.{IsTreeOf, IsRooted, tree_format, below_root, with_value};
 ghost use Rattle.ll_tree.specs.Paths.{Path, path_of, is_prefix};
 ghost use Rattle.ll_tree.specs.Trees.{Entry, root, named, IsNode, IsTree, IsPlace, StandsIn, path_at, kind_at, parent_at, depth_at, node_at, gap_in, place};
 
+use crate::fault::{Cause, ReadFault};
+use crate::lines::{FileLine, FilledLines};
+use crate::members::value_of;
+use crate::object::object_of;
 use crate::path::{front_text, path_ok};
 use crate::place::{NodeId, Place};
 use ll_rights::Kind;
+use serde_json::Value;
 use std::alloc::{AllocError, Global};
 use std::collections::BTreeMap;
 use std::marker::Model;
+
+/// The most nodes that a tree has, the root counted.
+const NODES: u32 = 65_536;
 
 /// What is kept of an object beside its path.
 #[derive(Drop)]
@@ -19,8 +33,8 @@ struct Object {
     depth: u32,
 }
 
-/// A listed file tree: the root, and objects in the order of their lines, each in a directory that stands before
-/// it.
+/// A listed file tree: the root, and objects in the order of their lines, each in a directory that
+/// stands before it.
 #[derive(Drop)]
 pub struct Tree {
     objects: Vec<Object>,
@@ -41,6 +55,78 @@ impl Model for Tree {
 }
 
 impl Tree {
+    /// Reads a tree file: one JSON object on each line, with the path and the kind of an object.
+    ///
+    /// A file that does not read is refused with the number of its first faulty line and the first
+    /// fault of that line. For want of memory the line is the one that was being read.
+    pub fn read(alloc: Global, bytes: &[u8]) -> Result<Tree, ReadFault>
+        ensures ok { IfOk result (IsTreeOf bytes.now) }
+        ensures err { IfErr result (λ fault. fault.cause ≢ Memory → IsBad tree_format bytes.now fault) }
+    {
+        Tree::read_lines(alloc, bytes)
+    }
+
+    /// Reads line after line.
+    fn read_lines(alloc: Global, bytes: &[u8]) -> Result<Tree, ReadFault>
+        ensures reading { GivesReading below_root result (reading tree_format bytes.now) }
+        ensures rooted { IfOk result IsRooted }
+    {
+        let Ok(mut tree) = Tree::root_only(alloc) else {
+            return Err(ReadFault {
+                line: 1,
+                cause: Cause::Memory,
+            });
+        };
+        for line in FilledLines::new(bytes) {
+            if let Err(cause) = tree.read_line(alloc, &line) {
+                return Err(ReadFault {
+                    line: line.number,
+                    cause,
+                });
+            }
+        }
+        Ok(tree)
+    }
+
+    /// Reads the object on a line.
+    #[tactic(auto, unfolding(crate::specs::TreeReading::entry_on))]
+    fn read_line(&mut self, alloc: Global, line: &FileLine) -> Result<(), Cause>
+        ensures line { Gives (λ _. below_root self.new) result
+            (with_line tree_format (below_root self.old) (line_view line.now)) }
+        ensures rooted { OnOk result (IsRooted self.new) }
+    {
+        let value = value_of(alloc, line.bytes)?;
+        self.read_value(alloc, &value)
+    }
+
+    /// Reads the object that a value describes.
+    fn read_value(&mut self, alloc: Global, value: &Value) -> Result<(), Cause>
+        ensures value { Gives (λ _. below_root self.new) result
+            (with_value (below_root self.old) (view value.now)) }
+        ensures rooted { OnOk result (IsRooted self.new) }
+    {
+        let (path, kind) = object_of(value)?;
+        self.list(alloc, path, kind)
+    }
+
+    /// Puts an object at the end, unless it is there already, has no directory, or is one too many.
+    fn list(&mut self, alloc: Global, path: &str, kind: Kind) -> Result<(), Cause>
+        requires { IsTrue (is_some (path_of path.now)) }
+        ensures entry { Gives (λ _. below_root self.new) result
+            (with_entry tree_format (below_root self.old) (named path.now kind)) }
+        ensures rooted { OnOk result (IsRooted self.new) }
+    {
+        match self.place_of(path) {
+            Place::Node(_) => Err(Cause::Twice),
+            Place::Nowhere => Err(Cause::NoParent),
+            Place::Gap(_) if self.nodes() >= NODES => Err(Cause::TooMany),
+            Place::Gap(parent) => {
+                self.add(alloc, path, kind, parent)?;
+                Ok(())
+            }
+        }
+    }
+
     /// The tree that has the root alone.
     fn root_only(alloc: Global) -> Result<Tree, AllocError>
         ensures { IfOk result (λ tree. tree ≡ root ∷ []) }
@@ -155,9 +241,19 @@ impl Tree {
         if !path_ok(text) {
             return Place::Nowhere;
         }
-        match self.find(text) {
+        self.place_of(text)
+    }
+
+    /// The place of a path.
+    fn place_of(&self, path: &str) -> Place
+        requires { IsTrue (is_some (path_of path.now)) }
+        ensures place { result ≡ place self.now path.now }
+        ensures inside { IsPlace self.now result }
+        ensures tree { IsTree self.now }
+    {
+        match self.find(path) {
             Some(node) => Place::Node(node),
-            None => self.gap(self.find(front_text(text))),
+            None => self.gap(self.find(front_text(path))),
         }
     }
 
@@ -165,6 +261,7 @@ impl Tree {
     fn find(&self, text: &str) -> Option<NodeId>
         ensures found { (path : Path) → path_of text.now ≡ Some path → result ≡ node_at self.now path }
         ensures node { IsTrue (is_some (path_of text.now)) → IfSome result (IsNode self.now) }
+        ensures tree { IsTree self.now }
     {
         self.numbers.get(text).map(|number| NodeId(*number))
     }

@@ -4,7 +4,7 @@ use Rattle.ll_tree.specs.Trees.{named, IsTree}
 use Rattle.ll_tree.specs.Kept.{IsSound, entries_of}
 use Rattle.ll_tree.proofs.Growing.{gap_node, depth_small}
 use Rattle.ll_tree.proofs.Keeping.{pushed, unchanged}
-use Rattle.ll_tree.proofs.Tests.{on_err}
+use Rattle.ll_tree.proofs.Bools.{on_err}
 use Rattle.ll_tree.proofs.tree.Tree.add.Goals as goal
 use Rattle.ll_tree.proofs.tree.Tree.add.Goals.{After-push_reserved}
 
