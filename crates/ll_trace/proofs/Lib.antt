@@ -6,3 +6,4 @@ pub mod IndexLemmas
 pub mod ProcessLemmas
 pub mod LawLemmas
 pub mod OnLiterals
+pub mod SetLemmas

@@ -1,5 +1,5 @@
 -- Laws of the processes of a trace.
-use Rattle.std.proofs.Common.{◌≡◌, ℕ, zero, suc, ◌+◌, ◌<◌, ◌≤◌, Bool, true, false, not, ◌&&◌, List, [], ◌∷◌, length, map, take, add-zero, get_or, Option, Some, None, Vec, cond, eqb, refl, sym, ap, subst, ◌∙◌, arith}
+use Rattle.std.proofs.Common.{◌≡◌, ℕ, zero, suc, ◌+◌, ◌<◌, ◌≤◌, Bool, true, false, not, ◌&&◌, List, [], ◌∷◌, length, map, take, add-zero, zero-add, get_or, Option, Some, None, Vec, cond, eqb, refl, sym, ap, subst, ◌∙◌, arith}
 use Rattle.std.specs.Prelude.{is_some, All, IfSome}
 use Rattle.std.specs.List.{slice_get, AllByRecursion}
 use Rattle.std.proofs.lemmas.List.Elements.{All-from_recursion}
@@ -137,3 +137,52 @@ started_count n (of ∷ others) k p is =
 
 pub in_order : (records : List Record) (place : ℕ) (process : ProcessId) → started_by records place ≡ Some process → process.0 ≡ length (parents (take place records))
 in_order records place process is = omega (arith, started_count 0 records place process is)
+
+-- the parent of a started process is the one that its record tells
+parent_rest : (b : Bool) (parent : Option ProcessId) (all before : List (Option ProcessId)) (r : Option (Option ProcessId)) → slice_get all (length before) ≡ r
+    → slice_get (cond b (parent ∷ all) all) (length (cond b (parent ∷ before) before)) ≡ r
+parent_rest true parent all before r e = e
+parent_rest false parent all before r e = e
+
+parent_at : (records : List Record) (place : ℕ) (of : Record) → slice_get records place ≡ Some of → starts_one of ≡ true
+    → slice_get (parents records) (length (parents (take place records))) ≡ Some (forked_by of.op of.process)
+parent_at [] place of is starts = absurd (cc)
+parent_at (first ∷ records) zero of is starts = let own : first ≡ of = cc in rw (own, starts) refl
+parent_at (first ∷ records) (suc place) of is starts =
+    parent_rest (starts_one first) (forked_by first.op first.process) (parents records) (parents (take place records)) (Some (forked_by of.op of.process)) (parent_at records place of is starts)
+
+started_one : (b : Bool) (n : ℕ) (first others : List (Option ProcessId)) (process : ProcessId) → parent_in (slice_get (cond b (Some (record { 0 = n }) ∷ first) (None ∷ others)) 0) ≡ Some process → b ≡ true
+started_one true n first others process e = refl
+started_one false n first others process e = absurd (cc)
+
+starts_at : (n : ℕ) (records : List Record) (place : ℕ) (of : Record) (process : ProcessId) → slice_get records place ≡ Some of → parent_in (slice_get (started_from n records) place) ≡ Some process → starts_one of ≡ true
+starts_at n [] place of process is started = absurd (cc)
+starts_at n (first ∷ records) zero of process is started =
+    let own : first ≡ of = cc in rw (← own) (started_one (starts_one first) n (started_from (n + 1) records) (started_from n records) process started)
+starts_at n (first ∷ records) (suc place) of process is started =
+    starts_at (cond (starts_one first) (n + 1) n) records place of process is (sym (ap parent_in (started_rest (starts_one first) n records place (slice_get (started_from (cond (starts_one first) (n + 1) n) records) place) refl)) ∙ started)
+
+pub forked : (records : List Record) (place : ℕ) (of : Record) (process : ProcessId) → slice_get records place ≡ Some of → started_by records place ≡ Some process → parent_of records process ≡ forked_by of.op of.process
+forked records place of process is started =
+    let starts : starts_one of ≡ true = starts_at 0 records place of process is started in
+    rw (in_order records place process started) (ap parent_in (parent_at records place of is starts))
+
+-- each process is started by a record
+each_next : (b : Bool) (n q : ℕ) (parent : Option ProcessId) (records : List Record) → q < length (cond b (parent ∷ parents records) (parents records))
+    → ((m r : ℕ) → r < length (parents records) → (place : ℕ) × (slice_get (started_from m records) place ≡ Some (Some (record { 0 = m + r }))))
+    → (place : ℕ) × (slice_get (cond b (Some (record { 0 = n }) ∷ started_from (n + 1) records) (None ∷ started_from n records)) place ≡ Some (Some (record { 0 = n + q })))
+each_next true n zero parent records lt later = (0, rw add-zero refl)
+each_next true n (suc q) parent records lt later =
+    let found = later (n + 1) q (omega arith) in
+    let shift : n + 1 + q ≡ n + suc q = omega arith in
+    (suc found.0, rw (← shift) found.1)
+each_next false n q parent records lt later = let found = later n q lt in (suc found.0, found.1)
+
+each_started : (n : ℕ) (records : List Record) (q : ℕ) → q < length (parents records) → (place : ℕ) × (slice_get (started_from n records) place ≡ Some (Some (record { 0 = n + q })))
+each_started n [] q lt = absurd (omega arith)
+each_started n (first ∷ records) q lt = each_next (starts_one first) n q (forked_by first.op first.process) records lt (λ m r below. each_started m records r below)
+
+pub each : (records : List Record) (process : ProcessId) → process.0 < length (parents records) → (place : ℕ) × (started_by records place ≡ Some process)
+each records process lt =
+    let found = each_started 0 records process.0 lt in
+    (found.0, ap parent_in found.1 ∙ ap (λ (n : ℕ). Some (let one : ProcessId = record { 0 = n } in one)) (zero-add process.0))

@@ -1,14 +1,21 @@
 //! What holds of traces by their definitions.
 
-ghost use Rattle.std.specs.Prelude.{◌≡◌, ◌<◌, ℕ, suc, List, length, take, true, Some};
-ghost use Rattle.std.specs.List.{slice_get};
+ghost use Rattle.std.specs.Prelude.{◌≡◌, ◌<◌, ℕ, suc, List, length, take, true, Some, Ok};
+ghost use Rattle.std.specs.List.{list_any, slice_get};
+ghost use Rattle.serde_json.specs.Data.{Items};
+ghost use Rattle.ll_rights.specs.declared.fs.Fs.{Fs};
+ghost use Rattle.ll_rights.specs.declared.net.Net.{Net};
+ghost use Rattle.ll_rights.specs.Rights as files;
+ghost use Rattle.ll_rights.specs.NetRights as network;
 ghost use Rattle.ll_tree.specs.declared.fault.ReadFault.{ReadFault};
+ghost use Rattle.ll_tree.specs.Members.{fold_texts};
 ghost use Rattle.ll_tree.specs.Reading.{IsBad};
+ghost use Rattle.ll_trace.specs.Members.{with_fs, with_net, texts_of};
 ghost use Rattle.ll_trace.specs.declared.record.ProcessId.{ProcessId};
 ghost use Rattle.ll_trace.specs.declared.record.Record.{Record};
 ghost use Rattle.ll_trace.specs.Entries.{is_start, trace_file};
 ghost use Rattle.ll_trace.specs.Records.{AreRecords, IsTrace};
-ghost use Rattle.ll_trace.specs.Processes.{parents, parent_of, started_by};
+ghost use Rattle.ll_trace.specs.Processes.{parents, parent_of, forked_by, started_by};
 ghost use Rattle.ll_trace.specs.SingleUse.{IsStrictTrace};
 
 /// A file reads as one trace and has no fault, or has a fault and reads as none.
@@ -27,8 +34,8 @@ pub fn traces_of_single_pids()
 {}
 
 /// A record belongs to a process that was started by then; a `start` record starts its own process;
-/// processes are numbered in the order in which they are started, so a parent's number is below its
-/// child's.
+/// each process is started by a record, which tells its parent; processes are numbered in the order in
+/// which they are started, so a parent's number is below its child's.
 pub fn processes_are_numbered()
     ensures own { (records : List Record) (place : ℕ) (of : Record) → AreRecords records
         → slice_get records place ≡ Some of → of.process.0 < length (parents (take (suc place) records)) }
@@ -37,6 +44,22 @@ pub fn processes_are_numbered()
         → started_by records place ≡ Some of.process }
     ensures in_order { (records : List Record) (place : ℕ) (process : ProcessId)
         → started_by records place ≡ Some process → process.0 ≡ length (parents (take place records)) }
+    ensures each { (records : List Record) (process : ProcessId) → process.0 < length (parents records)
+        → (place : ℕ) × (started_by records place ≡ Some process) }
+    ensures forked { (records : List Record) (place : ℕ) (of : Record) (process : ProcessId)
+        → slice_get records place ≡ Some of → started_by records place ≡ Some process
+        → parent_of records process ≡ forked_by of.op of.process }
     ensures parent { (records : List Record) (process parent : ProcessId) → AreRecords records
         → parent_of records process ≡ Some parent → parent.0 < process.0 }
+{}
+
+/// A set of rights that is read from a list of names has just the rights that some name of the list
+/// stands for.
+pub fn sets_are_their_names()
+    ensures fs { (names : Items) (set : Fs) (right : files.FsRight)
+        → fold_texts with_fs files.no_right names ≡ Ok set → files.has set right
+        ≡ list_any (λ name. files.is_right right (files.right_named name)) (texts_of names) }
+    ensures net { (names : Items) (set : Net) (right : network.NetRight)
+        → fold_texts with_net network.no_right names ≡ Ok set → network.has set right
+        ≡ list_any (λ name. network.is_right right (network.right_named name)) (texts_of names) }
 {}

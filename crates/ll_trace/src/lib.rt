@@ -12,7 +12,9 @@ mod rows;
 mod tables;
 mod trace;
 
-pub use laws::{files_read_as_one_trace, processes_are_numbered, traces_of_single_pids};
+pub use laws::{
+    files_read_as_one_trace, processes_are_numbered, sets_are_their_names, traces_of_single_pids,
+};
 pub use op::{Mode, Op, Sort};
 pub use path_text::PathText;
 pub use record::{ProcessId, Record};

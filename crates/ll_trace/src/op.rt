@@ -9,16 +9,22 @@ use ll_rights::{Fs, Kind, Net};
 /// What a file is opened for.
 #[derive(Clone, Copy, Debug, PartialEq, Eq)]
 pub enum Mode {
+    /// Reading.
     Read,
+    /// Writing.
     Write,
+    /// Reading and writing.
     Both,
 }
 
 /// What an adopted descriptor refers to: a regular file, a device, or something else.
 #[derive(Clone, Copy, Debug, PartialEq, Eq)]
 pub enum Sort {
+    /// A regular file.
     Regular,
+    /// A character or block device.
     Device,
+    /// Anything else, as a pipe or a socket.
     Other,
 }
 

@@ -77,3 +77,43 @@ pub fn text_in_list(value: &Value) -> Result<&str, Cause>
 {
     value.as_str().ok_or(Cause::Field)
 }
+
+#[cfg(test)]
+mod tests {
+    use super::*;
+    use crate::lines::FilledLines;
+    use crate::reading::every_file_is_good_or_bad;
+    use std::test::Fail;
+
+    const FILE: &str =
+        "\n \t\r\n{\"text\":\"a\",\"text\":\"b\",\"number\":7,\"truth\":true,\"list\":[\"c\",1]}\r\n\n[]";
+
+    #[test]
+    fn lines_and_members(rt: HostRuntime) -> Result<(), Fail> {
+        every_file_is_good_or_bad::<u64>();
+        let mut lines = FilledLines::new(FILE.as_bytes());
+        let first = lines.next().ok_or("two lines are filled")?;
+        let second = lines.next().ok_or("two lines are filled")?;
+        assert_eq!(rt; (first.number, second.number), (3, 5));
+        assert!(rt; lines.next().is_none());
+        let value = value_of(rt.alloc(), first.bytes)
+            .ok()
+            .ok_or("the line is a value")?;
+        assert_eq!(rt; text_of(&value, "text"), Ok("b"));
+        assert_eq!(rt; number_of(&value, "number"), Ok(7));
+        assert_eq!(rt; truth_of(&value, "truth"), Ok(true));
+        assert_eq!(rt; truth_of(&value, "absent"), Err(Cause::Field));
+        assert_eq!(rt; flag_of(&value, "truth"), Ok(true));
+        assert_eq!(rt; flag_of(&value, "absent"), Ok(false));
+        let items = items_of(&value, "list").ok().ok_or("the list is there")?;
+        assert_eq!(rt; items.len(), 2);
+        assert_eq!(rt; text_in_list(&items[0]), Ok("c"));
+        assert_eq!(rt; text_in_list(&items[1]), Err(Cause::Field));
+        let list = value_of(rt.alloc(), second.bytes)
+            .ok()
+            .ok_or("the line is a value")?;
+        assert_eq!(rt; number_of(&list, "number"), Err(Cause::Field));
+        assert!(rt; matches!(value_of(rt.alloc(), b"{"), Err(Cause::Json)));
+        Ok(())
+    }
+}

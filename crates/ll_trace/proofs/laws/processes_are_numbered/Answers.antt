@@ -11,5 +11,11 @@ returns-clause-start c = λ records place of are is start. laws.own_start record
 pub returns-clause-in_order : goal.returns-clause-in_order
 returns-clause-in_order c = λ records place process is. laws.in_order records place process is
 
+pub returns-clause-each : goal.returns-clause-each
+returns-clause-each c = λ records process lt. laws.each records process lt
+
+pub returns-clause-forked : goal.returns-clause-forked
+returns-clause-forked c = λ records place of process is started. laws.forked records place of process is started
+
 pub returns-clause-parent : goal.returns-clause-parent
 returns-clause-parent c = λ records process parent are is. laws.parent_below records are process parent is
