@@ -13,3 +13,6 @@ pub use fs::{Fs, fs_of_name};
 pub use kind::Kind;
 pub use laws::{file_rights, sets_by_rights};
 pub use net::{Net, net_of_name};
+
+#[cfg(test)]
+mod tests;

@@ -1,0 +1,6 @@
+pub mod Paths
+pub mod Fault
+pub mod Lines
+pub mod LineView
+pub mod Members
+pub mod Reading
