@@ -2,3 +2,7 @@
 #![tactic(auto)]
 
 mod command;
+mod fault;
+mod lines;
+
+pub use fault::Fault;

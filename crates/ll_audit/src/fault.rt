@@ -1,0 +1,26 @@
+//! Why an audit gives no report.
+
+use ll_tree::ReadFault;
+use thiserror::Error;
+
+/// Why an audit gives no report. They are looked for in the order `Workers`, `Tree`, `Trace`,
+/// `NoThread`; `Memory` comes in place of any of the others but `Workers`, where a growth was
+/// refused.
+#[derive(Clone, Copy, Debug, PartialEq, Eq, Error)]
+pub enum Fault {
+    /// The tree doesn't read.
+    #[error("line {} of the tree is wrong: {:?}", .0.line, .0.cause)]
+    Tree(ReadFault),
+    /// The trace doesn't read.
+    #[error("line {} of the trace is wrong: {:?}", .0.line, .0.cause)]
+    Trace(ReadFault),
+    /// The number of workers isn't 1 to 64.
+    #[error("the number of workers isn't 1 to 64")]
+    Workers,
+    /// No memory was left.
+    #[error("no memory is left")]
+    Memory,
+    /// A thread could not be started.
+    #[error("a thread could not be started")]
+    NoThread,
+}
