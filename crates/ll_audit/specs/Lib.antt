@@ -1,2 +1,3 @@
 pub mod Command
 pub mod FaultLines
+pub mod Files

@@ -4,5 +4,7 @@
 mod command;
 mod fault;
 mod lines;
+mod source;
 
 pub use fault::Fault;
+pub use source::{MemorySource, Source, SourceFault};
