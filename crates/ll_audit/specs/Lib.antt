@@ -1,3 +1,4 @@
 pub mod Command
 pub mod FaultLines
 pub mod Files
+pub mod Report

@@ -4,6 +4,7 @@
 mod command;
 mod fault;
 mod lines;
+mod report;
 mod source;
 
 pub use fault::Fault;
