@@ -2,3 +2,4 @@ pub mod Command
 pub mod FaultLines
 pub mod Files
 pub mod Report
+pub mod Outcomes

@@ -3,9 +3,14 @@
 
 mod command;
 mod fault;
+mod inputs;
+mod laws;
 mod lines;
+mod outcome;
 mod report;
 mod source;
 
 pub use fault::Fault;
+pub use laws::command_lines;
+pub use report::Report;
 pub use source::{MemorySource, Source, SourceFault};

@@ -2,10 +2,29 @@
 
 ghost use Rattle.std.specs.Prelude.{◌≡◌, ◌++◌, ◌∷◌, [], OnOk, codes, decimal};
 ghost use Rattle.std.specs.List.{flat_map};
+ghost use Rattle.ll_audit.specs.Outcomes.{report_status};
 ghost use Rattle.ll_audit.specs.Report.{head_text, layers_text, next_layer_text, total_text};
 
 use itoa::Buffer;
 use std::alloc::AllocError;
+
+/// The report of an audit.
+#[derive(Debug, Drop)]
+pub struct Report {
+    /// The text: a line for each record, and the totals.
+    pub bytes: Vec<u8>,
+    /// How many records are refused.
+    pub refused: u64,
+}
+
+impl Report {
+    /// The program's status with the report: 0 where no record is refused, else 1.
+    pub(crate) fn status(&self) -> u8
+        ensures { result ≡ report_status self.now.refused }
+    {
+        if self.refused == 0 { 0 } else { 1 }
+    }
+}
 
 /// Adds a number in decimal digits.
 fn push_number(text: &mut Vec<u8>, number: u64) -> Result<(), AllocError>
