@@ -41,7 +41,8 @@ pub(crate) enum Plan<'a> {
 
 const ABOUT: &str = "Says for each call of a trace what Landlock answers";
 
-const TREE_HELP: &str = "File with the file tree, one object a line: {\"path\":\"/a/f\",\"kind\":\"reg\"}";
+const TREE_HELP: &str =
+    "File with the file tree, one object a line: {\"path\":\"/a/f\",\"kind\":\"reg\"}";
 
 const TRACE_HELP: &str =
     "File with the calls, one a line: {\"op\":\"open\",\"pid\":10,\"path\":\"/a/f\",\"fd\":4,\"mode\":\"r\"}";
@@ -55,13 +56,7 @@ Status:
   4  no memory or no thread is left, or the report can't be written";
 
 /// An option `--name N`.
-fn number_option<'a>(
-    alloc: Global,
-    name: &'a str,
-    least: u64,
-    most: u64,
-    help: &'a str,
-) -> Arg<'a>
+fn number_option<'a>(alloc: Global, name: &'a str, least: u64, most: u64, help: &'a str) -> Arg<'a>
     ensures rule { rule_of result ≡ spec.number_option name.entry.now least most }
     ensures local { result.global ≡ false }
 {
@@ -89,14 +84,20 @@ fn file_argument<'a>(alloc: Global, name: &'a str, help: &'a str) -> Arg<'a>
 fn command<'a>(alloc: Global) -> Result<Command<'a>, AllocError>
     ensures { IfOk result (λ command. app_of command ≡ spec.command) }
 {
-    let abi = number_option(alloc, "abi", 1, 5, "Version of Landlock's interface, 1 to 5");
+    let abi = number_option(
+        alloc,
+        "abi",
+        1,
+        5,
+        "Version of Landlock's interface, 1 to 5",
+    );
     let workers = number_option(alloc, "workers", 1, 64, "Number of threads, 1 to 64");
     let grain = number_option(
         alloc,
         "grain",
         0,
         u64::MAX,
-        "Records from which on a forked process may go to another thread",
+        "Fewest records of a forked process that may go to another thread",
     );
     Command::new(alloc, "landaudit")
         .about(ABOUT)

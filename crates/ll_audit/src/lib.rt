@@ -9,6 +9,8 @@ mod lines;
 mod outcome;
 mod report;
 mod source;
+#[cfg(test)]
+mod tests;
 
 pub use fault::Fault;
 pub use laws::command_lines;

@@ -35,7 +35,7 @@ fn push_number(text: &mut Vec<u8>, number: u64) -> Result<(), AllocError>
 }
 
 /// Adds what stands before a verdict.
-fn push_head(text: &mut Vec<u8>, line: u64, pid: u64, op: &str) -> Result<(), AllocError>
+pub(crate) fn push_head(text: &mut Vec<u8>, line: u64, pid: u64, op: &str) -> Result<(), AllocError>
     ensures { OnOk result (text.new.items ≡ text.old.items ++ head_text line pid op.now) }
 {
     push_number(text, line)?;
@@ -48,7 +48,7 @@ fn push_head(text: &mut Vec<u8>, line: u64, pid: u64, op: &str) -> Result<(), Al
 }
 
 /// Adds the numbers of layers, parted by commas.
-fn push_layers(text: &mut Vec<u8>, layers: &[u32]) -> Result<(), AllocError>
+pub(crate) fn push_layers(text: &mut Vec<u8>, layers: &[u32]) -> Result<(), AllocError>
     ensures { OnOk result (text.new.items ≡ text.old.items ++ layers_text layers.now) }
 {
     match layers.split_first() {
@@ -76,7 +76,7 @@ fn push_more_layers(text: &mut Vec<u8>, layers: &[u32]) -> Result<(), AllocError
 }
 
 /// Adds the last line.
-fn push_total(
+pub(crate) fn push_total(
     text: &mut Vec<u8>,
     all: u64,
     allowed: u64,

@@ -1,5 +1,4 @@
-use Rattle.std.proofs.Common.{◌∙◌, ap, sym, inl, inr, option_map}
-use Rattle.ll_audit.specs.Command.{request_by}
+use Rattle.std.proofs.Common.{◌∙◌, sym, inr}
 use Rattle.ll_audit.proofs.CommandLine.{request_of-matches}
 use Rattle.ll_audit.proofs.command.read.Goals as goal
 
@@ -10,5 +9,8 @@ returns-in-Some c =
 
 pub returns : goal.returns
 returns c =
-    inr (inr (c.in_ok-error-in-None.ensures.kind, c.in_ok-matches.ensures.0,
-        request_of-matches _ _ c.in_ok-matches.ensures.0 c.in_ok-matches.ensures.1 ∙ sym c.in-None.ensures))
+    inr (inr (
+      c.in_ok-error-in-None.ensures.kind,
+      c.in_ok-matches.ensures.0,
+      request_of-matches _ _ c.in_ok-matches.ensures.0 c.in_ok-matches.ensures.1 ∙ sym c.in-None.ensures,
+    ))
