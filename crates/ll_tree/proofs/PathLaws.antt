@@ -1,15 +1,17 @@
 -- A path and its text give each other back.
-use Rattle.std.proofs.Common.{◌≡◌, ℕ, ◌≤◌, ◌<◌, ◌∷◌, [], List, Bool, true, false, ◌&&◌, length, Option, Some, None, cond, eqb, leb, refl, sym, ap, ◌∙◌, subst, arith, rules, get_or}
+use Rattle.std.proofs.Common.{◌≡◌, ℕ, ◌≤◌, ◌∷◌, [], List, true, false, ◌&&◌, length, Some, None, cond, eqb, leb, refl, sym, ap, ◌∙◌, subst, arith, get_or}
 use Rattle.std.specs.Prelude.{◌≢◌, not, codes}
 use Rattle.std.specs.List.{list_all, slice_split, All, join_with_byte}
 use Rattle.std.proofs.lemmas.Bool.{le-leb, leb-true, false≢true}
 use Rattle.std.specs.Str.{bytes_eq}
-use Rattle.std.proofs.lemmas.Bool.Decides.{nat_tests}
+use Rattle.std.specs.Bool.{Decides}
+use Rattle.std.proofs.lemmas.Bool.Decides.{nat_tests, Decides-like, same_from_decides}
+use Rattle.std.proofs.lemmas.Slice.Eq.{slice_eq-Decides, bytes_eq-Decides}
 use Rattle.std.proofs.lemmas.Option.{cond_some, none-some, same_Some}
 use Rattle.std.proofs.lemmas.List.Splits.{join_with_byte-slice_split, slice_split_none, slice_split_at}
 use Rattle.std.proofs.lemmas.List.Sums.{AllPass-from_list_all}
-use Rattle.ll_tree.specs.Paths.{Path, Name, is_slash, is_name, is_name_byte, is_path, text_of, names_in, after_slash, path_of}
-use Rattle.ll_tree.proofs.Tests.{both}
+use Rattle.ll_tree.specs.Paths.{Path, Name, is_slash, is_name, is_name_byte, is_path, path_eq, text_of, names_in, after_slash, path_of}
+use Rattle.ll_tree.proofs.Bools.{both}
 use Rattle.ll_tree.proofs.PathText.{path_of-slash}
 
 -- what is read of a text, and that it is short
@@ -99,3 +101,14 @@ unfolding is_path text_of
 path_of-text_of path is =
     let parts = both (list_all is_name path) (leb (length (text_of path)) 4096) is in
     path_of-slash (text_of path) (join_with_byte 47 path) (leb-true (length (text_of path)) 4096 parts.1) refl ∙ names_in-joined path parts.0
+
+-- paths are the same exactly where their texts are
+pub bytes_eq-text_of : (a b : Path) → is_path a ≡ true → is_path b ≡ true → bytes_eq (text_of a) (text_of b) ≡ path_eq a b
+unfolding path_eq
+bytes_eq-text_of a b a_is b_is =
+    let by_text : Decides (bytes_eq (text_of a) (text_of b)) (a ≡ b) =
+    Decides-like (bytes_eq (text_of a) (text_of b))
+    (λ same. same_Some a b (sym (path_of-text_of a a_is) ∙ ap path_of same ∙ path_of-text_of b b_is))
+    (λ same. ap text_of same)
+    (bytes_eq-Decides (text_of a) (text_of b)) in
+    same_from_decides (bytes_eq (text_of a) (text_of b)) (path_eq a b) by_text (slice_eq-Decides bytes_eq-Decides a b (path_eq a b) refl)

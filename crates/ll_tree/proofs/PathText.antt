@@ -1,10 +1,10 @@
 -- What `path_of` answers, by the first byte of the text and its names.
-use Rattle.std.proofs.Common.{◌≡◌, ℕ, ◌≤◌, ◌<◌, ◌∷◌, [], List, Bool, true, false, ◌&&◌, length, Option, Some, None, cond, eqb, leb, refl, sym, ap, ◌∙◌, subst, arith, rules}
+use Rattle.std.proofs.Common.{◌≡◌, ℕ, ◌≤◌, ◌<◌, ◌∷◌, [], List, true, false, length, Some, None, cond, eqb, refl, ap, ◌∙◌, arith}
 use Rattle.std.specs.Prelude.{◌≢◌, is_some}
 use Rattle.std.specs.List.{list_all, slice_split}
 use Rattle.std.proofs.lemmas.Bool.{le-leb, lt-leb}
 use Rattle.std.proofs.lemmas.Bool.Decides.{nat_tests}
-use Rattle.ll_tree.specs.Paths.{Path, Name, is_slash, is_name, names_in, after_slash, path_of}
+use Rattle.ll_tree.specs.Paths.{is_slash, is_name, names_in, after_slash, path_of}
 
 -- a text of at most 4,096 bytes
 pub path_of-short : (text : List ℕ) → length text ≤ 4096 → path_of text ≡ after_slash text

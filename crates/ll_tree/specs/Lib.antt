@@ -1,6 +1,10 @@
 pub mod Paths
+pub mod Trees
+pub mod Kept
 pub mod Fault
 pub mod Lines
 pub mod LineView
 pub mod Members
 pub mod Reading
+pub mod TreeReading
+pub mod WorkedTree

@@ -1,6 +1,6 @@
 -- The value of a line, and the members of an object: each is there in its form, or the line is at fault.
 -- Source: docs/FORMATS.md, "Lines and values".
-use Rattle.std.specs.Prelude.{ℕ, Bool, false, List, [], ◌∷◌, Option, Some, None, ok_or, option_and_then, Result, Ok, if◌then◌else◌}
+use Rattle.std.specs.Prelude.{ℕ, Bool, false, List, Option, Some, None, ok_or, option_and_then, Result, Ok, if◌then◌else◌}
 use Rattle.std.specs.Str.{is_utf8}
 use Rattle.serde_json.specs.Data.{Data, Items, no_items, item}
 use Rattle.serde_json.specs.Read.{read}
@@ -48,15 +48,9 @@ items_at name value = items_in (get name value)
 unfoldable pub text_in : Data → Result (List ℕ) Cause
 text_in value = ok_or (as_str value) Field
 
-unfoldable pub texts_in : Items → Result (List (List ℕ)) Cause
-texts_in no_items = Ok []
-texts_in (item value others) = do
+-- the texts of a list, put together one after another
+unfoldable pub fold_texts : {Whole : Type 0} → (Whole → List ℕ → Whole) → Whole → Items → Result Whole Cause
+fold_texts add whole no_items = Ok whole
+fold_texts add whole (item value others) = do
   text ← text_in value
-  texts ← texts_in others
-  Ok (text ∷ texts)
-
--- a list of texts, and the empty one where the member is absent
-unfoldable pub texts_at : List ℕ → Data → Result (List (List ℕ)) Cause
-texts_at name value = do
-  items ← items_at name value
-  texts_in items
+  fold_texts add (add whole text) others

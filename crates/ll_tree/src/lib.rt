@@ -3,10 +3,19 @@
 #![tactic(auto)]
 
 mod fault;
+pub mod laws;
 pub mod lines;
 pub mod members;
+mod object;
 mod path;
+mod place;
 pub mod reading;
+mod tree;
 
 pub use fault::{Cause, ReadFault};
-pub use path::path_ok;
+pub use path::{path_ok, path_texts};
+pub use place::{NodeId, Place};
+pub use tree::Tree;
+
+#[cfg(test)]
+mod tests;

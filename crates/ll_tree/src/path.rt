@@ -2,7 +2,7 @@
 
 ghost use Rattle.std.specs.Prelude.{◌≡◌, ℕ, List, Some, true, is_some, IsTrue};
 ghost use Rattle.std.specs.List.{list_all};
-ghost use Rattle.ll_tree.specs.Paths.{Path, is_name_byte, is_name, is_path, text_of, path_of};
+ghost use Rattle.ll_tree.specs.Paths.{Path, is_name_byte, is_name, is_path, text_of, path_of, front};
 
 /// The longest path, in bytes.
 const LONGEST_PATH: usize = 4096;
@@ -35,6 +35,16 @@ pub fn path_ok(text: &str) -> bool
         None => false,
         Some("") => true,
         Some(names) => names.split('/').all(name_ok),
+    }
+}
+
+/// The text of the path without its last name.
+pub(crate) fn front_text(text: &str) -> &str
+    ensures { (path : Path) → path_of text.now ≡ Some path → path_of result.now ≡ Some (front path) }
+{
+    match text.rfind('/') {
+        Some(end) if end > 0 => &text[..end],
+        _ => "/",
     }
 }
 

@@ -1,11 +1,11 @@
 -- The ways out are the cases of `path_of`.
-use Rattle.std.proofs.Common.{◌≡◌, sym, ap, ◌∙◌, arith, rules, lit<, tests, refl, Some, None}
+use Rattle.std.proofs.Common.{sym, ap, ◌∙◌, rules, lit<, tests, refl, Some, None}
 use Rattle.std.specs.Prelude.{is_some}
 use Rattle.std.proofs.lemmas.Iterator.Splits.{YieldsList-from_str_split}
 use Rattle.std.proofs.lemmas.Iterator.Search.{all_from_yields_List}
 use Rattle.std.proofs.lemmas.Str.Pattern.{strip_prefix_char}
-use Rattle.ll_tree.specs.Paths.{is_name, names_in}
-use Rattle.ll_tree.proofs.PathText.{path_of-other, path_of-root, path_of-slash, is_some-names_in, path_of-long}
+use Rattle.ll_tree.specs.Paths.{is_name}
+use Rattle.ll_tree.proofs.PathText.{path_of-other, path_of-root, path_of-slash, is_some-names_in}
 use Rattle.ll_tree.proofs.path.path_ok.Goals as goal
 
 pub returns-in-None : goal.returns-in-None

@@ -1,0 +1,82 @@
+-- The numbers of the layers of a domain that pass a test, one layer after another.
+use Rattle.std.proofs.Common.{◌≡◌, ℕ, ◌+◌, ◌<◌, ◌≤◌, Bool, true, false, not, cond, List, [], ◌∷◌, ◌++◌, map, length, get_or, drop, refl, sym, ap, ◌∙◌, arith, append_assoc, append-nil, add-one}
+use Rattle.std.specs.Prelude.{All}
+use Rattle.std.proofs.lemmas.List.Elements.{All-append, All-cons, All-nil, All-weaker}
+use Rattle.std.proofs.lemmas.List.{drop_all}
+use Rattle.std.proofs.Math.Seq.{drop-cons}
+use Rattle.ll_rights.specs.declared.fs.Fs.{Fs}
+use Rattle.ll_rights.specs.declared.net.Net.{Net}
+use Rattle.ll_rights.specs.Rights.{is_empty}
+use Rattle.ll_tree.specs.Paths.{Path}
+use Rattle.ll_tree.specs.Trees.{Entry}
+use Rattle.ll_rules.specs.declared.domain.LayerId.{LayerId}
+use Rattle.ll_rules.specs.Layers.{RulesOn, in_tree}
+use Rattle.ll_rules.specs.Checks.{numbers_from, layer_at, domain_of, all_in_tree, lacks, refusing, lacks_on_port, refusing_port, refusing_mount, numbers_where}
+
+-- the layers that a list of names stands for
+pub numbers_from-map : {A B : Type 0} (test : B → Bool) (h : A → B) (number : ℕ) (xs : List A) → numbers_from test number (map h xs) ≡ numbers_from (λ x. test (h x)) number xs
+unfolding numbers_from
+numbers_from-map test h number [] = refl
+numbers_from-map test h number (x ∷ xs) = ap (λ (rest : List ℕ). cond (test (h x)) (number ∷ []) [] ++ rest) (numbers_from-map test h (number + 1) xs)
+
+-- one layer more
+pub noted_next : {A : Type 0} (test : A → Bool) (all : List A) (place : ℕ) (d : A) (so_far next total : List ℕ) (refuses : Bool) → place < length all
+    → refuses ≡ test (get_or all place d) → next ≡ so_far ++ cond refuses ((place + 1) ∷ []) [] → so_far ++ numbers_from test (place + 1) (drop place all) ≡ total
+    → next ++ numbers_from test (place + 1 + 1) (drop (place + 1) all) ≡ total
+unfolding numbers_from
+noted_next test all place d so_far next total refuses inside tells noted before =
+    let here : drop place all ≡ get_or all place d ∷ drop (place + 1) all = rw add-one (drop-cons all place d inside) in
+    let split : so_far ++ (cond (test (get_or all place d)) ((place + 1) ∷ []) [] ++ numbers_from test (place + 1 + 1) (drop (place + 1) all)) ≡ total = rw here at before in
+    rw (noted, tells, append_assoc) split
+
+-- no layer is left
+pub noted_all : {A : Type 0} (test : A → Bool) (all : List A) (place : ℕ) (so_far total : List ℕ) → length all ≤ place → so_far ++ numbers_from test (place + 1) (drop place all) ≡ total → so_far ≡ total
+unfolding numbers_from
+noted_all test all place so_far total done before =
+    let nothing : drop place all ≡ [] = drop_all place all done in
+    sym (append-nil so_far) ∙ (rw nothing at before)
+
+-- what is noted stays below the next number
+pub noted_below : (so_far next : List ℕ) (place : ℕ) (refuses : Bool) → next ≡ so_far ++ cond refuses ((place + 1) ∷ []) [] → All (λ number. number < place + 1) so_far → All (λ number. number < place + 1 + 1) next
+noted_below so_far next place refuses noted below =
+    rw noted (All-append (λ (number : ℕ). number < place + 1 + 1) so_far (cond refuses ((place + 1) ∷ []) []) (All-weaker (λ (number : ℕ). number < place + 1) (λ (number : ℕ). number < place + 1 + 1) (λ number less. omega arith) so_far below) (last refuses))
+  where
+    last : (refuses : Bool) → All (λ number. number < place + 1 + 1) (cond refuses ((place + 1) ∷ []) [])
+    last true = All-cons (λ (number : ℕ). number < place + 1 + 1) (place + 1) [] (omega arith) (All-nil (λ (number : ℕ). number < place + 1 + 1))
+    last false = All-nil (λ (number : ℕ). number < place + 1 + 1)
+
+-- ---- by the names of layers
+
+-- whether the layer of a name lacks something wanted on a path
+unfoldable pub refuses_on : List Entry → List (RulesOn ℕ) → Path → Fs → LayerId → Bool
+refuses_on tree layers path wanted id = lacks (in_tree tree (layer_at layers id)) path wanted
+
+pub refusing_by_name : (tree : List Entry) (layers : List (RulesOn ℕ)) (ids : List LayerId) (path : Path) (wanted : Fs) → numbers_from (refuses_on tree layers path wanted) 1 ids ≡ refusing (all_in_tree tree (domain_of layers ids)) path wanted
+unfolding refuses_on
+refusing_by_name tree layers ids path wanted =
+    sym (numbers_from-map (λ layer. lacks layer path wanted) (in_tree tree) 1 (domain_of layers ids) ∙ numbers_from-map (λ rules. lacks (in_tree tree rules) path wanted) (layer_at layers) 1 ids)
+
+-- whether the layer of a name lacks something wanted on a port
+unfoldable pub refuses_on_port : List (RulesOn ℕ) → ℕ → Net → LayerId → Bool
+refuses_on_port layers port wanted id = lacks_on_port (layer_at layers id) port wanted
+
+pub refusing_port_by_name : (layers : List (RulesOn ℕ)) (ids : List LayerId) (port : ℕ) (wanted : Net) → numbers_from (refuses_on_port layers port wanted) 1 ids ≡ refusing_port (domain_of layers ids) port wanted
+unfolding refuses_on_port
+refusing_port_by_name layers ids port wanted = sym (numbers_from-map (λ layer. lacks_on_port layer port wanted) (layer_at layers) 1 ids)
+
+-- whether the layer of a name handles any right for files
+unfoldable pub refuses_mount : List (RulesOn ℕ) → LayerId → Bool
+refuses_mount layers id = not (is_empty (layer_at layers id).handled_files)
+
+pub refusing_mount_by_name : (layers : List (RulesOn ℕ)) (ids : List LayerId) → numbers_from (refuses_mount layers) 1 ids ≡ refusing_mount (domain_of layers ids)
+unfolding refuses_mount
+refusing_mount_by_name layers ids = sym (numbers_from-map (λ layer. not (is_empty layer.handled_files)) (layer_at layers) 1 ids)
+
+-- whether the layer of a name passes a test of layers with rules on paths
+unfoldable pub passes : List Entry → List (RulesOn ℕ) → (RulesOn Path → Bool) → LayerId → Bool
+passes tree layers test id = test (in_tree tree (layer_at layers id))
+
+pub passing_by_name : (tree : List Entry) (layers : List (RulesOn ℕ)) (ids : List LayerId) (test : RulesOn Path → Bool) → numbers_from (passes tree layers test) 1 ids ≡ numbers_where test (all_in_tree tree (domain_of layers ids))
+unfolding passes
+passing_by_name tree layers ids test =
+    sym (numbers_from-map test (in_tree tree) 1 (domain_of layers ids) ∙ numbers_from-map (λ rules. test (in_tree tree rules)) (layer_at layers) 1 ids)

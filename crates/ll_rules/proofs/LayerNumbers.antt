@@ -1,0 +1,197 @@
+-- Which numbers are in a set of layers, and how a set changes with its bits.
+use Rattle.std.proofs.Common.{◌≡◌, ◌≢◌, ℕ, zero, suc, ◌-◌, ◌*◌, ◌/◌, ◌%◌, ◌^◌, ◌<◌, ◌≤◌, max, Bool, true, false, ◌&&◌, ◌||◌, eqb, cond, List, [], ◌∷◌, ◌++◌, length, refl, sym, ap, ◌∙◌, arith, inl, inr, bit_and, bit_or, append-nil, ◌⊎◌}
+use Rattle.std.specs.Prelude.{All}
+use Rattle.std.specs.Int.{bit_at}
+use Rattle.std.proofs.lemmas.Bool.{cases_eq, eq-eqb, ne_eqb, eqb-true, false≢true, or_cases, or_right, false_from_ne_true}
+use Rattle.std.proofs.lemmas.Nat.Bits.{bit_at_or, bit_at-lt, bit_at-pow_same, bit_at-pow_other, shr_and_one}
+use Rattle.std.proofs.lemmas.List.Folds.{list_any-append}
+use Rattle.std.proofs.lemmas.List.Elements.{All-head, All-tail}
+use Rattle.std.proofs.Math.Nat.{mod-eq_of_lt}
+use Rattle.std.proofs.lemmas.Nat.{one_shl}
+use Rattle.ll_rules.specs.declared.layer_set.LayerSet.TheInside.{Inside}
+use Rattle.ll_rules.specs.LayerNumbers.{is_among, passing_upto, numbers_passing, united_numbers, is_at_place, numbers_of, places_of, places_of-passing_upto}
+
+or_false : (b : Bool) → (b || false) ≡ b
+or_false true = refl
+or_false false = refl
+
+and_false : (b : Bool) → (b && false) ≡ false
+and_false true = refl
+and_false false = refl
+
+and_true : (b : Bool) → (b && true) ≡ b
+and_true true = refl
+and_true false = refl
+
+is_among-one : (b : Bool) (m n : ℕ) → is_among n (cond b (m ∷ []) []) ≡ (b && eqb m n)
+is_among-one true m n = or_false (eqb m n)
+is_among-one false m n = refl
+
+step_of : (test : ℕ → Bool) (bound number : ℕ) → is_among number (passing_upto test (suc bound)) ≡ (is_among number (passing_upto test bound) || (test (suc bound) && eqb (suc bound) number))
+unfolding passing_upto
+step_of test bound number =
+    list_any-append (λ other. eqb other number) (passing_upto test bound) (cond (test (suc bound)) (suc bound ∷ []) [])
+    ∙ ap (λ (b : Bool). is_among number (passing_upto test bound) || b) (is_among-one (test (suc bound)) (suc bound) number)
+
+pub is_among-above : (test : ℕ → Bool) (bound number : ℕ) → bound < number → is_among number (passing_upto test bound) ≡ false
+unfolding passing_upto
+is_among-above test zero number lt = refl
+is_among-above test (suc bound) number lt =
+    step_of test bound number
+    ∙ rw (is_among-above test bound number (omega arith), ne_eqb (suc bound) number (omega arith)) (and_false (test (suc bound)))
+
+pub is_among-zero : (test : ℕ → Bool) (bound : ℕ) → is_among 0 (passing_upto test bound) ≡ false
+unfolding passing_upto
+is_among-zero test zero = refl
+is_among-zero test (suc bound) =
+    step_of test bound 0 ∙ ap (λ (b : Bool). b || (test (suc bound) && eqb (suc bound) 0)) (is_among-zero test bound)
+    ∙ ap (λ (b : Bool). test (suc bound) && b) (ne_eqb (suc bound) 0 (λ same. absurd (omega arith)))
+    ∙ and_false (test (suc bound))
+
+-- a number from 1 to the bound is there if it passes
+pub is_among-passing_upto : (test : ℕ → Bool) (bound number : ℕ) → 0 < number → number ≤ bound → is_among number (passing_upto test bound) ≡ test number
+is_among-passing_upto test zero number pos le = absurd (omega arith)
+is_among-passing_upto test (suc bound) number pos le =
+    elim (cases_eq (suc bound) number) [
+      | inl same ↦
+          step_of test bound number
+          ∙ rw (is_among-above test bound number (omega arith), eq-eqb (suc bound) number same, same) (and_true (test number))
+      | inr differs ↦
+          step_of test bound number
+          ∙ rw (is_among-passing_upto test bound number pos (omega arith), ne_eqb (suc bound) number differs, and_false (test (suc bound))) (or_false (test number))
+    ]
+
+-- two tests that agree from 1 to the bound pass the same numbers
+pub passing_upto-agree : (t u : ℕ → Bool) (bound : ℕ) → ((number : ℕ) → 0 < number → number ≤ bound → t number ≡ u number) → passing_upto t bound ≡ passing_upto u bound
+unfolding passing_upto
+passing_upto-agree t u zero same = refl
+passing_upto-agree t u (suc bound) same =
+    rw (passing_upto-agree t u bound (λ number pos le. same number pos (omega arith)), same (suc bound) (omega arith) (omega arith)) refl
+
+-- one number more, above the others
+pub passing_upto-one_more : (t u : ℕ → Bool) (bound one : ℕ) → 0 < one → one ≤ bound
+    → ((number : ℕ) → 0 < number → number < one → u number ≡ t number) → u one ≡ true
+    → ((number : ℕ) → one ≤ number → number ≤ bound → t number ≡ false) → ((number : ℕ) → one < number → number ≤ bound → u number ≡ false)
+    → passing_upto u bound ≡ passing_upto t bound ++ one ∷ []
+unfolding passing_upto
+passing_upto-one_more t u zero one pos le below here none none_above = absurd (omega arith)
+passing_upto-one_more t u (suc bound) one pos le below here none none_above =
+    elim (cases_eq (suc bound) one) [
+      | inl same ↦
+          rw (passing_upto-agree u t bound (λ number p q. below number p (omega arith)), same, here, none one (omega arith) (omega arith))
+          (ap (λ (xs : List ℕ). xs ++ one ∷ []) (sym (append-nil (passing_upto t bound))))
+      | inr differs ↦
+          rw (none_above (suc bound) (omega arith) (omega arith), none (suc bound) (omega arith) (omega arith), append-nil (passing_upto u bound), append-nil (passing_upto t bound))
+          (passing_upto-one_more t u bound one pos (omega arith) below here (λ number p q. none number p (omega arith)) (λ number p q. none_above number p (omega arith)))
+    ]
+
+-- ---- sets kept as bits
+
+pub has_kept : (set : Inside) (number : ℕ) → 0 < number → number ≤ 16 → is_among number (numbers_of set) ≡ eqb (bit_at set.places (number - 1)) 1
+unfolding is_at_place
+has_kept set zero pos le = absurd (omega arith)
+has_kept set (suc place) pos le =
+    let same : suc place - 1 ≡ place = omega arith in
+    rw same (is_among-passing_upto (is_at_place set.places) 16 (suc place) pos le)
+
+-- the test that code makes of one bit
+pub has_by_shift : (set : Inside) (number : ℕ) → 0 < number → number ≤ 16 → eqb (bit_and (set.places / 2 ^ (number - 1)) 1) 1 ≡ is_among number (numbers_of set)
+has_by_shift set number pos le =
+    ap (λ (bit : ℕ). eqb bit 1) (shr_and_one set.places (number - 1)) ∙ sym (has_kept set number pos le)
+
+pub has_outside : (set : Inside) (number : ℕ) → (number ≡ 0) ⊎ (16 < number) → false ≡ is_among number (numbers_of set)
+has_outside set number (inl none) = rw none (sym (is_among-zero (is_at_place set.places) 16))
+has_outside set number (inr above) = sym (is_among-above (is_at_place set.places) 16 number above)
+
+-- no bit, no number
+pub empty_kept : (set : Inside) → set.places < 2 ^ 16 → eqb set.places 0 ≡ eqb (length (numbers_of set)) 0
+unfolding places_of passing_upto is_at_place
+empty_kept set fits =
+    let again : places_of (numbers_of set) ≡ set.places = places_of-passing_upto set.places 16 ∙ mod-eq_of_lt fits in
+    elim (cases_eq set.places 0) [
+      | inl zero_is ↦ rw zero_is refl
+      | inr some ↦ rw (ne_eqb set.places 0 some) (no_numbers (numbers_of set) set.places again some)
+    ]
+  where
+    no_numbers : (numbers : List ℕ) (places : ℕ) → places_of numbers ≡ places → (places ≡ 0 → ⊥) → false ≡ eqb (length numbers) 0
+    no_numbers [] places again some = absurd (some (sym again))
+    no_numbers (x ∷ xs) places again some = sym (ne_eqb (length (x ∷ xs)) 0 (λ same. absurd (omega arith)))
+
+either_bit : (x y : ℕ) → x < 2 → y < 2 → eqb (max x y) 1 ≡ (eqb x 1 || eqb y 1)
+either_bit zero zero p q = refl
+either_bit zero (suc zero) p q = refl
+either_bit (suc zero) zero p q = refl
+either_bit (suc zero) (suc zero) p q = refl
+either_bit (suc (suc x)) y p q = absurd (omega arith)
+either_bit x (suc (suc y)) p q = absurd (omega arith)
+
+is_at_place-or : (a b number : ℕ) → is_at_place (bit_or a b) number ≡ (is_at_place a number || is_at_place b number)
+unfolding is_at_place
+is_at_place-or a b zero = refl
+is_at_place-or a b (suc place) = rw (bit_at_or a b place) (either_bit (bit_at a place) (bit_at b place) (bit_at-lt a place) (bit_at-lt b place))
+
+-- the bits of two sets together
+pub union_kept : (a b : Inside) → numbers_passing (is_at_place (bit_or a.places b.places)) ≡ united_numbers (numbers_of a) (numbers_of b)
+union_kept a b =
+    passing_upto-agree (is_at_place (bit_or a.places b.places)) (λ number. is_among number (numbers_of a) || is_among number (numbers_of b)) 16
+    (λ number pos le.
+    rw (is_among-passing_upto (is_at_place a.places) 16 number pos le, is_among-passing_upto (is_at_place b.places) 16 number pos le)
+    (is_at_place-or a.places b.places number))
+
+is_at_place-power_same : (place : ℕ) → is_at_place (2 ^ place) (suc place) ≡ true
+unfolding is_at_place
+is_at_place-power_same place = rw (bit_at-pow_same place) refl
+
+is_at_place-power_other : (place number : ℕ) → (number ≡ suc place → ⊥) → is_at_place (2 ^ place) number ≡ false
+unfolding is_at_place
+is_at_place-power_other place zero differs = refl
+is_at_place-power_other place (suc other) differs =
+    let apart : other ≢ place = λ same. differs (ap suc same) in
+    rw (bit_at-pow_other place other apart) refl
+
+below_from_among : (numbers : List ℕ) (number bound : ℕ) → is_among number numbers ≡ true → All (λ other. other < bound) numbers → number < bound
+below_from_among [] number bound among all = absurd (false≢true among)
+below_from_among (x ∷ xs) number bound among all =
+    elim (or_cases (eqb x number) (is_among number xs) among) [
+      | inl same ↦ omega (arith, eqb-true x number same, All-head (λ (other : ℕ). other < bound) x xs all)
+      | inr later ↦ below_from_among xs number bound later (All-tail (λ (other : ℕ). other < bound) x xs all)
+    ]
+
+-- one bit more, above the others
+pub noted_kept : (set : Inside) (place : ℕ) → suc place ≤ 16 → All (λ other. other < suc place) (numbers_of set)
+    → numbers_passing (is_at_place (bit_or set.places (2 ^ place))) ≡ numbers_of set ++ suc place ∷ []
+noted_kept set place le above =
+    let t : ℕ → Bool = is_at_place set.places in
+    let none : (number : ℕ) → suc place ≤ number → number ≤ 16 → t number ≡ false = λ number p q.
+    false_from_ne_true (t number) (λ there.
+    let below : number < suc place = below_from_among (numbers_of set) number (suc place) (is_among-passing_upto t 16 number (omega arith) q ∙ there) above in
+    omega arith) in
+    passing_upto-one_more t (is_at_place (bit_or set.places (2 ^ place))) 16 (suc place) (omega arith) le
+    (λ number p q. rw (is_at_place-or set.places (2 ^ place) number, is_at_place-power_other place number (λ same. omega arith)) (or_false (t number)))
+    (rw (is_at_place-or set.places (2 ^ place) (suc place), is_at_place-power_same place) (or_right (t (suc place)) true refl))
+    none
+    (λ number p q. rw (is_at_place-or set.places (2 ^ place) number, is_at_place-power_other place number (λ same. omega arith), none number (omega arith) q) refl)
+
+-- ---- a set by its bits again
+
+pub numbers_again : (set : Inside) → numbers_of set ≡ numbers_passing (λ number. is_among number (numbers_of set))
+numbers_again set =
+    passing_upto-agree (is_at_place set.places) (λ number. is_among number (numbers_of set)) 16
+    (λ number pos le. sym (is_among-passing_upto (is_at_place set.places) 16 number pos le))
+
+same_places : (a b : Inside) → a.places < 2 ^ 16 → b.places < 2 ^ 16 → numbers_of a ≡ numbers_of b → a.places ≡ b.places
+same_places a b p q same =
+    sym (places_of-passing_upto a.places 16 ∙ mod-eq_of_lt p) ∙ ap places_of same ∙ places_of-passing_upto b.places 16 ∙ mod-eq_of_lt q
+
+pub places_kept : (set : Inside) (numbers : List ℕ) → numbers_of set ≡ numbers → set.places < 2 ^ 16 → set.places ≡ places_of numbers
+places_kept set numbers same fits = sym (ap places_of (sym same) ∙ places_of-passing_upto set.places 16 ∙ mod-eq_of_lt fits)
+
+-- one bit more, as code sets it
+pub noted_by_shift : (set : Inside) (number : ℕ) → 0 < number → number ≤ 16 → All (λ other. other < number) (numbers_of set)
+    → numbers_passing (is_at_place (bit_or set.places (1 * 2 ^ (number - 1) % 65536))) ≡ numbers_of set ++ number ∷ []
+noted_by_shift set zero pos le above = absurd (omega arith)
+noted_by_shift set (suc place) pos le above =
+    let same : suc place - 1 ≡ place = omega arith in
+    let small : place < 16 = omega arith in
+    let power : 1 * 2 ^ place % 2 ^ 16 ≡ 2 ^ place = one_shl place 16 small in
+    rw (same, power) (noted_kept set place le above)

@@ -1,0 +1,10 @@
+pub mod LayerNumbers
+pub mod RightSets
+pub mod Tests
+pub mod Lookups
+pub mod Climbs
+pub mod Adding
+pub mod Domains
+pub mod Ports
+pub mod AskedRights
+pub mod Verdicts

@@ -1,0 +1,14 @@
+use Rattle.std.proofs.Common.{◌≡◌, ◌+◌, ◌<◌, ◌++◌, drop}
+use Rattle.std.specs.Prelude.{All}
+use Rattle.ll_tree.specs.Trees.{path_at}
+use Rattle.ll_rules.specs.Checks.{numbers_from}
+use Rattle.ll_rules.proofs.Domains.{refuses_on}
+use Rattle.ll_rules.proofs.check.check_path.Given as goal
+
+-- the layers noted so far and those that are left make up all
+abbrev pub invariant-loop-place : goal.invariant-loop-place
+invariant-loop-place l = record {
+  so_far : l.refusing ++ numbers_from (refuses_on l.tree l.layers (path_at l.tree l.node) l.wanted) (l.place + 1) (drop l.place l.ids)
+      ≡ numbers_from (refuses_on l.tree l.layers (path_at l.tree l.node) l.wanted) 1 l.ids;
+  below : All (λ number. number < l.place + 1) l.refusing;
+}

@@ -1,0 +1,5 @@
+pub mod LayerNumbers
+pub mod Layers
+pub mod Rulesets
+pub mod Checks
+pub mod Moves

@@ -1,0 +1,74 @@
+-- What creating a ruleset and adding rules to it answers.
+-- Source: landlock_create_ruleset(2), landlock_add_rule(2), "ERRORS"; where two errors meet, docs/DECISIONS.md says which comes first.
+use Rattle.std.specs.Prelude.{ℕ, Bool, not, ◌&&◌, ◌||◌, nat_le, nat_lt, List, Option, Some, None, if◌then◌else◌}
+use Rattle.ll_rights.specs.declared.abi.Abi.{Abi}
+use Rattle.ll_rights.specs.declared.fs.Fs.{Fs}
+use Rattle.ll_rights.specs.declared.net.Net.{Net}
+use Rattle.ll_rights.specs.Abis.{number_of, knows_fs, knows_net}
+use Rattle.ll_rights.specs.Rights as files
+use Rattle.ll_rights.specs.NetRights as network
+use Rattle.ll_tree.specs.declared.place.Place.{Place}
+use Rattle.ll_tree.specs.declared.place.Place.TheVariants.{Node, Gap, Nowhere}
+use Rattle.ll_tree.specs.Paths.{Path}
+use Rattle.ll_tree.specs.Trees.{Entry, IsNode, path_at, kind_at, is_dir}
+use Rattle.ll_rules.specs.declared.errno.Errno.{Errno}
+use Rattle.ll_rules.specs.declared.errno.Errno.TheVariants.{Inval, TooBig, NoMsg}
+use Rattle.ll_rules.specs.declared.errno.RuleFault.{RuleFault}
+use Rattle.ll_rules.specs.declared.errno.RuleFault.TheVariants as faults
+use Rattle.ll_rules.specs.Layers.{RulesOn, with_file_rule}
+
+-- whether a version has rules for ports
+abbrev pub has_ports : Abi → Bool
+has_ports abi = nat_le 4 (number_of abi)
+
+-- whether a version knows each right of two sets
+abbrev pub knows_all : Abi → Fs → Net → Bool
+knows_all abi handled_files handled_network =
+    files.every_right (λ right. not (files.has handled_files right) || knows_fs abi right) && network.every_right (λ right. not (network.has handled_network right) || knows_net abi right)
+
+-- Why a ruleset isn't created: rights for the network make the longer structure, which older versions refuse first.
+abbrev pub create_fault : Abi → Fs → Net → Option Errno
+create_fault abi handled_files handled_network =
+    if not (network.is_empty handled_network) && not (has_ports abi) then Some TooBig
+    else (if not (knows_all abi handled_files handled_network) then Some Inval
+    else (if files.is_empty handled_files && network.is_empty handled_network then Some NoMsg else None))
+
+-- ---- rules for files
+
+-- the node that a place names is of the tree
+abbrev pub IsOfTree : List Entry → Place → Type 0
+IsOfTree tree (Node node) = IsNode tree node
+IsOfTree tree (Gap node) = IsNode tree node
+IsOfTree tree Nowhere = Unit {0}
+
+-- whether each right of a set applies to what isn't a directory
+abbrev pub are_file_rights : Fs → Bool
+are_file_rights wanted = files.every_right (λ right. not (files.has wanted right) || files.is_file_right right)
+
+-- a rule needs an object to stand on, and one that isn't a directory has file rights alone
+abbrev pub place_fault : List Entry → Place → Fs → Option RuleFault
+place_fault tree (Node node) wanted = if not (is_dir (kind_at tree node)) && not (are_file_rights wanted) then Some (faults.Errno Inval) else None
+place_fault tree (Gap node) wanted = Some faults.Moot
+place_fault tree Nowhere wanted = Some faults.Moot
+
+-- why a rule for files isn't added
+abbrev pub add_path_fault : {P : Type 0} → List Entry → RulesOn P → Place → Fs → Option RuleFault
+add_path_fault tree rules place wanted =
+    if files.is_empty wanted then Some (faults.Errno NoMsg)
+    else (if not (files.is_within wanted rules.handled_files) then Some (faults.Errno Inval) else place_fault tree place wanted)
+
+-- one rule more, on the path of the node that a place names
+abbrev pub with_rule_at : List Entry → RulesOn Path → Place → Fs → RulesOn Path
+with_rule_at tree rules (Node node) granted = with_file_rule rules (path_at tree node) granted
+with_rule_at tree rules (Gap node) granted = rules
+with_rule_at tree rules Nowhere granted = rules
+
+-- ---- rules for ports
+
+-- why a rule for a port isn't added; a port has 16 bits
+abbrev pub add_port_fault : {P : Type 0} → Abi → RulesOn P → ℕ → Net → Option RuleFault
+add_port_fault abi rules port wanted =
+    if not (has_ports abi) then Some (faults.Errno Inval)
+    else (if network.is_empty wanted then Some (faults.Errno NoMsg)
+    else (if not (network.is_within wanted rules.handled_network) then Some (faults.Errno Inval)
+    else (if nat_lt 65535 port then Some (faults.Errno Inval) else None)))

@@ -1,0 +1,73 @@
+//! What a domain refuses.
+
+ghost use Rattle.std.specs.Prelude.{◌≡◌, ◌<◌, length, All};
+ghost use Rattle.ll_tree.specs.Trees.{IsNode, path_at};
+ghost use Rattle.ll_rules.specs.Layers.{AreInTree};
+ghost use Rattle.ll_rules.specs.Checks.{layer_at, domain_of, all_in_tree, IsDomainOf, refusing, refusing_port, refusing_mount};
+
+use crate::{Domain, Layer, LayerId, LayerSet};
+use ll_rights::{Fs, Net};
+use ll_tree::{NodeId, Tree};
+
+/// The layer at a place of a slice.
+pub(crate) fn layer_of(layers: &[Layer], id: LayerId) -> &Layer
+    requires { id.0 < length layers.now }
+    ensures { result.now ≡ layer_at layers.now id }
+{
+    &layers[id.0 as usize]
+}
+
+/// The layers of a domain that refuse something of what is wanted on an object: each that handles a
+/// right of it and grants it neither on the object nor on a directory above it (landlock(7),
+/// "Landlock rules").
+pub fn check_path(
+    tree: &Tree,
+    layers: &[Layer],
+    domain: &Domain,
+    node: NodeId,
+    wanted: Fs,
+) -> LayerSet
+    requires domain { IsDomainOf layers.now domain.now }
+    requires rules { All (AreInTree tree.now) layers.now }
+    requires node { IsNode tree.now node }
+    ensures { result ≡ refusing (all_in_tree tree.now (domain_of layers.now domain.now)) (path_at tree.now node) wanted }
+{
+    let ids = domain.layers();
+    let mut refusing = LayerSet::new();
+    for (place, id) in ids.iter().enumerate() {
+        let refuses = layer_of(layers, *id).refuses(tree, node, wanted);
+        refusing = refusing.noted(place as u32 + 1, refuses);
+    }
+    refusing
+}
+
+/// The layers of a domain that refuse something of what is wanted on a TCP port: each that handles a
+/// right of it and has no rule on just this port that grants it (the kernel's userspace document on
+/// Landlock, "Network flags").
+pub fn check_port(layers: &[Layer], domain: &Domain, port: u16, wanted: Net) -> LayerSet
+    requires { IsDomainOf layers.now domain.now }
+    ensures { result ≡ refusing_port (domain_of layers.now domain.now) port wanted }
+{
+    let ids = domain.layers();
+    let mut refusing = LayerSet::new();
+    for (place, id) in ids.iter().enumerate() {
+        let refuses = layer_of(layers, *id).refuses_on_port(port, wanted);
+        refusing = refusing.noted(place as u32 + 1, refuses);
+    }
+    refusing
+}
+
+/// The layers of a domain that refuse a change of what is mounted: each that handles a right for files
+/// (the kernel's userspace document on Landlock, "Current limitations").
+pub fn check_mount(layers: &[Layer], domain: &Domain) -> LayerSet
+    requires { IsDomainOf layers.now domain.now }
+    ensures { result ≡ refusing_mount (domain_of layers.now domain.now) }
+{
+    let ids = domain.layers();
+    let mut refusing = LayerSet::new();
+    for (place, id) in ids.iter().enumerate() {
+        let refuses = layer_of(layers, *id).handles_files();
+        refusing = refusing.noted(place as u32 + 1, refuses);
+    }
+    refusing
+}

@@ -1,0 +1,59 @@
+//! The errors that Landlock answers, and those of this crate's own calls.
+
+use std::alloc::{AllocError, AllocFailed};
+
+/// An error of a system call (landlock_create_ruleset(2), landlock_add_rule(2),
+/// landlock_restrict_self(2), "ERRORS").
+#[derive(Clone, Copy, Debug, PartialEq, Eq)]
+pub enum Errno {
+    /// `EPERM`: the call isn't permitted.
+    Perm,
+    /// `EBADF`: no such ruleset is held.
+    BadFd,
+    /// `EACCES`: the layers lack a right.
+    Acces,
+    /// `EXDEV`: the object may not leave its directory.
+    XDev,
+    /// `EINVAL`: an unknown right, an unhandled one, or one that doesn't fit the object.
+    Inval,
+    /// `E2BIG`: a longer structure than the version knows, or too many layers.
+    TooBig,
+    /// `ENOMSG`: no right at all.
+    NoMsg,
+}
+
+/// Why a rule isn't added.
+#[derive(Clone, Copy, Debug, PartialEq, Eq)]
+pub enum RuleFault {
+    /// The system call's error.
+    Errno(Errno),
+    /// The path names no object of the tree, so that there is nothing to answer.
+    Moot,
+    /// There is no memory for the rule.
+    Memory,
+}
+
+impl<T: Drop> From<AllocFailed<T>> for RuleFault {
+    ghost use Rattle.std.specs.Prelude.{◌≡◌};
+    ghost use Rattle.ll_rules.specs.declared.errno.RuleFault.TheVariants.{Memory};
+
+    ghost from_gives = { λ _ e. e ≡ Memory };
+
+    fn from(_failed: AllocFailed<T>) -> RuleFault {
+        RuleFault::Memory
+    }
+}
+
+/// There is no memory for what was asked.
+#[derive(Clone, Copy, Debug, PartialEq, Eq)]
+pub struct NoMemory;
+
+impl From<AllocError> for NoMemory {
+    fn from(_failed: AllocError) -> NoMemory {
+        NoMemory
+    }
+}
+
+/// A domain has sixteen layers already.
+#[derive(Clone, Copy, Debug, PartialEq, Eq)]
+pub struct Full;

@@ -1,0 +1,82 @@
+//! Sets of the layers of a domain.
+
+ghost use Rattle.std.specs.Prelude.{◌≡◌, ◌++◌, ◌∷◌, [], ◌≤◌, ◌<◌, ◌==◌, length, All, if◌then◌else◌};
+ghost use Rattle.ll_rules.specs.LayerNumbers.{is_among, numbers_passing, united_numbers};
+
+use std::marker::Model;
+
+/// A set of layers of one domain, by their numbers from 1, the oldest, to 16.
+#[derive(Clone, Copy, Debug, PartialEq, Eq)]
+pub struct LayerSet {
+    places: u16,
+}
+
+impl Model for LayerSet {
+    ghost use Rattle.std.specs.Prelude.{List, ℕ, ◌<◌, ◌^◌};
+
+    ghost Value = { List ℕ };
+
+    ghost use Rattle.ll_rules.specs.LayerNumbers.{numbers_of, places_of, kept_again};
+
+    ghost view = { numbers_of };
+
+    ghost invariant = { λ s. s.places < 2 ^ 16 };
+
+    ghost inverse = { λ numbers. record { places = places_of numbers } };
+
+    ghost inverse_ok = { kept_again };
+}
+
+impl LayerSet {
+    /// No layer.
+    #[tactic(auto, unfolding(crate::specs::LayerNumbers::passing_upto, crate::specs::LayerNumbers::is_at_place))]
+    pub fn new() -> LayerSet
+        ensures { result ≡ [] }
+    {
+        LayerSet { places: 0 }
+    }
+
+    /// Whether there is no layer in the set.
+    pub fn is_empty(self) -> bool
+        ensures empty { result ≡ (length self == 0) }
+        // The list of its numbers is the rising one.
+        ensures rising { numbers_passing (λ number. is_among number self) ≡ self }
+    {
+        self.places == 0
+    }
+
+    /// Whether the layer of a number, from 1 to 16, is in the set.
+    pub fn has(self, number: u32) -> bool
+        ensures { result ≡ is_among number self }
+    {
+        let places = self.places;
+        if number == 0 || number > 16 {
+            return false;
+        }
+        places >> (number - 1) & 1 == 1
+    }
+
+    /// The layers of either set.
+    pub fn union(self, other: LayerSet) -> LayerSet
+        ensures { result ≡ united_numbers self other }
+    {
+        LayerSet {
+            places: self.places | other.places,
+        }
+    }
+
+    /// The set with the layer of a number above all others, where that layer `refuses`.
+    pub(crate) fn noted(self, number: u32, refuses: bool) -> LayerSet
+        requires within { number ≤ 16 }
+        requires positive { 0 < number }
+        requires above { All (λ other. other < number) self }
+        ensures { result ≡ self ++ (if refuses then number ∷ [] else []) }
+    {
+        if !refuses {
+            return self;
+        }
+        LayerSet {
+            places: self.places | 1 << (number - 1),
+        }
+    }
+}

@@ -1,0 +1,333 @@
+//! Rulesets, and the layers that they become.
+
+ghost use Rattle.std.specs.Prelude.{◌≡◌, ◌&&◌, ◌||◌, false, OnOk, OnErr, IfOk, MatchOption, IsOkUnless};
+ghost use Rattle.std.specs.Result.{result_err};
+ghost use Rattle.ll_rights.specs.Rights.{FsRight, has, other, is_file_right};
+ghost use Rattle.ll_tree.specs.Trees.{is_dir};
+ghost use Rattle.ll_rules.specs.Layers.{without_rules, SameRules, GrantsOnPort, in_tree, AreInTree};
+ghost use Rattle.ll_rules.specs.Rulesets.{has_ports, create_fault, IsOfTree, are_file_rights, add_path_fault, with_rule_at, add_port_fault};
+
+use crate::{Errno, NoMemory, RuleFault};
+use bitflags::Flags;
+use ll_rights::{Abi, Fs, Kind, Net};
+use ll_tree::{NodeId, Place, Tree};
+use std::alloc::Global;
+use std::collections::{BTreeMap, HashMap};
+use std::marker::Model;
+
+/// A layer of a domain: a ruleset as it was when a process restricted itself by it.
+#[derive(Drop)]
+pub struct Layer {
+    files: Fs,
+    network: Net,
+    on_nodes: HashMap<u32, Fs>,
+    on_ports: BTreeMap<u16, Net>,
+}
+
+impl Model for Layer {
+    ghost use Rattle.std.specs.Prelude.{◌≡◌, ℕ, false, nat_eq};
+    ghost use Rattle.std.specs.Ordering.{nat_cmp};
+    ghost use Rattle.std.specs.HashMap.{IsUnique};
+    ghost use Rattle.std.specs.BTreeMap.{IsOrdered};
+    ghost use Rattle.ll_rights.specs.Rights as for_files;
+    ghost use Rattle.ll_rights.specs.NetRights as for_ports;
+    ghost use Rattle.ll_rules.specs.Layers.{RulesOn};
+
+    ghost Value = { RulesOn ℕ };
+
+    ghost view = { λ a. record { handled_files = a.files; handled_network = a.network; file_rules = a.on_nodes.entries; port_rules = a.on_ports.entries } };
+
+    ghost invariant = { λ a. (for_files.has a.files for_files.other ≡ false) × (for_ports.has a.network for_ports.other ≡ false)
+        × IsUnique nat_eq a.on_nodes × IsOrdered nat_cmp a.on_ports };
+}
+
+/// The rights that a process is about to give up, and the rules by which it keeps some of them
+/// (landlock_create_ruleset(2)).
+#[derive(Drop)]
+pub struct Ruleset {
+    layer: Layer,
+}
+
+impl Model for Ruleset {
+    ghost use Rattle.std.specs.Prelude.{ℕ};
+    ghost use Rattle.ll_rules.specs.Layers.{RulesOn};
+
+    ghost Value = { RulesOn ℕ };
+
+    ghost view = { λ a. a.layer };
+}
+
+impl Layer {
+    ghost use Rattle.std.specs.Prelude.{◌≡◌, false, not, OnOk, OnErr, IfOk, IsOkUnless};
+    ghost use Rattle.ll_rights.specs.Rights.{FsRight, has, other, is_empty, is_within};
+    ghost use Rattle.ll_rights.specs.NetRights as for_ports;
+    ghost use Rattle.ll_tree.specs.Trees.{IsNode, path_at, kind_at};
+    ghost use Rattle.ll_rules.specs.Layers.{handles, granted, granted_on_node, in_tree, AreInTree, granted_on_port, GrantsOn, GrantsOnPort};
+    ghost use Rattle.ll_rules.specs.Checks.{lacks, lacks_on_port};
+    ghost use Rattle.ll_rules.specs.Moves.{gains};
+
+    /// The rights that the rule on a node grants; none where there is no rule.
+    #[tactic(auto, unfolding(crate::specs::Layers::granted_on_node))]
+    fn rule_on(&self, node: NodeId) -> Fs
+        ensures { (right : FsRight) → has result right ≡ granted_on_node self.now node right }
+    {
+        let number = node.index();
+        self.on_nodes.get(&number).copied().unwrap_or(Fs::NONE)
+    }
+
+    /// Grants rights on a node beside those that its rule grants already.
+    fn grant_on(&mut self, node: NodeId, files: Fs) -> Result<(), RuleFault>
+        ensures ok { OnOk result (GrantsOn self.old self.new node files) }
+        ensures err { OnErr result (self.new ≡ self.old) }
+        ensures memory { IsOkUnless result RuleFault.Memory }
+    {
+        let granted = self.rule_on(node).union(files);
+        self.on_nodes.insert(node.index(), granted)?;
+        Ok(())
+    }
+
+    /// The rights that the rule on a port grants; none where there is no rule.
+    fn rule_on_port(&self, port: u16) -> Net
+        ensures { (right : for_ports.NetRight) → for_ports.has result right ≡ granted_on_port self.now port right }
+    {
+        self.on_ports.get(&port).copied().unwrap_or(Net::NONE)
+    }
+
+    /// Grants rights on a port beside those that its rule grants already.
+    fn grant_on_port(&mut self, port: u16, network: Net) -> Result<(), RuleFault>
+        ensures ok { OnOk result (GrantsOnPort self.old self.new port network) }
+        ensures err { OnErr result (self.new ≡ self.old) }
+        ensures memory { IsOkUnless result RuleFault.Memory }
+    {
+        let granted = self.rule_on_port(port).union(network);
+        self.on_ports.insert(port, granted)?;
+        Ok(())
+    }
+
+    /// Whether the ruleset handles each of some rights for the network.
+    fn handles_all_network(&self, network: Net) -> bool
+        ensures { result ≡ for_ports.is_within network self.now.handled_network }
+    {
+        network.is_within(self.network)
+    }
+
+    /// Whether an object gains a right by going to a directory: one that the layer handles and that counts
+    /// for the object is granted there and not on the object.
+    pub(crate) fn gains(&self, tree: &Tree, object: NodeId, directory: NodeId) -> bool
+        requires object { IsNode tree.now object }
+        requires directory { IsNode tree.now directory }
+        requires within { AreInTree tree.now self.now }
+        ensures { result ≡ gains (in_tree tree.now self.now) (kind_at tree.now object) (path_at tree.now object) (path_at tree.now directory) }
+    {
+        let counted = counting_for(tree.kind(object), self.handled());
+        let granted_there = self.granted(tree, directory);
+        granted_there.lacks(counted, self.granted(tree, object))
+    }
+
+    /// Whether the layer refuses something of what is wanted on a port.
+    pub(crate) fn refuses_on_port(&self, port: u16, wanted: Net) -> bool
+        ensures { result ≡ lacks_on_port self.now port wanted }
+    {
+        let granted = self.rule_on_port(port);
+        wanted.lacks(self.network, granted)
+    }
+
+    /// Whether the layer handles any right for files.
+    pub(crate) fn handles_files(&self) -> bool
+        ensures { result ≡ not (is_empty self.now.handled_files) }
+    {
+        !self.files.is_empty()
+    }
+
+    /// Whether the ruleset handles each of some rights.
+    fn handles_all(&self, files: Fs) -> bool
+        ensures { result ≡ is_within files self.now.handled_files }
+    {
+        files.is_within(self.files)
+    }
+
+    /// The same layer once more.
+    fn copied(&self) -> Result<Layer, NoMemory>
+        ensures { IfOk result (λ layer. layer ≡ self.now) }
+    {
+        Ok(Layer {
+            files: self.files,
+            network: self.network,
+            on_nodes: self.on_nodes.clone()?,
+            on_ports: self.on_ports.clone()?,
+        })
+    }
+
+    /// The rights that the rules on a node and on the directories above it grant.
+    fn granted(&self, tree: &Tree, node: NodeId) -> Fs
+        requires inside { IsNode tree.now node }
+        requires within { AreInTree tree.now self.now }
+        ensures { (right : FsRight) → has result right ≡ granted (in_tree tree.now self.now) (path_at tree.now node) right }
+    {
+        let mut granted = Fs::NONE;
+        let mut at = Some(node);
+        while let Some(here) = at {
+            granted = granted.union(self.rule_on(here));
+            at = tree.parent(here);
+        }
+        granted
+    }
+
+    /// The rights for files that the layer handles.
+    fn handled(&self) -> Fs
+        ensures handled { (right : FsRight) → has result right ≡ handles self.now right }
+        ensures known { has result other ≡ false }
+    {
+        if self.files.is_empty() {
+            self.files
+        } else {
+            self.files.union(Fs::REFER)
+        }
+    }
+
+    /// Whether the layer refuses something of what is wanted on a node.
+    pub(crate) fn refuses(&self, tree: &Tree, node: NodeId, wanted: Fs) -> bool
+        requires inside { IsNode tree.now node }
+        requires within { AreInTree tree.now self.now }
+        ensures { result ≡ lacks (in_tree tree.now self.now) (path_at tree.now node) wanted }
+    {
+        wanted.lacks(self.handled(), self.granted(tree, node))
+    }
+}
+
+/// Whether an object of a kind is a directory.
+fn is_directory(kind: Kind) -> bool
+    ensures { result ≡ is_dir kind }
+{
+    matches!(kind, Kind::Dir)
+}
+
+/// Whether each of some rights applies to what isn't a directory.
+fn are_for_files(files: Fs) -> bool
+    ensures { result ≡ are_file_rights files }
+{
+    files.is_within(Fs::FILE)
+}
+
+/// Those of some known rights that count for an object of a kind.
+fn counting_for(kind: Kind, rights: Fs) -> Fs
+    requires { has rights other ≡ false }
+    ensures counted { (right : FsRight) → has result right ≡ (has rights right && (is_dir kind || is_file_right right)) }
+    ensures known { has result other ≡ false }
+{
+    if is_directory(kind) {
+        rights
+    } else {
+        rights.intersection(Fs::FILE)
+    }
+}
+
+/// Whether a version of the interface has rules for ports.
+fn ports_are_known(abi: Abi) -> bool
+    ensures { result ≡ has_ports abi }
+{
+    abi.number() >= 4
+}
+
+impl Ruleset {
+    /// A ruleset that handles rights for files and for the network, without a rule
+    /// (landlock_create_ruleset(2)). `E2BIG` if the version has no rights for the network and some are
+    /// named, else `EINVAL` if the version doesn't know a right, else `ENOMSG` if there is none.
+    pub fn create(alloc: Global, abi: Abi, files: Fs, network: Net) -> Result<Ruleset, Errno>
+        ensures fault { result_err result ≡ create_fault abi files network }
+        ensures made { IfOk result (λ made. made ≡ without_rules files network) }
+    {
+        if !network.is_empty() && !ports_are_known(abi) {
+            return Err(Errno::TooBig);
+        }
+        if !files.is_within(abi.fs()) || !network.is_within(abi.net()) {
+            return Err(Errno::Inval);
+        }
+        if files.is_empty() && network.is_empty() {
+            return Err(Errno::NoMsg);
+        }
+        Ok(Ruleset {
+            layer: Layer {
+                files,
+                network,
+                on_nodes: HashMap::new(alloc),
+                on_ports: BTreeMap::new(alloc),
+            },
+        })
+    }
+
+    /// The object that a rule for files stands on, or why there is no such rule.
+    fn node_for(&self, tree: &Tree, place: Place, files: Fs) -> Result<NodeId, RuleFault>
+        requires { IsOfTree tree.now place }
+        ensures fault { result_err result ≡ add_path_fault tree.now self.now place files }
+        ensures node { IfOk result (λ node. place ≡ Place.Node node) }
+    {
+        if files.is_empty() {
+            return Err(RuleFault::Errno(Errno::NoMsg));
+        }
+        if !self.layer.handles_all(files) {
+            return Err(RuleFault::Errno(Errno::Inval));
+        }
+        let Place::Node(node) = place else {
+            return Err(RuleFault::Moot);
+        };
+        if !is_directory(tree.kind(node)) && !are_for_files(files) {
+            return Err(RuleFault::Errno(Errno::Inval));
+        }
+        Ok(node)
+    }
+
+    /// Adds a rule that grants rights on an object and on all beneath it (landlock_add_rule(2)).
+    /// `ENOMSG` if there is no right, else `EINVAL` if one isn't handled, else moot if the place isn't an
+    /// object, else `EINVAL` if the object isn't a directory and some right is for directories alone.
+    /// Two rules on one object grant the rights of both.
+    pub fn add_path(&mut self, tree: &Tree, place: Place, files: Fs) -> Result<(), RuleFault>
+        requires place { IsOfTree tree.now place }
+        requires within { AreInTree tree.now self.old }
+        ensures fault { MatchOption (add_path_fault tree.now self.old place files) (IsOkUnless result RuleFault.Memory) (λ fault. result ≡ Err fault) }
+        ensures ok { OnOk result (SameRules (in_tree tree.now self.new) (with_rule_at tree.now (in_tree tree.now self.old) place files)) }
+        ensures err { OnErr result (self.new ≡ self.old) }
+        ensures in_tree { AreInTree tree.now self.new }
+    {
+        let node = self.node_for(tree, place, files)?;
+        self.layer.grant_on(node, files)?;
+        Ok(())
+    }
+
+    /// The port that a rule is for, or why there is no such rule.
+    fn port_for(&self, abi: Abi, port: u64, network: Net) -> Result<u16, RuleFault>
+        ensures fault { result_err result ≡ add_port_fault abi self.now port network }
+        ensures port { IfOk result (λ number. number ≡ port) }
+    {
+        if !ports_are_known(abi) {
+            return Err(RuleFault::Errno(Errno::Inval));
+        }
+        if network.is_empty() {
+            return Err(RuleFault::Errno(Errno::NoMsg));
+        }
+        if !self.layer.handles_all_network(network) || port > 65535 {
+            return Err(RuleFault::Errno(Errno::Inval));
+        }
+        Ok(port as u16)
+    }
+
+    /// Adds a rule that grants rights on one TCP port (landlock_add_rule(2)). `EINVAL` if the version has
+    /// no rules for ports, else `ENOMSG` if there is no right, else `EINVAL` if one isn't handled or the
+    /// port is above 65,535. Two rules on one port grant the rights of both.
+    pub fn add_port(&mut self, abi: Abi, port: u64, network: Net) -> Result<(), RuleFault>
+        ensures fault { MatchOption (add_port_fault abi self.old port network) (IsOkUnless result RuleFault.Memory) (λ fault. result ≡ Err fault) }
+        ensures ok { OnOk result (GrantsOnPort self.old self.new port network) }
+        ensures err { OnErr result (self.new ≡ self.old) }
+    {
+        let number = self.port_for(abi, port, network)?;
+        self.layer.grant_on_port(number, network)?;
+        Ok(())
+    }
+
+    /// The layer that a process would add now; rules that are added later don't change it.
+    pub fn freeze(&self, _alloc: Global) -> Result<Layer, NoMemory>
+        ensures { IfOk result (λ layer. layer ≡ self.now) }
+    {
+        self.layer.copied()
+    }
+}

@@ -1,0 +1,105 @@
+//! The members of a record's line.
+
+ghost use Rattle.serde_json.specs.View.{view, items_view};
+ghost use Rattle.ll_rights.specs.Rights as files;
+ghost use Rattle.ll_rights.specs.NetRights as network;
+ghost use Rattle.ll_tree.specs.Fault.{Gives};
+ghost use Rattle.ll_tree.specs.Members.{fold_texts};
+ghost use Rattle.ll_trace.specs.Members.{with_fs, fs_at, with_net, net_at, mode_at, sort_at, made_kind_at, port_at};
+
+use crate::op::{Mode, Sort};
+use ll_rights::{Fs, Kind, Net, fs_of_name, net_of_name};
+use ll_tree::Cause;
+use ll_tree::members::{items_of, number_of, text_in_list, text_of};
+use serde_json::Value;
+
+/// The rights for files of the member `fs`.
+#[tactic(auto, unfolding(crate::specs::Members::fs_at))]
+pub fn fs_of(value: &Value) -> Result<Fs, Cause>
+    ensures { Gives (λ set. set) result (fs_at (view value.now)) }
+{
+    let names = items_of(value, "fs")?;
+    fs_in_list(names)
+}
+
+#[tactic(auto, using(ll_tree::proofs::MembersLemmas::fold_texts_fault, ll_tree::proofs::MembersLemmas::fold_texts_end))]
+fn fs_in_list(names: &[Value]) -> Result<Fs, Cause>
+    ensures { Gives (λ set. set) result
+        (fold_texts with_fs files.no_right (items_view names.now)) }
+{
+    let mut set = Fs::NONE;
+    for name in names {
+        set = set.union(fs_of_name(text_in_list(name)?));
+    }
+    Ok(set)
+}
+
+/// The rights for the network of the member `net`.
+#[tactic(auto, unfolding(crate::specs::Members::net_at))]
+pub fn net_of(value: &Value) -> Result<Net, Cause>
+    ensures { Gives (λ set. set) result (net_at (view value.now)) }
+{
+    let names = items_of(value, "net")?;
+    net_in_list(names)
+}
+
+#[tactic(auto, using(ll_tree::proofs::MembersLemmas::fold_texts_fault, ll_tree::proofs::MembersLemmas::fold_texts_end))]
+fn net_in_list(names: &[Value]) -> Result<Net, Cause>
+    ensures { Gives (λ set. set) result
+        (fold_texts with_net network.no_right (items_view names.now)) }
+{
+    let mut set = Net::NONE;
+    for name in names {
+        set = set.union(net_of_name(text_in_list(name)?));
+    }
+    Ok(set)
+}
+
+#[tactic(auto, unfolding(crate::specs::Members::mode_at))]
+pub fn mode_of(value: &Value) -> Result<Mode, Cause>
+    ensures { Gives (λ mode. mode) result (mode_at (view value.now)) }
+{
+    match text_of(value, "mode")? {
+        "r" => Ok(Mode::Read),
+        "w" => Ok(Mode::Write),
+        "rw" => Ok(Mode::Both),
+        _ => Err(Cause::Field),
+    }
+}
+
+/// What an adopted descriptor refers to.
+#[tactic(auto, unfolding(crate::specs::Members::sort_at))]
+pub fn sort_of(value: &Value) -> Result<Sort, Cause>
+    ensures { Gives (λ sort. sort) result (sort_at (view value.now)) }
+{
+    match text_of(value, "kind")? {
+        "reg" => Ok(Sort::Regular),
+        "device" => Ok(Sort::Device),
+        "other" => Ok(Sort::Other),
+        _ => Err(Cause::Field),
+    }
+}
+
+/// The kind of what mknod(2) makes.
+#[tactic(auto, unfolding(crate::specs::Members::made_kind_at))]
+pub fn made_kind_of(value: &Value) -> Result<Kind, Cause>
+    ensures { Gives (λ kind. kind) result (made_kind_at (view value.now)) }
+{
+    match text_of(value, "kind")? {
+        "reg" => Ok(Kind::Reg),
+        "char" => Ok(Kind::Char),
+        "block" => Ok(Kind::Block),
+        "fifo" => Ok(Kind::Fifo),
+        "sock" => Ok(Kind::Sock),
+        _ => Err(Cause::Field),
+    }
+}
+
+/// The TCP port of the member `port`.
+#[tactic(auto, unfolding(crate::specs::Members::port_at))]
+pub fn port_of(value: &Value) -> Result<u16, Cause>
+    ensures { Gives (λ port. port) result (port_at (view value.now)) }
+{
+    let port = number_of(value, "port")?;
+    u16::try_from(port).ok().ok_or(Cause::Field)
+}

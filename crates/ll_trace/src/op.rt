@@ -1,0 +1,178 @@
+//! The operations of records.
+
+ghost use Rattle.std.specs.Prelude.{◌≡◌};
+
+use crate::path_text::PathText;
+use ll_rights::{Fs, Kind, Net};
+
+/// What a file is opened for.
+#[derive(Clone, Copy, Debug, PartialEq, Eq)]
+pub enum Mode {
+    Read,
+    Write,
+    Both,
+}
+
+/// What an adopted descriptor refers to: a regular file, a device, or something else.
+#[derive(Clone, Copy, Debug, PartialEq, Eq)]
+pub enum Sort {
+    Regular,
+    Device,
+    Other,
+}
+
+/// What a record says that its process did. Each variant has the members of its line; `rs` is a
+/// number that the process gives to a ruleset, and `fd` one that it gives to an open file.
+#[derive(Debug, Drop)]
+pub enum Op {
+    /// A process that the trace begins with.
+    Start {
+        nnp: bool,
+        admin: bool,
+    },
+    /// A new process, `child`.
+    Fork {
+        child: u64,
+    },
+    /// The end of the process.
+    Exit,
+    /// The process sets no_new_privs.
+    Nnp,
+    /// landlock_create_ruleset(2).
+    Create {
+        rs: u64,
+        fs: Fs,
+        net: Net,
+    },
+    /// landlock_add_rule(2) beneath a path.
+    AddPath {
+        rs: u64,
+        path: PathText,
+        fs: Fs,
+    },
+    /// landlock_add_rule(2) on a port.
+    AddPort {
+        rs: u64,
+        port: u64,
+        net: Net,
+    },
+    /// The close of a ruleset.
+    CloseRs {
+        rs: u64,
+    },
+    /// landlock_restrict_self(2).
+    Restrict {
+        rs: u64,
+    },
+    /// open(2), openat(2), creat(2).
+    OpenFile {
+        path: PathText,
+        fd: u64,
+        mode: Mode,
+        create: bool,
+        trunc: bool,
+    },
+    /// A descriptor that was made without open(2).
+    Adopt {
+        fd: u64,
+        kind: Sort,
+    },
+    /// dup(2), dup2(2), dup3(2).
+    Dup {
+        fd: u64,
+        to: u64,
+    },
+    /// close(2).
+    Close {
+        fd: u64,
+    },
+    /// ftruncate(2).
+    Ftruncate {
+        fd: u64,
+    },
+    /// truncate(2).
+    Truncate {
+        path: PathText,
+    },
+    /// execve(2).
+    Exec {
+        path: PathText,
+    },
+    /// mknod(2), or bind(2) of a local socket.
+    Mknod {
+        path: PathText,
+        kind: Kind,
+    },
+    /// mkdir(2).
+    Mkdir {
+        path: PathText,
+    },
+    /// symlink(2): the new link.
+    Symlink {
+        path: PathText,
+    },
+    /// unlink(2).
+    Unlink {
+        path: PathText,
+    },
+    /// rmdir(2).
+    Rmdir {
+        path: PathText,
+    },
+    /// rename(2), renameat2(2).
+    Rename {
+        from: PathText,
+        to: PathText,
+        exchange: bool,
+    },
+    /// link(2).
+    Link {
+        from: PathText,
+        to: PathText,
+    },
+    /// mount(2), pivot_root(2).
+    Mount,
+    /// bind(2) of a TCP socket.
+    Bind {
+        port: u16,
+    },
+    /// connect(2) of a TCP socket.
+    Connect {
+        port: u16,
+    },
+    /// ioctl(2); `driver` says whether the device's driver would answer the command.
+    Ioctl {
+        fd: u64,
+        driver: bool,
+    },
+}
+
+impl Op {
+    ghost use Rattle.ll_trace.specs.Entries.{is_start, is_exit, pid_started};
+
+    #[tactic(auto, unfolding(crate::specs::Entries::is_start))]
+    pub(crate) fn is_start(&self) -> bool
+        ensures { result ≡ is_start self.now }
+    {
+        matches!(self, Op::Start { .. })
+    }
+
+    #[tactic(auto, unfolding(crate::specs::Entries::is_exit))]
+    pub(crate) fn is_exit(&self) -> bool
+        ensures { result ≡ is_exit self.now }
+    {
+        matches!(self, Op::Exit)
+    }
+
+    /// The pid of the process that this operation starts, where it is one of the process `pid`.
+    #[tactic(auto, unfolding(crate::specs::Entries::pid_started))]
+    pub(crate) fn started_pid(&self, pid: u64) -> Option<u64>
+        ensures { result ≡ pid_started self.now pid }
+    {
+        match self {
+            Op::Start { .. } => Some(pid),
+            Op::Fork { child } => Some(*child),
+            _ => None,
+        }
+    }
+}

@@ -1,0 +1,44 @@
+//! The paths of records.
+
+ghost use Rattle.std.specs.Prelude.{◌≡◌};
+ghost use Rattle.ll_tree.specs.Fault.{Gives};
+ghost use Rattle.ll_trace.specs.Members.{path_in};
+
+use ll_tree::{Cause, path_ok};
+use std::alloc::Global;
+use std::marker::Model;
+
+/// A path as a record gives it: `/`, or names that each follow one `/`. Contracts see its bytes.
+#[derive(Debug, Drop)]
+pub struct PathText {
+    text: String,
+}
+
+impl Model for PathText {
+    ghost use Rattle.std.specs.Prelude.{List, ℕ, string_bytes};
+
+    ghost Value = { List ℕ };
+
+    ghost view = { λ path. string_bytes path.text };
+}
+
+impl PathText {
+    /// The path that a text is, or `BadPath` where it has not the shape of one.
+    #[tactic(auto, unfolding(crate::specs::Members::path_in))]
+    pub(crate) fn read(alloc: Global, text: &str) -> Result<PathText, Cause>
+        ensures { Gives (λ path. path) result (path_in text.now) }
+    {
+        if !path_ok(text) {
+            return Err(Cause::BadPath);
+        }
+        let text = String::from_str(alloc, text)?;
+        Ok(PathText { text })
+    }
+
+    /// The path's text.
+    pub fn as_str(&self) -> &str
+        ensures { result.now ≡ self.now }
+    {
+        self.text.as_str()
+    }
+}

@@ -1,0 +1,273 @@
+//! The reading of a trace file, record after record.
+
+ghost use Rattle.std.specs.Prelude.{◌≡◌, ◌≢◌, ◌+◌, ◌<◌, ◌∷◌, [], OnOk, IfOk, IfErr, None, Ok, unwrap_or};
+ghost use Rattle.ll_tree.specs.declared.fault.Cause.TheVariants.{Memory};
+ghost use Rattle.ll_tree.specs.Fault.{Gives};
+ghost use Rattle.ll_tree.specs.LineView.{line_view};
+ghost use Rattle.ll_tree.specs.Reading.{with_entry, with_line, reading, GivesReading, IsBad};
+ghost use Rattle.ll_trace.specs.Entries.{entry_at, is_live as is_live_in, is_unknown as is_unknown_in, is_twice as is_twice_in, is_too_many, is_end_of, misplacement, process_count, started_pid, trace_file};
+ghost use Rattle.ll_trace.specs.Records.{process_of, IsTrace};
+ghost use Rattle.ll_trace.specs.Kept.{IsKept, IsNoted, Begins, Stops, entries, entry_view, number, owner_of, past, runs};
+
+use crate::op::Op;
+use crate::operations::operation_of;
+use crate::record::{ProcessId, Record};
+use ll_tree::lines::{FileLine, FilledLines};
+use ll_tree::members::{number_of, value_of};
+use ll_tree::{Cause, ReadFault};
+use std::alloc::Global;
+use std::collections::BTreeMap;
+
+/// The most records of a trace.
+const MOST_RECORDS: usize = 1_000_000;
+
+/// The most processes of a trace.
+const MOST_PROCESSES: u32 = 65_536;
+
+/// What a line says.
+#[derive(Drop)]
+struct Entry {
+    line: u64,
+    pid: u64,
+    op: Op,
+}
+
+/// The latest process of a pid.
+#[derive(Clone, Copy)]
+struct Owner {
+    process: ProcessId,
+    running: bool,
+}
+
+/// What is read so far.
+#[derive(Drop)]
+struct Reader {
+    records: Vec<Record>,
+    owners: BTreeMap<u64, Owner>,
+    processes: u32,
+}
+
+#[tactic(auto, unfolding(crate::specs::Entries::entry_at))]
+fn entry_of(alloc: Global, line: &FileLine) -> Result<Entry, Cause>
+    ensures { Gives entry_view result (entry_at (line_view line.now)) }
+{
+    let value = value_of(alloc, line.bytes)?;
+    let pid = number_of(&value, "pid")?;
+    let op = operation_of(alloc, &value)?;
+    Ok(Entry {
+        line: line.number,
+        pid,
+        op,
+    })
+}
+
+fn is_running(owner: Option<Owner>) -> bool
+    ensures { result ≡ runs owner }
+{
+    match owner {
+        None => false,
+        Some(owner) => owner.running,
+    }
+}
+
+impl Reader {
+    fn new(alloc: Global) -> Reader
+        ensures kept { IsKept result }
+        ensures empty { entries result ≡ [] }
+    {
+        Reader {
+            records: Vec::new(alloc),
+            owners: BTreeMap::new(alloc),
+            processes: 0,
+        }
+    }
+
+    fn into_records(self) -> Vec<Record>
+        ensures { result.items ≡ self.records.items }
+    {
+        let Reader { records, .. } = self;
+        records
+    }
+
+    fn owner(&self, pid: u64) -> Option<Owner>
+        requires { IsKept self.now }
+        ensures { result ≡ owner_of (past self.now) pid }
+    {
+        self.owners.get(&pid).copied()
+    }
+
+    fn is_live(&self, pid: u64) -> bool
+        requires { IsKept self.now }
+        ensures { result ≡ is_live_in (past self.now) pid }
+    {
+        is_running(self.owner(pid))
+    }
+
+    fn is_unknown(&self, entry: &Entry) -> bool
+        requires { IsKept self.now }
+        ensures { result ≡ is_unknown_in (past self.now) (entry_view entry.now) }
+    {
+        !entry.op.is_start() && !self.is_live(entry.pid)
+    }
+
+    fn is_twice(&self, entry: &Entry) -> bool
+        requires { IsKept self.now }
+        ensures { result ≡ is_twice_in (past self.now) (entry_view entry.now) }
+    {
+        match entry.op.started_pid(entry.pid) {
+            None => false,
+            Some(pid) => self.is_live(pid),
+        }
+    }
+
+    fn is_full(&self, entry: &Entry) -> bool
+        requires { IsKept self.now }
+        ensures { result ≡ is_too_many (past self.now) (entry_view entry.now) }
+    {
+        self.records.len() >= MOST_RECORDS
+            || entry.op.started_pid(entry.pid).is_some() && self.processes >= MOST_PROCESSES
+    }
+
+    /// The first cause by which an entry has no place after those that are read.
+    fn misplacement(&self, entry: &Entry) -> Option<Cause>
+        requires { IsKept self.now }
+        ensures { result ≡ misplacement (past self.now) (entry_view entry.now) }
+    {
+        if self.is_unknown(entry) {
+            return Some(Cause::UnknownProcess);
+        }
+        if self.is_twice(entry) {
+            return Some(Cause::Twice);
+        }
+        if self.is_full(entry) {
+            return Some(Cause::TooMany);
+        }
+        None
+    }
+
+    fn process_of(&self, entry: &Entry) -> ProcessId
+        requires { IsKept self.now }
+        ensures { result.0 ≡ process_of (past self.now) (entry_view entry.now) }
+    {
+        if entry.op.is_start() {
+            return ProcessId(self.processes);
+        }
+        process_or_first(self.owner(entry.pid))
+    }
+
+    /// Takes an entry in as a record, if it has a place after those that are read.
+    fn admit(&mut self, entry: Entry) -> Result<(), Cause>
+        requires { IsKept self.old }
+        ensures gives { Gives (λ _. entries self.new) result
+            (with_entry trace_file (entries self.old) (entry_view entry)) }
+        ensures kept { OnOk result (IsKept self.new) }
+    {
+        if let Some(cause) = self.misplacement(&entry) {
+            return Err(cause);
+        }
+        let process = self.process_of(&entry);
+        self.note(&entry)?;
+        self.records.push(Record {
+            line: entry.line,
+            process,
+            pid: entry.pid,
+            op: entry.op,
+        })?;
+        Ok(())
+    }
+
+    fn read_line(&mut self, alloc: Global, line: &FileLine) -> Result<(), Cause>
+        requires { IsKept self.old }
+        ensures gives { Gives (λ _. entries self.new) result
+            (with_line trace_file (entries self.old) (line_view line.now)) }
+        ensures kept { OnOk result (IsKept self.new) }
+    {
+        let entry = entry_of(alloc, line)?;
+        self.admit(entry)
+    }
+
+    /// Notes which process an entry starts or ends.
+    #[tactic(auto, using(crate::proofs::KeptLemmas::noted_begin, crate::proofs::KeptLemmas::noted_stop, crate::proofs::KeptLemmas::noted_same))]
+    fn note(&mut self, entry: &Entry) -> Result<(), Cause>
+        requires kept { IsKept self.old }
+        requires placed { misplacement (past self.old) (entry_view entry.now) ≡ None }
+        ensures ok { OnOk result (IsNoted self.old self.new (entry_view entry.now)) }
+        ensures err { IfErr result (λ cause. cause ≡ Memory) }
+    {
+        if let Some(pid) = entry.op.started_pid(entry.pid) {
+            return self.begin(pid);
+        }
+        if entry.op.is_exit() {
+            return self.end(entry.pid);
+        }
+        Ok(())
+    }
+
+    /// A new process gets the pid.
+    fn begin(&mut self, pid: u64) -> Result<(), Cause>
+        requires { self.old.processes < 65536 }
+        ensures ok { OnOk result (Begins self.old self.new pid) }
+        ensures err { IfErr result (λ cause. cause ≡ Memory) }
+    {
+        let owner = Owner {
+            process: ProcessId(self.processes),
+            running: true,
+        };
+        self.owners.insert(pid, owner)?;
+        self.processes += 1;
+        Ok(())
+    }
+
+    /// The process that has the pid ends.
+    fn end(&mut self, pid: u64) -> Result<(), Cause>
+        ensures ok { OnOk result (Stops self.old self.new pid) }
+        ensures err { IfErr result (λ cause. cause ≡ Memory) }
+    {
+        if let Some(owner) = self.owners.get(&pid).copied() {
+            let stopped = Owner {
+                process: owner.process,
+                running: false,
+            };
+            self.owners.insert(pid, stopped)?;
+        }
+        Ok(())
+    }
+}
+
+fn process_or_first(owner: Option<Owner>) -> ProcessId
+    ensures { result.0 ≡ unwrap_or (number owner) 0 }
+{
+    match owner {
+        None => ProcessId(0),
+        Some(owner) => owner.process,
+    }
+}
+
+#[tactic(auto, using(ll_tree::proofs::ReadingLemmas::read_lines_next, ll_tree::proofs::ReadingLemmas::read_lines_fault, ll_tree::proofs::ReadingLemmas::read_lines_end))]
+fn read_all(alloc: Global, bytes: &[u8]) -> Result<Reader, ReadFault>
+    ensures gives { GivesReading entries result (reading trace_file bytes.now) }
+    ensures kept { IfOk result IsKept }
+{
+    let mut reader = Reader::new(alloc);
+    for line in FilledLines::new(bytes) {
+        if let Err(cause) = reader.read_line(alloc, &line) {
+            return Err(ReadFault {
+                line: line.number,
+                cause,
+            });
+        }
+    }
+    Ok(reader)
+}
+
+/// The records of a trace file, or the first fault of its first faulty line.
+#[tactic(auto, using(ll_tree::proofs::ReadingLemmas::good_from_reading, ll_tree::proofs::ReadingLemmas::bad_from_fault))]
+pub fn read_records(alloc: Global, bytes: &[u8]) -> Result<Vec<Record>, ReadFault>
+    ensures good { IfOk result (λ records. IsTrace bytes.now records.items) }
+    ensures bad { IfErr result (λ fault. fault.cause ≢ Memory → IsBad trace_file bytes.now fault) }
+{
+    match read_all(alloc, bytes) {
+        Ok(reader) => Ok(reader.into_records()),
+        Err(fault) => Err(fault),
+    }
+}

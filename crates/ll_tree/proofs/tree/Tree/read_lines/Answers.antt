@@ -1,0 +1,31 @@
+-- Each line is read past, or its fault is answered.
+use Rattle.std.proofs.Common.{◌≡◌, List, ◌∷◌, Result, sym, ap, ◌∙◌, subst}
+use Rattle.ll_tree.specs.declared.fault.ReadFault.{ReadFault}
+use Rattle.ll_tree.specs.LineView.{line_view}
+use Rattle.ll_tree.specs.Reading.{read_lines, reading, MeetsFault}
+use Rattle.ll_tree.specs.Trees.{Entry}
+use Rattle.ll_tree.specs.TreeReading.{tree_format, below_root}
+use Rattle.ll_tree.proofs.ReadingLemmas.{read_lines_next, read_lines_fault, read_lines_end}
+use Rattle.ll_tree.proofs.tree.Tree.read_lines.Goals as goal
+
+pub returns-in-Err-clause-reading : goal.returns-in-Err-clause-reading
+returns-in-Err-clause-reading c =
+    let earlier = below_root c.loop-line.tree in
+    let line = line_view c.in-Some.line in
+    let whole : read_lines tree_format earlier (line ∷ c.next.new.self) ≡ reading tree_format c.args.bytes.now =
+    ap (read_lines tree_format earlier) (sym c.in-Some.ensures.steps) ∙ c.loop-line.invariant.0 in
+    subst (λ (r : Result (List Entry) ReadFault). MeetsFault line.number c.in-Err.cause r) whole (read_lines_fault tree_format earlier line c.next.new.self c.in-Err.cause c.in-Err.ensures.line)
+
+pub loop-line-preserved : goal.loop-line-preserved
+loop-line-preserved c =
+    let earlier = below_root c.loop-line.tree in
+    let line = line_view c.in-Some.line in (
+      sym (read_lines_next tree_format earlier (below_root c.read_line.new.self) line c.next.new.self c.in_default-read_line.ensures.line)
+          ∙ ap (read_lines tree_format earlier) (sym c.in-Some.ensures.steps) ∙ c.loop-line.invariant.0,
+      c.in_default-read_line.ensures.rooted,
+    )
+
+pub returns-clause-reading : goal.returns-clause-reading
+returns-clause-reading c =
+    let earlier = below_root c.loop-line.tree in
+    sym c.loop-line.invariant.0 ∙ ap (read_lines tree_format earlier) c.in-None.ensures.steps.0 ∙ read_lines_end tree_format earlier

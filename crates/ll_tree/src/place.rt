@@ -1,0 +1,27 @@
+//! Nodes of a tree, and the places that texts name.
+
+ghost use Rattle.std.specs.Prelude.{◌≡◌};
+
+/// A node of a tree. Its number is its place in the list of the tree's objects, and that of the root is 0.
+#[derive(Clone, Copy, PartialEq, Eq, PartialOrd, Ord, Debug)]
+pub struct NodeId(pub(crate) u32);
+
+impl NodeId {
+    /// The node's number in its tree.
+    pub fn index(self) -> u32
+        ensures { result ≡ self.0 }
+    {
+        self.0
+    }
+}
+
+/// What a text names in a tree.
+#[derive(Clone, Copy, PartialEq, Eq, Debug)]
+pub enum Place {
+    /// An object that is there.
+    Node(NodeId),
+    /// A name that is missing in this directory.
+    Gap(NodeId),
+    /// Neither: no path, or a path whose last name stands in no directory.
+    Nowhere,
+}

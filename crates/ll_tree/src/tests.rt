@@ -1,0 +1,243 @@
+//! The tree file against its worked rows, and files from strangers.
+
+ghost use Rattle.std.specs.Prelude.{IfOk};
+ghost use Rattle.ll_tree.specs.Trees.{IsNode};
+
+use super::*;
+use ll_rights::Kind;
+use std::alloc::{AllocError, Global};
+use std::test::*;
+
+/// The worked tree.
+const LISTED: &str = "{\"path\":\"/a\",\"kind\":\"dir\"}
+{\"path\":\"/b\",\"kind\":\"dir\"}
+{\"path\":\"/a/s\",\"kind\":\"dir\"}
+{\"path\":\"/dev\",\"kind\":\"dir\"}
+{\"path\":\"/a/f\",\"kind\":\"reg\"}
+{\"path\":\"/b/g\",\"kind\":\"reg\"}
+{\"path\":\"/dev/tty\",\"kind\":\"char\"}
+";
+
+/// The fault of a file, or None if it reads.
+fn fault_of(alloc: Global, bytes: &[u8]) -> Option<(u64, Cause)> {
+    match Tree::read(alloc, bytes) {
+        Ok(_) => None,
+        Err(fault) => Some((fault.line, fault.cause)),
+    }
+}
+
+fn node_named(tree: &Tree, path: &str) -> Result<NodeId, Fail>
+    ensures { IfOk result (IsNode tree.now) }
+{
+    match tree.resolve(path) {
+        Place::Node(node) => Ok(node),
+        _ => Err(Fail::from("the path has no node")),
+    }
+}
+
+#[test]
+fn the_worked_tree(rt: HostRuntime) -> Result<(), Fail> {
+    let tree = Tree::read(rt.alloc(), LISTED.as_bytes())
+        .ok()
+        .ok_or("the file reads")?;
+    assert_eq!(rt; tree.nodes(), 8);
+    for (path, kind, depth, above) in [
+        ("/", Kind::Dir, 0, None),
+        ("/a", Kind::Dir, 1, Some("/")),
+        ("/a/s", Kind::Dir, 2, Some("/a")),
+        ("/b/g", Kind::Reg, 2, Some("/b")),
+        ("/dev/tty", Kind::Char, 2, Some("/dev")),
+    ] {
+        let node = node_named(&tree, path)?;
+        assert_eq!(rt; tree.kind(node), kind, "{path}");
+        assert_eq!(rt; tree.depth(node), depth, "{path}");
+        match above {
+            None => assert_eq!(rt; tree.parent(node), None, "{path}"),
+            Some(above) => assert_eq!(rt;
+                tree.parent(node),
+                Some(node_named(&tree, above)?),
+                "{path}"
+            ),
+        }
+    }
+    for (upper, lower, above) in [
+        ("/", "/dev/tty", true),
+        ("/a", "/a/s", true),
+        ("/a", "/a", true),
+        ("/a/s", "/a", false),
+        ("/a", "/b/g", false),
+    ] {
+        let is = tree.is_above(node_named(&tree, upper)?, node_named(&tree, lower)?);
+        assert_eq!(rt; is, above, "{upper} {lower}");
+    }
+    Ok(())
+}
+
+#[test]
+fn places(rt: HostRuntime) -> Result<(), Fail> {
+    let tree = Tree::read(rt.alloc(), LISTED.as_bytes())
+        .ok()
+        .ok_or("the file reads")?;
+    for (text, directory) in [("/none", "/"), ("/b/h", "/b"), ("/a/s/x", "/a/s")] {
+        let gap = Place::Gap(node_named(&tree, directory)?);
+        assert_eq!(rt; tree.resolve(text), gap, "{text}");
+    }
+    for text in [
+        "/none/x",
+        "/a/f/x",
+        "/a/none/x",
+        "a",
+        "",
+        "/a/",
+        "//a",
+        "/a/../b",
+    ] {
+        assert_eq!(rt; tree.resolve(text), Place::Nowhere, "{text}");
+    }
+    let numbers = ["/", "/a", "/b", "/a/s", "/dev", "/a/f", "/b/g", "/dev/tty"];
+    for (number, path) in numbers.iter().enumerate() {
+        assert_eq!(rt; node_named(&tree, path)?.index() as usize, number, "{path}");
+    }
+    Ok(())
+}
+
+#[test]
+fn shapes_of_paths(rt: HostRuntime) {
+    for (text, ok) in [
+        ("/", true),
+        ("/a", true),
+        ("/a/b c/.d", true),
+        ("/...", true),
+        ("", false),
+        ("a", false),
+        ("/a/", false),
+        ("//", false),
+        ("/a//b", false),
+        ("/.", false),
+        ("/a/../b", false),
+        ("/a\0", false),
+    ] {
+        assert_eq!(rt; path_ok(text), ok, "{text:?}");
+    }
+}
+
+#[test]
+fn faults(rt: HostRuntime) {
+    for (file, line, cause) in [
+        ("{\"path\":\"/a/f\",\"kind\":\"reg\"}", 1, Cause::NoParent),
+        ("{\"path\":\"a\",\"kind\":\"dir\"}", 1, Cause::BadPath),
+        ("{\"path\":\"/a//b\",\"kind\":\"dir\"}", 1, Cause::BadPath),
+        ("{\"path\":\"/a\"}", 1, Cause::Field),
+        ("{\"path\":\"/\",\"kind\":\"dir\"}", 1, Cause::Twice),
+        (
+            "{\"path\":\"/a\",\"kind\":\"dir\"}\n{\"path\":\"/a\",\"kind\":\"dir\"}",
+            2,
+            Cause::Twice,
+        ),
+        (
+            "{\"path\":\"/f\",\"kind\":\"reg\"}\n{\"path\":\"/f/g\",\"kind\":\"reg\"}",
+            2,
+            Cause::NoParent,
+        ),
+        (" \t\r\n[]", 2, Cause::Field),
+        ("{\"path\":\"a\",\"kind\":\"nosuch\"}", 1, Cause::Field),
+        ("{\"path\":null,\"kind\":\"dir\"}", 1, Cause::Field),
+        ("{\"path\":\"/a\",\"kind\":[\"dir\"]}", 1, Cause::Field),
+        ("{\"path\":\"/a\",\"kind\":\"dir\"} {}", 1, Cause::Json),
+    ] {
+        assert_eq!(rt;
+            fault_of(rt.alloc(), file.as_bytes()),
+            Some((line, cause)),
+            "{file}"
+        );
+    }
+    assert_eq!(rt; fault_of(rt.alloc(), b"\xff"), Some((1, Cause::Json)));
+    assert_eq!(rt;
+        fault_of(rt.alloc(), b"{\"path\":\"/\xff\",\"kind\":\"dir\"}"),
+        Some((1, Cause::Json))
+    );
+    assert_eq!(rt; fault_of(rt.alloc(), b""), None);
+    let repeated = b"{\"path\":\"/x/y\",\"size\":[0],\"path\":\"/a\",\"kind\":\"dir\"}\r\n";
+    assert_eq!(rt; fault_of(rt.alloc(), repeated), None);
+}
+
+/// The file reads where it is cut at the start of a line or behind a brace; any other cut spoils the last line.
+#[test]
+fn cut_anywhere(rt: HostRuntime) {
+    for end in 0..=LISTED.len() {
+        let bytes = &LISTED.as_bytes()[..end];
+        let whole = matches!(bytes.last(), None | Some(b'\n' | b'}'));
+        let line = bytes.iter().filter(|byte| **byte == b'\n').count() as u64 + 1;
+        let fault = if whole {
+            None
+        } else {
+            Some((line, Cause::Json))
+        };
+        assert_eq!(rt; fault_of(rt.alloc(), bytes), fault, "{end}");
+    }
+}
+
+fn push_line(text: &mut String, path: &str) -> Result<(), AllocError> {
+    text.push_str("{\"path\":\"")?;
+    text.push_str(path)?;
+    text.push_str("\",\"kind\":\"dir\"}\n")
+}
+
+#[test]
+fn the_most_nodes(rt: HostRuntime) -> Result<(), Fail> {
+    let mut file = String::new(rt.alloc());
+    for number in 1..65_536 {
+        push_line(&mut file, format!(in rt.alloc(); "/n{number}")?.as_str())?;
+    }
+    let tree = Tree::read(rt.alloc(), file.as_bytes())
+        .ok()
+        .ok_or("65,535 objects")?;
+    assert_eq!(rt; tree.nodes(), 65_536);
+    push_line(&mut file, "/one_more")?;
+    assert_eq!(rt;
+        fault_of(rt.alloc(), file.as_bytes()),
+        Some((65_536, Cause::TooMany))
+    );
+    Ok(())
+}
+
+#[test]
+fn the_longest_path(rt: HostRuntime) -> Result<(), Fail> {
+    let mut file = String::new(rt.alloc());
+    let mut path = String::new(rt.alloc());
+    for _ in 1..2_048 {
+        path.push_str("/d")?;
+        push_line(&mut file, path.as_str())?;
+    }
+    let mut longer = file.clone()?;
+    path.push_str("/d")?;
+    push_line(&mut file, path.as_str())?;
+    let tree = Tree::read(rt.alloc(), file.as_bytes())
+        .ok()
+        .ok_or("4,096 bytes")?;
+    assert_eq!(rt; tree.depth(node_named(&tree, path.as_str())?), 2_048);
+    path.push_str("d")?;
+    push_line(&mut longer, path.as_str())?;
+    assert_eq!(rt;
+        fault_of(rt.alloc(), longer.as_bytes()),
+        Some((2_048, Cause::BadPath))
+    );
+    Ok(())
+}
+
+/// Arrays inside one another are read to a depth of 126 in a member that nobody asks for.
+#[test]
+fn nested_members(rt: HostRuntime) -> Result<(), Fail> {
+    for (depth, fault) in [(126, None), (127, Some((1, Cause::Json)))] {
+        let mut file = String::from_str(rt.alloc(), "{\"path\":\"/a\",\"kind\":\"dir\",\"x\":")?;
+        for _ in 0..depth {
+            file.push_str("[")?;
+        }
+        for _ in 0..depth {
+            file.push_str("]")?;
+        }
+        file.push_str("}")?;
+        assert_eq!(rt; fault_of(rt.alloc(), file.as_bytes()), fault, "{depth}");
+    }
+    Ok(())
+}

@@ -1,0 +1,281 @@
+//! The tree in memory.
+
+ghost use Rattle.std.specs.Prelude.{◌≡◌, ◌≤◌, ◌<◌, [], ◌∷◌, ◌++◌, length, Some, ◌≢◌, IfOk, IfErr, OnOk, OnErr, IsTrue, is_some, IfSome, IfNone};
+ghost use Rattle.ll_tree.specs.declared.fault.Cause.TheVariants.{Memory};
+ghost use Rattle.serde_json.specs.View.{view};
+ghost use Rattle.ll_tree.specs.Fault.{Gives};
+ghost use Rattle.ll_tree.specs.LineView.{line_view};
+ghost use Rattle.ll_tree.specs.Reading.{IsBad, GivesReading, reading, with_line, with_entry};
+ghost use Rattle.ll_tree.specs.TreeReading.{IsTreeOf, IsRooted, tree_format, below_root, with_value};
+ghost use Rattle.ll_tree.specs.Paths.{Path, path_of, is_prefix};
+ghost use Rattle.ll_tree.specs.Trees.{Entry, root, named, IsNode, IsTree, IsPlace, StandsIn, path_at, kind_at, parent_at, depth_at, node_at, gap_in, place};
+
+use crate::fault::{Cause, ReadFault};
+use crate::lines::{FileLine, FilledLines};
+use crate::members::value_of;
+use crate::object::object_of;
+use crate::path::{front_text, path_ok};
+use crate::place::{NodeId, Place};
+use ll_rights::Kind;
+use serde_json::Value;
+use std::alloc::{AllocError, Global};
+use std::collections::BTreeMap;
+use std::marker::Model;
+
+/// The most nodes that a tree has, the root counted.
+const NODES: u32 = 65_536;
+
+/// What is kept of an object beside its path.
+#[derive(Drop)]
+struct Object {
+    kind: Kind,
+    parent: Option<NodeId>,
+    depth: u32,
+}
+
+/// A listed file tree: the root, and objects in the order of their lines, each in a directory that stands before
+/// it.
+#[derive(Drop)]
+pub struct Tree {
+    objects: Vec<Object>,
+    numbers: BTreeMap<String, u32>,
+}
+
+impl Model for Tree {
+    ghost use Rattle.std.specs.Prelude.{List};
+    ghost use Rattle.ll_tree.specs.Trees.{Entry};
+
+    ghost Value = { List Entry };
+
+    ghost use Rattle.ll_tree.specs.Kept.{entries_of, IsSound};
+
+    ghost view = { λ tree. entries_of tree.objects.items tree.numbers.entries };
+
+    ghost invariant = { λ tree. IsSound tree.objects.items tree.numbers.entries };
+}
+
+impl Tree {
+    /// Reads a tree file: one JSON object on each line, with the path and the kind of an object.
+    ///
+    /// A file that does not read is refused with the number of its first faulty line and the first fault of that
+    /// line. For want of memory the line is the one that was being read.
+    pub fn read(alloc: Global, bytes: &[u8]) -> Result<Tree, ReadFault>
+        ensures ok { IfOk result (IsTreeOf bytes.now) }
+        ensures err { IfErr result (λ fault. fault.cause ≢ Memory → IsBad tree_format bytes.now fault) }
+    {
+        Tree::read_lines(alloc, bytes)
+    }
+
+    /// Reads line after line.
+    fn read_lines(alloc: Global, bytes: &[u8]) -> Result<Tree, ReadFault>
+        ensures reading { GivesReading below_root result (reading tree_format bytes.now) }
+        ensures rooted { IfOk result IsRooted }
+    {
+        let Ok(mut tree) = Tree::root_only(alloc) else {
+            return Err(ReadFault {
+                line: 1,
+                cause: Cause::Memory,
+            });
+        };
+        for line in FilledLines::new(bytes) {
+            if let Err(cause) = tree.read_line(alloc, &line) {
+                return Err(ReadFault {
+                    line: line.number,
+                    cause,
+                });
+            }
+        }
+        Ok(tree)
+    }
+
+    /// Reads the object on a line.
+    #[tactic(auto, unfolding(crate::specs::TreeReading::entry_on))]
+    fn read_line(&mut self, alloc: Global, line: &FileLine) -> Result<(), Cause>
+        ensures line { Gives (λ _. below_root self.new) result (with_line tree_format (below_root self.old) (line_view line.now)) }
+        ensures rooted { OnOk result (IsRooted self.new) }
+    {
+        let value = value_of(alloc, line.bytes)?;
+        self.read_value(alloc, &value)
+    }
+
+    /// Reads the object that a value describes.
+    fn read_value(&mut self, alloc: Global, value: &Value) -> Result<(), Cause>
+        ensures value { Gives (λ _. below_root self.new) result (with_value (below_root self.old) (view value.now)) }
+        ensures rooted { OnOk result (IsRooted self.new) }
+    {
+        let (path, kind) = object_of(value)?;
+        self.list(alloc, path, kind)
+    }
+
+    /// Puts an object at the end, unless it is there already, has no directory, or is one too many.
+    fn list(&mut self, alloc: Global, path: &str, kind: Kind) -> Result<(), Cause>
+        requires { IsTrue (is_some (path_of path.now)) }
+        ensures entry { Gives (λ _. below_root self.new) result (with_entry tree_format (below_root self.old) (named path.now kind)) }
+        ensures rooted { OnOk result (IsRooted self.new) }
+    {
+        match self.place_of(path) {
+            Place::Node(_) => Err(Cause::Twice),
+            Place::Nowhere => Err(Cause::NoParent),
+            Place::Gap(_) if self.nodes() >= NODES => Err(Cause::TooMany),
+            Place::Gap(parent) => {
+                self.add(alloc, path, kind, parent)?;
+                Ok(())
+            }
+        }
+    }
+
+    /// The tree that has the root alone.
+    fn root_only(alloc: Global) -> Result<Tree, AllocError>
+        ensures { IfOk result (λ tree. tree ≡ root ∷ []) }
+    {
+        let mut numbers = BTreeMap::new(alloc);
+        numbers.insert(String::from_str(alloc, "/")?, 0)?;
+        let root = Object {
+            kind: Kind::Dir,
+            parent: None,
+            depth: 0,
+        };
+        let mut objects = Vec::with_capacity(alloc, 1)?;
+        objects.push(root)?;
+        Ok(Tree { objects, numbers })
+    }
+
+    /// Puts an object at the end, where its path names a gap in the directory `parent`.
+    fn add(
+        &mut self,
+        alloc: Global,
+        text: &str,
+        kind: Kind,
+        parent: NodeId,
+    ) -> Result<(), AllocError>
+        requires gap { place self.old text.now ≡ Place.Gap parent }
+        requires room { length self.old < 65536 }
+        ensures ok { OnOk result (self.new ≡ self.old ++ named text.now kind ∷ []) }
+        ensures err { OnErr result (self.new ≡ self.old) }
+    {
+        let depth = self.depth(parent) + 1;
+        let number = self.nodes();
+        let key = String::from_str(alloc, text)?;
+        self.objects.reserve(1)?;
+        self.numbers.insert(key, number)?;
+        self.objects.push_reserved(Object {
+            kind,
+            parent: Some(parent),
+            depth,
+        });
+        Ok(())
+    }
+
+    /// What is kept of a node.
+    fn object(&self, node: NodeId) -> &Object
+        requires { IsNode self.now node }
+        ensures kind { result.now.kind ≡ kind_at self.now node }
+        ensures parent { result.now.parent ≡ parent_at self.now node }
+        ensures depth { result.now.depth ≡ depth_at self.now node }
+        ensures tree { IsTree self.now }
+    {
+        &self.objects[node.0 as usize]
+    }
+
+    /// How many nodes the tree has, the root among them: at most 65,536.
+    pub fn nodes(&self) -> u32
+        ensures count { result ≡ length self.now }
+        ensures tree { IsTree self.now }
+        ensures limit { length self.now ≤ 65536 }
+    {
+        self.objects.len() as u32
+    }
+
+    /// What kind of object a node is.
+    pub fn kind(&self, node: NodeId) -> Kind
+        requires { IsNode self.now node }
+        ensures { result ≡ kind_at self.now node }
+    {
+        self.object(node).kind
+    }
+
+    /// The directory that a node stands in, and None for the root.
+    pub fn parent(&self, node: NodeId) -> Option<NodeId>
+        requires { IsNode self.now node }
+        ensures exact { result ≡ parent_at self.now node }
+        ensures root { IfNone result (path_at self.now node ≡ []) }
+        ensures front { IfSome result (StandsIn self.now node) }
+        ensures tree { IsTree self.now }
+    {
+        self.object(node).parent
+    }
+
+    /// How many directories stand above a node: 0 for the root.
+    pub fn depth(&self, node: NodeId) -> u32
+        requires { IsNode self.now node }
+        ensures { result ≡ depth_at self.now node }
+    {
+        self.object(node).depth
+    }
+
+    /// Whether the first node is the second or a directory that stands over it.
+    pub fn is_above(&self, upper: NodeId, lower: NodeId) -> bool
+        requires upper_is_node { IsNode self.now upper }
+        requires lower_is_node { IsNode self.now lower }
+        ensures { result ≡ is_prefix (path_at self.now upper) (path_at self.now lower) }
+    {
+        let depth = self.depth(upper);
+        let mut node = lower;
+        while let Some(up) = self.parent(node) {
+            if self.depth(node) <= depth {
+                break;
+            }
+            node = up;
+        }
+        node == upper
+    }
+
+    /// The place that a text names: a node, the gap in a directory that has no such name, or nowhere.
+    pub fn resolve(&self, text: &str) -> Place
+        ensures place { result ≡ place self.now text.now }
+        ensures inside { IsPlace self.now result }
+    {
+        if !path_ok(text) {
+            return Place::Nowhere;
+        }
+        self.place_of(text)
+    }
+
+    /// The place of a path.
+    fn place_of(&self, path: &str) -> Place
+        requires { IsTrue (is_some (path_of path.now)) }
+        ensures place { result ≡ place self.now path.now }
+        ensures inside { IsPlace self.now result }
+        ensures tree { IsTree self.now }
+    {
+        match self.find(path) {
+            Some(node) => Place::Node(node),
+            None => self.gap(self.find(front_text(path))),
+        }
+    }
+
+    /// The node whose path this text spells.
+    fn find(&self, text: &str) -> Option<NodeId>
+        ensures found { (path : Path) → path_of text.now ≡ Some path → result ≡ node_at self.now path }
+        ensures node { IsTrue (is_some (path_of text.now)) → IfSome result (IsNode self.now) }
+        ensures tree { IsTree self.now }
+    {
+        self.numbers.get(text).map(|number| NodeId(*number))
+    }
+
+    /// The gap in a directory.
+    #[tactic(auto, unfolding(crate::specs::Trees::gap_in))]
+    fn gap(&self, node: Option<NodeId>) -> Place
+        requires { IfSome node (IsNode self.now) }
+        ensures gap { result ≡ gap_in self.now node }
+        ensures inside { IsPlace self.now result }
+    {
+        match node {
+            None => Place::Nowhere,
+            Some(node) => match self.kind(node) {
+                Kind::Dir => Place::Gap(node),
+                _ => Place::Nowhere,
+            },
+        }
+    }
+}
