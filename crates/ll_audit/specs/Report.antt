@@ -20,10 +20,15 @@ pub record ReportLine : Type 0 where
 abbrev pub next_layer_text : ℕ → List ℕ
 next_layer_text layer = codes "," ++ decimal layer
 
--- the layers, parted by commas, or a hyphen where there are none
+-- layers, parted by commas
+abbrev pub listed_layers : List ℕ → List ℕ
+listed_layers [] = []
+listed_layers (first ∷ more) = decimal first ++ flat_map next_layer_text more
+
+-- layers, or a hyphen where there are none
 abbrev pub layers_text : List ℕ → List ℕ
 layers_text [] = codes "-"
-layers_text (first ∷ more) = decimal first ++ flat_map next_layer_text more
+layers_text (first ∷ more) = listed_layers (first ∷ more)
 
 abbrev pub verdict_text : Verdict → List ℕ
 verdict_text allowed = codes "allowed"

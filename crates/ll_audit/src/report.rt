@@ -1,11 +1,11 @@
 //! The text of the report.
 
-ghost use Rattle.std.specs.Prelude.{◌≡◌, ◌++◌, ◌∷◌, [], OnOk, codes, decimal};
-ghost use Rattle.std.specs.List.{flat_map};
+ghost use Rattle.std.specs.Prelude.{◌≡◌, ◌++◌, ◌∷◌, [], OnOk, codes, decimal, if◌then◌else◌};
 ghost use Rattle.ll_audit.specs.Outcomes.{report_status};
 ghost use Rattle.ll_audit.specs.Report.{head_text, layers_text, next_layer_text, total_text};
 
 use itoa::Buffer;
+use ll_rules::LayerSet;
 use std::alloc::AllocError;
 
 /// The report of an audit.
@@ -47,32 +47,33 @@ pub(crate) fn push_head(text: &mut Vec<u8>, line: u64, pid: u64, op: &str) -> Re
     Ok(())
 }
 
-/// Adds the numbers of layers, parted by commas.
-pub(crate) fn push_layers(text: &mut Vec<u8>, layers: &[u32]) -> Result<(), AllocError>
-    ensures { OnOk result (text.new.items ≡ text.old.items ++ layers_text layers.now) }
+/// Adds the numbers of layers, parted by commas, or a hyphen where there are none.
+pub(crate) fn push_layers(text: &mut Vec<u8>, layers: LayerSet) -> Result<(), AllocError>
+    ensures { OnOk result (text.new.items ≡ text.old.items ++ layers_text layers) }
 {
-    match layers.split_first() {
-        None => {
-            text.push(b'-')?;
-            Ok(())
-        }
-        Some((first, more)) => {
-            push_number(text, u64::from(*first))?;
-            push_more_layers(text, more)
-        }
+    if layers.is_empty() {
+        text.push(b'-')?;
+        return Ok(());
     }
-}
-
-/// Adds the numbers of layers after the first.
-fn push_more_layers(text: &mut Vec<u8>, layers: &[u32]) -> Result<(), AllocError>
-    ensures { OnOk result (text.new.items
-        ≡ text.old.items ++ flat_map next_layer_text layers.now) }
-{
-    for layer in layers {
-        text.push(b',')?;
-        push_number(text, u64::from(*layer))?;
+    let mut is_first = true;
+    for number in 1..17 {
+        if layers.has(number) {
+            push_layer(text, number, is_first)?;
+            is_first = false;
+        }
     }
     Ok(())
+}
+
+/// Adds the number of a layer, behind a comma if it isn't the first.
+fn push_layer(text: &mut Vec<u8>, number: u32, is_first: bool) -> Result<(), AllocError>
+    ensures { OnOk result (text.new.items ≡ text.old.items
+        ++ (if is_first then decimal number else next_layer_text number)) }
+{
+    if !is_first {
+        text.push(b',')?;
+    }
+    push_number(text, u64::from(number))
 }
 
 /// Adds the last line.
