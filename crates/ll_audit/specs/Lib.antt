@@ -3,3 +3,4 @@ pub mod FaultLines
 pub mod Files
 pub mod Report
 pub mod Outcomes
+pub mod Names

@@ -6,6 +6,7 @@ mod fault;
 mod inputs;
 mod laws;
 mod lines;
+mod names;
 mod outcome;
 mod report;
 mod source;

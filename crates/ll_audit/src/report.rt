@@ -2,10 +2,12 @@
 
 ghost use Rattle.std.specs.Prelude.{◌≡◌, ◌++◌, ◌∷◌, [], OnOk, codes, decimal, if◌then◌else◌};
 ghost use Rattle.ll_audit.specs.Outcomes.{report_status};
-ghost use Rattle.ll_audit.specs.Report.{head_text, layers_text, next_layer_text, total_text};
+ghost use Rattle.ll_audit.specs.Report.{head_text, layers_text, next_layer_text, refused, total_text, verdict_text};
+ghost use Rattle.ll_audit.specs.Names as spec;
 
+use crate::names::error_name;
 use itoa::Buffer;
-use ll_rules::LayerSet;
+use ll_rules::{Errno, LayerSet};
 use std::alloc::AllocError;
 
 /// The report of an audit.
@@ -48,7 +50,7 @@ pub(crate) fn push_head(text: &mut Vec<u8>, line: u64, pid: u64, op: &str) -> Re
 }
 
 /// Adds the numbers of layers, parted by commas, or a hyphen where there are none.
-pub(crate) fn push_layers(text: &mut Vec<u8>, layers: LayerSet) -> Result<(), AllocError>
+fn push_layers(text: &mut Vec<u8>, layers: LayerSet) -> Result<(), AllocError>
     ensures { OnOk result (text.new.items ≡ text.old.items ++ layers_text layers) }
 {
     if layers.is_empty() {
@@ -63,6 +65,21 @@ pub(crate) fn push_layers(text: &mut Vec<u8>, layers: LayerSet) -> Result<(), Al
         }
     }
     Ok(())
+}
+
+/// Adds a refusal, with its error and its layers.
+pub(crate) fn push_refusal(
+    text: &mut Vec<u8>,
+    error: Errno,
+    layers: LayerSet,
+) -> Result<(), AllocError>
+    ensures { OnOk result (text.new.items
+        ≡ text.old.items ++ verdict_text (refused (spec.error_name error) layers)) }
+{
+    text.extend_from_slice(b"refused ")?;
+    text.extend_from_slice(error_name(error).as_bytes())?;
+    text.push(b' ')?;
+    push_layers(text, layers)
 }
 
 /// Adds the number of a layer, behind a comma if it isn't the first.

@@ -3,9 +3,9 @@
 use crate::command::{Plan, plan_of};
 use crate::lines::Failure;
 use crate::outcome::Outcome;
-use crate::report::{push_head, push_layers, push_total};
+use crate::report::{push_head, push_refusal, push_total};
 use crate::*;
-use ll_rules::LayerSet;
+use ll_rules::{Errno, LayerSet};
 use ll_tree::{Cause, ReadFault};
 use std::alloc::{AllocError, Global};
 use std::io;
@@ -177,12 +177,11 @@ fn files_in_memory(rt: HostRuntime) -> Result<(), Fail> {
 #[test]
 fn pieces_of_a_report(rt: HostRuntime) -> Result<(), Fail> {
     let mut text = Vec::new(rt.alloc());
-    push_head(&mut text, 18, 12, "open")?;
-    push_layers(&mut text, LayerSet::new())?;
-    push_head(&mut text, 7, 10, "restrict")?;
-    push_layers(&mut text, LayerSet::new())?;
+    push_head(&mut text, 2, 10, "create")?;
+    push_refusal(&mut text, Errno::TooBig, LayerSet::new())?;
+    text.push(b'\n')?;
     push_total(&mut text, 25, 21, 3, 1)?;
-    let want = "18 12 open -7 10 restrict -total 25 allowed 21 refused 3 moot 1\n";
+    let want = "2 10 create refused E2BIG -\ntotal 25 allowed 21 refused 3 moot 1\n";
     assert_eq!(rt; text.as_slice(), want.as_bytes());
     Ok(())
 }
