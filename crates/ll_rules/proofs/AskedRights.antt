@@ -26,7 +26,7 @@ two_asked set first second one another right is a b =
     ∙ ap (λ (rest : Bool). has first right || rest) (one_asked second another right b)
     ∙ ap (λ (here : Bool). here || (is_right right another || false)) (ap (λ (own : Fs). has own right) a ∙ fs_has-only right one)
 
-some_agree : (f g : FsRight → Bool) → ((right : FsRight) → f right ≡ g right) → some_right f ≡ some_right g
+pub some_agree : (f g : FsRight → Bool) → ((right : FsRight) → f right ≡ g right) → some_right f ≡ some_right g
 unfolding some_right
 some_agree f g same = list_any-agree f g same all_rights
 

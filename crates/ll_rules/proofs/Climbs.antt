@@ -31,7 +31,7 @@ is_prefix-split (name ∷ names) first (next ∷ others) =
     ap (λ (b : Bool). bytes_eq name first && b) (is_prefix-split names next others)
     ∙ and_or (bytes_eq name first) (path_eq names (next ∷ others)) (is_prefix names (front (next ∷ others)))
 
-granted-split : (rules : RulesOn Path) (first : List ℕ) (others : Path) (right : FsRight)
+pub granted-split : (rules : RulesOn Path) (first : List ℕ) (others : Path) (right : FsRight)
     → granted rules (first ∷ others) right ≡ (granted_on rules (first ∷ others) right || granted rules (front (first ∷ others)) right)
 unfolding granted granted_on
 granted-split rules first others right =
@@ -42,7 +42,7 @@ granted-split rules first others right =
     ∙ or_and (path_eq rule.0 path) (is_prefix rule.0 (front path)) (has rule.1 right)) rules.file_rules
     ∙ list_any-or (λ rule. path_eq rule.0 path && has rule.1 right) (λ rule. is_prefix rule.0 (front path) && has rule.1 right) rules.file_rules
 
-granted-root : (rules : RulesOn Path) (right : FsRight) → granted rules [] right ≡ granted_on rules [] right
+pub granted-root : (rules : RulesOn Path) (right : FsRight) → granted rules [] right ≡ granted_on rules [] right
 unfolding granted granted_on
 granted-root rules right =
     list_any-agree (λ rule. is_prefix rule.0 [] && has rule.1 right) (λ rule. path_eq rule.0 [] && has rule.1 right)

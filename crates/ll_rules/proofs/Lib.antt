@@ -8,3 +8,4 @@ pub mod Domains
 pub mod Ports
 pub mod AskedRights
 pub mod Verdicts
+pub mod SameLayers

@@ -3,3 +3,4 @@ pub mod Layers
 pub mod Rulesets
 pub mod Checks
 pub mod Moves
+pub mod WorkedRules

@@ -5,13 +5,20 @@
 mod check;
 mod domain;
 mod errno;
+mod laws;
 mod layer_set;
 mod moves;
 mod ruleset;
+mod sameness;
 
 pub use check::{check_mount, check_path, check_port};
 pub use domain::{Domain, LayerId};
 pub use errno::{Errno, Full, NoMemory, RuleFault};
+pub use laws::{
+    worked_creations, worked_moves, worked_moves_without_refer, worked_paths,
+    worked_ports_and_mounts, worked_rules_for_files, worked_rules_for_ports,
+};
 pub use layer_set::LayerSet;
 pub use moves::{How, Move, Target, Verdict, check_move};
 pub use ruleset::{Layer, Ruleset};
+pub use sameness::{same_answers, same_rules};

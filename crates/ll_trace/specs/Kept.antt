@@ -7,7 +7,7 @@ use Rattle.ll_trace.specs.declared.reader.Entry as declared
 use Rattle.ll_trace.specs.declared.reader.Owner.{Owner}
 use Rattle.ll_trace.specs.declared.reader.Reader.{Reader}
 use Rattle.ll_trace.specs.Entries.{Entry, is_start_of, is_end_of, process_count}
-use Rattle.ll_trace.specs.Records.{entry_of, records_after}
+use Rattle.ll_trace.specs.Records.{entry_of, AreRecords}
 
 -- whether the latest process of a pid runs
 abbrev pub runs : Option Owner → Bool
@@ -44,7 +44,7 @@ pub record Follows (reader : Reader) (past : List Entry) : Type 0 where
 -- all that is kept agrees with the entries
 pub record IsKept (reader : Reader) : Type 0 where
   pub follows : Follows reader (past reader)
-  pub numbers : reader.records.items ≡ records_after [] (entries reader)
+  pub records : AreRecords reader.records.items
 
 -- what a line says, as the reading of a file sees it
 abbrev pub entry_view : declared.Entry → Entry

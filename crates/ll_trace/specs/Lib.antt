@@ -3,3 +3,7 @@ pub mod Operations
 pub mod Entries
 pub mod Records
 pub mod Kept
+pub mod Processes
+pub mod Indexed
+pub mod Traces
+pub mod SingleUse

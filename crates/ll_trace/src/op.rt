@@ -3,6 +3,7 @@
 ghost use Rattle.std.specs.Prelude.{◌≡◌};
 
 use crate::path_text::PathText;
+use crate::record::ProcessId;
 use ll_rights::{Fs, Kind, Net};
 
 /// What a file is opened for.
@@ -149,6 +150,7 @@ pub enum Op {
 
 impl Op {
     ghost use Rattle.ll_trace.specs.Entries.{is_start, is_exit, pid_started};
+    ghost use Rattle.ll_trace.specs.Processes.{forked_by};
 
     #[tactic(auto, unfolding(crate::specs::Entries::is_start))]
     pub(crate) fn is_start(&self) -> bool
@@ -172,6 +174,17 @@ impl Op {
         match self {
             Op::Start { .. } => Some(pid),
             Op::Fork { child } => Some(*child),
+            _ => None,
+        }
+    }
+
+    /// The parent of the process that this operation of the process `own` starts.
+    #[tactic(auto, unfolding(crate::specs::Processes::forked_by))]
+    pub(crate) fn forked_by(&self, own: ProcessId) -> Option<ProcessId>
+        ensures { result ≡ forked_by self.now own }
+    {
+        match self {
+            Op::Fork { .. } => Some(own),
             _ => None,
         }
     }

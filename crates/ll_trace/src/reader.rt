@@ -6,7 +6,7 @@ ghost use Rattle.ll_tree.specs.Fault.{Gives};
 ghost use Rattle.ll_tree.specs.LineView.{line_view};
 ghost use Rattle.ll_tree.specs.Reading.{with_entry, with_line, reading, GivesReading, IsBad};
 ghost use Rattle.ll_trace.specs.Entries.{entry_at, is_live as is_live_in, is_unknown as is_unknown_in, is_twice as is_twice_in, is_too_many, is_end_of, misplacement, process_count, started_pid, trace_file};
-ghost use Rattle.ll_trace.specs.Records.{process_of, IsTrace};
+ghost use Rattle.ll_trace.specs.Records.{process_of, AreRecords, IsTrace};
 ghost use Rattle.ll_trace.specs.Kept.{IsKept, IsNoted, Begins, Stops, entries, entry_view, number, owner_of, past, runs};
 
 use crate::op::Op;
@@ -264,6 +264,7 @@ fn read_all(alloc: Global, bytes: &[u8]) -> Result<Reader, ReadFault>
 #[tactic(auto, using(ll_tree::proofs::ReadingLemmas::good_from_reading, ll_tree::proofs::ReadingLemmas::bad_from_fault))]
 pub fn read_records(alloc: Global, bytes: &[u8]) -> Result<Vec<Record>, ReadFault>
     ensures good { IfOk result (λ records. IsTrace bytes.now records.items) }
+    ensures records { IfOk result (λ records. AreRecords records.items) }
     ensures bad { IfErr result (λ fault. fault.cause ≢ Memory → IsBad trace_file bytes.now fault) }
 {
     match read_all(alloc, bytes) {

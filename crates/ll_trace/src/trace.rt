@@ -1,14 +1,16 @@
 //! A trace that was read.
 
-ghost use Rattle.std.specs.Prelude.{◌≡◌, ◌≢◌, IfOk, IfErr};
+ghost use Rattle.std.specs.Prelude.{◌≡◌, ◌≢◌, ◌<◌, ◌≤◌, length, All, IfOk, IfErr, IfSome};
 ghost use Rattle.ll_tree.specs.declared.fault.Cause.TheVariants.{Memory};
 ghost use Rattle.ll_tree.specs.Reading.{IsBad};
 ghost use Rattle.ll_trace.specs.Entries.{trace_file};
-ghost use Rattle.ll_trace.specs.Records.{IsTrace};
+ghost use Rattle.ll_trace.specs.Records.{AreRecords, IsTrace};
+ghost use Rattle.ll_trace.specs.Processes.{parents, parent_of, own_places, started_by};
 
 use crate::reader::read_records;
-use crate::record::Record;
-use ll_tree::ReadFault;
+use crate::record::{ProcessId, Record};
+use crate::tables::{Tables, index};
+use ll_tree::{Cause, ReadFault};
 use std::alloc::Global;
 use std::marker::Model;
 
@@ -16,6 +18,7 @@ use std::marker::Model;
 #[derive(Drop)]
 pub struct Trace {
     records: Vec<Record>,
+    tables: Tables,
 }
 
 impl Model for Trace {
@@ -24,7 +27,11 @@ impl Model for Trace {
 
     ghost Value = { List OneRecord };
 
-    ghost view = { λ trace. trace.records.items };
+    ghost use Rattle.ll_trace.specs.Traces.{records_in, IsWhole};
+
+    ghost view = { records_in };
+
+    ghost invariant = { IsWhole };
 }
 
 impl Trace {
@@ -36,15 +43,70 @@ impl Trace {
             (λ fault. fault.cause ≢ Memory → IsBad trace_file bytes.now fault) }
     {
         match read_records(alloc, bytes) {
-            Ok(records) => Ok(Trace { records }),
+            Ok(records) => match index(alloc, &records) {
+                Ok(tables) => Ok(Trace { records, tables }),
+                Err(_) => Err(ReadFault {
+                    line: last_line(&records),
+                    cause: Cause::Memory,
+                }),
+            },
             Err(fault) => Err(fault),
         }
     }
 
     /// The records, in the order of the file.
     pub fn records(&self) -> &[Record]
-        ensures { result.now ≡ self.now }
+        ensures value { result.now ≡ self.now }
+        ensures few { length self.now ≤ 1000000 }
+        ensures are_records { AreRecords self.now }
     {
-        self.records.as_slice()
+        let records = &self.records;
+        records.as_slice()
+    }
+
+    /// How many processes the trace has.
+    pub fn processes(&self) -> u32
+        ensures count { result ≡ length (parents self.now) }
+        ensures few { result ≤ 65536 }
+    {
+        self.tables.parents.len() as u32
+    }
+
+    /// The process that forked this one; a process of a `start` record has no parent.
+    pub fn parent_of(&self, process: ProcessId) -> Option<ProcessId>
+        requires { process.0 < length (parents self.now) }
+        ensures value { result ≡ parent_of self.now process }
+        ensures below { IfSome result (λ parent. parent.0 < process.0) }
+    {
+        self.tables.parents[process.0 as usize]
+    }
+
+    /// The places of a process's records among [`Trace::records`], rising.
+    pub fn records_of(&self, process: ProcessId) -> &[u32]
+        requires { process.0 < length (parents self.now) }
+        ensures value { result.now ≡ own_places self.now process }
+        ensures within { All (λ place. place < length self.now) result.now }
+    {
+        let own = &self.tables.own[process.0 as usize];
+        own.as_slice()
+    }
+
+    /// The process that the `start` or `fork` record at a place starts. No other record starts one,
+    /// and there is none at a place past the last.
+    pub fn starts(&self, place: u32) -> Option<ProcessId>
+        ensures { result ≡ started_by self.now place }
+    {
+        match self.tables.started.get(place as usize) {
+            None => None,
+            Some(started) => *started,
+        }
+    }
+}
+
+/// The line of the last record, or the first line where there is none.
+fn last_line(records: &[Record]) -> u64 {
+    match records.last() {
+        None => 1,
+        Some(record) => record.line,
     }
 }

@@ -1,5 +1,5 @@
 -- What a reader answers: the value that is there, or the first cause of a fault.
--- Source: docs/FORMATS.md, "Faults".
+-- Source: docs/FORMATS.md, "What does not read".
 use Rattle.std.specs.Prelude.{◌≡◌, Result, Ok, Err}
 use Rattle.ll_tree.specs.declared.fault.Cause.{Cause}
 use Rattle.ll_tree.specs.declared.fault.Cause.TheVariants.{Memory}

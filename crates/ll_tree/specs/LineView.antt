@@ -1,5 +1,5 @@
 -- A line as the reading of a file sees it.
--- Source: docs/FORMATS.md, "Lines and values".
+-- Source: docs/FORMATS.md, "Lines".
 use Rattle.ll_tree.specs.declared.lines.FileLine.{FileLine}
 use Rattle.ll_tree.specs.Lines.{Line}
 

@@ -1,5 +1,5 @@
 -- The lines of a file: it is cut at each line feed, and nothing after the last one is no line.
--- Source: docs/FORMATS.md, "Lines and values".
+-- Source: docs/FORMATS.md, "Lines".
 use Rattle.std.specs.Prelude.{ℕ, ◌+◌, ◌==◌, ◌||◌, Bool, not, List, [], ◌∷◌, filter, if◌then◌else◌}
 use Rattle.std.specs.List.{list_all}
 

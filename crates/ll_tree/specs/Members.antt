@@ -1,5 +1,5 @@
 -- The value of a line, and the members of an object: each is there in its form, or the line is at fault.
--- Source: docs/FORMATS.md, "Lines and values".
+-- Source: docs/FORMATS.md, "Lines".
 use Rattle.std.specs.Prelude.{ℕ, Bool, false, List, Option, Some, None, ok_or, option_and_then, Result, Ok, if◌then◌else◌}
 use Rattle.std.specs.Str.{is_utf8}
 use Rattle.serde_json.specs.Data.{Data, Items, no_items, item}

@@ -1,5 +1,5 @@
 -- The reading of a file that has one entry on a line: its entries if no line has a fault, else the first faulty line.
--- Source: docs/FORMATS.md, "Faults".
+-- Source: docs/FORMATS.md, "What does not read".
 use Rattle.std.specs.Prelude.{◌≡◌, ℕ, List, [], ◌∷◌, ◌++◌, Option, Some, None, Result, Ok, Err}
 use Rattle.std.specs.List.{filter_map}
 use Rattle.std.specs.Result.{result_ok}

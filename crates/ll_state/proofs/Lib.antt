@@ -1,0 +1,4 @@
+pub mod KnownRights
+pub mod SameLayers
+pub mod Restricting
+pub mod Judging

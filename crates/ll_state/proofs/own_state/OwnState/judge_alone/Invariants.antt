@@ -1,0 +1,23 @@
+-- Each call meets what this one meets.
+use Rattle.ll_state.proofs.own_state.OwnState.judge_alone.Given as goal
+
+abbrev pub ghost-set_no_new_privs : goal.ghost-set_no_new_privs
+ghost-set_no_new_privs g a = g.at
+
+abbrev pub ghost-restrict : goal.ghost-restrict
+ghost-restrict g a = g.at
+
+abbrev pub ghost-open : goal.ghost-open
+ghost-open g a = g.at
+
+abbrev pub ghost-adopt : goal.ghost-adopt
+ghost-adopt g a = g.at
+
+abbrev pub ghost-dup : goal.ghost-dup
+ghost-dup g a = g.at
+
+abbrev pub ghost-close : goal.ghost-close
+ghost-close g a = g.at
+
+abbrev pub ghost-answer : goal.ghost-answer
+ghost-answer g a = g.at

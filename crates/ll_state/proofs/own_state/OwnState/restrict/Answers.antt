@@ -1,0 +1,30 @@
+-- The four answers, and the layer that an allowed call adds.
+use Rattle.std.proofs.Common.{◌≡◌, length, Option, refl, sym, ◌∙◌, subst}
+use Rattle.std.specs.Prelude.{◌≢◌}
+use Rattle.std.proofs.lemmas.Bool.{false≢true}
+use Rattle.ll_rules.specs.declared.domain.LayerId.{LayerId}
+use Rattle.ll_state.specs.Notes.{IsFrozen}
+use Rattle.ll_state.proofs.Restricting.{restrict_denied, restrict_unheld, restrict_full, restrict_allowed, length-domain, Agrees-with_layer}
+use Rattle.ll_state.proofs.own_state.OwnState.restrict.Goals as goal
+
+pub returns-then-not-may_restrict-clause-answer : goal.returns-then-not-may_restrict-clause-answer
+returns-then-not-may_restrict-clause-answer g c = λ rules frozen.
+    c.fails.ensures ∙ restrict_denied g.at.state rules (sym c.may_restrict.ensures ∙ c.if-not-may_restrict.true)
+
+pub returns-in_default-clause-answer : goal.returns-in_default-clause-answer
+returns-in_default-clause-answer g c = λ rules frozen.
+    c.fails-in_default.ensures ∙ restrict_unheld g.at g.at.state rules (sym c.may_restrict.ensures ∙ c.if-not-may_restrict.false) (subst (λ (layer : Option LayerId). IsFrozen g.at layer rules) c.in_default.is frozen)
+
+pub returns-in-Ok-clause-answer : goal.returns-in-Ok-clause-answer
+returns-in-Ok-clause-answer g c = λ rules frozen.
+    let room : length g.at.state.domain ≢ 16 = λ full. false≢true (c.in-Ok.ensures.full.1 (length-domain g.at c.args.self.now g.at.state c.requires ∙ full)) in
+    restrict_allowed g.at c.in-Some.layer g.at.state rules (sym c.may_restrict.ensures ∙ c.if-not-may_restrict.false) room (subst (λ (layer : Option LayerId). IsFrozen g.at layer rules) c.in-Some.is frozen)
+
+pub returns-in-Ok-clause-after : goal.returns-in-Ok-clause-after
+returns-in-Ok-clause-after g c = λ rules frozen.
+    Agrees-with_layer g.at c.args.self.now g.at.state c.in-Some.layer rules c.push.new.self c.requires (subst (λ (layer : Option LayerId). IsFrozen g.at layer rules) c.in-Some.is frozen) c.in-Ok.ensures.ok
+
+pub returns-in-Err-clause-answer : goal.returns-in-Err-clause-answer
+returns-in-Err-clause-answer g c = λ rules frozen.
+    let full : length g.at.state.domain ≡ 16 = sym (length-domain g.at c.args.self.now g.at.state c.requires) ∙ c.in-Err.ensures.full.0 refl in
+    c.fails-in-Err.ensures ∙ restrict_full g.at c.in-Some.layer g.at.state rules (sym c.may_restrict.ensures ∙ c.if-not-may_restrict.false) full (subst (λ (layer : Option LayerId). IsFrozen g.at layer rules) c.in-Some.is frozen)

@@ -1,0 +1,118 @@
+//! Which renames and links the policy is asked about.
+
+ghost use Rattle.std.specs.Prelude.{◌≡◌, ◌<◌, false, IfSome};
+ghost use Rattle.ll_tree.specs.Trees.{IsNode, IsPlace, kind_at, is_dir};
+ghost use Rattle.ll_state.specs.Moves.{IsFitMove, is_root, is_mixed, rename_into, rename_onto, rename_to, rename_move, link_to, link_move};
+
+use ll_rights::Kind;
+use ll_rules::{How, Move, Target};
+use ll_tree::{NodeId, Place, Tree};
+
+/// Whether a node is the root.
+fn is_root(node: NodeId) -> bool
+    ensures { result ≡ is_root node }
+{
+    node.index() == 0
+}
+
+/// Whether a node is a directory.
+fn is_directory(tree: &Tree, node: NodeId) -> bool
+    requires { IsNode tree.now node }
+    ensures { result ≡ is_dir (kind_at tree.now node) }
+{
+    tree.kind(node) == Kind::Dir
+}
+
+/// Whether one of two nodes is a directory and the other isn't.
+fn is_mixed(tree: &Tree, a: NodeId, b: NodeId) -> bool
+    requires a_is_node { IsNode tree.now a }
+    requires b_is_node { IsNode tree.now b }
+    ensures { result ≡ is_mixed tree.now a b }
+{
+    is_directory(tree, a) != is_directory(tree, b)
+}
+
+/// A rename into a gap: nothing goes beneath itself.
+#[tactic(auto, unfolding(crate::specs::Moves::rename_into))]
+fn rename_into(tree: &Tree, from: NodeId, directory: NodeId, exchange: bool) -> Option<Move>
+    requires from_is_node { IsNode tree.now from }
+    requires not_root { is_root from ≡ false }
+    requires place { IsPlace tree.now (Place.Gap directory) }
+    ensures exact { result ≡ rename_into tree.now from directory exchange }
+    ensures fit { IfSome result (IsFitMove tree.now) }
+{
+    if exchange || tree.is_above(from, directory) {
+        return None;
+    }
+    Some(Move {
+        moved: from,
+        target: Target::New(directory),
+        how: How::Rename,
+    })
+}
+
+/// A rename onto an object, or an exchange with it: not onto the root, itself, what stands beneath it or what it
+/// stands in, and without exchange no directory onto a file or a file onto a directory.
+#[tactic(auto, unfolding(crate::specs::Moves::rename_onto))]
+fn rename_onto(tree: &Tree, from: NodeId, to: NodeId, exchange: bool) -> Option<Move>
+    requires from_is_node { IsNode tree.now from }
+    requires not_root { is_root from ≡ false }
+    requires to_is_node { IsNode tree.now to }
+    ensures exact { result ≡ rename_onto tree.now from to exchange }
+    ensures fit { IfSome result (IsFitMove tree.now) }
+{
+    if is_root(to) || tree.is_above(from, to) || tree.is_above(to, from) {
+        return None;
+    }
+    let how = if exchange { How::Exchange } else { How::Rename };
+    if !exchange && is_mixed(tree, from, to) {
+        return None;
+    }
+    Some(Move {
+        moved: from,
+        target: Target::Over(to),
+        how,
+    })
+}
+
+/// What rename(2) asks: nothing where no object is there to be moved, or where the tree itself decides the call.
+#[tactic(auto, unfolding(crate::specs::Moves::rename_move, crate::specs::Moves::rename_to))]
+pub(crate) fn rename_move(tree: &Tree, from: Place, to: Place, exchange: bool) -> Option<Move>
+    requires from_place { IsPlace tree.now from }
+    requires to_place { IsPlace tree.now to }
+    ensures exact { result ≡ rename_move tree.now from to exchange }
+    ensures fit { IfSome result (IsFitMove tree.now) }
+{
+    let Place::Node(from) = from else {
+        return None;
+    };
+    if is_root(from) {
+        return None;
+    }
+    match to {
+        Place::Gap(directory) => rename_into(tree, from, directory, exchange),
+        Place::Node(to) => rename_onto(tree, from, to, exchange),
+        Place::Nowhere => None,
+    }
+}
+
+/// What link(2) asks: an object that isn't a directory gets one more name, in a gap.
+#[tactic(auto, unfolding(crate::specs::Moves::link_move, crate::specs::Moves::link_to))]
+pub(crate) fn link_move(tree: &Tree, from: Place, to: Place) -> Option<Move>
+    requires from_place { IsPlace tree.now from }
+    requires to_place { IsPlace tree.now to }
+    ensures exact { result ≡ link_move tree.now from to }
+    ensures fit { IfSome result (IsFitMove tree.now) }
+{
+    let (Place::Node(from), Place::Gap(directory)) = (from, to) else {
+        return None;
+    };
+    if is_root(from) || is_directory(tree, from) {
+        return None;
+    }
+    Some(Move {
+        moved: from,
+        target: Target::New(directory),
+        how: How::Link,
+    })
+}

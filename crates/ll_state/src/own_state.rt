@@ -1,0 +1,147 @@
+//! What one process has by itself.
+
+mod checks;
+mod descriptors;
+mod restricting;
+
+ghost use Rattle.std.specs.Prelude.{◌≡◌, ℕ, List, true, IfOk, OnOk, OnErr};
+ghost use Rattle.ll_tree.specs.Trees.{Entry};
+ghost use Rattle.ll_rules.specs.Layers.{RulesOn};
+ghost use Rattle.ll_state.specs.States.{State, fresh};
+ghost use Rattle.ll_state.specs.Changes.{is_still};
+ghost use Rattle.ll_state.specs.Agreement.{Situation, IsMet, Agrees, answered, left};
+ghost use Rattle.ll_state.specs.Notes.{NoteFits};
+
+use crate::answer::Answer;
+use crate::descriptor::Descriptor;
+use crate::note::Note;
+use crate::requests::asks;
+use ll_rights::Net;
+use ll_rules::{Domain, Layer, NoMemory};
+use ll_trace::Op;
+use ll_tree::Tree;
+use std::alloc::Global;
+use std::collections::BTreeMap;
+
+/// What one process has by itself: its flags, its domain and its open descriptors. The rulesets that it holds
+/// are settled before, for all processes together.
+#[derive(Drop)]
+pub struct OwnState {
+    no_new_privs: bool,
+    admin: bool,
+    domain: Domain,
+    descriptors: BTreeMap<u64, Descriptor>,
+}
+
+/// The same domain once more.
+fn domain_again(domain: &Domain) -> Result<Domain, NoMemory>
+    ensures { IfOk result (λ again. again ≡ domain.now) }
+{
+    Ok(domain.clone()?)
+}
+
+/// The same open descriptors once more.
+fn descriptors_again(
+    descriptors: &BTreeMap<u64, Descriptor>,
+) -> Result<BTreeMap<u64, Descriptor>, NoMemory>
+    ensures { IfOk result (λ again. again.entries ≡ descriptors.now.entries) }
+{
+    Ok(descriptors.clone()?)
+}
+
+impl OwnState {
+    /// The state of a process that a trace begins with.
+    #[tactic(auto, unfolding(crate::specs::States::fresh))]
+    pub fn fresh(alloc: Global, no_new_privs: bool, admin: bool) -> OwnState
+        ensures { (tree : List Entry) (layers : List (RulesOn ℕ)) → Agrees tree layers result (fresh no_new_privs admin) }
+    {
+        OwnState {
+            no_new_privs,
+            admin,
+            domain: Domain::new(),
+            descriptors: BTreeMap::new(alloc),
+        }
+    }
+
+    /// The state of a process that this one forks, which inherits all of it (landlock(7), "Inheritance").
+    pub fn forked(&self) -> Result<OwnState, NoMemory>
+        ensures { IfOk result (λ child. (tree : List Entry) (layers : List (RulesOn ℕ)) (state : State) → Agrees tree layers self.now state → Agrees tree layers child state) }
+    {
+        Ok(OwnState {
+            no_new_privs: self.no_new_privs,
+            admin: self.admin,
+            domain: domain_again(&self.domain)?,
+            descriptors: descriptors_again(&self.descriptors)?,
+        })
+    }
+
+    /// Judges one call of the process, and changes its state where the call is allowed. The note says what
+    /// follows from the rulesets, which the processes share.
+    pub fn judge(
+        &mut self,
+        tree: &Tree,
+        layers: &[Layer],
+        op: &Op,
+        note: &Note,
+    ) -> Result<Answer, NoMemory>
+        ghost at: { Situation }
+        requires met { IsMet at tree.now layers.now }
+        requires agrees { Agrees at.tree at.layers self.old at.state }
+        requires fits { NoteFits at op.now note.now }
+        ensures answer { IfOk result (λ answer. answer ≡ answered at op.now) }
+        ensures ok { OnOk result (Agrees at.tree at.layers self.new (left at op.now)) }
+        ensures err { OnErr result (Agrees at.tree at.layers self.new at.state) }
+    {
+        match note {
+            Note::Answered(answer) => Ok(*answer),
+            Note::Frozen(layer) => Ok(self.restrict(Some(*layer))),
+            Note::Open => self.judge_alone(tree, layers, op),
+        }
+    }
+
+    /// Judges a call whose answer rests on the state of its process alone.
+    fn judge_alone(&mut self, tree: &Tree, layers: &[Layer], op: &Op) -> Result<Answer, NoMemory>
+        ghost at: { Situation }
+        requires met { IsMet at tree.now layers.now }
+        requires agrees { Agrees at.tree at.layers self.old at.state }
+        requires fits { NoteFits at op.now Note.Open }
+        ensures answer { IfOk result (λ answer. answer ≡ answered at op.now) }
+        ensures ok { OnOk result (Agrees at.tree at.layers self.new (left at op.now)) }
+        ensures err { OnErr result (Agrees at.tree at.layers self.new at.state) }
+    {
+        match op {
+            Op::Nnp => Ok(self.set_no_new_privs()),
+            Op::Restrict { .. } => Ok(self.restrict(None)),
+            Op::OpenFile { path, fd, mode, .. } => {
+                let place = tree.resolve(path.as_str());
+                self.open(tree, layers, *fd, *mode, place, asks(tree, op))
+            }
+            Op::Adopt { fd, kind } => self.adopt(*fd, *kind),
+            Op::Dup { fd, to } => self.dup(*fd, *to),
+            Op::Close { fd } => Ok(self.close(*fd)),
+            _ => Ok(self.answer(tree, layers, op)),
+        }
+    }
+
+    /// The answer to a call that changes nothing of its process's state.
+    #[tactic(auto, unfolding(crate::specs::Agreement::answered, crate::specs::Answers::answer, ll_rights::specs::NetRights::has, ll_rights::specs::NetRights::only))]
+    fn answer(&self, tree: &Tree, layers: &[Layer], op: &Op) -> Answer
+        ghost at: { Situation }
+        requires met { IsMet at tree.now layers.now }
+        requires agrees { Agrees at.tree at.layers self.now at.state }
+        requires still { is_still op.now ≡ true }
+        ensures { result ≡ answered at op.now }
+    {
+        match op {
+            Op::Start { .. } | Op::Fork { .. } | Op::Exit => Answer::Allowed,
+            Op::Ftruncate { fd } => self.ftruncate(*fd),
+            Op::Ioctl { fd, driver } => self.ioctl(*fd, *driver),
+            Op::Rename { from, to, exchange } => self.rename(tree, layers, from, to, *exchange),
+            Op::Link { from, to } => self.link(tree, layers, from, to),
+            Op::Mount => self.mount(layers),
+            Op::Bind { port } => self.ask_port(layers, *port, Net::BIND_TCP),
+            Op::Connect { port } => self.ask_port(layers, *port, Net::CONNECT_TCP),
+            _ => self.ask(tree, layers, asks(tree, op)),
+        }
+    }
+}

@@ -1,0 +1,126 @@
+//! Calls on open descriptors.
+
+ghost use Rattle.std.specs.Prelude.{◌≡◌, Some, None, IfOk, OnOk, OnErr};
+ghost use Rattle.ll_trace.specs.declared.op.Op.{Op};
+ghost use Rattle.ll_state.specs.Changes.{with_descriptor};
+ghost use Rattle.ll_state.specs.Answers.{refused_by};
+ghost use Rattle.ll_state.specs.Agreement.{Situation, Agrees, answered, left};
+
+use crate::answer::Answer;
+use crate::descriptor::Descriptor;
+use crate::own_state::OwnState;
+use ll_rules::{Errno, LayerSet, NoMemory};
+use ll_trace::Sort;
+use std::alloc::AllocError;
+
+/// Refused with an error by the layers found, allowed if there are none.
+pub(crate) fn refused_by(error: Errno, layers: LayerSet) -> Answer
+    ensures { result ≡ refused_by error layers }
+{
+    if layers.is_empty() {
+        return Answer::Allowed;
+    }
+    Answer::Refused(error, layers)
+}
+
+impl OwnState {
+    /// What a number is open on.
+    pub(crate) fn descriptor(&self, fd: u64) -> Option<Descriptor>
+        ghost at: { Situation }
+        requires { Agrees at.tree at.layers self.now at.state }
+        ensures { result ≡ at.state.descriptors fd }
+    {
+        self.descriptors.get(&fd).copied()
+    }
+
+    /// A number is open on something from now on, whatever it was open on.
+    pub(crate) fn put(&mut self, fd: u64, descriptor: Descriptor) -> Result<(), NoMemory>
+        ghost at: { Situation }
+        requires { Agrees at.tree at.layers self.old at.state }
+        ensures ok { OnOk result (Agrees at.tree at.layers self.new (with_descriptor at.state fd (Some descriptor))) }
+        ensures err { OnErr result (Agrees at.tree at.layers self.new at.state) }
+    {
+        self.descriptors
+            .insert(fd, descriptor)
+            .map_err(AllocError::from)?;
+        Ok(())
+    }
+
+    /// A descriptor that was made without open(2) keeps no layers.
+    #[tactic(auto, unfolding(crate::specs::Agreement::answered, crate::specs::Agreement::left, crate::specs::Worlds::state_after, crate::specs::Answers::answer, crate::specs::Changes::change))]
+    pub(crate) fn adopt(&mut self, fd: u64, kind: Sort) -> Result<Answer, NoMemory>
+        ghost at: { Situation }
+        requires { Agrees at.tree at.layers self.old at.state }
+        ensures answer { IfOk result (λ answer. answer ≡ answered at (Op.Adopt fd kind)) }
+        ensures ok { OnOk result (Agrees at.tree at.layers self.new (left at (Op.Adopt fd kind))) }
+        ensures err { OnErr result (Agrees at.tree at.layers self.new at.state) }
+    {
+        if self.descriptor(fd).is_some() {
+            return Ok(Answer::Moot);
+        }
+        self.put(fd, Descriptor::unrestricted(kind))?;
+        Ok(Answer::Allowed)
+    }
+
+    /// dup(2): the other number is open on the same, with the same layers kept.
+    #[tactic(auto, unfolding(crate::specs::Agreement::answered, crate::specs::Agreement::left, crate::specs::Worlds::state_after, crate::specs::Answers::answer, crate::specs::Changes::change))]
+    pub(crate) fn dup(&mut self, fd: u64, to: u64) -> Result<Answer, NoMemory>
+        ghost at: { Situation }
+        requires { Agrees at.tree at.layers self.old at.state }
+        ensures answer { IfOk result (λ answer. answer ≡ answered at (Op.Dup fd to)) }
+        ensures ok { OnOk result (Agrees at.tree at.layers self.new (left at (Op.Dup fd to))) }
+        ensures err { OnErr result (Agrees at.tree at.layers self.new at.state) }
+    {
+        let Some(descriptor) = self.descriptor(fd) else {
+            return Ok(Answer::Moot);
+        };
+        self.put(to, descriptor)?;
+        Ok(Answer::Allowed)
+    }
+
+    /// close(2).
+    #[tactic(auto, unfolding(crate::specs::Agreement::answered, crate::specs::Agreement::left, crate::specs::Worlds::state_after, crate::specs::Answers::answer, crate::specs::Changes::change))]
+    pub(crate) fn close(&mut self, fd: u64) -> Answer
+        ghost at: { Situation }
+        requires { Agrees at.tree at.layers self.old at.state }
+        ensures answer { result ≡ answered at (Op.Close fd) }
+        ensures after { Agrees at.tree at.layers self.new (left at (Op.Close fd)) }
+    {
+        match self.descriptors.remove(&fd) {
+            Some(_) => Answer::Allowed,
+            None => Answer::Moot,
+        }
+    }
+
+    /// ftruncate(2): the layers that refused `truncate` when the file was opened refuse it still.
+    #[tactic(auto, unfolding(crate::specs::Agreement::answered, crate::specs::Agreement::left, crate::specs::Worlds::state_after, crate::specs::Answers::answer, crate::specs::Changes::change, crate::specs::Answers::ftruncate_answer))]
+    pub(crate) fn ftruncate(&self, fd: u64) -> Answer
+        ghost at: { Situation }
+        requires { Agrees at.tree at.layers self.now at.state }
+        ensures answer { result ≡ answered at (Op.Ftruncate fd) }
+        ensures after { Agrees at.tree at.layers self.now (left at (Op.Ftruncate fd)) }
+    {
+        match self.descriptor(fd) {
+            Some(held) if held.sort == Sort::Regular => refused_by(Errno::Acces, held.kept),
+            _ => Answer::Moot,
+        }
+    }
+
+    /// ioctl(2): the layers that refused `ioctl_dev` when the device was opened refuse the commands of its driver.
+    #[tactic(auto, unfolding(crate::specs::Agreement::answered, crate::specs::Agreement::left, crate::specs::Worlds::state_after, crate::specs::Answers::answer, crate::specs::Changes::change, crate::specs::Answers::ioctl_answer))]
+    pub(crate) fn ioctl(&self, fd: u64, driver: bool) -> Answer
+        ghost at: { Situation }
+        requires { Agrees at.tree at.layers self.now at.state }
+        ensures answer { result ≡ answered at (Op.Ioctl fd driver) }
+        ensures after { Agrees at.tree at.layers self.now (left at (Op.Ioctl fd driver)) }
+    {
+        match self.descriptor(fd) {
+            None => Answer::Moot,
+            Some(held) if held.sort == Sort::Device && driver => refused_by(
+                Errno::Acces,
+                held.kept,
+            ),
+            Some(_) => Answer::Allowed,
+        }
+    }
+}

@@ -1,0 +1,63 @@
+//! Calls that a process makes on itself.
+
+ghost use Rattle.std.specs.Prelude.{◌≡◌, Option};
+ghost use Rattle.ll_trace.specs.declared.op.Op.{Op};
+ghost use Rattle.ll_state.specs.States.{Layer as Rules};
+ghost use Rattle.ll_state.specs.Answers.{fails, may_restrict, restrict_answer};
+ghost use Rattle.ll_state.specs.Changes.{with_layer};
+ghost use Rattle.ll_state.specs.Worlds.{if_allowed};
+ghost use Rattle.ll_state.specs.Agreement.{Situation, Agrees, answered, left};
+ghost use Rattle.ll_state.specs.Notes.{IsFrozen};
+
+use crate::answer::Answer;
+use crate::own_state::OwnState;
+use ll_rules::{Errno, Full, LayerId, LayerSet};
+
+/// Refused with an error by no layer.
+fn fails(error: Errno) -> Answer
+    ensures { result ≡ fails error }
+{
+    Answer::Refused(error, LayerSet::new())
+}
+
+impl OwnState {
+    /// prctl(2) with `PR_SET_NO_NEW_PRIVS`.
+    #[tactic(auto, unfolding(crate::specs::Agreement::answered, crate::specs::Agreement::left, crate::specs::Worlds::state_after, crate::specs::Answers::answer, crate::specs::Changes::change))]
+    pub(crate) fn set_no_new_privs(&mut self) -> Answer
+        ghost at: { Situation }
+        requires { Agrees at.tree at.layers self.old at.state }
+        ensures answer { result ≡ answered at Op.Nnp }
+        ensures after { Agrees at.tree at.layers self.new (left at Op.Nnp) }
+    {
+        self.no_new_privs = true;
+        Answer::Allowed
+    }
+
+    /// Whether the process may restrict itself: it can't gain privileges, or has `CAP_SYS_ADMIN`.
+    fn may_restrict(&self) -> bool
+        ghost at: { Situation }
+        requires { Agrees at.tree at.layers self.now at.state }
+        ensures { result ≡ may_restrict at.state }
+    {
+        self.no_new_privs || self.admin
+    }
+
+    /// landlock_restrict_self(2): stacks the layer that a ruleset was frozen to, where one is held.
+    pub(crate) fn restrict(&mut self, layer: Option<LayerId>) -> Answer
+        ghost at: { Situation }
+        requires { Agrees at.tree at.layers self.old at.state }
+        ensures answer { (rules : Option Rules) → IsFrozen at layer rules → result ≡ restrict_answer at.state rules }
+        ensures after { (rules : Option Rules) → IsFrozen at layer rules → Agrees at.tree at.layers self.new (if_allowed result (with_layer at.state rules) at.state) }
+    {
+        if !self.may_restrict() {
+            return fails(Errno::Perm);
+        }
+        let Some(layer) = layer else {
+            return fails(Errno::BadFd);
+        };
+        match self.domain.push(layer) {
+            Ok(()) => Answer::Allowed,
+            Err(Full) => fails(Errno::TooBig),
+        }
+    }
+}

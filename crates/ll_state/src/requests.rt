@@ -1,0 +1,195 @@
+//! What a call asks of the file tree.
+
+ghost use Rattle.std.specs.Prelude.{◌≡◌, false, IfSome};
+ghost use Rattle.ll_rights.specs.Rights.{has, other};
+ghost use Rattle.ll_tree.specs.Trees.{IsNode, IsPlace, parent_at};
+ghost use Rattle.ll_state.specs.Requests.{IsFit, rights_of_mode, file_rights, new_file_rights, open_kind, open_asks, regular_asks, make_asks, remove_from, unlink_asks, rmdir_asks, asks};
+
+use ll_rights::{Fs, Kind};
+use ll_trace::{Mode, Op};
+use ll_tree::{NodeId, Place, Tree};
+
+/// Rights that are asked on a node, where the walk up the tree begins.
+#[derive(Clone, Copy, Debug, PartialEq, Eq)]
+pub struct Request {
+    pub node: NodeId,
+    pub rights: Fs,
+}
+
+/// The rights to open a file for reading, writing or both (landlock(7), "Filesystem actions").
+#[tactic(auto, unfolding(ll_rights::specs::Rights::has, ll_rights::specs::Rights::only, ll_rights::specs::Rights::united))]
+fn rights_of_mode(mode: Mode) -> Fs
+    ensures exact { result ≡ rights_of_mode mode }
+    ensures known { has result other ≡ false }
+{
+    match mode {
+        Mode::Read => Fs::READ_FILE,
+        Mode::Write => Fs::WRITE_FILE,
+        Mode::Both => Fs::READ_FILE.union(Fs::WRITE_FILE),
+    }
+}
+
+/// The rights to open a regular file, and to truncate it by that.
+#[tactic(auto, using(crate::proofs::KnownRights::known_united), unfolding(ll_rights::specs::Rights::has, ll_rights::specs::Rights::only))]
+fn file_rights(mode: Mode, trunc: bool) -> Fs
+    ensures exact { result ≡ file_rights mode trunc }
+    ensures known { has result other ≡ false }
+{
+    let rights = rights_of_mode(mode);
+    if trunc {
+        return rights.union(Fs::TRUNCATE);
+    }
+    rights
+}
+
+/// The rights to make a file and open it, which ask nothing for truncating it.
+#[tactic(auto, using(crate::proofs::KnownRights::known_united), unfolding(ll_rights::specs::Rights::has, ll_rights::specs::Rights::only))]
+fn new_file_rights(mode: Mode) -> Fs
+    ensures exact { result ≡ new_file_rights mode }
+    ensures known { has result other ≡ false }
+{
+    Fs::MAKE_REG.union(rights_of_mode(mode))
+}
+
+/// What opening an object of a kind asks.
+#[tactic(auto, unfolding(crate::specs::Requests::open_kind, ll_rights::specs::Rights::has, ll_rights::specs::Rights::only))]
+fn open_kind(kind: Kind, node: NodeId, mode: Mode, create: bool, trunc: bool) -> Option<Request>
+    ensures exact { result ≡ open_kind kind node mode create trunc }
+    ensures same_node { IfSome result (λ request. request.node ≡ node) }
+    ensures known { IfSome result (λ request. has request.rights other ≡ false) }
+{
+    let rights = match kind {
+        Kind::Dir => match mode {
+            Mode::Read if !create && !trunc => Fs::READ_DIR,
+            _ => return None,
+        },
+        Kind::Reg => file_rights(mode, trunc),
+        Kind::Char | Kind::Block | Kind::Fifo => rights_of_mode(mode),
+        Kind::Sym | Kind::Sock => return None,
+    };
+    Some(Request { node, rights })
+}
+
+/// What open(2) asks at a place: rights on the object there, or the making of a file in a gap.
+#[tactic(auto, unfolding(crate::specs::Requests::open_asks))]
+pub(crate) fn open_asks(
+    tree: &Tree,
+    place: Place,
+    mode: Mode,
+    create: bool,
+    trunc: bool,
+) -> Option<Request>
+    requires { IsPlace tree.now place }
+    ensures exact { result ≡ open_asks tree.now place mode create trunc }
+    ensures fit { IfSome result (IsFit tree.now) }
+{
+    match place {
+        Place::Node(node) => open_kind(tree.kind(node), node, mode, create, trunc),
+        Place::Gap(node) if create => Some(Request {
+            node,
+            rights: new_file_rights(mode),
+        }),
+        _ => None,
+    }
+}
+
+/// What a call asks that wants rights on a regular file itself.
+#[tactic(auto, unfolding(crate::specs::Requests::regular_asks, crate::specs::Requests::regular_kind))]
+pub(crate) fn regular_asks(tree: &Tree, place: Place, rights: Fs) -> Option<Request>
+    requires place { IsPlace tree.now place }
+    requires known { has rights other ≡ false }
+    ensures exact { result ≡ regular_asks tree.now place rights }
+    ensures fit { IfSome result (IsFit tree.now) }
+{
+    match place {
+        Place::Node(node) => match tree.kind(node) {
+            Kind::Reg => Some(Request { node, rights }),
+            _ => None,
+        },
+        _ => None,
+    }
+}
+
+/// What a call asks that makes an object: rights on the directory of a gap.
+#[tactic(auto, unfolding(crate::specs::Requests::make_asks))]
+pub(crate) fn make_asks(tree: &Tree, place: Place, rights: Fs) -> Option<Request>
+    requires place { IsPlace tree.now place }
+    requires known { has rights other ≡ false }
+    ensures exact { result ≡ make_asks place rights }
+    ensures fit { IfSome result (IsFit tree.now) }
+{
+    match place {
+        Place::Gap(node) => Some(Request { node, rights }),
+        _ => None,
+    }
+}
+
+/// What removing an object of a kind asks of the directory that it stands in, which the root hasn't.
+#[tactic(auto, using(crate::proofs::KnownRights::known_remove), unfolding(crate::specs::Requests::remove_from))]
+fn remove_from(tree: &Tree, kind: Kind, node: NodeId) -> Option<Request>
+    requires { IsNode tree.now node }
+    ensures exact { result ≡ remove_from kind (parent_at tree.now node) }
+    ensures fit { IfSome result (IsFit tree.now) }
+{
+    tree.parent(node).map(|directory| Request {
+        node: directory,
+        rights: kind.remove_right(),
+    })
+}
+
+/// What unlink(2) asks, which removes all but directories.
+#[tactic(auto, unfolding(crate::specs::Requests::unlink_asks))]
+pub(crate) fn unlink_asks(tree: &Tree, place: Place) -> Option<Request>
+    requires { IsPlace tree.now place }
+    ensures exact { result ≡ unlink_asks tree.now place }
+    ensures fit { IfSome result (IsFit tree.now) }
+{
+    match place {
+        Place::Node(node) => match tree.kind(node) {
+            Kind::Dir => None,
+            kind => remove_from(tree, kind, node),
+        },
+        _ => None,
+    }
+}
+
+/// What rmdir(2) asks, which removes directories, but not the root.
+#[tactic(auto, unfolding(crate::specs::Requests::rmdir_asks))]
+pub(crate) fn rmdir_asks(tree: &Tree, place: Place) -> Option<Request>
+    requires { IsPlace tree.now place }
+    ensures exact { result ≡ rmdir_asks tree.now place }
+    ensures fit { IfSome result (IsFit tree.now) }
+{
+    match place {
+        Place::Node(node) => match tree.kind(node) {
+            Kind::Dir => remove_from(tree, Kind::Dir, node),
+            _ => None,
+        },
+        _ => None,
+    }
+}
+
+/// What a call asks of the file tree; None where the tree itself decides it, and where it asks something else.
+#[tactic(auto, using(crate::proofs::KnownRights::known_make), unfolding(crate::specs::Requests::asks, ll_rights::specs::Rights::has, ll_rights::specs::Rights::only))]
+pub(crate) fn asks(tree: &Tree, op: &Op) -> Option<Request>
+    ensures exact { result ≡ asks tree.now op.now }
+    ensures fit { IfSome result (IsFit tree.now) }
+{
+    match op {
+        Op::OpenFile {
+            path,
+            mode,
+            create,
+            trunc,
+            ..
+        } => open_asks(tree, tree.resolve(path.as_str()), *mode, *create, *trunc),
+        Op::Truncate { path } => regular_asks(tree, tree.resolve(path.as_str()), Fs::TRUNCATE),
+        Op::Exec { path } => regular_asks(tree, tree.resolve(path.as_str()), Fs::EXECUTE),
+        Op::Mknod { path, kind } => make_asks(tree, tree.resolve(path.as_str()), kind.make_right()),
+        Op::Mkdir { path } => make_asks(tree, tree.resolve(path.as_str()), Fs::MAKE_DIR),
+        Op::Symlink { path } => make_asks(tree, tree.resolve(path.as_str()), Fs::MAKE_SYM),
+        Op::Unlink { path } => unlink_asks(tree, tree.resolve(path.as_str())),
+        Op::Rmdir { path } => rmdir_asks(tree, tree.resolve(path.as_str())),
+        _ => None,
+    }
+}
