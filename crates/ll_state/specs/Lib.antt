@@ -6,3 +6,6 @@ pub mod Changes
 pub mod Worlds
 pub mod Notes
 pub mod Agreement
+pub mod WorkedWords
+pub mod WorkedLayers
+pub mod WorkedCalls

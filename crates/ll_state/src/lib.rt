@@ -3,6 +3,7 @@
 
 mod answer;
 mod descriptor;
+mod laws;
 mod moves;
 mod note;
 mod own_state;
@@ -10,6 +11,10 @@ mod requests;
 
 pub use answer::Answer;
 pub use descriptor::Descriptor;
+pub use laws::{
+    worked_confinements, worked_descriptors, worked_moves, worked_ports, worked_processes,
+    worked_requests, worked_rulesets,
+};
 pub use note::Note;
 pub use own_state::OwnState;
 pub use requests::Request;

@@ -1,0 +1,217 @@
+-- What each call on rulesets is answered, from what its process holds, and that the pass settles it.
+use Rattle.std.proofs.Common.{◌≡◌, ℕ, ◌+◌, ◌<◌, List, [], ◌∷◌, ◌++◌, length, Bool, true, false, Option, Some, None, Result, Ok, Err, refl, sym, ◌∙◌, ap, cond, ◌⊎◌, inl, inr, subst, All}
+use Rattle.std.proofs.Math.ListN.{set}
+use Rattle.std.specs.List.{slice_get}
+use Rattle.std.proofs.lemmas.List.{set-get_or}
+use Rattle.std.proofs.lemmas.Option.{get_or_from_slice_get}
+use Rattle.std.specs.Option.{is_some, MatchOption, unwrap_or}
+use Rattle.std.specs.Result.{result_err, OnOk, OnErr, IfOk, IsOkUnless}
+use Rattle.ll_rules.specs.declared.errno.NoMemory.{NoMemory}
+use Rattle.ll_rights.specs.declared.abi.Abi.{Abi}
+use Rattle.ll_rights.specs.declared.fs.Fs.{Fs}
+use Rattle.ll_rights.specs.declared.net.Net.{Net}
+use Rattle.ll_tree.specs.declared.place.Place.{Place}
+use Rattle.ll_tree.specs.Trees.{Entry, place}
+use Rattle.ll_rules.specs.declared.errno.Errno.{Errno}
+use Rattle.ll_rules.specs.declared.errno.Errno.TheVariants.{BadFd}
+use Rattle.ll_rules.specs.declared.errno.RuleFault.{RuleFault}
+use Rattle.ll_rules.specs.declared.errno.RuleFault.TheVariants as faults
+use Rattle.ll_rules.specs.declared.domain.LayerId.{LayerId}
+use Rattle.ll_rules.specs.Layers.{RulesOn, SameRules, in_tree, AreInTree, without_rules, with_port_rule}
+use Rattle.ll_rules.specs.Rulesets.{create_fault, add_path_fault, add_port_fault, with_rule_at}
+use Rattle.ll_trace.specs.declared.op.Op.{Op}
+use Rattle.ll_trace.specs.declared.op.Op.TheVariants as calls
+use Rattle.ll_state.specs.declared.answer.Answer.{Answer}
+use Rattle.ll_state.specs.declared.answer.Answer.TheVariants.{Allowed, Moot, Refused}
+use Rattle.ll_state.specs.declared.note.Note.{Note}
+use Rattle.ll_state.specs.declared.note.Note.TheVariants.{Answered, Frozen, Open}
+use Rattle.ll_state.specs.States.{State, Layer}
+use Rattle.ll_state.specs.Answers.{answer, named, create_answer, add_path_answer, add_port_answer, fails, of_rule_fault}
+use Rattle.ll_state.specs.Changes.{change, rules}
+use Rattle.ll_state.specs.Notes.{is_on_rulesets, enforced}
+use Rattle.ll_state.specs.Worlds.{World, state_of}
+use Rattle.ll_rulebook.specs.declared.pass.Pass.{Pass}
+use Rattle.ll_rulebook.specs.declared.tables.Tables.{Tables}
+use Rattle.ll_rulebook.proofs.Quiet.{starts_process}
+use Rattle.ll_rulebook.specs.Tables.{held_by}
+use Rattle.ll_rulebook.specs.Stores.{Stock, Extends, Replaces, AddsPathRule, AddsPortRule, IsAnswerTo}
+use Rattle.ll_rulebook.specs.Passes.{IsSound, Agrees, Settles}
+use Rattle.ll_rulebook.proofs.Places.{all_there}
+use Rattle.ll_rules.proofs.SameLayers.{SameRules-trans, SameRules-with_port_rule, SameRules-from_port}
+use Rattle.ll_rulebook.proofs.Sameness.{same_with_rule_at, other_of}
+use Rattle.ll_rulebook.proofs.Settling.{IsAlike, settles_refused, settles_open, settles_frozen, settles_added}
+
+-- the pass as it was is alike
+pub alike_same : (pass : Pass) → IsAlike pass pass
+alike_same pass = record { rulesets = refl; tables = refl }
+
+-- what fails isn't allowed
+failure : (error : Errno) → fails error ≡ Allowed → ⊥
+failure error is = cc
+
+rule_failure : (fault : RuleFault) → of_rule_fault (Some fault) ≡ Allowed → ⊥
+rule_failure (faults.Errno error) is = cc
+rule_failure faults.Moot is = cc
+rule_failure faults.Memory is = cc
+
+moot : Moot ≡ Allowed → ⊥
+moot is = cc
+
+module _ (tree : List Entry) (abi : Abi) (process rs : ℕ) (old : Pass) (found : Option ℕ) (found_is : found ≡ held_by old.tables.held.items process rs)
+    (sound : IsSound tree old) (there : process < length old.tables.held.items) where
+  -- what the pass finds under the number is what the process holds in the world
+  held_in : (world : World) → Agrees tree old world → (state_of world process).held rs ≡ found
+  held_in world agrees = sym (agrees.held process rs) ∙ sym found_is
+
+  -- ---- create
+
+  answer_create : (fs : Fs) (net : Net) (world : World) → Agrees tree old world → answer tree abi world.rulesets (calls.Create rs fs net) (state_of world process) ≡ create_answer abi fs net found
+  unfolding answer
+  answer_create fs net world agrees = ap (λ (held : Option ℕ). create_answer abi fs net held) (held_in world agrees)
+
+  taken : (fs : Fs) (net : Net) (held : Option ℕ) → is_some held ≡ true → create_answer abi fs net held ≡ Moot
+  unfolding create_answer
+  taken fs net None is = absurd (cc)
+  taken fs net (Some at) is = refl
+
+  pub settles_taken : (fs : Fs) (net : Net) → is_some found ≡ true → Settles tree abi process (calls.Create rs fs net) old old (Answered Moot)
+  unfolding is_on_rulesets
+  settles_taken fs net held = settles_refused tree abi process (calls.Create rs fs net) old old Moot sound there (alike_same old) refl refl moot
+      (λ world agrees. sym (answer_create fs net world agrees ∙ taken fs net found held))
+
+  faulty : (fs : Fs) (net : Net) (error : Errno) (held : Option ℕ) → is_some held ≡ false → create_fault abi fs net ≡ Some error → create_answer abi fs net held ≡ fails error
+  unfolding create_answer
+  faulty fs net error None is fault = rw fault refl
+  faulty fs net error (Some at) is fault = absurd (cc)
+
+  pub settles_faulty : (fs : Fs) (net : Net) (error : Errno) → is_some found ≡ false → create_fault abi fs net ≡ Some error → Settles tree abi process (calls.Create rs fs net) old old (Answered (fails error))
+  unfolding is_on_rulesets
+  settles_faulty fs net error free fault = settles_refused tree abi process (calls.Create rs fs net) old old (fails error) sound there (alike_same old) refl refl (failure error)
+      (λ world agrees. sym (answer_create fs net world agrees ∙ faulty fs net error found free fault))
+
+  -- ---- close_rs
+
+  pub settles_absent : found ≡ None → Settles tree abi process (calls.CloseRs rs) old old (Answered Moot)
+  unfolding is_on_rulesets answer
+  settles_absent none = settles_refused tree abi process (calls.CloseRs rs) old old Moot sound there (alike_same old) refl refl moot
+      (λ world agrees. let nothing : (state_of world process).held rs ≡ None = held_in world agrees ∙ none in sym (rw nothing refl))
+
+  -- ---- add_path and add_port where nothing is held
+
+  pub settles_unheld_path : (path : List ℕ) (fs : Fs) → found ≡ None → Settles tree abi process (calls.AddPath rs path fs) old old (Answered (fails BadFd))
+  unfolding is_on_rulesets answer add_path_answer
+  settles_unheld_path path fs none = settles_refused tree abi process (calls.AddPath rs path fs) old old (fails BadFd) sound there (alike_same old) refl refl (failure BadFd)
+      (λ world agrees. let nothing : (state_of world process).held rs ≡ None = held_in world agrees ∙ none in sym (rw nothing refl))
+
+  pub settles_unheld_port : (port : ℕ) (net : Net) → found ≡ None → Settles tree abi process (calls.AddPort rs port net) old old (Answered (fails BadFd))
+  unfolding is_on_rulesets answer add_port_answer
+  settles_unheld_port port net none = settles_refused tree abi process (calls.AddPort rs port net) old old (fails BadFd) sound there (alike_same old) refl refl (failure BadFd)
+      (λ world agrees. let nothing : (state_of world process).held rs ≡ None = held_in world agrees ∙ none in sym (rw nothing refl))
+
+  -- ---- restrict
+
+  pub settles_unheld : found ≡ None → Settles tree abi process (calls.Restrict rs) old old Open
+  unfolding is_on_rulesets starts_process enforced
+  settles_unheld none = settles_open tree abi process (calls.Restrict rs) old sound there refl refl
+      (λ world agrees. let nothing : (state_of world process).held rs ≡ None = held_in world agrees ∙ none in rw nothing refl)
+
+  pub settles_restricted : (new : Pass) (at : ℕ) (id : LayerId) → found ≡ Some at → new.store.rulesets ≡ old.store.rulesets → new.tables ≡ old.tables →
+      Extends old.store.layers new.store.layers → All (AreInTree tree) new.store.layers → slice_get new.store.layers id.0 ≡ slice_get old.store.rulesets at →
+      Settles tree abi process (calls.Restrict rs) old new (Frozen id)
+  unfolding is_on_rulesets starts_process enforced
+  settles_restricted new at id held rulesets tables extends inside layer =
+      settles_frozen tree abi process (calls.Restrict rs) old sound there refl refl new at id
+      (record { rulesets = rulesets; tables = ap (λ (t : Tables). t.held.items) tables }) extends inside
+      (sound.places process rs at (sym found_is ∙ held)) layer
+      (λ world agrees. let it : (state_of world process).held rs ≡ Some at = held_in world agrees ∙ held in rw it refl)
+
+-- ---- rules that are added
+
+-- the fault is what the outcome tells, where there was memory
+fault_is : (fault : Option RuleFault) (outcome : Result (Unit {0}) RuleFault) → MatchOption fault (IsOkUnless outcome faults.Memory) (λ f. outcome ≡ Err f) → (outcome ≡ Err faults.Memory → ⊥) → fault ≡ result_err outcome
+fault_is None (Ok done) is remembered = refl
+fault_is None (Err other) is remembered = absurd (remembered (ap (λ (f : RuleFault). Err f) is))
+fault_is (Some fault) outcome is remembered = sym (ap (λ (r : Result (Unit {0}) RuleFault). result_err r) is)
+
+-- writing what stands there changes nothing
+set_same : {X : Type 0} → (xs : List X) (i : ℕ) (x : X) → slice_get xs i ≡ Some x → set xs i x ≡ xs
+set_same {X = X} xs i x at = ap (λ (y : X). set xs i y) (sym (get_or_from_slice_get xs i x x at)) ∙ set-get_or xs i x
+
+-- a call that adds a rule to a ruleset that its process holds
+module _ (tree : List Entry) (abi : Abi) (process rs : ℕ) (old new : Pass) (at : ℕ) (found_is : Some at ≡ held_by old.tables.held.items process rs)
+    (sound : IsSound tree old) (there : process < length old.tables.held.items) (layers : new.store.layers ≡ old.store.layers) (tables : new.tables ≡ old.tables) where
+  tables_same : new.tables.held.items ≡ old.tables.held.items
+  tables_same = ap (λ (t : Tables). t.held.items) tables
+
+  path_answer : (path : List ℕ) (fs : Fs) (before : RulesOn ℕ) → slice_get old.store.rulesets at ≡ Some before → (world : World) → Agrees tree old world →
+      answer tree abi world.rulesets (calls.AddPath rs path fs) (state_of world process) ≡ of_rule_fault (add_path_fault tree before (place tree path) fs)
+  unfolding answer add_path_answer
+  path_answer path fs before was world agrees =
+      let it : (state_of world process).held rs ≡ Some at = held_in tree abi process rs old (Some at) found_is sound there world agrees in
+      let other = other_of tree old.store.rulesets world.rulesets at before agrees.rulesets was in
+      rw (it, other.stands, ← other.same.same_files) refl
+
+  pub settles_path_rule : (path : List ℕ) (fs : Fs) (outcome : Result (Unit {0}) RuleFault) → (outcome ≡ Err faults.Memory → ⊥) →
+      Replaces old.store.rulesets new.store.rulesets at (AddsPathRule tree (place tree path) fs outcome) →
+      Settles tree abi process (calls.AddPath rs path fs) old new (Answered (of_rule_fault (result_err outcome)))
+  unfolding is_on_rulesets rules change
+  settles_path_rule path fs (Ok done) remembered replaces =
+      settles_added tree abi process rs old new (calls.AddPath rs path fs) (λ other. with_rule_at tree other (place tree path) fs) at replaces.before replaces.after
+      sound there refl (λ rulesets s. refl) (λ rulesets s. refl) (sym found_is) replaces.was replaces.is_now layers tables_same
+      (λ other same. SameRules-trans (in_tree tree replaces.after) (with_rule_at tree (in_tree tree replaces.before) (place tree path) fs) (with_rule_at tree other (place tree path) fs) replaces.becomes.ok (same_with_rule_at tree (in_tree tree replaces.before) other (place tree path) fs same))
+      replaces.becomes.stays_in_tree
+      (λ world agrees. path_answer path fs replaces.before replaces.was world agrees
+      ∙ ap (λ (f : Option RuleFault). of_rule_fault f) (fault_is (add_path_fault tree replaces.before (place tree path) fs) (Ok done) replaces.becomes.fault remembered))
+  settles_path_rule path fs (Err fault) remembered replaces =
+      settles_refused tree abi process (calls.AddPath rs path fs) old new (of_rule_fault (Some fault)) sound there
+      (record { rulesets = replaces.is_now ∙ rw replaces.becomes.err (set_same old.store.rulesets at replaces.before replaces.was); tables = tables_same })
+      layers refl (rule_failure fault)
+      (λ world agrees. sym (path_answer path fs replaces.before replaces.was world agrees
+      ∙ ap (λ (f : Option RuleFault). of_rule_fault f) (fault_is (add_path_fault tree replaces.before (place tree path) fs) (Err fault) replaces.becomes.fault remembered)))
+
+  port_answer : (port : ℕ) (net : Net) (before : RulesOn ℕ) → slice_get old.store.rulesets at ≡ Some before → (world : World) → Agrees tree old world →
+      answer tree abi world.rulesets (calls.AddPort rs port net) (state_of world process) ≡ of_rule_fault (add_port_fault abi before port net)
+  unfolding answer add_port_answer
+  port_answer port net before was world agrees =
+      let it : (state_of world process).held rs ≡ Some at = held_in tree abi process rs old (Some at) found_is sound there world agrees in
+      let other = other_of tree old.store.rulesets world.rulesets at before agrees.rulesets was in
+      rw (it, other.stands, ← other.same.same_network) refl
+
+  pub settles_port_rule : (port : ℕ) (net : Net) (outcome : Result (Unit {0}) RuleFault) → (outcome ≡ Err faults.Memory → ⊥) →
+      Replaces old.store.rulesets new.store.rulesets at (AddsPortRule abi port net outcome) →
+      Settles tree abi process (calls.AddPort rs port net) old new (Answered (of_rule_fault (result_err outcome)))
+  unfolding is_on_rulesets rules change
+  settles_port_rule port net (Ok done) remembered replaces =
+      settles_added tree abi process rs old new (calls.AddPort rs port net) (λ other. with_port_rule other port net) at replaces.before replaces.after
+      sound there refl (λ rulesets s. refl) (λ rulesets s. refl) (sym found_is) replaces.was replaces.is_now layers tables_same
+      (λ other same. SameRules-trans (in_tree tree replaces.after) (with_port_rule (in_tree tree replaces.before) port net) (with_port_rule other port net)
+      (SameRules-from_port tree replaces.before replaces.after port net replaces.becomes.ok) (SameRules-with_port_rule (in_tree tree replaces.before) other port net same))
+      (rw replaces.becomes.ok.kept_rules (all_there (AreInTree tree) old.store.rulesets at replaces.before sound.rulesets_in_tree replaces.was))
+      (λ world agrees. port_answer port net replaces.before replaces.was world agrees
+      ∙ ap (λ (f : Option RuleFault). of_rule_fault f) (fault_is (add_port_fault abi replaces.before port net) (Ok done) replaces.becomes.fault remembered))
+  settles_port_rule port net (Err fault) remembered replaces =
+      settles_refused tree abi process (calls.AddPort rs port net) old new (of_rule_fault (Some fault)) sound there
+      (record { rulesets = replaces.is_now ∙ rw replaces.becomes.err (set_same old.store.rulesets at replaces.before replaces.was); tables = tables_same })
+      layers refl (rule_failure fault)
+      (λ world agrees. sym (port_answer port net replaces.before replaces.was world agrees
+      ∙ ap (λ (f : Option RuleFault). of_rule_fault f) (fault_is (add_port_fault abi replaces.before port net) (Err fault) replaces.becomes.fault remembered)))
+
+-- ---- what the code tells of an option or an outcome
+
+pub none_of : (found : Option ℕ) → is_some found ≡ false → found ≡ None
+none_of None is = refl
+none_of (Some at) is = absurd (cc)
+
+pub some_of : (found : Option ℕ) (fallback : ℕ) → is_some found ≡ true → found ≡ Some (unwrap_or found fallback)
+some_of None fallback is = absurd (cc)
+some_of (Some at) fallback is = refl
+
+-- a note that answers an outcome settles what the answer to this outcome settles
+pub settles_note : (P : Note → Type 0) (outcome : Result (Unit {0}) RuleFault) (result : Result Note NoMemory) → IfOk result (λ note. IsAnswerTo outcome note) →
+    ((outcome ≡ Err faults.Memory → ⊥) → P (Answered (of_rule_fault (result_err outcome)))) → IfOk result P
+settles_note P outcome (Ok note) is holds = subst P (sym is.answers) (holds is.remembered)
+settles_note P outcome (Err memory) is holds = tt
+
+pub if_ok_so : (P Q : Note → Type 0) (result : Result Note NoMemory) → IfOk result P → ((note : Note) → P note → Q note) → IfOk result Q
+if_ok_so P Q (Ok note) holds so = so note holds
+if_ok_so P Q (Err memory) holds so = tt

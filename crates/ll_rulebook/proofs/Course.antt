@@ -1,0 +1,122 @@
+-- The pass over all records: what holds before the first one, and after one more.
+use Rattle.std.proofs.Common.{◌≡◌, ℕ, zero, suc, ◌+◌, ◌<◌, ◌≤◌, List, [], ◌∷◌, ◌++◌, length, take, Bool, true, false, Option, Some, None, cond, get_or, refl, sym, ◌∙◌, ap, arith, eqb, inl, inr, subst, All, length-append}
+use Rattle.std.specs.List.{slice_get}
+use Rattle.std.specs.Option.{IsSomeAnd}
+use Rattle.std.proofs.lemmas.Bool.{cases_eq, eq-eqb, ne_eqb}
+use Rattle.std.proofs.lemmas.Option.{slice_get_within, get_or_from_slice_get}
+use Rattle.std.proofs.lemmas.List.{get_or_append_left}
+use Rattle.ll_rights.specs.declared.abi.Abi.{Abi}
+use Rattle.ll_rights.specs.Rights as files
+use Rattle.ll_rights.specs.NetRights as network
+use Rattle.ll_tree.specs.Trees.{Entry}
+use Rattle.ll_rules.specs.declared.domain.LayerId.{LayerId}
+use Rattle.ll_rules.specs.Layers.{RulesOn, SameRules, in_tree, AreInTree, without_rules}
+use Rattle.ll_rules.specs.Checks.{layer_at}
+use Rattle.ll_trace.specs.declared.record.Record.{Record}
+use Rattle.ll_trace.specs.declared.op.Op.{Op}
+use Rattle.ll_trace.specs.Entries.{is_start}
+use Rattle.ll_trace.specs.Records.{AreRecords}
+use Rattle.ll_trace.specs.Processes.{parents}
+use Rattle.ll_state.specs.declared.note.Note.{Note}
+use Rattle.ll_state.specs.declared.note.Note.TheVariants.{Answered, Frozen, Open}
+use Rattle.ll_state.specs.States.{State, Layer, fresh}
+use Rattle.ll_state.specs.Agreement.{Situation, answered}
+use Rattle.ll_state.specs.Notes.{NoteFits, IsFrozen, enforced}
+use Rattle.ll_state.specs.Worlds.{World, empty_world, state_of, step, world_after, world_at}
+use Rattle.ll_rulebook.specs.declared.pass.Pass.{Pass}
+use Rattle.ll_rulebook.specs.Tables.{held_by}
+use Rattle.ll_rulebook.specs.Stores.{Extends}
+use Rattle.ll_rulebook.specs.Settled.{met_by, FitUpTo}
+use Rattle.ll_rulebook.specs.Passes.{next_world, AreSame, IsSound, Agrees, Settles, HasSettled}
+use Rattle.ll_rulebook.proofs.Places.{slice_get-push}
+use Rattle.ll_rulebook.proofs.Started.{count_at, there_before}
+use Rattle.ll_rulebook.proofs.Worlds.{world_at-next}
+
+nothing_stands : {X : Type 0} (xs : List X) (k : ℕ) (x : X) → xs ≡ [] → slice_get xs k ≡ Some x → ⊥
+nothing_stands xs k x empty at = let none : slice_get xs k ≡ None = rw empty refl in cc
+
+none_held : (pass : Pass) (p q : ℕ) → pass.tables.held.items ≡ [] → held_by pass.tables.held.items p q ≡ None
+unfolding held_by
+none_held pass p q empty = rw empty refl
+
+nothing_there : (tree : List Entry) (abi : Abi) (records : List Record) (p q : ℕ) → (state_of (world_at tree abi records 0) p).held q ≡ None
+unfolding world_at world_after state_of fresh
+nothing_there tree abi records p q = refl
+
+world_empty : (tree : List Entry) (abi : Abi) (records : List Record) → world_at tree abi records 0 ≡ empty_world
+unfolding world_at world_after
+world_empty tree abi records = refl
+
+-- before the first record
+pub settled_none : (tree : List Entry) (abi : Abi) (records : List Record) (pass : Pass) →
+    pass.store.rulesets ≡ [] → pass.store.layers ≡ [] → pass.tables.held.items ≡ [] → HasSettled tree abi records 0 pass []
+settled_none tree abi records pass rulesets layers tables = record {
+  sound = record {
+    places = λ p q at is. absurd (let none : held_by pass.tables.held.items p q ≡ None = none_held pass p q tables in cc);
+    rulesets_in_tree = rw rulesets (λ k default within. absurd (omega arith));
+    layers_in_tree = rw layers (λ k default within. absurd (omega arith));
+  };
+  agrees = record {
+    rulesets = record { same_count = rw (rulesets, world_empty tree abi records) refl; same = λ k one other at there. absurd (nothing_stands pass.store.rulesets k one rulesets at) };
+    count = rw (tables, world_empty tree abi records) refl;
+    held = λ p q. none_held pass p q tables ∙ sym (nothing_there tree abi records p q);
+  };
+  few = rw layers (omega arith);
+  counted = refl;
+  fits = λ k r note at noted. absurd (cc);
+}
+
+frozen_stays : (tree : List Entry) (abi : Abi) (old new : List (RulesOn ℕ)) (world : World) (process : ℕ) (id : LayerId) (rules : Option Layer) → Extends old new →
+    IsFrozen (met_by tree abi old world process) (Some id) rules → IsFrozen (met_by tree abi new world process) (Some id) rules
+unfolding IsFrozen
+frozen_stays tree abi old new world process id None extends frozen = frozen
+frozen_stays tree abi old new world process id (Some rules) extends frozen =
+    let none : RulesOn ℕ = without_rules files.no_right network.no_right in
+    let longer : length new ≡ length old + length extends.more = rw extends.is_more (simp length-append) in
+    let same : layer_at new id ≡ layer_at old id = ap (λ (xs : List (RulesOn ℕ)). get_or xs id.0 none) extends.is_more ∙ get_or_append_left old extends.more none id.0 frozen.0 in
+    (omega (arith, longer, frozen.0), rw same frozen.1)
+
+-- a note still fits when layers were appended
+note_stays : (tree : List Entry) (abi : Abi) (old new : List (RulesOn ℕ)) (world : World) (process : ℕ) (op : Op) (note : Note) → Extends old new →
+    NoteFits (met_by tree abi old world process) op note → NoteFits (met_by tree abi new world process) op note
+unfolding NoteFits answered
+note_stays tree abi old new world process op (Answered a) extends fits = fits
+note_stays tree abi old new world process op (Frozen id) extends fits = frozen_stays tree abi old new world process id (enforced world.rulesets op (state_of world process)) extends fits
+note_stays tree abi old new world process op Open extends fits = fits
+
+step_is_next : (tree : List Entry) (abi : Abi) (world : World) (r : Record) → step tree abi world r ≡ next_world tree abi world r.process.0 r.op
+unfolding step
+step_is_next tree abi world r = refl
+
+-- after one record more
+pub settled_next : (tree : List Entry) (abi : Abi) (records : List Record) (k : ℕ) (r : Record) (old new : Pass) (notes : List Note) (note : Note) →
+    slice_get records k ≡ Some r → HasSettled tree abi records k old notes → Settles tree abi r.process.0 r.op old new note →
+    HasSettled tree abi records (k + 1) new (notes ++ note ∷ [])
+settled_next tree abi records k r old new notes note at so_far settles =
+    let next : world_at tree abi records (k + 1) ≡ next_world tree abi (world_at tree abi records k) r.process.0 r.op = world_at-next tree abi records k r at ∙ step_is_next tree abi (world_at tree abi records k) r in
+    record {
+      sound = settles.sound;
+      agrees = rw next (settles.agrees (world_at tree abi records k) so_far.agrees);
+      few =
+          let longer : length new.store.layers ≡ length old.store.layers + length settles.layers.more = rw settles.layers.is_more (simp length-append) in
+          omega (arith, longer, settles.layers.one, so_far.few);
+      counted = simp length-append (omega (arith, so_far.counted));
+      fits = λ j s other at_s noted. elim (cases_eq j (length notes)) [
+        | inl last ↦
+            let here : slice_get (notes ++ note ∷ []) j ≡ Some note = rw (slice_get-push notes j note, eq-eqb j (length notes) last) refl in
+            let it : note ≡ other = cc in
+            let place : j ≡ k = last ∙ so_far.counted in
+            let own : slice_get records j ≡ Some r = rw place at in
+            let same : r ≡ s = cc in
+            rw (← it, ← same, place) (settles.fits (world_at tree abi records k) so_far.agrees)
+        | inr earlier ↦
+            let before : slice_get (notes ++ note ∷ []) j ≡ slice_get notes j = rw (slice_get-push notes j note, ne_eqb j (length notes) earlier) refl in
+            note_stays tree abi old.store.layers new.store.layers (world_at tree abi records j) s.process.0 s.op other settles.layers (so_far.fits j s other at_s (sym before ∙ noted))
+      ];
+    }
+
+-- a record that is no start is of a process that has a table
+pub has_table : (tree : List Entry) (abi : Abi) (records : List Record) (k : ℕ) (r : Record) (pass : Pass) (notes : List Note) → AreRecords records →
+    slice_get records k ≡ Some r → HasSettled tree abi records k pass notes → is_start r.op ≡ false → r.process.0 < length pass.tables.held.items
+has_table tree abi records k r pass notes are at so_far other =
+    omega (arith, so_far.agrees.count, count_at tree abi records k, there_before records are k r at other)

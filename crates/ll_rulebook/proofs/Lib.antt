@@ -1,0 +1,10 @@
+pub mod Worlds
+pub mod Places
+pub mod HeldNumbers
+pub mod Frozen
+pub mod Quiet
+pub mod Sameness
+pub mod Settling
+pub mod Calls
+pub mod Started
+pub mod Course

@@ -1,0 +1,5 @@
+pub mod Tables
+pub mod Stores
+pub mod Kept
+pub mod Settled
+pub mod Passes

@@ -1,0 +1,244 @@
+//! One pass over the records of a trace.
+
+ghost use Rattle.std.specs.Prelude.{◌≡◌, ℕ, ◌<◌, ◌^◌, Bool, false, List, [], length, IfOk, OnOk};
+ghost use Rattle.ll_tree.specs.Trees.{Entry};
+ghost use Rattle.ll_state.specs.Answers.{fails};
+ghost use Rattle.ll_trace.specs.Entries.{is_start};
+ghost use Rattle.ll_trace.specs.Records.{AreRecords};
+ghost use Rattle.ll_rulebook.specs.Stores.{IsAnswerTo};
+
+use crate::store::Store;
+use crate::tables::Tables;
+use ll_rights::{Abi, Fs, Net};
+use ll_rules::{Errno, Layer, LayerSet, NoMemory, RuleFault, Ruleset};
+use ll_state::{Answer, Note};
+use ll_trace::{Op, PathText, Record};
+use ll_tree::Tree;
+use std::alloc::{AllocError, Global};
+
+/// What the records so far made of the rulesets, and which of them each process holds.
+#[derive(Drop)]
+pub(crate) struct Pass {
+    store: Store,
+    tables: Tables,
+}
+
+/// The answer to a call that fails with an error.
+fn failed(error: Errno) -> Note
+    ensures { result ≡ Note.Answered (fails error) }
+{
+    Note::Answered(Answer::Refused(error, LayerSet::new()))
+}
+
+/// The answer to a call that adds a rule.
+fn added(outcome: Result<(), RuleFault>) -> Result<Note, NoMemory>
+    ensures { IfOk result (λ note. IsAnswerTo outcome note) }
+{
+    match outcome {
+        Ok(()) => Ok(Note::Answered(Answer::Allowed)),
+        Err(RuleFault::Errno(error)) => Ok(failed(error)),
+        Err(RuleFault::Moot) => Ok(Note::Answered(Answer::Moot)),
+        Err(RuleFault::Memory) => Err(NoMemory),
+    }
+}
+
+impl Pass {
+    ghost use Rattle.ll_rulebook.specs.Passes.{IsSound, Settles, HasSettled, Adds};
+
+    /// No record yet.
+    pub(crate) fn new(alloc: Global) -> Pass
+        ensures rulesets { result.store.rulesets ≡ [] }
+        ensures layers { result.store.layers ≡ [] }
+        ensures tables { result.tables.held.items ≡ [] }
+    {
+        Pass {
+            store: Store::new(alloc),
+            tables: Tables::new(alloc),
+        }
+    }
+
+    /// The layers that rulesets were frozen to.
+    pub(crate) fn into_layers(self) -> Vec<Layer>
+        ensures { result.items ≡ self.store.layers }
+    {
+        self.store.into_layers()
+    }
+
+    /// A ruleset is created, and held under its number if this is free.
+    fn create(
+        &mut self,
+        alloc: Global,
+        abi: Abi,
+        process: usize,
+        rs: u64,
+        fs: Fs,
+        net: Net,
+    ) -> Result<Note, NoMemory>
+        requires { process < length self.old.tables.held.items }
+        ensures { IfOk result (λ note. (tree : List Entry) → IsSound tree self.old → Settles tree abi process (Op.Create rs fs net) self.old self.new note) }
+    {
+        if self.tables.place(process, rs).is_some() {
+            return Ok(Note::Answered(Answer::Moot));
+        }
+        match Ruleset::create(alloc, abi, fs, net) {
+            Err(error) => Ok(failed(error)),
+            Ok(created) => {
+                let place = self.store.add(created)?;
+                self.tables.hold(process, rs, place)?;
+                Ok(Note::Answered(Answer::Allowed))
+            }
+        }
+    }
+
+    /// A rule for files is added to a ruleset that the process holds.
+    fn add_path(
+        &mut self,
+        tree: &Tree,
+        process: usize,
+        rs: u64,
+        path: &PathText,
+        fs: Fs,
+    ) -> Result<Note, NoMemory>
+        requires there { process < length self.old.tables.held.items }
+        requires sound { IsSound tree.now self.old }
+        ensures { IfOk result (λ note. (abi : Abi) → Settles tree.now abi process (Op.AddPath rs path.now fs) self.old self.new note) }
+    {
+        let Some(place) = self.tables.place(process, rs) else {
+            return Ok(failed(Errno::BadFd));
+        };
+        let at = tree.resolve(path.as_str());
+        added(self.store.add_path(place, tree, at, fs))
+    }
+
+    /// A rule for a port is added to a ruleset that the process holds.
+    fn add_port(
+        &mut self,
+        abi: Abi,
+        process: usize,
+        rs: u64,
+        port: u64,
+        net: Net,
+    ) -> Result<Note, NoMemory>
+        requires there { process < length self.old.tables.held.items }
+        requires sound { (tree : List Entry) × IsSound tree self.old }
+        ensures { IfOk result (λ note. (tree : List Entry) → IsSound tree self.old → Settles tree abi process (Op.AddPort rs port net) self.old self.new note) }
+    {
+        let Some(place) = self.tables.place(process, rs) else {
+            return Ok(failed(Errno::BadFd));
+        };
+        added(self.store.add_port(place, abi, port, net))
+    }
+
+    /// A process closes a ruleset that it holds.
+    fn close_rs(&mut self, process: usize, rs: u64) -> Note
+        requires { process < length self.old.tables.held.items }
+        ensures { (tree : List Entry) (abi : Abi) → IsSound tree self.old → Settles tree abi process (Op.CloseRs rs) self.old self.new result }
+    {
+        if self.tables.place(process, rs).is_none() {
+            return Note::Answered(Answer::Moot);
+        }
+        self.tables.close(process, rs);
+        Note::Answered(Answer::Allowed)
+    }
+
+    /// The ruleset by which a process restricts itself is frozen to a layer, if the process holds it.
+    fn restrict(&mut self, alloc: Global, process: usize, rs: u64) -> Result<Note, NoMemory>
+        requires there { process < length self.old.tables.held.items }
+        requires sound { (tree : List Entry) × IsSound tree self.old }
+        requires room { length self.old.store.layers < 2 ^ 32 }
+        ensures { IfOk result (λ note. (tree : List Entry) (abi : Abi) → IsSound tree self.old → Settles tree abi process (Op.Restrict rs) self.old self.new note) }
+    {
+        match self.tables.place(process, rs) {
+            None => Ok(Note::Open),
+            Some(place) => Ok(Note::Frozen(self.store.freeze(alloc, place)?)),
+        }
+    }
+
+    /// A process begins that the trace starts with; it holds nothing.
+    fn start(&mut self, alloc: Global) -> Result<Note, NoMemory>
+        ensures { IfOk result (λ note. (tree : List Entry) (abi : Abi) (process : ℕ) (nnp admin : Bool) → IsSound tree self.old → Settles tree abi process (Op.Start nnp admin) self.old self.new note) }
+    {
+        self.tables.start(alloc)?;
+        Ok(Note::Open)
+    }
+
+    /// A process forks a child, which holds what its parent holds.
+    fn fork(&mut self, process: usize) -> Result<Note, NoMemory>
+        requires { process < length self.old.tables.held.items }
+        ensures { IfOk result (λ note. (tree : List Entry) (abi : Abi) (child : ℕ) → IsSound tree self.old → Settles tree abi process (Op.Fork child) self.old self.new note) }
+    {
+        self.tables.fork(process)?;
+        Ok(Note::Open)
+    }
+
+    /// Settles one record: what it answers, if it is one that creates, changes or closes a ruleset, or the
+    /// layer that its ruleset is frozen to.
+    pub(crate) fn settle(
+        &mut self,
+        alloc: Global,
+        tree: &Tree,
+        abi: Abi,
+        record: &Record,
+    ) -> Result<Note, NoMemory>
+        requires there { is_start record.now.op ≡ false → record.now.process.0 < length self.old.tables.held.items }
+        requires sound { IsSound tree.now self.old }
+        requires room { length self.old.store.layers < 2 ^ 32 }
+        ensures { IfOk result (Settles tree.now abi record.now.process.0 record.now.op self.old self.new) }
+    {
+        let process = record.process.0 as usize;
+        match &record.op {
+            Op::Start { .. } => self.start(alloc),
+            Op::Fork { .. } => self.fork(process),
+            Op::Create { rs, fs, net } => self.create(alloc, abi, process, *rs, *fs, *net),
+            Op::AddPath { rs, path, fs } => self.add_path(tree, process, *rs, path, *fs),
+            Op::AddPort { rs, port, net } => self.add_port(abi, process, *rs, *port, *net),
+            Op::CloseRs { rs } => Ok(self.close_rs(process, *rs)),
+            Op::Restrict { rs } => self.restrict(alloc, process, *rs),
+            _ => Ok(Note::Open),
+        }
+    }
+
+    /// Settles one record, and adds its note to those of the records before it. (It is added by cases, since
+    /// the check of `push_reserved` must be shown the type that a note holds.)
+    fn settle_next(
+        &mut self,
+        alloc: Global,
+        tree: &Tree,
+        abi: Abi,
+        record: &Record,
+        notes: &mut Vec<Note>,
+    ) -> Result<(), NoMemory>
+        requires there { is_start record.now.op ≡ false → record.now.process.0 < length self.old.tables.held.items }
+        requires sound { IsSound tree.now self.old }
+        requires room { length self.old.store.layers < 2 ^ 32 }
+        ensures { OnOk result (Adds notes.old.items notes.new.items (Settles tree.now abi record.now.process.0 record.now.op self.old self.new)) }
+    {
+        notes.reserve(1)?;
+        match self.settle(alloc, tree, abi, record)? {
+            Note::Answered(answer) => notes.push_reserved(Note::Answered(answer)),
+            Note::Frozen(layer) => notes.push_reserved(Note::Frozen(layer)),
+            Note::Open => notes.push_reserved(Note::Open),
+        }
+        Ok(())
+    }
+
+    /// Settles all records of a trace, in their order.
+    pub(crate) fn settle_all(
+        &mut self,
+        alloc: Global,
+        tree: &Tree,
+        abi: Abi,
+        records: &[Record],
+    ) -> Result<Vec<Note>, NoMemory>
+        requires begins { HasSettled tree.now abi records.now 0 self.old [] }
+        requires are_records { AreRecords records.now }
+        requires few { length records.now < 2 ^ 32 }
+        ensures { IfOk result (λ notes. HasSettled tree.now abi records.now (length records.now) self.new notes.items) }
+    {
+        let mut notes = Vec::new(alloc);
+        for record in records {
+            self.settle_next(alloc, tree, abi, record, &mut notes)?;
+        }
+        Ok(notes)
+    }
+}

@@ -1,0 +1,72 @@
+//! The rulesets that each process holds.
+
+ghost use Rattle.std.specs.Prelude.{◌≡◌, ◌<◌, ◌+◌, [], Some, None, length, OnOk};
+ghost use Rattle.ll_rulebook.specs.Tables.{held_by, Holds, Begins};
+
+use std::alloc::{AllocError, Global};
+use std::collections::BTreeMap;
+
+/// For each process the places of the rulesets that it holds, by the numbers that it gives them.
+#[derive(Drop)]
+pub(crate) struct Tables {
+    pub(crate) held: Vec<BTreeMap<u64, usize>>,
+}
+
+impl Tables {
+    /// No process.
+    pub(crate) fn new(alloc: Global) -> Tables
+        ensures { result.held.items ≡ [] }
+    {
+        Tables {
+            held: Vec::new(alloc),
+        }
+    }
+
+    /// The place of the ruleset that a process holds under a number.
+    pub(crate) fn place(&self, process: usize, number: u64) -> Option<usize>
+        requires { process < length self.now.held.items }
+        ensures { result ≡ held_by self.now.held.items process number }
+    {
+        self.held[process].get(&number).copied()
+    }
+
+    /// Lets a process hold a ruleset under a number.
+    pub(crate) fn hold(
+        &mut self,
+        process: usize,
+        number: u64,
+        place: usize,
+    ) -> Result<(), AllocError>
+        requires { process < length self.old.held.items }
+        ensures { OnOk result (Holds self.old.held.items self.new.held.items process number (Some place)) }
+    {
+        self.held[process].insert(number, place)?;
+        Ok(())
+    }
+
+    /// Closes what a process holds under a number.
+    pub(crate) fn close(&mut self, process: usize, number: u64)
+        requires { process < length self.old.held.items }
+        ensures { Holds self.old.held.items self.new.held.items process number None }
+    {
+        self.held[process].remove(&number);
+    }
+
+    /// One process more, which holds nothing.
+    pub(crate) fn start(&mut self, alloc: Global) -> Result<(), AllocError>
+        ensures { OnOk result (Begins self.old.held.items self.new.held.items (λ _. None)) }
+    {
+        self.held.push(BTreeMap::new(alloc))?;
+        Ok(())
+    }
+
+    /// One process more, which holds what its parent holds.
+    pub(crate) fn fork(&mut self, parent: usize) -> Result<(), AllocError>
+        requires { parent < length self.old.held.items }
+        ensures { OnOk result (Begins self.old.held.items self.new.held.items (held_by self.old.held.items parent)) }
+    {
+        let held = self.held[parent].clone()?;
+        self.held.push(held)?;
+        Ok(())
+    }
+}
