@@ -1,6 +1,6 @@
 -- The command line: `landaudit --abi N [--workers N] [--grain N] TREE TRACE`, and what it asks for.
 -- Source: docs/FORMATS.md, "The command line".
-use Rattle.std.specs.Prelude.{◌≡◌, ◌≢◌, ◌==◌, ◌⊎◌, ⊤, ℕ, true, List, [], ◌∷◌, Option, Some, None, codes, find, if◌then◌else◌, option_and_then}
+use Rattle.std.specs.Prelude.{◌≡◌, ◌≢◌, ◌==◌, ◌&&◌, ◌⊎◌, ⊤, nat_lt, ℕ, true, List, [], ◌∷◌, Option, Some, None, codes, find, if◌then◌else◌, option_and_then}
 use Rattle.std.specs.Str.Parse.{digits_value, without_leading_plus}
 use Rattle.clap.specs.declared.builder.action.ArgAction.TheVariants.{Set}
 use Rattle.clap.specs.declared.builder.value_parser.ValueParser.TheVariants.{Unsigned}
@@ -11,6 +11,7 @@ use Rattle.clap.specs.ValueTests.{is_unsigned_in}
 use Rattle.ll_rights.specs.declared.abi.Abi.{Abi}
 use Rattle.ll_rights.specs.declared.abi.Abi.TheVariants.{V1, V2, V3, V4, V5}
 use Rattle.ll_rights.specs.Abis.{number_of}
+use Rattle.ll_audit.specs.Audits.{IsCrew}
 use Rattle.ll_audit.specs.declared.command.Run.{Run}
 use Rattle.ll_audit.specs.declared.command.Plan.{Plan}
 use Rattle.ll_audit.specs.declared.command.Plan.TheVariants as plan
@@ -55,6 +56,10 @@ pub record Request : Type 0 where
 abbrev pub version_of : ℕ → Option Abi
 version_of number = find (λ abi. number_of abi == number) (V1 ∷ V2 ∷ V3 ∷ V4 ∷ V5 ∷ [])
 
+-- the number of workers, which is 1 to 64
+abbrev pub crew_of : ℕ → Option ℕ
+crew_of number = if nat_lt 0 number && nat_lt number 65 then Some number else None
+
 -- the number of 64 bits that a text spells
 abbrev pub number_in : Text → Option ℕ
 number_in text = if is_unsigned_in 0 18446744073709551615 text then Some (digits_value 10 (without_leading_plus text)) else None
@@ -72,7 +77,8 @@ unfoldable pub request_in : List Row → Option Request
 request_in rows = do
   number ← number_at (codes "abi") rows
   abi ← version_of number
-  workers ← number_at (codes "workers") rows
+  crew ← number_at (codes "workers") rows
+  workers ← crew_of crew
   grain ← number_at (codes "grain") rows
   tree ← first_of (codes "TREE") rows
   trace ← first_of (codes "TRACE") rows
@@ -102,7 +108,7 @@ IsRefusal words kind =
 
 -- what a plan says of the words that it was made from
 abbrev pub IsPlanFor : List Text → Plan → Type 0
-IsPlanFor words (plan.Run run) = request_of words ≡ Some (request_by run)
+IsPlanFor words (plan.Run run) = (request_of words ≡ Some (request_by run)) × IsCrew run.workers
 IsPlanFor words (plan.Help error) = IsAmong DisplayHelp (faults words)
 IsPlanFor words (plan.Usage error) = (request_of words ≡ None) × (faults words ≢ DisplayHelp ∷ [])
 IsPlanFor words plan.Memory = ⊤

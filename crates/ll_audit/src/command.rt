@@ -1,8 +1,9 @@
 //! The command line.
 
-ghost use Rattle.std.specs.Prelude.{◌≡◌, ◌⊎◌, [], IfOk, MatchResult, Some, false, map, option_map, string_bytes};
+ghost use Rattle.std.specs.Prelude.{◌≡◌, ◌⊎◌, [], IfOk, IfSome, MatchResult, Some, false, map, option_map, string_bytes};
 ghost use Rattle.clap.specs.Words.{HasKind, app_of, first_of, found_of, kind_of, matches_of, rows_of, rule_of};
 ghost use Rattle.clap.specs.declared.error.kind.ErrorKind.TheVariants.{OutOfMemory};
+ghost use Rattle.ll_audit.specs.Audits.{IsCrew};
 ghost use Rattle.ll_audit.specs.Command as spec;
 
 use clap::builder::ValueParser;
@@ -116,6 +117,18 @@ fn version(number: u64) -> Option<Abi>
     Abi::new(number)
 }
 
+/// The number of workers, where it is 1 to 64.
+fn crew(number: u64) -> Option<u64>
+    ensures value { result ≡ spec.crew_of number }
+    ensures crew { IfSome result IsCrew }
+{
+    if 0 < number && number < 65 {
+        Some(number)
+    } else {
+        None
+    }
+}
+
 /// The number that the matches give an option.
 fn number(matches: &ArgMatches<'_>, name: &str) -> Option<u64>
     ensures { result ≡ spec.number_at name.now (rows_of (found_of matches.now)) }
@@ -134,12 +147,13 @@ fn text<'a>(matches: &ArgMatches<'a>, name: &str) -> Option<&'a str>
 /// What the matches ask for.
 #[tactic(auto, unfolding(crate::specs::Command::request_in))]
 fn run_of<'a>(matches: &ArgMatches<'a>) -> Option<Run<'a>>
-    ensures { option_map spec.request_by result
+    ensures request { option_map spec.request_by result
         ≡ spec.request_in (rows_of (found_of matches.now)) }
+    ensures crew { IfSome result (λ run. IsCrew run.workers) }
 {
     Some(Run {
         abi: version(number(matches, "abi")?)?,
-        workers: number(matches, "workers")?,
+        workers: crew(number(matches, "workers")?)?,
         grain: number(matches, "grain")?,
         tree: text(matches, "TREE")?,
         trace: text(matches, "TRACE")?,
@@ -160,7 +174,8 @@ fn parse<'a>(command: &mut Command<'a>, words: &'a [String]) -> Result<ArgMatche
 /// Reads the words, of which the first is the program's name.
 fn read<'a>(alloc: Global, words: &'a [String]) -> Result<Run<'a>, Error>
     ensures { MatchResult result
-        (λ run. spec.request_of (map string_bytes words.entry.now) ≡ Some (spec.request_by run))
+        (λ run. (spec.request_of (map string_bytes words.entry.now) ≡ Some (spec.request_by run))
+        × IsCrew run.workers)
         (λ error. (kind_of error ≡ OutOfMemory)
         ⊎ spec.IsRefusal (map string_bytes words.entry.now) (kind_of error)) }
 {

@@ -1,5 +1,9 @@
 //! Why an audit gives no report.
 
+ghost use Rattle.std.specs.Prelude.{◌≡◌};
+ghost use Rattle.ll_audit.specs.declared.fault.Fault.TheVariants.{Memory};
+
+use ll_rules::NoMemory;
 use ll_tree::ReadFault;
 use thiserror::Error;
 
@@ -23,4 +27,12 @@ pub enum Fault {
     /// A thread could not be started.
     #[error("a thread could not be started")]
     NoThread,
+}
+
+impl From<NoMemory> for Fault {
+    ghost from_gives = { λ _ fault. fault ≡ Memory };
+
+    fn from(_none: NoMemory) -> Fault {
+        Fault::Memory
+    }
 }
