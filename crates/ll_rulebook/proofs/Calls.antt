@@ -1,32 +1,28 @@
 -- What each call on rulesets is answered, from what its process holds, and that the pass settles it.
-use Rattle.std.proofs.Common.{◌≡◌, ℕ, ◌+◌, ◌<◌, List, [], ◌∷◌, ◌++◌, length, Bool, true, false, Option, Some, None, Result, Ok, Err, refl, sym, ◌∙◌, ap, cond, ◌⊎◌, inl, inr, subst, All}
+use Rattle.std.proofs.Common.{◌≡◌, ℕ, ◌<◌, List, length, true, false, Option, Some, None, Result, Ok, Err, refl, sym, ◌∙◌, ap, subst, All}
 use Rattle.std.proofs.Math.ListN.{set}
 use Rattle.std.specs.List.{slice_get}
 use Rattle.std.proofs.lemmas.List.{set-get_or}
 use Rattle.std.proofs.lemmas.Option.{get_or_from_slice_get}
 use Rattle.std.specs.Option.{is_some, MatchOption, unwrap_or}
-use Rattle.std.specs.Result.{result_err, OnOk, OnErr, IfOk, IsOkUnless}
+use Rattle.std.specs.Result.{result_err, IfOk, IsOkUnless}
 use Rattle.ll_rules.specs.declared.errno.NoMemory.{NoMemory}
 use Rattle.ll_rights.specs.declared.abi.Abi.{Abi}
 use Rattle.ll_rights.specs.declared.fs.Fs.{Fs}
 use Rattle.ll_rights.specs.declared.net.Net.{Net}
-use Rattle.ll_tree.specs.declared.place.Place.{Place}
 use Rattle.ll_tree.specs.Trees.{Entry, place}
 use Rattle.ll_rules.specs.declared.errno.Errno.{Errno}
 use Rattle.ll_rules.specs.declared.errno.Errno.TheVariants.{BadFd}
 use Rattle.ll_rules.specs.declared.errno.RuleFault.{RuleFault}
 use Rattle.ll_rules.specs.declared.errno.RuleFault.TheVariants as faults
 use Rattle.ll_rules.specs.declared.domain.LayerId.{LayerId}
-use Rattle.ll_rules.specs.Layers.{RulesOn, SameRules, in_tree, AreInTree, without_rules, with_port_rule}
+use Rattle.ll_rules.specs.Layers.{RulesOn, in_tree, AreInTree, with_port_rule}
 use Rattle.ll_rules.specs.Rulesets.{create_fault, add_path_fault, add_port_fault, with_rule_at}
-use Rattle.ll_trace.specs.declared.op.Op.{Op}
 use Rattle.ll_trace.specs.declared.op.Op.TheVariants as calls
-use Rattle.ll_state.specs.declared.answer.Answer.{Answer}
-use Rattle.ll_state.specs.declared.answer.Answer.TheVariants.{Allowed, Moot, Refused}
+use Rattle.ll_state.specs.declared.answer.Answer.TheVariants.{Allowed, Moot}
 use Rattle.ll_state.specs.declared.note.Note.{Note}
 use Rattle.ll_state.specs.declared.note.Note.TheVariants.{Answered, Frozen, Open}
-use Rattle.ll_state.specs.States.{State, Layer}
-use Rattle.ll_state.specs.Answers.{answer, named, create_answer, add_path_answer, add_port_answer, fails, of_rule_fault}
+use Rattle.ll_state.specs.Answers.{answer, create_answer, add_path_answer, add_port_answer, fails, of_rule_fault}
 use Rattle.ll_state.specs.Changes.{change, rules}
 use Rattle.ll_state.specs.Notes.{is_on_rulesets, enforced}
 use Rattle.ll_state.specs.Worlds.{World, state_of}
@@ -34,7 +30,7 @@ use Rattle.ll_rulebook.specs.declared.pass.Pass.{Pass}
 use Rattle.ll_rulebook.specs.declared.tables.Tables.{Tables}
 use Rattle.ll_rulebook.proofs.Quiet.{starts_process}
 use Rattle.ll_rulebook.specs.Tables.{held_by}
-use Rattle.ll_rulebook.specs.Stores.{Stock, Extends, Replaces, AddsPathRule, AddsPortRule, IsAnswerTo}
+use Rattle.ll_rulebook.specs.Stores.{Extends, Replaces, AddsPathRule, AddsPortRule, IsAnswerTo}
 use Rattle.ll_rulebook.specs.Passes.{IsSound, Agrees, Settles}
 use Rattle.ll_rulebook.proofs.Places.{all_there}
 use Rattle.ll_rules.proofs.SameLayers.{SameRules-trans, SameRules-with_port_rule, SameRules-from_port}

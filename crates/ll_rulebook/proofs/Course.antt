@@ -1,33 +1,30 @@
 -- The pass over all records: what holds before the first one, and after one more.
-use Rattle.std.proofs.Common.{◌≡◌, ℕ, zero, suc, ◌+◌, ◌<◌, ◌≤◌, List, [], ◌∷◌, ◌++◌, length, take, Bool, true, false, Option, Some, None, cond, get_or, refl, sym, ◌∙◌, ap, arith, eqb, inl, inr, subst, All, length-append}
+use Rattle.std.proofs.Common.{◌≡◌, ℕ, ◌+◌, ◌<◌, List, [], ◌∷◌, ◌++◌, length, false, Option, Some, None, get_or, refl, sym, ◌∙◌, ap, arith, inl, inr, length-append}
 use Rattle.std.specs.List.{slice_get}
-use Rattle.std.specs.Option.{IsSomeAnd}
 use Rattle.std.proofs.lemmas.Bool.{cases_eq, eq-eqb, ne_eqb}
-use Rattle.std.proofs.lemmas.Option.{slice_get_within, get_or_from_slice_get}
 use Rattle.std.proofs.lemmas.List.{get_or_append_left}
 use Rattle.ll_rights.specs.declared.abi.Abi.{Abi}
 use Rattle.ll_rights.specs.Rights as files
 use Rattle.ll_rights.specs.NetRights as network
 use Rattle.ll_tree.specs.Trees.{Entry}
 use Rattle.ll_rules.specs.declared.domain.LayerId.{LayerId}
-use Rattle.ll_rules.specs.Layers.{RulesOn, SameRules, in_tree, AreInTree, without_rules}
+use Rattle.ll_rules.specs.Layers.{RulesOn, without_rules}
 use Rattle.ll_rules.specs.Checks.{layer_at}
 use Rattle.ll_trace.specs.declared.record.Record.{Record}
 use Rattle.ll_trace.specs.declared.op.Op.{Op}
 use Rattle.ll_trace.specs.Entries.{is_start}
 use Rattle.ll_trace.specs.Records.{AreRecords}
-use Rattle.ll_trace.specs.Processes.{parents}
 use Rattle.ll_state.specs.declared.note.Note.{Note}
 use Rattle.ll_state.specs.declared.note.Note.TheVariants.{Answered, Frozen, Open}
-use Rattle.ll_state.specs.States.{State, Layer, fresh}
-use Rattle.ll_state.specs.Agreement.{Situation, answered}
+use Rattle.ll_state.specs.States.{Layer, fresh}
+use Rattle.ll_state.specs.Agreement.{answered}
 use Rattle.ll_state.specs.Notes.{NoteFits, IsFrozen, enforced}
 use Rattle.ll_state.specs.Worlds.{World, empty_world, state_of, step, world_after, world_at}
 use Rattle.ll_rulebook.specs.declared.pass.Pass.{Pass}
 use Rattle.ll_rulebook.specs.Tables.{held_by}
 use Rattle.ll_rulebook.specs.Stores.{Extends}
-use Rattle.ll_rulebook.specs.Settled.{met_by, FitUpTo}
-use Rattle.ll_rulebook.specs.Passes.{next_world, AreSame, IsSound, Agrees, Settles, HasSettled}
+use Rattle.ll_rulebook.specs.Settled.{met_by}
+use Rattle.ll_rulebook.specs.Passes.{next_world, Settles, HasSettled}
 use Rattle.ll_rulebook.proofs.Places.{slice_get-push}
 use Rattle.ll_rulebook.proofs.Started.{count_at, there_before}
 use Rattle.ll_rulebook.proofs.Worlds.{world_at-next}

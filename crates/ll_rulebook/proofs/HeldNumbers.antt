@@ -1,12 +1,11 @@
 -- What the processes hold after one of them holds or closes a ruleset, and after one more begins.
-use Rattle.std.proofs.Common.{◌≡◌, ℕ, ◌+◌, ◌<◌, List, [], ◌∷◌, ◌++◌, length, Bool, true, false, Option, Some, None, cond, get_or, refl, sym, ◌∙◌, ap, arith, eqb, inl, inr, nat_cmp, length-set, length-append}
+use Rattle.std.proofs.Common.{◌≡◌, ℕ, ◌<◌, List, [], ◌∷◌, ◌++◌, length, Option, None, cond, get_or, refl, ◌∙◌, arith, eqb, inl, inr, nat_cmp, length-set, length-append}
 use Rattle.std.proofs.Math.ListN.{set}
-use Rattle.std.specs.List.{slice_get}
 use Rattle.std.specs.BTreeMap.{BTreeMap, get, is_at, IsClone}
 use Rattle.std.proofs.lemmas.Bool.{cases_eq, eq-eqb, ne_eqb}
 use Rattle.std.proofs.lemmas.Bool.Decides.{nat_tests}
 use Rattle.std.proofs.lemmas.Map.Entries.{entries_from_clone}
-use Rattle.ll_rulebook.specs.Tables.{at_number, held_by, Holds, Begins}
+use Rattle.ll_rulebook.specs.Tables.{held_by, Holds, Begins}
 use Rattle.ll_rulebook.proofs.Places.{slice_get-set, slice_get-push, stands}
 
 pub place_is : (tables : List (BTreeMap ℕ ℕ)) (process number : ℕ) (held : BTreeMap ℕ ℕ) → process < length tables → held ≡ get_or tables process held →

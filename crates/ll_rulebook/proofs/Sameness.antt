@@ -1,18 +1,18 @@
 -- Rulesets that are one by one the same stay so when the same is done to both.
-use Rattle.std.proofs.Common.{◌≡◌, ℕ, ◌+◌, ◌<◌, List, [], ◌∷◌, ◌++◌, length, Bool, true, false, ◌&&◌, ◌||◌, Option, Some, None, cond, refl, sym, ◌∙◌, ap, arith, eqb, ◌==◌, get_or, subst, inl, inr, length-set, length-append, All}
+use Rattle.std.proofs.Common.{◌≡◌, ℕ, ◌<◌, List, [], ◌∷◌, ◌++◌, length, Some, refl, sym, ◌∙◌, arith, get_or, subst, inl, inr, length-set, length-append}
 use Rattle.std.proofs.Math.ListN.{set}
-use Rattle.std.specs.List.{slice_get, list_any}
+use Rattle.std.specs.List.{slice_get}
 use Rattle.std.proofs.lemmas.Bool.{cases_eq, eq-eqb, ne_eqb}
 use Rattle.std.proofs.lemmas.Option.{slice_get_within, slice_get-get_or}
 use Rattle.ll_rights.specs.declared.fs.Fs.{Fs}
 use Rattle.ll_rights.specs.declared.net.Net.{Net}
 use Rattle.ll_rights.specs.Rights as files
 use Rattle.ll_rights.specs.NetRights as network
-use Rattle.ll_tree.specs.Paths.{Path, path_eq}
+use Rattle.ll_tree.specs.Paths.{Path}
 use Rattle.ll_tree.specs.Trees.{Entry, path_at}
 use Rattle.ll_tree.specs.declared.place.Place.{Place}
 use Rattle.ll_tree.specs.declared.place.Place.TheVariants.{Node, Gap, Nowhere}
-use Rattle.ll_rules.specs.Layers.{RulesOn, SameRules, in_tree, AreInTree, without_rules, with_file_rule, with_port_rule, granted_on, granted_on_port}
+use Rattle.ll_rules.specs.Layers.{RulesOn, SameRules, in_tree, without_rules}
 use Rattle.ll_rules.specs.Rulesets.{with_rule_at}
 use Rattle.ll_rules.proofs.SameLayers.{SameRules-refl, SameRules-with_file_rule}
 use Rattle.ll_state.specs.States.{Layer}

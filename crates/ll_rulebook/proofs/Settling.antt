@@ -1,8 +1,8 @@
 -- How the pass goes on agreeing with the world: one lemma for each kind of call.
-use Rattle.std.proofs.Common.{◌≡◌, ℕ, suc, zero, ◌+◌, ◌<◌, ◌≤◌, List, [], ◌∷◌, ◌++◌, length, Bool, true, false, Option, Some, None, cond, get_or, refl, sym, ◌∙◌, ap, arith, eqb, ◌&&◌, ◌⊎◌, inl, inr, subst, All, append-nil, length-append, length-set}
+use Rattle.std.proofs.Common.{◌≡◌, ℕ, ◌+◌, ◌<◌, List, [], ◌∷◌, ◌++◌, length, Bool, true, false, Option, Some, None, cond, get_or, refl, sym, ◌∙◌, ap, arith, eqb, ◌&&◌, ◌⊎◌, inl, inr, All, append-nil, length-append, length-set}
 use Rattle.std.proofs.Math.ListN.{set}
 use Rattle.std.specs.List.{slice_get}
-use Rattle.std.specs.Option.{unwrap_or, option_to_list}
+use Rattle.std.specs.Option.{option_to_list}
 use Rattle.std.proofs.lemmas.Bool.{cases_eq, eq-eqb, ne_eqb}
 use Rattle.std.proofs.lemmas.List.Elements.{All-push, All-set}
 use Rattle.std.proofs.lemmas.Option.{slice_get_within, slice_get-get_or, get_or_from_slice_get}
@@ -21,10 +21,9 @@ use Rattle.ll_trace.specs.declared.op.Op.{Op}
 use Rattle.ll_trace.specs.declared.op.Op.TheVariants as calls
 use Rattle.ll_state.specs.declared.answer.Answer.{Answer}
 use Rattle.ll_state.specs.declared.answer.Answer.TheVariants.{Allowed, Moot, Refused}
-use Rattle.ll_state.specs.declared.note.Note.{Note}
 use Rattle.ll_state.specs.declared.note.Note.TheVariants.{Answered, Frozen, Open}
-use Rattle.ll_state.specs.States.{State, Layer, fresh}
-use Rattle.ll_state.specs.Answers.{answer, named, create_answer}
+use Rattle.ll_state.specs.States.{State, Layer}
+use Rattle.ll_state.specs.Answers.{answer, create_answer}
 use Rattle.ll_state.specs.Agreement.{Situation, answered}
 use Rattle.ll_state.specs.Changes.{change, rules, started, with_held, changed_at}
 use Rattle.ll_state.specs.Notes.{NoteFits, IsFrozen, is_on_rulesets, enforced}
@@ -33,10 +32,9 @@ use Rattle.ll_rulebook.specs.declared.pass.Pass.{Pass}
 use Rattle.ll_trace.specs.Entries.{is_start}
 use Rattle.ll_rulebook.proofs.Quiet.{starts_process}
 use Rattle.ll_rulebook.specs.Tables.{held_by, Holds, Begins}
-use Rattle.ll_rulebook.specs.Stores.{Stock, Extends, Replaces}
+use Rattle.ll_rulebook.specs.Stores.{Extends}
 use Rattle.ll_rulebook.specs.Settled.{met_by}
-use Rattle.ll_rulebook.specs.Passes.{next_world, AreSame, IsSound, Agrees, Settles}
-use Rattle.ll_rulebook.proofs.Places.{slice_get-set, slice_get-push}
+use Rattle.ll_rulebook.specs.Passes.{next_world, IsSound, Agrees, Settles}
 use Rattle.ll_rulebook.proofs.Sameness.{same_new, are_same_push, are_same_set, other_of}
 use Rattle.ll_rulebook.proofs.Quiet.{kept_unless, kept_if_same, on_rulesets_starts_none, starts_none, rulesets_same, held_same}
 use Rattle.ll_rulebook.proofs.Worlds.{IsOwn, state_of-step, state_of-step_start, processes-step, rulesets-step}

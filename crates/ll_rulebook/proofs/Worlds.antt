@@ -1,25 +1,20 @@
 -- What a step does to a world, seen at one process and at the rulesets.
-use Rattle.std.proofs.Common.{◌≡◌, ℕ, suc, zero, ◌+◌, ◌<◌, ◌≤◌, ◌≢◌, List, [], ◌∷◌, ◌++◌, length, take, drop, Bool, true, false, Option, Some, None, cond, get_or, refl, sym, ◌∙◌, ap, arith, eqb, ◌⊎◌, inl, inr, length-set, length-append, append-nil}
+use Rattle.std.proofs.Common.{◌≡◌, ℕ, suc, zero, ◌+◌, ◌<◌, List, [], ◌∷◌, ◌++◌, length, take, true, false, Option, Some, None, cond, get_or, refl, sym, ◌∙◌, ap, arith, eqb, ◌⊎◌, inl, inr, length-set, length-append, append-nil}
 use Rattle.std.proofs.Math.Dec.{eqb-suc-zero, eqb-zero-suc, eqb-suc-suc}
 use Rattle.std.proofs.lemmas.Bool.{cases_eq, eq-eqb, ne_eqb}
 use Rattle.std.proofs.Math.ListN.{set}
 use Rattle.std.specs.List.{slice_get}
 use Rattle.std.specs.Option.{unwrap_or, option_to_list}
-use Rattle.std.proofs.lemmas.Grind.{common_steps}
 use Rattle.std.proofs.lemmas.Option.{unwrap_or-slice_get}
-use Rattle.std.proofs.lemmas.List.{get_or-set_same, get_or-set_other}
 use Rattle.ll_rights.specs.declared.abi.Abi.{Abi}
 use Rattle.ll_tree.specs.Trees.{Entry}
 use Rattle.ll_trace.specs.declared.record.Record.{Record}
 use Rattle.ll_trace.specs.declared.op.Op.{Op}
 use Rattle.ll_trace.specs.declared.op.Op.TheVariants as calls
-use Rattle.ll_state.specs.declared.answer.Answer.{Answer}
-use Rattle.ll_state.specs.declared.answer.Answer.TheVariants.{Allowed, Moot, Refused}
 use Rattle.ll_state.specs.States.{State, Layer, fresh}
 use Rattle.ll_state.specs.Answers.{answer}
-use Rattle.ll_state.specs.Changes.{change, rules, started}
-use Rattle.ll_state.specs.Notes.{is_on_rulesets}
-use Rattle.ll_state.specs.Worlds.{World, empty_world, state_of, state_after, rulesets_after, step, world_after, world_at, if_allowed}
+use Rattle.ll_state.specs.Changes.{change, started}
+use Rattle.ll_state.specs.Worlds.{World, empty_world, state_of, state_after, rulesets_after, step, world_after, world_at}
 use Rattle.ll_trace.specs.Entries.{is_start}
 
 -- ---- one record more

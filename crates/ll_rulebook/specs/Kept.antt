@@ -1,6 +1,6 @@
 -- When a ruleset that names the layer that it was frozen to still is that layer.
 -- Source: the kernel's userspace document on Landlock, "Defining and enforcing a security policy".
-use Rattle.std.specs.Prelude.{◌≡◌, ℕ, List, map, Option, Some, None, slice_get}
+use Rattle.std.specs.Prelude.{◌≡◌, ℕ, List, map, Some, slice_get}
 use Rattle.ll_rules.specs.declared.domain.LayerId.{LayerId}
 use Rattle.ll_rules.specs.Layers.{RulesOn}
 use Rattle.ll_rulebook.specs.declared.store.Stored.{Stored}

@@ -1,12 +1,12 @@
 -- What a pass over the records of a trace keeps, against the world that the semantics has there.
 -- Source: landlock(7); the kernel's userspace document on Landlock, "Inheritance".
-use Rattle.std.specs.Prelude.{◌≡◌, ℕ, ◌<◌, ◌≤◌, List, [], ◌∷◌, ◌++◌, length, Option, Some, None, All, slice_get}
+use Rattle.std.specs.Prelude.{◌≡◌, ℕ, ◌<◌, ◌≤◌, List, [], ◌∷◌, ◌++◌, length, Some, All, slice_get}
 use Rattle.ll_rights.specs.declared.abi.Abi.{Abi}
 use Rattle.ll_tree.specs.Trees.{Entry}
 use Rattle.ll_rules.specs.Layers.{RulesOn, SameRules, in_tree, AreInTree}
 use Rattle.ll_trace.specs.declared.op.Op.{Op}
 use Rattle.ll_state.specs.declared.note.Note.{Note}
-use Rattle.ll_state.specs.States.{State, Layer}
+use Rattle.ll_state.specs.States.{Layer}
 use Rattle.ll_trace.specs.declared.record.Record.{Record}
 use Rattle.ll_state.specs.Notes.{NoteFits}
 use Rattle.ll_state.specs.Worlds.{World, state_of, step, world_at}

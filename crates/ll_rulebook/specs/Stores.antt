@@ -1,6 +1,6 @@
 -- The rulesets of a trace and the layers that they were frozen to, and what becomes of both.
 -- Source: the kernel's userspace document on Landlock, "Defining and enforcing a security policy".
-use Rattle.std.specs.Prelude.{◌≡◌, ℕ, ◌≤◌, List, ◌++◌, length, Result, Err, Option, Some, None, OnOk, OnErr, MatchOption, IsOkUnless, slice_get, slice_set}
+use Rattle.std.specs.Prelude.{◌≡◌, ℕ, ◌≤◌, List, ◌++◌, length, Result, Err, Some, OnOk, OnErr, MatchOption, IsOkUnless, slice_get, slice_set}
 use Rattle.std.specs.Result.{result_err}
 use Rattle.ll_rights.specs.declared.abi.Abi.{Abi}
 use Rattle.ll_rights.specs.declared.fs.Fs.{Fs}

@@ -8,5 +8,7 @@ mod pass;
 mod rulebook;
 mod store;
 mod tables;
+#[cfg(test)]
+mod tests;
 
 pub use rulebook::Rulebook;

@@ -14,7 +14,7 @@ use ll_rules::{Errno, Layer, LayerSet, NoMemory, RuleFault, Ruleset};
 use ll_state::{Answer, Note};
 use ll_trace::{Op, PathText, Record};
 use ll_tree::Tree;
-use std::alloc::{AllocError, Global};
+use std::alloc::Global;
 
 /// What the records so far made of the rulesets, and which of them each process holds.
 #[derive(Drop)]
@@ -180,10 +180,10 @@ impl Pass {
         abi: Abi,
         record: &Record,
     ) -> Result<Note, NoMemory>
-        requires there { is_start record.now.op ≡ false → record.now.process.0 < length self.old.tables.held.items }
+        requires there { is_start «record».now.op ≡ false → «record».now.process.0 < length self.old.tables.held.items }
         requires sound { IsSound tree.now self.old }
         requires room { length self.old.store.layers < 2 ^ 32 }
-        ensures { IfOk result (Settles tree.now abi record.now.process.0 record.now.op self.old self.new) }
+        ensures { IfOk result (Settles tree.now abi «record».now.process.0 «record».now.op self.old self.new) }
     {
         let process = record.process.0 as usize;
         match &record.op {
@@ -208,10 +208,10 @@ impl Pass {
         record: &Record,
         notes: &mut Vec<Note>,
     ) -> Result<(), NoMemory>
-        requires there { is_start record.now.op ≡ false → record.now.process.0 < length self.old.tables.held.items }
+        requires there { is_start «record».now.op ≡ false → «record».now.process.0 < length self.old.tables.held.items }
         requires sound { IsSound tree.now self.old }
         requires room { length self.old.store.layers < 2 ^ 32 }
-        ensures { OnOk result (Adds notes.old.items notes.new.items (Settles tree.now abi record.now.process.0 record.now.op self.old self.new)) }
+        ensures { OnOk result (Adds notes.old.items notes.new.items (Settles tree.now abi «record».now.process.0 «record».now.op self.old self.new)) }
     {
         notes.reserve(1)?;
         match self.settle(alloc, tree, abi, record)? {

@@ -31,7 +31,7 @@ impl Stored {
         ensures in_tree { AreInTree tree.now self.new.ruleset }
     {
         self.ruleset.add_path(tree, at, files)?;
-        self.frozen = None;
+        self.frozen = None; // that layer lacks the rule for files
         Ok(())
     }
 
@@ -43,7 +43,7 @@ impl Stored {
         ensures err { OnErr result (self.new ≡ self.old) }
     {
         self.ruleset.add_port(abi, port, network)?;
-        self.frozen = None;
+        self.frozen = None; // that layer lacks the rule for a port
         Ok(())
     }
 }

@@ -10,14 +10,18 @@ use Rattle.std.proofs.lemmas.Bool.{cases_Bool, eqb-true, ltb-true, lt-ltb, or_ri
 use Rattle.std.proofs.lemmas.List.Sorted.{list_any-IsPermutation}
 use Rattle.std.proofs.lemmas.List.Elements.{All-head, All-tail, All-nil, All-cons}
 use Rattle.ll_rights.specs.declared.fs.Fs.{Fs}
+use Rattle.ll_rights.specs.declared.net.Net.{Net}
 use Rattle.ll_rights.specs.Rights.{FsRight, has, united}
 use Rattle.ll_rights.proofs.Sets.{fs_has-united}
 use Rattle.ll_tree.specs.declared.place.NodeId.{NodeId}
 use Rattle.ll_tree.specs.Paths.{Path, path_eq}
-use Rattle.ll_tree.specs.Trees.{Entry, IsNode, path_at}
-use Rattle.ll_rules.specs.Layers.{RulesOn, with_file_rule, SameRules, granted_on, granted_on_port, granted_on_node, GrantsOn, in_tree, rule_on_path, node, AreInTree}
+use Rattle.ll_tree.specs.declared.place.Place.{Place}
+use Rattle.ll_tree.specs.declared.place.Place.TheVariants.{Node, Gap, Nowhere}
+use Rattle.ll_tree.specs.Trees.{Entry, IsNode, IsPlace, path_at}
+use Rattle.ll_rules.specs.Layers.{RulesOn, with_file_rule, SameRules, granted_on, granted_on_port, granted_on_node, GrantsOn, in_tree, rule_on_path, node, AreInTree, without_rules}
+use Rattle.ll_rules.specs.Rulesets.{IsOfTree}
 use Rattle.ll_rules.proofs.Lookups.{any_at-lookup}
-use Rattle.ll_rules.proofs.Tests.{list_any-agree, list_any-map, and_true}
+use Rattle.ll_rules.proofs.Booleans.{list_any-agree, list_any-map, and_true}
 
 -- what stands first joins a list of tests
 joined_first : (f p q rest : Bool) → ((f && (p || q)) || rest) ≡ ((f && q) || ((f && p) || rest))
@@ -123,3 +127,15 @@ pub still_in_tree : (tree : List Entry) (old new : RulesOn ℕ) (here : NodeId) 
 unfolding outside
 still_in_tree tree old new here set inside more within =
     all_within tree new.file_rules (more.places (outside tree) ∙ rw (lt-ltb here.0 (length tree) inside) (none_outside tree old.file_rules within))
+
+-- what a text names is of the tree
+pub IsOfTree-place : (tree : List Entry) (place : Place) → IsPlace tree place → IsOfTree tree place
+IsOfTree-place tree (Node here) within = within
+IsOfTree-place tree (Gap here) within = within.0
+IsOfTree-place tree Nowhere within = tt
+
+-- no rules are in every tree
+pub AreInTree-none : (tree : List Entry) (files : Fs) (net : Net) → AreInTree tree (without_rules files net)
+AreInTree-none tree files net = All-nil (λ (number : ℕ). number < length tree)
+
+pub ruleset of_tree = (IsOfTree-place, AreInTree-none)

@@ -11,7 +11,7 @@ use Rattle.ll_rules.specs.Checks.{lacks}
 use Rattle.ll_rules.specs.declared.moves.Move.{Move}
 use Rattle.ll_rules.specs.Moves.{lacks_one_of, source_of, destination_of, kind_there, asked_of_source, asked_of_destination, denies}
 use Rattle.ll_rules.proofs.RightSets.{has_nothing}
-use Rattle.ll_rules.proofs.Tests.{or_false, list_any-agree}
+use Rattle.ll_rules.proofs.Booleans.{or_false, list_any-agree}
 
 pub none_asked : (right : FsRight) → has no_right right ≡ false
 none_asked right = has_nothing right

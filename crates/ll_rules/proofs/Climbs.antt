@@ -13,7 +13,7 @@ use Rattle.ll_tree.specs.Trees.{Entry, IsNode, IsTree, StandsIn, path_at}
 use Rattle.ll_tree.proofs.Climbing.{path_eq-nodes}
 use Rattle.ll_rules.specs.Layers.{RulesOn, granted, granted_on, granted_on_node, in_tree, rule_on_path, node, AreInTree}
 use Rattle.ll_rules.proofs.RightSets.{has_nothing}
-use Rattle.ll_rules.proofs.Tests.{or_false, or_assoc, and_or, or_and, list_any-agree, list_any-or, list_any-map}
+use Rattle.ll_rules.proofs.Booleans.{or_false, or_assoc, and_or, or_and, list_any-agree, list_any-or, list_any-map}
 
 is_prefix-root : (path : Path) → is_prefix path [] ≡ path_eq path []
 unfolding is_prefix path_eq

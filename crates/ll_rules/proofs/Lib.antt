@@ -1,6 +1,6 @@
 pub mod LayerNumbers
 pub mod RightSets
-pub mod Tests
+pub mod Booleans
 pub mod Lookups
 pub mod Climbs
 pub mod Adding

@@ -14,7 +14,7 @@ use Rattle.ll_rights.specs.Rights.{FsRight, has, no_right}
 use Rattle.ll_tree.specs.declared.place.NodeId.{NodeId}
 use Rattle.ll_rules.specs.Layers.{RulesOn, granted_on_node}
 use Rattle.ll_rules.proofs.RightSets.{has_nothing}
-use Rattle.ll_rules.proofs.Tests.{or_false}
+use Rattle.ll_rules.proofs.Booleans.{or_false}
 
 none_granted : {K X : Type 0} (test : K → Bool) (p : X → Bool) (rules : List (K × X)) → NonePasses test rules → list_any (λ rule. test rule.0 && p rule.1) rules ≡ false
 none_granted test p [] none = refl

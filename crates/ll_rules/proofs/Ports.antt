@@ -1,22 +1,20 @@
 -- Rules on ports, which are kept in the order of the ports.
-use Rattle.std.proofs.Common.{◌≡◌, ℕ, Bool, true, false, cond, ◌&&◌, ◌||◌, eqb, List, [], ◌∷◌, refl, sym, ap, ◌∙◌, inl, inr}
+use Rattle.std.proofs.Common.{◌≡◌, ℕ, Bool, false, cond, ◌&&◌, ◌||◌, eqb, refl, sym, ap, ◌∙◌, inl, inr}
 use Rattle.std.specs.Prelude.{Option, Some, None}
 use Rattle.std.specs.Option.{option_map_or, unwrap_or}
-use Rattle.std.specs.List.{list_any}
 use Rattle.std.specs.List.Sorted.{IsStrictlySortedBy}
 use Rattle.std.specs.Map.{lookup, keys_of}
 use Rattle.std.specs.BTreeMap.{is_at}
 use Rattle.std.specs.Ordering.{nat_cmp, eq_by_cmp}
 use Rattle.std.specs.Cmp.{eq_by_cmp_equiv, nat_cmp_total, unsigned_ties}
-use Rattle.std.proofs.lemmas.Bool.{cases_Bool, cases_eq, eq-eqb, ne_eqb}
+use Rattle.std.proofs.lemmas.Bool.{cases_eq, eq-eqb, ne_eqb}
 use Rattle.std.proofs.lemmas.Map.Keys.{IsDistinct-from_sorted}
-use Rattle.ll_rights.specs.declared.fs.Fs.{Fs}
 use Rattle.ll_rights.specs.declared.net.Net.{Net}
 use Rattle.ll_rights.specs.NetRights.{NetRight, bind_tcp, has, united, no_right}
 use Rattle.ll_rights.proofs.Sets.{net_has-united}
 use Rattle.ll_rules.specs.Layers.{RulesOn, granted_on_port, with_port_rule, GrantsOnPort}
 use Rattle.ll_rules.proofs.Lookups.{any_at-lookup}
-use Rattle.ll_rules.proofs.Tests.{or_false, or_comm, list_any-agree}
+use Rattle.ll_rules.proofs.Booleans.{or_comm, list_any-agree}
 
 -- a look-up finds all that is granted on a port
 granted_by_lookup : {P : Type 0} (rules : RulesOn P) (port : ℕ) (right : NetRight) → IsStrictlySortedBy nat_cmp (keys_of rules.port_rules)

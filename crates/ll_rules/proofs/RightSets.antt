@@ -1,5 +1,5 @@
 -- Sets of rights that are within known ones.
-use Rattle.std.proofs.Common.{◌≡◌, ℕ, zero, suc, ◌^◌, ◌<◌, ◌≤◌, min, bit_and, eqb, lit<, Bool, true, false, not, ◌&&◌, ◌||◌, List, [], ◌∷◌, ◌++◌, refl, sym, ap, ◌∙◌, arith, inl, inr}
+use Rattle.std.proofs.Common.{◌≡◌, ℕ, zero, suc, ◌^◌, ◌<◌, min, bit_and, eqb, lit<, Bool, true, false, not, ◌&&◌, ◌||◌, [], ◌∷◌, refl, sym, ap, ◌∙◌, arith, inl, inr}
 use Rattle.std.specs.Int.{bit_at}
 use Rattle.std.proofs.lemmas.Nat.{and_le_r}
 use Rattle.std.proofs.lemmas.Nat.Bits.{bit_at_and, bit_at-lt}
@@ -15,7 +15,7 @@ use Rattle.ll_rights.specs.NetRights as network
 use Rattle.ll_rights.proofs.Sets.{fs_has-only, fs_has-united}
 use Rattle.ll_rules.specs.Layers.{RulesOn, handles}
 use Rattle.ll_rules.specs.Rulesets.{are_file_rights}
-use Rattle.ll_rules.proofs.Tests.{or_false, and_none, list_all-agree}
+use Rattle.ll_rules.proofs.Booleans.{or_false, and_none, list_all-agree}
 
 none_from_implied : (x y : Bool) → (not x || y) ≡ true → y ≡ false → x ≡ false
 none_from_implied true true e none = absurd cc

@@ -1,6 +1,5 @@
 -- Layers that are the same grant the same, refuse the same, and stay the same with one rule more.
-use Rattle.std.proofs.Common.{◌≡◌, ℕ, zero, suc, ◌+◌, ◌<◌, ◌≤◌, Bool, true, false, not, cond, ◌&&◌, ◌||◌, eqb, List, [], ◌∷◌, ◌++◌, length, refl, sym, ap, ◌∙◌, arith}
-use Rattle.std.specs.Prelude.{Some}
+use Rattle.std.proofs.Common.{◌≡◌, ℕ, zero, suc, ◌+◌, ◌≤◌, Bool, not, ◌&&◌, ◌||◌, eqb, List, [], ◌∷◌, length, refl, sym, ap, ◌∙◌, arith}
 use Rattle.std.specs.List.{list_any, AllZip}
 use Rattle.ll_rights.specs.declared.fs.Fs.{Fs}
 use Rattle.ll_rights.specs.declared.net.Net.{Net}
@@ -10,22 +9,18 @@ use Rattle.ll_rights.specs.Rights.{FsRight, has, refer, is_file_right, is_right}
 use Rattle.ll_rights.specs.NetRights as network
 use Rattle.ll_tree.specs.Paths.{Path, front, path_eq}
 use Rattle.ll_tree.specs.Trees.{Entry, path_at, kind_at, is_dir}
-use Rattle.ll_rules.specs.declared.errno.Errno.{Errno}
-use Rattle.ll_rules.specs.declared.errno.Errno.TheVariants.{Acces, XDev}
 use Rattle.ll_rules.specs.declared.moves.Move.{Move}
 use Rattle.ll_rules.specs.declared.moves.How.{How}
 use Rattle.ll_rules.specs.declared.moves.How.TheVariants.{Rename, Exchange, Link}
 use Rattle.ll_rules.specs.declared.moves.Target.{Target}
 use Rattle.ll_rules.specs.declared.moves.Target.TheVariants.{New, Over}
-use Rattle.ll_rules.specs.declared.moves.Verdict.{Verdict}
-use Rattle.ll_rules.specs.declared.moves.Verdict.TheVariants.{Passed}
 use Rattle.ll_rules.specs.Layers.{RulesOn, with_file_rule, with_port_rule, handles, granted, granted_on, granted_on_port, SameRules, GrantsOnPort, in_tree}
-use Rattle.ll_rules.specs.Checks.{numbers_from, numbers_where, lacks, refusing, lacks_on_port, refusing_port, refusing_mount, all_in_tree}
-use Rattle.ll_rules.specs.Moves.{lacks_one_of, gains, other_gains, denies, holds_back, source_of, destination_of, kind_there, asked_of_source, asked_of_destination, refused_by, move_verdict}
+use Rattle.ll_rules.specs.Checks.{numbers_from, lacks, refusing, lacks_on_port, refusing_port, refusing_mount, all_in_tree}
+use Rattle.ll_rules.specs.Moves.{lacks_one_of, gains, other_gains, denies, holds_back, source_of, destination_of, kind_there, asked_of_source, asked_of_destination, move_verdict}
 use Rattle.ll_rules.proofs.Climbs.{granted-split, granted-root}
 use Rattle.ll_rules.proofs.AskedRights.{some_agree}
 use Rattle.ll_rules.proofs.Domains.{numbers_from-map}
-use Rattle.ll_rules.proofs.Tests.{list_any-agree}
+use Rattle.ll_rules.proofs.Booleans.{list_any-agree}
 
 -- ---- one layer
 

@@ -1,6 +1,6 @@
 -- Moves: renames, exchanges and links, what they ask of the two directories, and which layers refuse them.
 -- Source: landlock(7), "Filesystem actions", the right to move files between directories; docs/DECISIONS.md says which error comes first and what counts as gaining a right.
-use Rattle.std.specs.Prelude.{ℕ, Bool, true, false, ◌&&◌, ◌||◌, List, [], ◌∷◌, Option, Some, None, if◌then◌else◌}
+use Rattle.std.specs.Prelude.{ℕ, Bool, false, ◌&&◌, ◌||◌, List, [], ◌∷◌, Option, Some, None, if◌then◌else◌}
 use Rattle.std.specs.List.{list_any}
 use Rattle.ll_rights.specs.declared.kind.Kind.{Kind}
 use Rattle.ll_rights.specs.Rights.{FsRight, refer, is_right, is_file_right, is_lacking}

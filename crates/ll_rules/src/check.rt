@@ -51,8 +51,8 @@ pub fn check_port(layers: &[Layer], domain: &Domain, port: u16, wanted: Net) -> 
     let ids = domain.layers();
     let mut refusing = LayerSet::new();
     for (place, id) in ids.iter().enumerate() {
-        let refuses = layer_of(layers, *id).refuses_on_port(port, wanted);
-        refusing = refusing.noted(place as u32 + 1, refuses);
+        let closed = layer_of(layers, *id).refuses_on_port(port, wanted);
+        refusing = refusing.noted(place as u32 + 1, closed);
     }
     refusing
 }
@@ -66,8 +66,8 @@ pub fn check_mount(layers: &[Layer], domain: &Domain) -> LayerSet
     let ids = domain.layers();
     let mut refusing = LayerSet::new();
     for (place, id) in ids.iter().enumerate() {
-        let refuses = layer_of(layers, *id).handles_files();
-        refusing = refusing.noted(place as u32 + 1, refuses);
+        let handles = layer_of(layers, *id).handles_files();
+        refusing = refusing.noted(place as u32 + 1, handles);
     }
     refusing
 }

@@ -10,6 +10,8 @@ mod layer_set;
 mod moves;
 mod ruleset;
 mod sameness;
+#[cfg(test)]
+mod tests;
 
 pub use check::{check_mount, check_path, check_port};
 pub use domain::{Domain, LayerId};

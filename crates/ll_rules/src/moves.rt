@@ -233,8 +233,8 @@ fn denied(tree: &Tree, layers: &[Layer], domain: &Domain, attempt: &Move) -> Lay
     let ids = domain.layers();
     let mut refusing = LayerSet::new();
     for (place, id) in ids.iter().enumerate() {
-        let refuses = denies(layer_of(layers, *id), tree, from, to);
-        refusing = refusing.noted(place as u32 + 1, refuses);
+        let is_denied = denies(layer_of(layers, *id), tree, from, to);
+        refusing = refusing.noted(place as u32 + 1, is_denied);
     }
     refusing
 }
@@ -261,8 +261,8 @@ fn held_back(
     let ids = domain.layers();
     let mut refusing = LayerSet::new();
     for (place, id) in ids.iter().enumerate() {
-        let refuses = holds_back(layer_of(layers, *id), tree, attempt, source, destination);
-        refusing = refusing.noted(place as u32 + 1, refuses);
+        let is_held = holds_back(layer_of(layers, *id), tree, attempt, source, destination);
+        refusing = refusing.noted(place as u32 + 1, is_held);
     }
     refusing
 }

@@ -75,89 +75,6 @@ impl Layer {
         self.on_nodes.get(&number).copied().unwrap_or(Fs::NONE)
     }
 
-    /// Grants rights on a node beside those that its rule grants already.
-    fn grant_on(&mut self, node: NodeId, files: Fs) -> Result<(), RuleFault>
-        ensures ok { OnOk result (GrantsOn self.old self.new node files) }
-        ensures err { OnErr result (self.new ≡ self.old) }
-        ensures memory { IsOkUnless result RuleFault.Memory }
-    {
-        let granted = self.rule_on(node).union(files);
-        self.on_nodes.insert(node.index(), granted)?;
-        Ok(())
-    }
-
-    /// The rights that the rule on a port grants; none where there is no rule.
-    fn rule_on_port(&self, port: u16) -> Net
-        ensures { (right : for_ports.NetRight) → for_ports.has result right ≡ granted_on_port self.now port right }
-    {
-        self.on_ports.get(&port).copied().unwrap_or(Net::NONE)
-    }
-
-    /// Grants rights on a port beside those that its rule grants already.
-    fn grant_on_port(&mut self, port: u16, network: Net) -> Result<(), RuleFault>
-        ensures ok { OnOk result (GrantsOnPort self.old self.new port network) }
-        ensures err { OnErr result (self.new ≡ self.old) }
-        ensures memory { IsOkUnless result RuleFault.Memory }
-    {
-        let granted = self.rule_on_port(port).union(network);
-        self.on_ports.insert(port, granted)?;
-        Ok(())
-    }
-
-    /// Whether the ruleset handles each of some rights for the network.
-    fn handles_all_network(&self, network: Net) -> bool
-        ensures { result ≡ for_ports.is_within network self.now.handled_network }
-    {
-        network.is_within(self.network)
-    }
-
-    /// Whether an object gains a right by going to a directory: one that the layer handles and that counts
-    /// for the object is granted there and not on the object.
-    pub(crate) fn gains(&self, tree: &Tree, object: NodeId, directory: NodeId) -> bool
-        requires object { IsNode tree.now object }
-        requires directory { IsNode tree.now directory }
-        requires within { AreInTree tree.now self.now }
-        ensures { result ≡ gains (in_tree tree.now self.now) (kind_at tree.now object) (path_at tree.now object) (path_at tree.now directory) }
-    {
-        let counted = counting_for(tree.kind(object), self.handled());
-        let granted_there = self.granted(tree, directory);
-        granted_there.lacks(counted, self.granted(tree, object))
-    }
-
-    /// Whether the layer refuses something of what is wanted on a port.
-    pub(crate) fn refuses_on_port(&self, port: u16, wanted: Net) -> bool
-        ensures { result ≡ lacks_on_port self.now port wanted }
-    {
-        let granted = self.rule_on_port(port);
-        wanted.lacks(self.network, granted)
-    }
-
-    /// Whether the layer handles any right for files.
-    pub(crate) fn handles_files(&self) -> bool
-        ensures { result ≡ not (is_empty self.now.handled_files) }
-    {
-        !self.files.is_empty()
-    }
-
-    /// Whether the ruleset handles each of some rights.
-    fn handles_all(&self, files: Fs) -> bool
-        ensures { result ≡ is_within files self.now.handled_files }
-    {
-        files.is_within(self.files)
-    }
-
-    /// The same layer once more.
-    fn copied(&self) -> Result<Layer, NoMemory>
-        ensures { IfOk result (λ layer. layer ≡ self.now) }
-    {
-        Ok(Layer {
-            files: self.files,
-            network: self.network,
-            on_nodes: self.on_nodes.clone()?,
-            on_ports: self.on_ports.clone()?,
-        })
-    }
-
     /// The rights that the rules on a node and on the directories above it grant.
     fn granted(&self, tree: &Tree, node: NodeId) -> Fs
         requires inside { IsNode tree.now node }
@@ -192,6 +109,89 @@ impl Layer {
         ensures { result ≡ lacks (in_tree tree.now self.now) (path_at tree.now node) wanted }
     {
         wanted.lacks(self.handled(), self.granted(tree, node))
+    }
+
+    /// Whether an object gains a right by going to a directory: one that the layer handles and that counts
+    /// for the object is granted there and not on the object.
+    pub(crate) fn gains(&self, tree: &Tree, object: NodeId, directory: NodeId) -> bool
+        requires object { IsNode tree.now object }
+        requires directory { IsNode tree.now directory }
+        requires within { AreInTree tree.now self.now }
+        ensures { result ≡ gains (in_tree tree.now self.now) (kind_at tree.now object) (path_at tree.now object) (path_at tree.now directory) }
+    {
+        let counted = counting_for(tree.kind(object), self.handled());
+        let granted_there = self.granted(tree, directory);
+        granted_there.lacks(counted, self.granted(tree, object))
+    }
+
+    /// The rights that the rule on a port grants; none where there is no rule.
+    fn rule_on_port(&self, port: u16) -> Net
+        ensures { (right : for_ports.NetRight) → for_ports.has result right ≡ granted_on_port self.now port right }
+    {
+        self.on_ports.get(&port).copied().unwrap_or(Net::NONE)
+    }
+
+    /// Whether the layer refuses something of what is wanted on a port.
+    pub(crate) fn refuses_on_port(&self, port: u16, wanted: Net) -> bool
+        ensures { result ≡ lacks_on_port self.now port wanted }
+    {
+        let granted = self.rule_on_port(port);
+        wanted.lacks(self.network, granted)
+    }
+
+    /// Whether the layer handles any right for files.
+    pub(crate) fn handles_files(&self) -> bool
+        ensures { result ≡ not (is_empty self.now.handled_files) }
+    {
+        !self.files.is_empty()
+    }
+
+    /// Whether the ruleset handles each of some rights.
+    fn handles_all(&self, files: Fs) -> bool
+        ensures { result ≡ is_within files self.now.handled_files }
+    {
+        files.is_within(self.files)
+    }
+
+    /// Whether the ruleset handles each of some rights for the network.
+    fn handles_all_network(&self, network: Net) -> bool
+        ensures { result ≡ for_ports.is_within network self.now.handled_network }
+    {
+        network.is_within(self.network)
+    }
+
+    /// Grants rights on a node beside those that its rule grants already.
+    fn grant_on(&mut self, node: NodeId, files: Fs) -> Result<(), RuleFault>
+        ensures ok { OnOk result (GrantsOn self.old self.new node files) }
+        ensures err { OnErr result (self.new ≡ self.old) }
+        ensures memory { IsOkUnless result RuleFault.Memory }
+    {
+        let granted = self.rule_on(node).union(files);
+        self.on_nodes.insert(node.index(), granted)?;
+        Ok(())
+    }
+
+    /// Grants rights on a port beside those that its rule grants already.
+    fn grant_on_port(&mut self, port: u16, network: Net) -> Result<(), RuleFault>
+        ensures ok { OnOk result (GrantsOnPort self.old self.new port network) }
+        ensures err { OnErr result (self.new ≡ self.old) }
+        ensures memory { IsOkUnless result RuleFault.Memory }
+    {
+        let granted = self.rule_on_port(port).union(network);
+        self.on_ports.insert(port, granted)?;
+        Ok(())
+    }
+
+    /// The same layer once more.
+    fn copied(&self) -> Result<Layer, NoMemory>
+        ensures { IfOk result (λ layer. layer ≡ self.now) }
+    {
+        Ok(Layer {
+            files: self.files,
+            network: self.network,
+            on_nodes: self.on_nodes.clone()?,
+            on_ports: self.on_ports.clone()?,
+        })
     }
 }
 
@@ -324,7 +324,8 @@ impl Ruleset {
         Ok(())
     }
 
-    /// The layer that a process would add now; rules that are added later don't change it.
+    /// The layer that a process would add now; rules that are added later don't change it. It stands in the
+    /// ruleset's own kind of memory.
     pub fn freeze(&self, _alloc: Global) -> Result<Layer, NoMemory>
         ensures { IfOk result (λ layer. layer ≡ self.now) }
     {

@@ -18,3 +18,6 @@ pub use laws::{
 pub use note::Note;
 pub use own_state::OwnState;
 pub use requests::Request;
+
+#[cfg(test)]
+mod tests;

@@ -1,10 +1,9 @@
 -- Laws of reading traces.
-use Rattle.std.proofs.Common.{◌≡◌, ℕ, ◌||◌, ◌++◌, Bool, true, false, List, [], ◌∷◌, map, reverse, Option, Some, None, Result, Ok, Err, cond, refl, sym, ap, ◌∙◌}
+use Rattle.std.proofs.Common.{◌≡◌, ℕ, ◌||◌, Bool, true, false, List, [], ◌∷◌, map, reverse, Option, Some, None, Result, Ok, Err, cond, refl, sym, ap, ◌∙◌}
 use Rattle.ll_tree.specs.declared.fault.Cause.{Cause}
 use Rattle.ll_tree.specs.declared.fault.Cause.TheVariants.{Twice, TooMany, UnknownProcess}
 use Rattle.ll_tree.specs.declared.fault.ReadFault.{ReadFault}
-use Rattle.ll_tree.specs.Lines.{Line, filled_lines}
-use Rattle.ll_tree.specs.Reading.{first_fault, entries_of, IsFaultless, IsGood, IsBad, reading}
+use Rattle.ll_tree.specs.Reading.{first_fault, entries_of, IsGood, IsBad}
 use Rattle.ll_tree.proofs.ReadingLemmas.{good_or_bad, reading-good}
 use Rattle.ll_trace.specs.declared.record.Record.{Record}
 use Rattle.ll_trace.specs.Entries.{Entry, entry_at, is_start_of, is_end_of, is_live, is_live_pid, is_unknown, is_twice, is_too_many, misplacement, started_pid, trace_file}

@@ -13,9 +13,12 @@ use crate::place::Place;
 
 /// A tree file is one tree, or has one first fault, and never both.
 pub fn a_tree_file_reads_in_one_way()
-    ensures not_both { (bytes : List ℕ) (tree : List Entry) (fault : Fault) → IsTreeOf bytes tree → IsBad tree_format bytes fault → ⊥ }
-    ensures one_tree { (bytes : List ℕ) (tree other : List Entry) → IsTreeOf bytes tree → IsTreeOf bytes other → tree ≡ other }
-    ensures one_fault { (bytes : List ℕ) (fault other : Fault) → IsBad tree_format bytes fault → IsBad tree_format bytes other → fault ≡ other }
+    ensures not_both { (bytes : List ℕ) (tree : List Entry) (fault : Fault)
+        → IsTreeOf bytes tree → IsBad tree_format bytes fault → ⊥ }
+    ensures one_tree { (bytes : List ℕ) (tree other : List Entry)
+        → IsTreeOf bytes tree → IsTreeOf bytes other → tree ≡ other }
+    ensures one_fault { (bytes : List ℕ) (fault other : Fault)
+        → IsBad tree_format bytes fault → IsBad tree_format bytes other → fault ≡ other }
 {}
 
 /// What a small tree file and some faulty ones read as.
@@ -27,8 +30,10 @@ pub fn worked_files()
     ensures two_slashes { IsRefused (codes "{\"path\":\"/a//b\",\"kind\":\"dir\"}") 1 Cause.BadPath }
     ensures no_kind { IsRefused (codes "{\"path\":\"/a\"}") 1 Cause.Field }
     ensures the_root { IsRefused (codes "{\"path\":\"/\",\"kind\":\"dir\"}") 1 Cause.Twice }
-    ensures twice { IsRefused (line (codes "{\"path\":\"/a\",\"kind\":\"dir\"}") ++ line (codes "{\"path\":\"/a\",\"kind\":\"dir\"}")) 2 Cause.Twice }
-    ensures in_a_file { IsRefused (line (codes "{\"path\":\"/f\",\"kind\":\"reg\"}") ++ line (codes "{\"path\":\"/f/g\",\"kind\":\"reg\"}")) 2 Cause.NoParent }
+    ensures twice { IsRefused (line (codes "{\"path\":\"/a\",\"kind\":\"dir\"}")
+        ++ line (codes "{\"path\":\"/a\",\"kind\":\"dir\"}")) 2 Cause.Twice }
+    ensures in_a_file { IsRefused (line (codes "{\"path\":\"/f\",\"kind\":\"reg\"}")
+        ++ line (codes "{\"path\":\"/f/g\",\"kind\":\"reg\"}")) 2 Cause.NoParent }
     ensures after_a_blank { IsRefused (line [] ++ line (codes "[]")) 2 Cause.Field }
     ensures not_text { IsRefused (255 ∷ []) 1 Cause.Json }
 {}

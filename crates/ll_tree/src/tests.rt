@@ -161,7 +161,8 @@ fn faults(rt: HostRuntime) {
     assert_eq!(rt; fault_of(rt.alloc(), repeated), None);
 }
 
-/// The file reads where it is cut at the start of a line or behind a brace; any other cut spoils the last line.
+/// The file reads where it is cut at the start of a line or behind a brace; any other cut spoils the
+/// last line.
 #[test]
 fn cut_anywhere(rt: HostRuntime) {
     for end in 0..=LISTED.len() {

@@ -33,8 +33,8 @@ struct Object {
     depth: u32,
 }
 
-/// A listed file tree: the root, and objects in the order of their lines, each in a directory that stands before
-/// it.
+/// A listed file tree: the root, and objects in the order of their lines, each in a directory that
+/// stands before it.
 #[derive(Drop)]
 pub struct Tree {
     objects: Vec<Object>,
@@ -57,8 +57,8 @@ impl Model for Tree {
 impl Tree {
     /// Reads a tree file: one JSON object on each line, with the path and the kind of an object.
     ///
-    /// A file that does not read is refused with the number of its first faulty line and the first fault of that
-    /// line. For want of memory the line is the one that was being read.
+    /// A file that does not read is refused with the number of its first faulty line and the first
+    /// fault of that line. For want of memory the line is the one that was being read.
     pub fn read(alloc: Global, bytes: &[u8]) -> Result<Tree, ReadFault>
         ensures ok { IfOk result (IsTreeOf bytes.now) }
         ensures err { IfErr result (λ fault. fault.cause ≢ Memory → IsBad tree_format bytes.now fault) }
@@ -91,7 +91,8 @@ impl Tree {
     /// Reads the object on a line.
     #[tactic(auto, unfolding(crate::specs::TreeReading::entry_on))]
     fn read_line(&mut self, alloc: Global, line: &FileLine) -> Result<(), Cause>
-        ensures line { Gives (λ _. below_root self.new) result (with_line tree_format (below_root self.old) (line_view line.now)) }
+        ensures line { Gives (λ _. below_root self.new) result
+            (with_line tree_format (below_root self.old) (line_view line.now)) }
         ensures rooted { OnOk result (IsRooted self.new) }
     {
         let value = value_of(alloc, line.bytes)?;
@@ -100,7 +101,8 @@ impl Tree {
 
     /// Reads the object that a value describes.
     fn read_value(&mut self, alloc: Global, value: &Value) -> Result<(), Cause>
-        ensures value { Gives (λ _. below_root self.new) result (with_value (below_root self.old) (view value.now)) }
+        ensures value { Gives (λ _. below_root self.new) result
+            (with_value (below_root self.old) (view value.now)) }
         ensures rooted { OnOk result (IsRooted self.new) }
     {
         let (path, kind) = object_of(value)?;
@@ -110,7 +112,8 @@ impl Tree {
     /// Puts an object at the end, unless it is there already, has no directory, or is one too many.
     fn list(&mut self, alloc: Global, path: &str, kind: Kind) -> Result<(), Cause>
         requires { IsTrue (is_some (path_of path.now)) }
-        ensures entry { Gives (λ _. below_root self.new) result (with_entry tree_format (below_root self.old) (named path.now kind)) }
+        ensures entry { Gives (λ _. below_root self.new) result
+            (with_entry tree_format (below_root self.old) (named path.now kind)) }
         ensures rooted { OnOk result (IsRooted self.new) }
     {
         match self.place_of(path) {

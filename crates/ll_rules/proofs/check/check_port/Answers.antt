@@ -1,5 +1,4 @@
-use Rattle.std.proofs.Common.{◌∙◌, ℕ, ap, refl, not}
-use Rattle.ll_rights.specs.Rights.{is_empty}
+use Rattle.std.proofs.Common.{◌∙◌, ℕ, ap, refl}
 use Rattle.ll_rules.specs.Layers.{RulesOn}
 use Rattle.ll_rules.specs.Checks.{lacks_on_port}
 use Rattle.ll_rules.proofs.Domains.{refuses_on_port, noted_next, noted_all, noted_below, refusing_port_by_name}
@@ -8,12 +7,12 @@ use Rattle.ll_rules.proofs.check.check_port.Goals as goal
 pub loop-place-preserved : goal.loop-place-preserved
 unfolding refuses_on_port
 loop-place-preserved c =
-    let tells = c.refuses_on_port-refuses.ensures ∙ ap (λ (layer : RulesOn ℕ). lacks_on_port layer c.args.port c.args.wanted) c.layer_of.ensures in
+    let tells = c.refuses_on_port-closed.ensures ∙ ap (λ (layer : RulesOn ℕ). lacks_on_port layer c.args.port c.args.wanted) c.layer_of.ensures in
     record {
       so_far =
-          noted_next (refuses_on_port c.args.layers.now c.args.port c.args.wanted) c.layers-ids.result.now c.loop-place.place _ c.loop-place.refusing c.noted-refusing.result _ c.refuses_on_port-refuses.result
+          noted_next (refuses_on_port c.args.layers.now c.args.port c.args.wanted) c.layers-ids.result.now c.loop-place.place _ c.loop-place.refusing c.noted-refusing.result _ c.refuses_on_port-closed.result
           c.loop-place-test.true tells c.noted-refusing.ensures c.loop-place.invariant.so_far;
-      below = noted_below c.loop-place.refusing c.noted-refusing.result c.loop-place.place c.refuses_on_port-refuses.result c.noted-refusing.ensures c.loop-place.invariant.below;
+      below = noted_below c.loop-place.refusing c.noted-refusing.result c.loop-place.place c.refuses_on_port-closed.result c.noted-refusing.ensures c.loop-place.invariant.below;
     }
 
 pub returns : goal.returns

@@ -7,12 +7,12 @@ use Rattle.ll_rules.proofs.moves.held_back.Goals as goal
 pub loop-place-preserved : goal.loop-place-preserved
 unfolding passes
 loop-place-preserved c =
-    let tells = c.holds_back-refuses.ensures ∙ ap (λ (layer : RulesOn ℕ). holds_back c.args.tree.now c.args.attempt.now (in_tree c.args.tree.now layer)) c.layer_of.ensures in
+    let tells = c.holds_back-is_held.ensures ∙ ap (λ (layer : RulesOn ℕ). holds_back c.args.tree.now c.args.attempt.now (in_tree c.args.tree.now layer)) c.layer_of.ensures in
     record {
       so_far =
-          noted_next (passes c.args.tree.now c.args.layers.now (holds_back c.args.tree.now c.args.attempt.now)) c.layers-ids.result.now c.loop-place.place _ c.loop-place.refusing c.noted-refusing.result _ c.holds_back-refuses.result
+          noted_next (passes c.args.tree.now c.args.layers.now (holds_back c.args.tree.now c.args.attempt.now)) c.layers-ids.result.now c.loop-place.place _ c.loop-place.refusing c.noted-refusing.result _ c.holds_back-is_held.result
           c.loop-place-test.true tells c.noted-refusing.ensures c.loop-place.invariant.so_far;
-      below = noted_below c.loop-place.refusing c.noted-refusing.result c.loop-place.place c.holds_back-refuses.result c.noted-refusing.ensures c.loop-place.invariant.below;
+      below = noted_below c.loop-place.refusing c.noted-refusing.result c.loop-place.place c.holds_back-is_held.result c.noted-refusing.ensures c.loop-place.invariant.below;
     }
 
 pub returns : goal.returns

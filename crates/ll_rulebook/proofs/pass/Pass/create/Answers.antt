@@ -1,4 +1,4 @@
-use Rattle.std.proofs.Common.{sym, ◌∙◌, refl}
+use Rattle.std.proofs.Common.{sym, ◌∙◌}
 use Rattle.ll_rulebook.proofs.Calls.{settles_taken, settles_faulty, none_of}
 use Rattle.ll_rulebook.proofs.Settling.{settles_created}
 use Rattle.ll_rulebook.proofs.pass.Pass.create.Goals as goal

@@ -1,4 +1,3 @@
-use Rattle.std.proofs.Common.{◌<◌, length}
 use Rattle.ll_rulebook.specs.Stores.{AddsPortRule}
 use Rattle.ll_rulebook.proofs.Frozen.{replaced, same_ruleset}
 use Rattle.ll_rulebook.proofs.store.Store.add_port.Goals as goal

@@ -1,0 +1,136 @@
+-- The answers of all pieces, each process once, are those of the whole trace.
+use Rattle.std.proofs.Common.{◌≡◌, ◌⊎◌, ℕ, zero, suc, ◌+◌, ◌<◌, ◌≤◌, List, [], ◌∷◌, ◌++◌, length, take, map, get_or, set, Option, Some, None, refl, sym, ap, ◌∙◌, subst, inl, inr, arith}
+use Rattle.std.specs.Prelude.{slice_get, All, unwrap_or}
+use Rattle.std.specs.List.{flat_map}
+use Rattle.std.proofs.lemmas.Bool.{cases_eq, cases_lt}
+use Rattle.std.proofs.lemmas.List.{map-append, length-set, get_or-set_same, get_or-set_other, ext_get_or}
+use Rattle.std.proofs.lemmas.List.Elements.{All-append, All-map, All-nil, All-from_get_or, All-same, All-head, All-tail}
+use Rattle.std.proofs.lemmas.Grind.{flat_map-append}
+use Rattle.std.proofs.lemmas.Option.{none-some, same_Some, slice_get_within, slice_get-get_or, unwrap_or-slice_get}
+use Rattle.ll_trace.specs.declared.record.Record.{Record}
+use Rattle.ll_state.specs.declared.answer.Answer.{Answer}
+use Rattle.ll_state.specs.declared.answer.Answer.TheVariants.{Moot}
+use Rattle.ll_state.specs.Worlds.{judged}
+use Rattle.ll_process.specs.declared.piece.Piece.{Piece}
+use Rattle.ll_process.specs.Processes.{own_records, own_from, numbers, times, process_count, IsNumbered}
+use Rattle.ll_process.specs.Judging.{answer_at, answers_of}
+use Rattle.ll_process.specs.Cases.{Matter, IsCase, answers_in as answers_to}
+use Rattle.ll_process.proofs.Walks.{own_record}
+use Rattle.ll_process.proofs.Worlds.{length-judged}
+use Rattle.ll_process.proofs.Numbers.{numbered_below, count-all}
+use Rattle.ll_process.proofs.OwnRecords.{own_from-yes, own_from-no}
+use Rattle.ll_pool.specs.Gathered.{AllOf, processes_in, answers_in, placed}
+use Rattle.ll_pool.proofs.Counts.{times-append, times-cons, times-nil, times-same, times-other}
+use Rattle.ll_pool.proofs.Placing.{length-placed}
+
+-- ---- places
+
+own_within : (records : List Record) (p : ℕ) → All (λ (k : ℕ). k < length records) (own_records records p)
+own_within records p =
+    λ i d within.
+    (let found : (r : Record) × (slice_get records (get_or (own_records records p) i d) ≡ Some r) × (r.process.0 ≡ p) = own_record records p i (get_or (own_records records p) i d) (slice_get-get_or (own_records records p) i d within) in
+    slice_get_within records (get_or (own_records records p) i d) found.0 found.1)
+
+answers_within : (of : Matter) (p : ℕ) → All (λ (part : ℕ × Answer). part.0 < length of.records) (answers_to of p)
+unfolding answers_of
+answers_within of p = All-map (λ (part : ℕ × Answer). part.0 < length of.records) (λ k. (k, answer_at of.tree of.abi of.records k)) (own_records of.records p) (own_within of.records p)
+
+all_within : (of : Matter) (ps : List ℕ) → All (λ (part : ℕ × Answer). part.0 < length of.records) (flat_map (answers_to of) ps)
+all_within of [] = All-nil (λ (part : ℕ × Answer). part.0 < length of.records)
+all_within of (p ∷ ps) = All-append (λ (part : ℕ × Answer). part.0 < length of.records) (answers_to of p) (flat_map (answers_to of) ps) (answers_within of p) (all_within of ps)
+
+pub all_places : (of : Matter) (piece : Piece) (n : ℕ) → piece.case.now ≡ of → length of.records ≡ n → All (λ (part : ℕ × Answer). part.0 < n) piece.answers.items
+all_places of piece n its len =
+    All-same (λ (part : ℕ × Answer). part.0 < n) piece.answers.items (flat_map (answers_to piece.case.now) (numbers piece.processes.items)) piece.answered
+    (λ i d within. omega (arith, all_within piece.case.now (numbers piece.processes.items) i d within, ap (λ (m : Matter). length m.records) its, len))
+
+-- ---- every record has its answer
+
+placed_map : (f : ℕ → Answer) (ks : List ℕ) (xs : List Answer) (k : ℕ) (d : Answer) → (0 < times k ks) ⊎ (get_or xs k d ≡ f k) → k < length xs → get_or (placed (map (λ i. (i, f i)) ks) xs) k d ≡ f k
+unfolding placed
+placed_map f [] xs k d (inl some) within = absurd (omega (arith, times-nil k, some))
+placed_map f [] xs k d (inr is) within = is
+placed_map f (j ∷ js) xs k d known within =
+    let inside : k < length (set xs j (f j)) = omega (arith, within, length-set xs j (f j)) in
+    placed_map f js (set xs j (f j)) k d
+    (elim (cases_eq j k) [
+      | inl same ↦ inr (ap (λ i. get_or (set xs i (f i)) k d) same ∙ get_or-set_same xs k (f k) d within)
+      | inr other ↦ elim known [
+        | inl some ↦ inl (omega (arith, some, times-cons k j js, times-other k j other))
+        | inr is ↦ inr (get_or-set_other xs j k (f j) d (λ same. other (sym same)) ∙ is)
+      ]
+    ])
+    inside
+
+own_from-has : (p b : ℕ) (rs : List Record) (m : ℕ) (r : Record) → slice_get rs m ≡ Some r → r.process.0 ≡ p → 0 < times (b + m) (own_from p b rs)
+own_from-has p b [] m r at own = absurd (none-some r at)
+own_from-has p b (x ∷ xs) zero r at own =
+    let here : x.process.0 ≡ p = ap (λ (y : Record). y.process.0) (same_Some x r at) ∙ own in
+    let same : b ≡ b + 0 = omega arith in
+    omega (arith, ap (λ (ys : List ℕ). times (b + 0) ys) (own_from-yes p b x xs here), times-cons (b + 0) b (own_from p (b + 1) xs), times-same (b + 0) b same)
+own_from-has p b (x ∷ xs) (suc m) r at own =
+    let same : b + 1 + m ≡ b + suc m = omega arith in
+    let rest : 0 < times (b + suc m) (own_from p (b + 1) xs) = subst (λ (k : ℕ). 0 < times k (own_from p (b + 1) xs)) same (own_from-has p (b + 1) xs m r at own) in
+    elim (cases_eq x.process.0 p) [
+      | inl here ↦ omega (arith, rest, ap (λ (ys : List ℕ). times (b + suc m) ys) (own_from-yes p b x xs here), times-cons (b + suc m) b (own_from p (b + 1) xs))
+      | inr other ↦ omega (arith, rest, ap (λ (ys : List ℕ). times (b + suc m) ys) (own_from-no p b x xs other))
+    ]
+
+own_has : (records : List Record) (k : ℕ) (r : Record) → slice_get records k ≡ Some r → 0 < times k (own_records records r.process.0)
+unfolding own_records
+own_has records k r at =
+    let same : 0 + k ≡ k = omega arith in
+    subst (λ (i : ℕ). 0 < times i (own_from r.process.0 0 records)) same (own_from-has r.process.0 0 records k r at refl)
+
+flat_has : (f : ℕ → List ℕ) (k p : ℕ) (ps : List ℕ) → 0 < times p ps → 0 < times k (f p) → 0 < times k (flat_map f ps)
+flat_has f k p [] some has = absurd (omega (arith, some, times-nil p))
+flat_has f k p (q ∷ qs) some has =
+    elim (cases_eq q p) [
+      | inl same ↦ omega (arith, times-append k (f q) (flat_map f qs), has, ap (λ i. times k (f i)) same)
+      | inr other ↦
+          (let rest : 0 < times p qs = omega (arith, some, times-cons p q qs, times-other p q other) in
+          omega (arith, times-append k (f q) (flat_map f qs), flat_has f k p qs rest has))
+    ]
+
+flat_answers : (of : Matter) (ps : List ℕ) → flat_map (answers_to of) ps ≡ map (λ k. (k, answer_at of.tree of.abi of.records k)) (flat_map (own_records of.records) ps)
+unfolding answers_of
+flat_answers of [] = refl
+flat_answers of (p ∷ ps) =
+    ap (λ xs. map (λ k. (k, answer_at of.tree of.abi of.records k)) (own_records of.records p) ++ xs) (flat_answers of ps)
+    ∙ sym (map-append (λ k. (k, answer_at of.tree of.abi of.records k)) (own_records of.records p) (flat_map (own_records of.records) ps))
+
+pieces_answer : (of : Matter) (pieces : List Piece) → AllOf of pieces → answers_in pieces ≡ flat_map (answers_to of) (processes_in pieces)
+unfolding answers_in processes_in
+pieces_answer of [] all = refl
+pieces_answer of (x ∷ xs) all =
+    ap (λ (ys : List (ℕ × Answer)). ys ++ answers_in xs) (x.answered ∙ ap (λ (m : Matter). flat_map (answers_to m) (numbers x.processes.items)) (All-head (λ (piece : Piece). piece.case.now ≡ of) x xs all))
+    ∙ ap (λ (ys : List (ℕ × Answer)). flat_map (answers_to of) (numbers x.processes.items) ++ ys) (pieces_answer of xs (All-tail (λ (piece : Piece). piece.case.now ≡ of) x xs all))
+    ∙ sym (flat_map-append (answers_to of) (numbers x.processes.items) (processes_in xs))
+
+record_at : (records : List Record) (k : ℕ) → k < length records → (r : Record) × (slice_get records k ≡ Some r)
+record_at [] k within = absurd (omega arith)
+record_at (x ∷ xs) zero within = (x, refl)
+record_at (x ∷ xs) (suc k) within = record_at xs k (omega arith)
+
+answer_there : (of : Matter) (pieces : List Piece) (before : List Answer) (k : ℕ) → IsCase of → AllOf of pieces → ((q : ℕ) → q < process_count of.records → 0 < times q (processes_in pieces)) → length before ≡ length of.records → k < length of.records
+    → get_or (placed (answers_in pieces) before) k Moot ≡ answer_at of.tree of.abi of.records k
+answer_there of pieces before k case all each len within =
+    let found : (r : Record) × (slice_get of.records k ≡ Some r) = record_at of.records k within in
+    let below : found.0.process.0 < process_count of.records = omega (arith, numbered_below of.records k found.0 case.numbered found.1, count-all of.records (suc k)) in
+    let has : 0 < times k (flat_map (own_records of.records) (processes_in pieces)) = flat_has (own_records of.records) k found.0.process.0 (processes_in pieces) (each found.0.process.0 below) (own_has of.records k found.0 found.1) in
+    ap (λ (ps : List (ℕ × Answer)). get_or (placed ps before) k Moot) (pieces_answer of pieces all ∙ flat_answers of (processes_in pieces))
+    ∙ placed_map (answer_at of.tree of.abi of.records) (flat_map (own_records of.records) (processes_in pieces)) before k Moot (inl has) (omega (arith, within, len))
+
+judged_there : (of : Matter) (k : ℕ) → get_or (judged of.tree of.abi of.records) k Moot ≡ answer_at of.tree of.abi of.records k
+unfolding answer_at
+judged_there of k = sym (unwrap_or-slice_get (judged of.tree of.abi of.records) k Moot)
+
+pub all_answered : (of : Matter) (pieces : List Piece) (before answers : List Answer) → IsCase of → AllOf of pieces → ((q : ℕ) → q < process_count of.records → 0 < times q (processes_in pieces)) → length before ≡ length of.records → answers ≡ placed (answers_in pieces) before
+    → answers ≡ judged of.tree of.abi of.records
+all_answered of pieces before answers case all each len is =
+    is
+    ∙ ext_get_or Moot (placed (answers_in pieces) before) (judged of.tree of.abi of.records)
+    (length-placed (answers_in pieces) before ∙ len ∙ sym (length-judged of.tree of.abi of.records))
+    (λ k inside.
+    (let within : k < length of.records = omega (arith, inside, length-placed (answers_in pieces) before, len) in
+    answer_there of pieces before k case all each len within ∙ sym (judged_there of k)))

@@ -1,0 +1,48 @@
+-- Putting answers in their places.
+use Rattle.std.proofs.Common.{◌≡◌, ◌⊎◌, ℕ, zero, suc, ◌+◌, ◌<◌, ◌≤◌, List, [], ◌∷◌, ◌++◌, length, take, drop, map, get_or, set, Option, Some, None, refl, sym, ap, ◌∙◌, subst, inl, inr, arith}
+use Rattle.std.specs.Prelude.{slice_get, All}
+use Rattle.std.specs.List.{flat_map}
+use Rattle.std.proofs.lemmas.Bool.{cases_eq}
+use Rattle.std.proofs.lemmas.List.{append-nil, take_more, length-set, get_or-set_same, get_or-set_other}
+use Rattle.std.proofs.lemmas.List.Elements.{All-append, All-map, All-same}
+use Rattle.std.proofs.lemmas.Grind.{flat_map-append}
+use Rattle.std.proofs.lemmas.Option.{slice_get_within, get_or_from_slice_get}
+use Rattle.ll_state.specs.declared.answer.Answer.{Answer}
+use Rattle.ll_process.specs.declared.piece.Piece.{Piece}
+use Rattle.ll_pool.specs.Gathered.{answers_in, placed}
+
+pub placed-nil : (xs : List Answer) → placed [] xs ≡ xs
+unfolding placed
+placed-nil xs = refl
+
+pub placed-cons : (part : ℕ × Answer) (parts : List (ℕ × Answer)) (xs : List Answer) → placed (part ∷ parts) xs ≡ placed parts (set xs part.0 part.1)
+unfolding placed
+placed-cons part parts xs = refl
+
+pub placed-append : (ps qs : List (ℕ × Answer)) (xs : List Answer) → placed (ps ++ qs) xs ≡ placed qs (placed ps xs)
+unfolding placed
+placed-append [] qs xs = refl
+placed-append (p ∷ ps) qs xs = placed-append ps qs (set xs p.0 p.1)
+
+pub length-placed : (ps : List (ℕ × Answer)) (xs : List Answer) → length (placed ps xs) ≡ length xs
+unfolding placed
+length-placed [] xs = refl
+length-placed (p ∷ ps) xs = length-placed ps (set xs p.0 p.1) ∙ length-set xs p.0 p.1
+
+pub answers_in-nil : answers_in [] ≡ []
+unfolding answers_in
+answers_in-nil = refl
+
+pub answers_in-next : (pieces : List Piece) (i : ℕ) (piece : Piece) → slice_get pieces i ≡ Some piece → answers_in (take (i + 1) pieces) ≡ answers_in (take i pieces) ++ piece.answers.items
+unfolding answers_in
+answers_in-next pieces i piece at =
+    ap (λ (xs : List Piece). flat_map (λ (x : Piece). x.answers.items) xs) (take_more pieces i piece (slice_get_within pieces i piece at) ∙ ap (λ (x : Piece). take i pieces ++ x ∷ []) (get_or_from_slice_get pieces i piece piece at))
+    ∙ flat_map-append (λ (x : Piece). x.answers.items) (take i pieces) (piece ∷ [])
+    ∙ ap (λ (xs : List (ℕ × Answer)). flat_map (λ (x : Piece). x.answers.items) (take i pieces) ++ xs) (append-nil piece.answers.items)
+
+pub assembled_more : (pieces : List Piece) (i : ℕ) (piece : Piece) (before xs xs_after : List Answer) → slice_get pieces i ≡ Some piece → xs ≡ placed (answers_in (take i pieces)) before → xs_after ≡ placed piece.answers.items xs → xs_after ≡ placed (answers_in (take (i + 1) pieces)) before
+assembled_more pieces i piece before xs xs_after at so_far is =
+    is
+    ∙ ap (λ (ys : List Answer). placed piece.answers.items ys) so_far
+    ∙ sym (placed-append (answers_in (take i pieces)) piece.answers.items before)
+    ∙ ap (λ (ps : List (ℕ × Answer)). placed ps before) (sym (answers_in-next pieces i piece at))

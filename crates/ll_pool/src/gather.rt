@@ -1,0 +1,60 @@
+//! Collecting the answers of pieces in the order of the records.
+
+ghost use Rattle.std.specs.Prelude.{◌≡◌, ℕ, ◌<◌, IfOk, IfErr};
+ghost use Rattle.ll_state.specs.Worlds.{judged};
+ghost use Rattle.ll_process.specs.Processes.{process_count, times};
+ghost use Rattle.ll_pool.specs.Faults.{IsFault};
+ghost use Rattle.ll_pool.specs.Gathered.{AllOf, processes_in};
+
+use crate::assemble::assemble;
+use crate::tally::{first_absent, first_double, tally};
+use ll_process::{Case, Piece};
+use ll_state::Answer;
+use ll_trace::ProcessId;
+use std::alloc::{AllocError, Global};
+
+/// Why the answers can't be collected.
+#[derive(Clone, Copy, Debug, PartialEq, Eq)]
+pub enum CollectFault {
+    /// The least process that stands in no piece.
+    Missing(ProcessId),
+    /// The least process that stands more than once.
+    Double(ProcessId),
+    /// There is no memory.
+    Memory,
+}
+
+impl From<AllocError> for CollectFault {
+    ghost use Rattle.std.specs.Prelude.{◌≡◌};
+    ghost use Rattle.ll_pool.specs.declared.gather.CollectFault.TheVariants.{Memory};
+
+    ghost from_gives = { λ _ e. e ≡ Memory };
+
+    fn from(_failed: AllocError) -> CollectFault {
+        CollectFault::Memory
+    }
+}
+
+/// The answers to all records, in their order. If a process stands more than once in the pieces, the
+/// fault names the least such process; else, if one is absent, the least of these.
+pub fn collect(
+    alloc: Global,
+    case: &Case,
+    pieces: Vec<Piece<'_>>,
+) -> Result<Vec<Answer>, CollectFault>
+    requires { AllOf case.now pieces.items }
+    ensures answers { IfOk result
+        (λ answers. answers.items ≡ judged case.now.tree case.now.abi case.now.records) }
+    ensures each_once { IfOk result (λ answers. (process : ℕ) → process < process_count case.now.records →
+        times process (processes_in pieces.entry.items) ≡ 1) }
+    ensures fault { IfErr result (IsFault case.now.records (processes_in pieces.entry.items)) }
+{
+    let seen = tally(alloc, case, &pieces)?;
+    if let Some(process) = first_double(&seen) {
+        return Err(CollectFault::Double(ProcessId(process)));
+    }
+    if let Some(process) = first_absent(&seen) {
+        return Err(CollectFault::Missing(ProcessId(process)));
+    }
+    Ok(assemble(alloc, case, &pieces)?)
+}

@@ -1,0 +1,37 @@
+-- A forked child begins with the state of its parent, and a parent's number is below its child's.
+use Rattle.std.proofs.Common.{◌≡◌, ◌≢◌, ℕ, zero, suc, ◌+◌, ◌-◌, ◌<◌, ◌≤◌, ◌^◌, ◌*◌, Bool, true, false, cond, List, [], ◌∷◌, ◌++◌, length, take, drop, Option, Some, None, refl, sym, ap, ◌∙◌, subst, inl, inr, arith, add-one}
+use Rattle.std.specs.Prelude.{slice_get, sum_by}
+use Rattle.std.specs.List.{filter_map, cons_option}
+use Rattle.std.proofs.lemmas.Bool.{cases_Bool, cases_lt}
+use Rattle.std.proofs.lemmas.Option.{none-some, same_Some}
+use Rattle.std.proofs.lemmas.List.Sums.{sum_by-cons}
+use Rattle.ll_rights.specs.declared.abi.Abi.{Abi}
+use Rattle.ll_tree.specs.Trees.{Entry}
+use Rattle.ll_trace.specs.declared.record.Record.{Record}
+use Rattle.ll_state.specs.States.{State}
+use Rattle.ll_state.specs.Worlds.{state_of, step, world_at}
+use Rattle.ll_process.specs.Processes.{is_start, is_fork, is_starting, process_count, started_at, forked_at, own_from, own_records, children, IsNumbered}
+use Rattle.ll_process.specs.Judging.{state_met, state_left}
+use Rattle.ll_process.proofs.Worlds.{world_at-more}
+use Rattle.ll_process.proofs.Steps.{step-new, length-world_at, started-fork, fork-starts, fork_no_start}
+use Rattle.ll_process.proofs.Numbers.{count-le, count-all, count-started, StartedAt, started_at-from, forked_at-from, forked_at-none}
+use Rattle.ll_process.proofs.OwnRecords.{own_from-yes, own_from-no, own_from-nil}
+use Rattle.ll_process.proofs.Walks.{met_going_on}
+
+-- the child that a fork record starts
+pub forked : (records : List Record) (i : ℕ) (r : Record) → slice_get records i ≡ Some r → is_fork r.op ≡ true → StartedAt records i (process_count (take i records))
+forked records i r at forks = record { of = r; at = at; starts = fork-starts r.op forks; number = refl }
+
+pub child_state : (tree : List Entry) (abi : Abi) (records : List Record) (i : ℕ) (r : Record) → slice_get records i ≡ Some r → is_fork r.op ≡ true → state_left tree abi records i (process_count (take i records)) ≡ state_met tree abi records i r.process.0
+unfolding state_left
+child_state tree abi records i r at forks =
+    ap (λ w. state_of w (process_count (take i records))) (world_at-more tree abi records i r at)
+    ∙ ap (λ p. state_of (step tree abi (world_at tree abi records i) r) p) (sym (length-world_at tree abi records i))
+    ∙ step-new tree abi (world_at tree abi records i) r (state_of (world_at tree abi records i) r.process.0) (started-fork r.op (state_of (world_at tree abi records i) r.process.0) forks)
+    ∙ sym (met_going_on tree abi records i r.process.0 r at (fork_no_start r.op forks))
+
+pub child_above : (records : List Record) (i : ℕ) (r : Record) → IsNumbered records → slice_get records i ≡ Some r → is_fork r.op ≡ true → r.process.0 < process_count (take i records)
+child_above records i r numbered at forks = numbered.goes_on i r at (fork_no_start r.op forks)
+
+pub child_below : (records : List Record) (i : ℕ) (r : Record) → slice_get records i ≡ Some r → is_fork r.op ≡ true → process_count (take i records) < process_count records
+child_below records i r at forks = omega (arith, count-started records i r at (fork-starts r.op forks), count-all records (suc i))

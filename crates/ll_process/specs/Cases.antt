@@ -1,0 +1,42 @@
+-- A case: a tree, the records of a trace and a version of the interface, with what the rulebook settles of them.
+-- Source: docs/FORMATS.md, "The tree file" and "The trace file"; landlock_restrict_self(2).
+use Rattle.std.specs.Prelude.{◌≡◌, ℕ, List, Some}
+use Rattle.ll_rights.specs.declared.abi.Abi.{Abi}
+use Rattle.ll_tree.specs.Trees.{Entry}
+use Rattle.ll_rules.specs.Layers.{RulesOn}
+use Rattle.ll_trace.specs.declared.record.Record.{Record}
+use Rattle.ll_state.specs.declared.answer.Answer.{Answer}
+use Rattle.ll_state.specs.declared.note.Note.{Note}
+use Rattle.ll_state.specs.declared.own_state.OwnState.{OwnState}
+use Rattle.ll_state.specs.Agreement.{Agrees}
+use Rattle.ll_rulebook.specs.Settled.{IsSettled}
+use Rattle.ll_state.specs.States.{State}
+use Rattle.ll_process.specs.Processes.{IsNumbered, process_count, started_at}
+use Rattle.ll_process.specs.Judging.{state_left, answers_of}
+
+-- what contracts see of a case: the layers are those that its trace enforces, and a note stands for each record
+pub record Matter : Type 0 where
+  pub tree : List Entry
+  pub records : List Record
+  pub abi : Abi
+  pub layers : List (RulesOn ℕ)
+  pub notes : List Note
+
+-- The processes are numbered, and the rulebook says of each record what the fold over the whole trace says: the
+-- answer of a call that creates, changes or closes a ruleset, and for a call that restricts by a ruleset the layer
+-- that this ruleset is then.
+pub record IsCase (of : Matter) : Type 0 where
+  pub numbered : IsNumbered of.records
+  pub settled : IsSettled of.tree of.abi of.records of.layers of.notes
+
+-- what is kept of a process agrees with a state, under the tree and the layers of a case
+abbrev pub AgreesIn : Matter → OwnState → State → Type 0
+AgreesIn of own s = Agrees of.tree of.layers own s
+
+-- what a process has by itself is its state in the world after the record that starts it
+abbrev pub BeginsAs : Matter → ℕ → OwnState → Type 0
+BeginsAs of process own = (k : ℕ) → started_at of.records k ≡ Some process → AgreesIn of own (state_left of.tree of.abi of.records k process)
+
+-- the answers to a process's own records, with their places
+abbrev pub answers_in : Matter → ℕ → List (ℕ × Answer)
+answers_in of process = answers_of of.tree of.abi of.records process

@@ -1,0 +1,33 @@
+-- What one process meets and answers, record after record of its own.
+-- Source: landlock(7); the kernel's userspace document on Landlock, "Inheritance".
+use Rattle.std.specs.Prelude.{◌≡◌, ℕ, ◌+◌, List, Bool, true, false, map, Option, Some, None, unwrap_or, slice_get, if◌then◌else◌}
+use Rattle.std.specs.List.{flat_map}
+use Rattle.ll_rights.specs.declared.abi.Abi.{Abi}
+use Rattle.ll_tree.specs.Trees.{Entry}
+use Rattle.ll_trace.specs.declared.record.Record.{Record}
+use Rattle.ll_state.specs.declared.answer.Answer.{Answer}
+use Rattle.ll_state.specs.declared.answer.Answer.TheVariants.{Moot}
+use Rattle.ll_state.specs.States.{State}
+use Rattle.ll_state.specs.Worlds.{World, state_of, world_at, judged}
+use Rattle.ll_process.specs.Processes.{is_start, own_records}
+
+-- the place in the trace from which a record finds its process as it is: a start finds it as it begins
+abbrev pub place_met : ℕ → Option Record → ℕ
+place_met k None = k
+place_met k (Some r) = if is_start r.op then k + 1 else k
+
+-- the state that a record finds its process in
+unfoldable pub state_met : List Entry → Abi → List Record → ℕ → ℕ → State
+state_met tree abi records k process = state_of (world_at tree abi records (place_met k (slice_get records k))) process
+
+-- the state that a record leaves a process in
+unfoldable pub state_left : List Entry → Abi → List Record → ℕ → ℕ → State
+state_left tree abi records k process = state_of (world_at tree abi records (k + 1)) process
+
+-- the answer to a record
+unfoldable pub answer_at : List Entry → Abi → List Record → ℕ → Answer
+answer_at tree abi records k = unwrap_or (slice_get (judged tree abi records) k) Moot
+
+-- a process's own records by their places, each with its answer
+unfoldable pub answers_of : List Entry → Abi → List Record → ℕ → List (ℕ × Answer)
+answers_of tree abi records process = map (λ k. (k, answer_at tree abi records k)) (own_records records process)

@@ -1,0 +1,8 @@
+pub mod Processes
+pub mod Orders
+pub mod Judging
+pub mod Weights
+pub mod Cases
+pub mod Jobs
+pub mod Own
+pub mod AgreesOnce

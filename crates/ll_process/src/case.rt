@@ -1,0 +1,135 @@
+//! What is judged: a tree, a trace, a version of the interface, and the rulebook.
+
+ghost use Rattle.std.specs.Prelude.{◌≡◌, ◌<◌, ℕ, Some, IfOk, length, slice_get};
+ghost use Rattle.std.specs.Option.{option_map};
+ghost use Rattle.ll_process.specs.Cases.{IsCase};
+ghost use Rattle.ll_process.specs.Processes.{process_count, own_records, forked_at};
+
+use ll_rights::Abi;
+use ll_rulebook::Rulebook;
+use ll_rules::{Layer, NoMemory};
+use ll_state::Note;
+use ll_trace::{Op, ProcessId, Record, Trace};
+use ll_tree::Tree;
+use std::alloc::Global;
+use std::marker::Model;
+
+/// A tree, a trace and a version of the interface, with what follows from the rulesets of the trace
+/// as a whole: for each record what the rulebook says, and the layers that processes enforce.
+#[derive(Drop)]
+pub struct Case {
+    tree: Tree,
+    trace: Trace,
+    abi: Abi,
+    notes: Vec<Note>,
+    layers: Vec<Layer>,
+}
+
+impl Model for Case {
+    ghost use Rattle.ll_process.specs.Cases.{Matter, IsCase};
+
+    ghost Value = { Matter };
+
+    ghost view = { λ of. record {
+      tree = of.tree;
+      records = of.trace;
+      abi = of.abi;
+      layers = of.layers.items;
+      notes = of.notes.items;
+    } };
+
+    ghost invariant = { λ of. IsCase (record {
+      tree = of.tree;
+      records = of.trace;
+      abi = of.abi;
+      layers = of.layers.items;
+      notes = of.notes.items;
+    }) };
+}
+
+impl Case {
+    /// Makes the rulebook: one pass over the records in the order of the trace.
+    pub fn new(alloc: Global, tree: Tree, trace: Trace, abi: Abi) -> Result<Case, NoMemory>
+        ensures tree { IfOk result (λ of. of.tree ≡ tree) }
+        ensures records { IfOk result (λ of. of.records ≡ trace) }
+        ensures abi { IfOk result (λ of. of.abi ≡ abi) }
+        ensures rulebook { IfOk result IsCase }
+    {
+        let book = Rulebook::of(alloc, &tree, &trace, abi)?;
+        Ok(Case {
+            tree,
+            trace,
+            abi,
+            notes: book.notes,
+            layers: book.layers,
+        })
+    }
+
+    /// The tree that was handed in.
+    pub fn tree(&self) -> &Tree
+        ensures { result.now ≡ self.now.tree }
+    {
+        &self.tree
+    }
+
+    /// The trace that was handed in. Its processes are numbered in order, and the rulebook says of
+    /// each of its records what the whole trace says.
+    pub fn trace(&self) -> &Trace
+        ensures records { result.now ≡ self.now.records }
+        ensures case { IsCase self.now }
+    {
+        &self.trace
+    }
+
+    /// The version of the interface that was handed in.
+    pub fn abi(&self) -> Abi
+        ensures { result ≡ self.now.abi }
+    {
+        self.abi
+    }
+
+    /// The layers that the trace enforces.
+    pub(crate) fn layers(&self) -> &[Layer]
+        ensures { result.now ≡ self.now.layers }
+    {
+        &self.layers
+    }
+
+    /// The record at a place.
+    pub(crate) fn record(&self, index: usize) -> &Record
+        requires { index < length self.now.records }
+        ensures at { slice_get self.now.records index ≡ Some result.now }
+        ensures case { IsCase self.now }
+    {
+        &self.trace.records()[index]
+    }
+
+    /// What the rulebook says of the record at a place.
+    pub(crate) fn note(&self, index: usize) -> &Note
+        requires { index < length self.now.records }
+        ensures { slice_get self.now.notes index ≡ Some result.now }
+    {
+        &self.notes[index]
+    }
+
+    /// The places of a process's own records.
+    pub(crate) fn own_records(&self, process: ProcessId) -> &[u32]
+        requires { process.0 < process_count self.now.records }
+        ensures places { result.now ≡ own_records self.now.records process.0 }
+        ensures case { IsCase self.now }
+    {
+        self.trace().records_of(process)
+    }
+
+    /// The child that the record at a place forks, if it does.
+    pub(crate) fn child_at(&self, index: u32) -> Option<ProcessId>
+        requires { index < length self.now.records }
+        ensures child { option_map (λ child. child.0) result ≡ forked_at self.now.records index }
+        ensures case { IsCase self.now }
+    {
+        match self.record(index as usize).op {
+            Op::Fork { .. } => self.trace().starts(index),
+            _ => None,
+        }
+    }
+}

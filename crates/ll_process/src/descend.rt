@@ -1,0 +1,91 @@
+//! Judging one process, and its descendants as far as nobody else keeps them.
+
+ghost use Rattle.std.specs.Prelude.{◌≡◌, ◌<◌, ◌+◌, ◌++◌, ◌∷◌, [], Some, OnOk, IfOk, slice_get};
+ghost use Rattle.ll_process.specs.Processes.{process_count, numbers, children};
+ghost use Rattle.ll_process.specs.Cases.{answers_in};
+ghost use Rattle.ll_process.specs.Jobs.{processes_of, AllOf, HandedOut, SharesOut};
+ghost use Rattle.ll_process.specs.Weights.{weight, weight_of};
+
+use crate::adding::append;
+use crate::child::{child_job, offer};
+use crate::hand::Hand;
+use crate::job::Job;
+use crate::piece::Piece;
+use crate::walk::answer_own;
+use ll_rules::NoMemory;
+use ll_state::Answer;
+use ll_trace::ProcessId;
+use std::alloc::Global;
+
+/// Judges one process: its records, with their answers, go behind those that are there. Each child
+/// that it forks is offered to the hand; those that come back are still to do.
+fn judge_own<'c, H: Hand<'c>>(
+    job: Job<'c>,
+    hand: &mut H,
+    todo: &mut Vec<Job<'c>>,
+    answers: &mut Vec<(u32, Answer)>,
+) -> Result<(), NoMemory>
+    requires suits { H.suits hand.old job.case.now }
+    requires of_case { AllOf job.case.now todo.old.items }
+    ensures answered { OnOk result
+        (answers.new.items ≡ answers.old.items ++ answers_in job.entry.case.now job.entry.process.0) }
+    ensures handed { OnOk result
+        (HandedOut (children job.entry.case.now.records job.entry.process.0)
+        (H.kept hand.old) (H.kept hand.new) (processes_of todo.old.items) (processes_of todo.new.items)) }
+    ensures less { OnOk result
+        (weight_of (process_count job.entry.case.now.records) (processes_of todo.new.items)
+        < weight_of (process_count job.entry.case.now.records) (processes_of todo.old.items)
+        + weight (process_count job.entry.case.now.records) job.entry.process.0) }
+    ensures of_case { OnOk result (AllOf job.entry.case.now todo.new.items) }
+    ensures suits { H.suits hand.new job.entry.case.now }
+    ensures stays { (before : H) → H.stays before hand.old → H.stays before hand.new }
+{
+    let Job {
+        case,
+        process,
+        mut own,
+    } = job;
+    for index in case.own_records(process) {
+        let answer = answer_own(case, process, *index, &mut own)?;
+        if answers.push((*index, answer)).is_err() {
+            return Err(NoMemory);
+        }
+        if let Some(child) = child_job(case, process, *index, &own)? {
+            offer(child, hand, todo)?;
+        }
+    }
+    Ok(())
+}
+
+/// Judges the job's process, and each descendant whose job the hand gives back. The piece's first
+/// process is the job's. The jobs that the hand kept stay kept, also where memory runs out.
+pub fn judge<'c, H: Hand<'c>>(
+    alloc: Global,
+    job: Job<'c>,
+    hand: &mut H,
+) -> Result<Piece<'c>, NoMemory>
+    requires { H.suits hand.old job.case.now }
+    ensures first { IfOk result (λ piece. slice_get piece.processes.items 0 ≡ Some job.entry.process) }
+    ensures of_case { IfOk result (λ piece. piece.case.now ≡ job.entry.case.now) }
+    ensures shares_out { IfOk result (λ piece.
+        SharesOut job.entry.case.now.records job.entry.process.0 (numbers piece.processes.items)
+        (H.kept hand.old) (H.kept hand.new)) }
+    ensures suits { H.suits hand.new job.entry.case.now }
+    ensures stays { (before : H) → H.stays before hand.old → H.stays before hand.new }
+{
+    let case = job.case;
+    let mut todo = Vec::new(alloc);
+    let mut processes = Vec::new(alloc);
+    let mut answers = Vec::new(alloc);
+    append(&mut processes, job.process)?;
+    judge_own(job, hand, &mut todo, &mut answers)?;
+    while let Some(next) = todo.pop() {
+        append(&mut processes, next.process)?;
+        judge_own(next, hand, &mut todo, &mut answers)?;
+    }
+    Ok(Piece {
+        case,
+        processes,
+        answers,
+    })
+}

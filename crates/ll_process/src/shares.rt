@@ -1,0 +1,12 @@
+//! What holds of processes that are shared out.
+ghost use Rattle.std.specs.Prelude.{◌≡◌, ℕ, ◌+◌, ◌<◌, List, sum_by};
+ghost use Rattle.ll_trace.specs.declared.record.Record.{Record};
+ghost use Rattle.ll_process.specs.Processes.{IsNumbered, process_count, times, roots, kids};
+
+/// Processes that are the roots of a trace together with the children of their own members, each as
+/// often, are all processes of the trace, each once.
+pub fn each_process_once()
+    ensures { (records : List Record) (processes : List ℕ) → IsNumbered records
+        → ((weight : ℕ → ℕ) → sum_by weight processes ≡ sum_by weight (roots records) + sum_by weight (kids records processes))
+        → (process : ℕ) → process < process_count records → times process processes ≡ 1 }
+{}

@@ -1,0 +1,47 @@
+//! The processes that a trace begins with.
+
+ghost use Rattle.std.specs.Prelude.{◌≡◌, ◌<◌, IfOk, IfSome, length, slice_get};
+ghost use Rattle.std.specs.Option.{option_map};
+ghost use Rattle.ll_process.specs.Processes.{root_at, roots};
+ghost use Rattle.ll_process.specs.Jobs.{processes_of, AllOf};
+
+use crate::adding::append;
+use crate::case::Case;
+use crate::job::Job;
+use ll_rules::NoMemory;
+use ll_state::OwnState;
+use ll_trace::Op;
+use std::alloc::Global;
+
+/// The job of the process that a `start` record begins; other records begin none.
+fn root_job<'c>(alloc: Global, case: &'c Case, index: usize) -> Option<Job<'c>>
+    requires { index < length case.now.records }
+    ensures root { option_map (λ job. job.process.0) result ≡ root_at case.now.records index }
+    ensures of_case { IfSome result (λ job. job.case.now ≡ case.now) }
+{
+    let record = case.record(index);
+    match record.op {
+        Op::Start { nnp, admin } => Some(Job {
+            case,
+            process: record.process,
+            own: OwnState::fresh(alloc, nnp, admin),
+        }),
+        _ => None,
+    }
+}
+
+impl Case {
+    /// One job for each `start` record, in the order of the trace.
+    pub fn roots(&self, alloc: Global) -> Result<Vec<Job<'_>>, NoMemory>
+        ensures roots { IfOk result (λ jobs. processes_of jobs.items ≡ roots self.now.records) }
+        ensures of_case { IfOk result (λ jobs. AllOf self.now jobs.items) }
+    {
+        let mut jobs = Vec::new(alloc);
+        for index in 0..self.trace().records().len() {
+            if let Some(job) = root_job(alloc, self, index) {
+                append(&mut jobs, job)?;
+            }
+        }
+        Ok(jobs)
+    }
+}

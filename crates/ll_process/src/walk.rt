@@ -1,0 +1,56 @@
+//! One process's own records, one after another.
+
+ghost use Rattle.std.specs.Prelude.{◌≡◌, Some, IfOk, OnOk, slice_get};
+ghost use Rattle.ll_trace.specs.declared.record.Record.{Record as OneRecord};
+ghost use Rattle.ll_state.specs.declared.note.Note.{Note as OneNote};
+ghost use Rattle.ll_state.specs.Agreement.{Situation, IsMet, Agrees, answered, left};
+ghost use Rattle.ll_state.specs.Notes.{NoteFits};
+ghost use Rattle.ll_process.specs.Judging.{answer_at};
+ghost use Rattle.ll_process.specs.Own.{IsOwn, Meets, Leaves};
+
+use crate::case::Case;
+use ll_rules::NoMemory;
+use ll_state::{Answer, OwnState};
+use ll_trace::{Op, ProcessId};
+
+/// What the record at a place is answered where it meets this.
+fn judge_met(
+    case: &Case,
+    process: ProcessId,
+    index: u32,
+    own: &mut OwnState,
+) -> Result<Answer, NoMemory>
+    ghost at: { Situation }
+    requires own { IsOwn case.now index process.0 }
+    requires met { IsMet at case.now.tree case.now.layers }
+    requires agrees { Agrees at.tree at.layers own.old at.state }
+    requires fits { (r : OneRecord) (note : OneNote) →
+        slice_get case.now.records index ≡ Some r → slice_get case.now.notes index ≡ Some note →
+        NoteFits at r.op note }
+    ensures answer { IfOk result (λ given. (r : OneRecord) →
+        slice_get case.now.records index ≡ Some r → given ≡ answered at r.op) }
+    ensures agrees { OnOk result ((r : OneRecord) →
+        slice_get case.now.records index ≡ Some r → Agrees at.tree at.layers own.new (left at r.op)) }
+{
+    let op = &case.record(index as usize).op;
+    let note = case.note(index as usize);
+    own.judge(case.tree(), case.layers(), op, note)
+}
+
+/// What one of a process's own records is answered. A start was done when its process began.
+pub(crate) fn answer_own(
+    case: &Case,
+    process: ProcessId,
+    index: u32,
+    own: &mut OwnState,
+) -> Result<Answer, NoMemory>
+    requires own { IsOwn case.now index process.0 }
+    requires meets { Meets case.now index process.0 own.old }
+    ensures answer { IfOk result (λ given. given ≡ answer_at case.now.tree case.now.abi case.now.records index) }
+    ensures leaves { OnOk result (Leaves case.now index process.0 own.new) }
+{
+    match case.record(index as usize).op {
+        Op::Start { .. } => Ok(Answer::Allowed),
+        _ => judge_met(case, process, index, own),
+    }
+}

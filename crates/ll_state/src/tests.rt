@@ -1,0 +1,23 @@
+//! Calls that take memory, which no clause promises to be there.
+
+use crate::{Answer, Note, OwnState};
+use ll_rules::Layer;
+use ll_trace::{Op, Sort};
+use ll_tree::Tree;
+use std::test::*;
+
+#[test]
+fn a_process_adopts_a_descriptor_and_forks(rt: HostRuntime) -> Result<(), Fail> {
+    let tree = Tree::read(rt.alloc(), b"")?;
+    let layers: [Layer; 0] = [];
+    let adopts = Op::Adopt {
+        fd: 7,
+        kind: Sort::Regular,
+    };
+    let mut own = OwnState::fresh(rt.alloc(), true, false);
+    let answer = own.judge(&tree, &layers, &adopts, &Note::Open)?;
+    assert_eq!(rt; answer, Answer::Allowed);
+    let child = own.forked();
+    assert!(rt; child.is_ok());
+    Ok(())
+}
