@@ -1,0 +1,63 @@
+//! The system's files as a source.
+
+ghost use Rattle.std.specs.Prelude.{◌≡◌, ◌≤◌, IfOk, None, vec_len};
+
+use ll_audit::{Source, SourceFault};
+use std::alloc::Global;
+use std::fs::File;
+use std::io;
+use std::io::{ErrorKind, Read};
+use std::rt::Files;
+
+/// How many bytes a file may have.
+const LIMIT: u64 = 1_073_741_824;
+
+/// The files of the system. One that has more than `LIMIT` bytes can't be read.
+#[derive(Drop)]
+pub(crate) struct FileSource<'a, R: Files> {
+    rt: &'a R,
+    failures: u64,
+}
+
+impl<'a, R: Files> FileSource<'a, R> {
+    pub(crate) fn new(rt: &'a R) -> FileSource<'a, R>
+        ensures { result.failures ≡ 0 }
+    {
+        FileSource { rt, failures: 0 }
+    }
+}
+
+impl<R: Files> Source for FileSource<'_, R> {
+    ghost files = { λ _. None };
+
+    ghost failed = { λ source. source.failures };
+
+    fn bytes_of(&mut self, alloc: Global, name: &str) -> Result<Vec<u8>, SourceFault> {
+        match read(self.rt, alloc, name) {
+            Ok(bytes) => Ok(bytes),
+            Err(error) if error.kind() == ErrorKind::OutOfMemory => Err(SourceFault::Memory),
+            Err(_) => {
+                self.failures += 1;
+                Err(SourceFault::Unread)
+            }
+        }
+    }
+
+    fn failures(&self) -> u64 {
+        self.failures
+    }
+}
+
+/// The bytes of a file, if it has at most `LIMIT`.
+fn read<R: Files>(rt: &R, alloc: Global, name: &str) -> io::Result<Vec<u8>>
+    ensures { IfOk result (λ bytes. vec_len bytes ≤ LIMIT) }
+{
+    let mut bytes = Vec::new(alloc);
+    File::open(rt, name)?
+        .take(LIMIT + 1)
+        .read_to_end(&mut bytes)?;
+    if bytes.len() as u64 > LIMIT {
+        return Err(ErrorKind::FileTooLarge.into());
+    }
+    Ok(bytes)
+}

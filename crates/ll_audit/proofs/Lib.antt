@@ -1,0 +1,6 @@
+pub mod CommandLine
+pub mod FilesByName
+pub mod LayerText
+pub mod LinesLeft
+pub mod Endings
+pub mod Folding

@@ -1,0 +1,57 @@
+-- What an audit answers: the report, or why there is none.
+-- Source: docs/FORMATS.md, "The report" and "Faults of a run"; docs/SEMANTICS.md.
+use Rattle.std.specs.Prelude.{◌≡◌, ◌<◌, ◌≤◌, ℕ, List}
+use Rattle.ll_rights.specs.declared.abi.Abi.{Abi}
+use Rattle.ll_tree.specs.Reading.{IsBad}
+use Rattle.ll_tree.specs.TreeReading.{IsTreeOf, tree_format}
+use Rattle.ll_tree.specs.Trees.{Entry}
+use Rattle.ll_trace.specs.declared.record.Record.{Record}
+use Rattle.ll_trace.specs.Entries.{trace_file}
+use Rattle.ll_trace.specs.Records.{IsTrace}
+use Rattle.ll_state.specs.Worlds.{judged}
+use Rattle.ll_audit.specs.declared.fault.Fault.{Fault}
+use Rattle.ll_audit.specs.declared.fault.Fault.TheVariants as fault
+use Rattle.ll_audit.specs.declared.report.Report.{Report}
+use Rattle.ll_audit.specs.Lines.{lines_of, refused_among}
+use Rattle.ll_audit.specs.Report.{report_text}
+
+-- the report on records whose calls meet this tree: the answers are those of one fold over all records
+pub record IsReportOn (tree : List Entry) (abi : Abi) (records : List Record) (report : Report) : Type 0 where
+  pub text : report.bytes.items ≡ report_text (lines_of records (judged tree abi records))
+  pub refused : report.refused ≡ refused_among records (judged tree abi records)
+
+-- the bytes of both files read, and this is the report on what they say
+pub record IsReport (abi : Abi) (tree_bytes trace_bytes : List ℕ) (report : Report) : Type 0 where
+  pub tree : List Entry
+  pub records : List Record
+  pub reads_tree : IsTreeOf tree_bytes tree
+  pub reads_trace : IsTrace trace_bytes records
+  pub report_on : IsReportOn tree abi records report
+
+-- a number of threads that may judge
+abbrev pub IsCrew : ℕ → Type 0
+IsCrew workers = (1 ≤ workers) × (workers ≤ 64)
+
+-- a reader's answer for bytes that don't read
+abbrev pub IsTreeFault : List ℕ → Fault → Type 0
+IsTreeFault bytes (fault.Tree of) = IsBad tree_format bytes of
+IsTreeFault bytes fault.Memory = Unit {0}
+IsTreeFault bytes _ = ⊥
+
+abbrev pub IsTraceFault : List ℕ → Fault → Type 0
+IsTraceFault bytes (fault.Trace of) = IsBad trace_file bytes of
+IsTraceFault bytes fault.Memory = Unit {0}
+IsTraceFault bytes _ = ⊥
+
+-- some tree is what the bytes read as
+abbrev pub ReadsAsTree : List ℕ → Type 0
+ReadsAsTree bytes = (tree : List Entry) × IsTreeOf bytes tree
+
+-- Why there is no report: the tree doesn't read, or it does and the trace doesn't. Want of memory says nothing of
+-- the files, and no thread is started yet.
+abbrev pub IsFaultOf : ℕ → List ℕ → List ℕ → Fault → Type 0
+IsFaultOf workers tree_bytes trace_bytes fault.Workers = IsCrew workers → ⊥
+IsFaultOf workers tree_bytes trace_bytes (fault.Tree of) = IsCrew workers × IsBad tree_format tree_bytes of
+IsFaultOf workers tree_bytes trace_bytes (fault.Trace of) = IsCrew workers × ReadsAsTree tree_bytes × IsBad trace_file trace_bytes of
+IsFaultOf workers tree_bytes trace_bytes fault.Memory = IsCrew workers
+IsFaultOf workers tree_bytes trace_bytes fault.NoThread = ⊥

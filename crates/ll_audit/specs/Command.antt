@@ -1,0 +1,114 @@
+-- The command line: `landaudit --abi N [--workers N] [--grain N] TREE TRACE`, and what it asks for.
+-- Source: docs/FORMATS.md, "The command line".
+use Rattle.std.specs.Prelude.{◌≡◌, ◌≢◌, ◌==◌, ◌&&◌, ◌⊎◌, ⊤, nat_lt, ℕ, true, List, [], ◌∷◌, Option, Some, None, codes, find, if◌then◌else◌, option_and_then}
+use Rattle.std.specs.Str.Parse.{digits_value, without_leading_plus}
+use Rattle.clap.specs.declared.builder.action.ArgAction.TheVariants.{Set}
+use Rattle.clap.specs.declared.builder.value_parser.ValueParser.TheVariants.{Unsigned}
+use Rattle.clap.specs.declared.error.kind.ErrorKind.TheVariants.{DisplayHelp, MissingRequiredArgument}
+use Rattle.clap.specs.declared.error.kind.ErrorKind.{ErrorKind}
+use Rattle.clap.specs.Words.{App, IsAmong, Kinds, Row, Rule, Text, fault_of, first_of, matches_of, new_app, new_rule, one_of, with_rule}
+use Rattle.clap.specs.ValueTests.{is_unsigned_in}
+use Rattle.ll_rights.specs.declared.abi.Abi.{Abi}
+use Rattle.ll_rights.specs.declared.abi.Abi.TheVariants.{V1, V2, V3, V4, V5}
+use Rattle.ll_rights.specs.Abis.{number_of}
+use Rattle.ll_audit.specs.Audits.{IsCrew}
+use Rattle.ll_audit.specs.declared.command.Run.{Run}
+use Rattle.ll_audit.specs.declared.command.Plan.{Plan}
+use Rattle.ll_audit.specs.declared.command.Plan.TheVariants as plan
+
+-- `--name N`, a number from `least` to `most`
+abbrev pub number_option : Text → ℕ → ℕ → Rule
+number_option name least most = record (new_rule name) {
+  long = Some name;
+  action = Some Set;
+  parser = Some (Unsigned least most);
+  value_names = 1;
+}
+
+-- an option that has to be given, and one that has a value where it is not
+abbrev pub required : Rule → Rule
+required rule = record rule { required = true }
+
+abbrev pub with_default : Text → Rule → Rule
+with_default value rule = record rule { defaults = value ∷ [] }
+
+-- a file's name
+abbrev pub file_argument : Text → Rule
+file_argument name = record (required (new_rule name)) { action = Some Set }
+
+unfoldable pub command : App
+command = with_rule (with_rule (with_rule (with_rule (with_rule (new_app (codes "landaudit"))
+    (required (number_option (codes "abi") 1 5)))
+    (with_default (codes "1") (number_option (codes "workers") 1 64)))
+    (with_default (codes "64") (number_option (codes "grain") 0 18446744073709551615)))
+    (file_argument (codes "TREE")))
+    (file_argument (codes "TRACE"))
+
+-- what a run is asked to do
+pub record Request : Type 0 where
+  pub abi : Abi
+  pub workers : ℕ
+  pub grain : ℕ
+  pub tree : Text
+  pub trace : Text
+
+-- the version of a number
+abbrev pub version_of : ℕ → Option Abi
+version_of number = find (λ abi. number_of abi == number) (V1 ∷ V2 ∷ V3 ∷ V4 ∷ V5 ∷ [])
+
+-- the number of workers, which is 1 to 64
+abbrev pub crew_of : ℕ → Option ℕ
+crew_of number = if nat_lt 0 number && nat_lt number 65 then Some number else None
+
+-- the number of 64 bits that a text spells
+abbrev pub number_in : Text → Option ℕ
+number_in text = if is_unsigned_in 0 18446744073709551615 text then Some (digits_value 10 (without_leading_plus text)) else None
+
+-- the number that the matches give an option
+abbrev pub number_at : Text → List Row → Option ℕ
+number_at name rows = option_and_then number_in (one_of name rows)
+
+infixl 10 ◌>>=◌
+abbrev pub ◌>>=◌ : {A B : Type 0} → Option A → (A → Option B) → Option B
+found >>= next = option_and_then next found
+
+-- what the matches ask for
+unfoldable pub request_in : List Row → Option Request
+request_in rows = do
+  number ← number_at (codes "abi") rows
+  abi ← version_of number
+  crew ← number_at (codes "workers") rows
+  workers ← crew_of crew
+  grain ← number_at (codes "grain") rows
+  tree ← first_of (codes "TREE") rows
+  trace ← first_of (codes "TRACE") rows
+  Some (record { abi = abi; workers = workers; grain = grain; tree = tree; trace = trace })
+
+-- the faults of the words: none, help that is asked for, or what is wrong with them
+unfoldable pub faults : List Text → Kinds
+faults words = fault_of command words
+
+-- what the words ask for, where nothing is wrong with them
+abbrev pub request_if : Kinds → List Row → Option Request
+request_if [] rows = request_in rows
+request_if (kind ∷ kinds) rows = None
+
+unfoldable pub request_of : List Text → Option Request
+request_of words = request_if (faults words) (matches_of command words)
+
+-- a run, as it was asked for
+abbrev pub request_by : Run → Request
+request_by run = record { abi = run.abi; workers = run.workers; grain = run.grain; tree = run.tree.now; trace = run.trace.now }
+
+-- an error of this kind answers the words: one of their faults, or that they lack an argument
+abbrev pub IsRefusal : List Text → ErrorKind → Type 0
+IsRefusal words kind =
+    IsAmong kind (faults words)
+    ⊎ ((kind ≡ MissingRequiredArgument) × (faults words ≡ []) × (request_of words ≡ None))
+
+-- what a plan says of the words that it was made from
+abbrev pub IsPlanFor : List Text → Plan → Type 0
+IsPlanFor words (plan.Run run) = (request_of words ≡ Some (request_by run)) × IsCrew run.workers
+IsPlanFor words (plan.Help error) = IsAmong DisplayHelp (faults words)
+IsPlanFor words (plan.Usage error) = (request_of words ≡ None) × (faults words ≢ DisplayHelp ∷ [])
+IsPlanFor words plan.Memory = ⊤

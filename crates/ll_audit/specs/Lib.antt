@@ -1,0 +1,10 @@
+pub mod Command
+pub mod FaultLines
+pub mod Files
+pub mod Report
+pub mod Lines
+pub mod Audits
+pub mod Fronts
+pub mod Folding
+pub mod Outcomes
+pub mod Names

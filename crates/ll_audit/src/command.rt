@@ -1,0 +1,202 @@
+//! The command line.
+
+ghost use Rattle.std.specs.Prelude.{◌≡◌, ◌⊎◌, [], IfOk, IfSome, MatchResult, Some, false, map, option_map, string_bytes};
+ghost use Rattle.clap.specs.Words.{HasKind, app_of, first_of, found_of, kind_of, matches_of, rows_of, rule_of};
+ghost use Rattle.clap.specs.declared.error.kind.ErrorKind.TheVariants.{OutOfMemory};
+ghost use Rattle.ll_audit.specs.Audits.{IsCrew};
+ghost use Rattle.ll_audit.specs.Command as spec;
+
+use clap::builder::ValueParser;
+use clap::error::ErrorKind;
+use clap::{Arg, ArgAction, ArgMatches, Command, Error};
+use ll_rights::Abi;
+use std::alloc::{AllocError, Global};
+
+/// What a run is asked to do.
+#[derive(Clone, Copy, Debug)]
+pub(crate) struct Run<'a> {
+    /// The version of Landlock's interface that answers.
+    pub(crate) abi: Abi,
+    /// How many threads judge.
+    pub(crate) workers: u64,
+    /// From how many records on a forked process may go to another thread.
+    pub(crate) grain: u64,
+    /// The name of the file with the tree.
+    pub(crate) tree: &'a str,
+    /// The name of the file with the trace.
+    pub(crate) trace: &'a str,
+}
+
+/// What the words of the command line ask for.
+#[derive(Debug, Drop)]
+pub(crate) enum Plan<'a> {
+    /// A run.
+    Run(Run<'a>),
+    /// Help, which is the text of the error.
+    Help(Error),
+    /// Nothing: the words are at fault, and the error's text says why.
+    Usage(Error),
+    /// No memory was left while the words were read.
+    Memory,
+}
+
+const ABOUT: &str = "Says for each call of a trace what Landlock answers";
+
+const TREE_HELP: &str =
+    "File with the file tree, one object a line: {\"path\":\"/a/f\",\"kind\":\"reg\"}";
+
+const TRACE_HELP: &str =
+    "File with the calls, one a line: {\"op\":\"open\",\"pid\":10,\"path\":\"/a/f\",\"fd\":4,\"mode\":\"r\"}";
+
+const STATUSES: &str = "\
+Status:
+  0  no call is refused, or this help was asked for
+  1  some call is refused
+  2  the command line is wrong
+  3  a file can't be read, or a line of it is wrong
+  4  no memory or no thread is left, or the report can't be written";
+
+/// An option `--name N`.
+fn number_option<'a>(alloc: Global, name: &'a str, least: u64, most: u64, help: &'a str) -> Arg<'a>
+    ensures rule { rule_of result ≡ spec.number_option name.entry.now least most }
+    ensures local { result.global ≡ false }
+{
+    Arg::new(alloc, name)
+        .long(name)
+        .action(ArgAction::Set)
+        .value_name("N")
+        .value_parser(ValueParser::unsigned(least, most))
+        .help(help)
+}
+
+/// The name of a file, which has to be given.
+fn file_argument<'a>(alloc: Global, name: &'a str, help: &'a str) -> Arg<'a>
+    ensures rule { rule_of result ≡ spec.file_argument name.entry.now }
+    ensures local { result.global ≡ false }
+{
+    Arg::new(alloc, name)
+        .required(true)
+        .action(ArgAction::Set)
+        .help(help)
+}
+
+/// The command, with the texts of its help.
+#[tactic(auto, unfolding(crate::specs::Command::command))]
+fn command<'a>(alloc: Global) -> Result<Command<'a>, AllocError>
+    ensures { IfOk result (λ command. app_of command ≡ spec.command) }
+{
+    let abi = number_option(
+        alloc,
+        "abi",
+        1,
+        5,
+        "Version of Landlock's interface, 1 to 5",
+    );
+    let workers = number_option(alloc, "workers", 1, 64, "Number of threads, 1 to 64");
+    let grain = number_option(
+        alloc,
+        "grain",
+        0,
+        u64::MAX,
+        "Fewest records of a forked process that may go to another thread",
+    );
+    Command::new(alloc, "landaudit")
+        .about(ABOUT)
+        .after_help(STATUSES)
+        .arg(abi.required(true))?
+        .arg(workers.default_value("1"))?
+        .arg(grain.default_value("64"))?
+        .arg(file_argument(alloc, "TREE", TREE_HELP))?
+        .arg(file_argument(alloc, "TRACE", TRACE_HELP))
+}
+
+/// The version of a number.
+fn version(number: u64) -> Option<Abi>
+    ensures { result ≡ spec.version_of number }
+{
+    Abi::new(number)
+}
+
+/// The number of workers, where it is 1 to 64.
+fn crew(number: u64) -> Option<u64>
+    ensures value { result ≡ spec.crew_of number }
+    ensures crew { IfSome result IsCrew }
+{
+    if 0 < number && number < 65 {
+        Some(number)
+    } else {
+        None
+    }
+}
+
+/// The number that the matches give an option.
+fn number(matches: &ArgMatches<'_>, name: &str) -> Option<u64>
+    ensures { result ≡ spec.number_at name.now (rows_of (found_of matches.now)) }
+{
+    matches.get_one::<u64>(name)
+}
+
+/// The text that the matches give an argument.
+fn text<'a>(matches: &ArgMatches<'a>, name: &str) -> Option<&'a str>
+    ensures { option_map (λ text. text.now) result
+        ≡ first_of name.now (rows_of (found_of matches.now)) }
+{
+    matches.get_str(name)
+}
+
+/// What the matches ask for.
+#[tactic(auto, unfolding(crate::specs::Command::request_in))]
+fn run_of<'a>(matches: &ArgMatches<'a>) -> Option<Run<'a>>
+    ensures request { option_map spec.request_by result
+        ≡ spec.request_in (rows_of (found_of matches.now)) }
+    ensures crew { IfSome result (λ run. IsCrew run.workers) }
+{
+    Some(Run {
+        abi: version(number(matches, "abi")?)?,
+        workers: crew(number(matches, "workers")?)?,
+        grain: number(matches, "grain")?,
+        tree: text(matches, "TREE")?,
+        trace: text(matches, "TRACE")?,
+    })
+}
+
+/// The matches of the words.
+fn parse<'a>(command: &mut Command<'a>, words: &'a [String]) -> Result<ArgMatches<'a>, Error>
+    requires { app_of command.old ≡ spec.command }
+    ensures { MatchResult result
+        (λ matches. (spec.faults (map string_bytes words.entry.now) ≡ [])
+        × (rows_of (found_of matches) ≡ matches_of spec.command (map string_bytes words.entry.now)))
+        (HasKind (spec.faults (map string_bytes words.entry.now))) }
+{
+    command.try_get_matches_from_mut(words)
+}
+
+/// Reads the words, of which the first is the program's name.
+fn read<'a>(alloc: Global, words: &'a [String]) -> Result<Run<'a>, Error>
+    ensures { MatchResult result
+        (λ run. (spec.request_of (map string_bytes words.entry.now) ≡ Some (spec.request_by run))
+        × IsCrew run.workers)
+        (λ error. (kind_of error ≡ OutOfMemory)
+        ⊎ spec.IsRefusal (map string_bytes words.entry.now) (kind_of error)) }
+{
+    let mut command = command(alloc)?;
+    let matches = parse(&mut command, words)?;
+    match run_of(&matches) {
+        Some(run) => Ok(run),
+        None => Err(command.error(ErrorKind::MissingRequiredArgument, "an argument is missing")?),
+    }
+}
+
+/// What the words ask for. The first is the program's name.
+pub(crate) fn plan_of<'a>(alloc: Global, words: &'a [String]) -> Plan<'a>
+    ensures { spec.IsPlanFor (map string_bytes words.entry.now) result }
+{
+    match read(alloc, words) {
+        Ok(run) => Plan::Run(run),
+        Err(error) => match error.kind() {
+            ErrorKind::OutOfMemory => Plan::Memory,
+            ErrorKind::DisplayHelp => Plan::Help(error),
+            _ => Plan::Usage(error),
+        },
+    }
+}

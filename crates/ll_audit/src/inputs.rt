@@ -1,0 +1,60 @@
+//! The bytes of the two files of a run.
+
+ghost use Rattle.std.specs.Prelude.{◌≡◌, ◌⊎◌, ◌+◌, ◌-◌, ◌^◌, ◌<◌, ◌≤◌, IfOk, IfErr, IfSome, Some};
+ghost use Rattle.ll_audit.specs.Files.{bytes_of};
+
+use crate::command::Run;
+use crate::lines::Failure;
+use crate::source::{Source, SourceFault};
+use std::alloc::Global;
+
+/// The bytes of the files that a run names.
+#[derive(Debug, Drop)]
+pub(crate) struct Inputs {
+    pub(crate) tree: Vec<u8>,
+    pub(crate) trace: Vec<u8>,
+}
+
+/// The bytes of the file of a name.
+fn bytes_of<'a, S: Source>(
+    alloc: Global,
+    source: &mut S,
+    name: &'a str,
+) -> Result<Vec<u8>, Failure<'a>>
+    requires { S.failed source.old < 2 ^ 64 - 1 }
+    ensures bytes { IfOk result (λ bytes. IfSome (S.files source.old)
+        (λ files. bytes_of files name.entry.now ≡ Some bytes.items)) }
+    ensures failure { IfErr result (λ failure. (failure ≡ Failure.Memory)
+        ⊎ ((failure ≡ Failure.Unread name.entry)
+        × (S.failed source.new ≡ S.failed source.old + 1))) }
+    ensures kept { S.failed source.old ≤ S.failed source.new }
+    ensures at_most_one { S.failed source.new ≤ S.failed source.old + 1 }
+    ensures same_files { S.files source.new ≡ S.files source.old }
+{
+    match source.bytes_of(alloc, name) {
+        Ok(bytes) => Ok(bytes),
+        Err(SourceFault::Unread) => Err(Failure::Unread(name)),
+        Err(SourceFault::Memory) => Err(Failure::Memory),
+    }
+}
+
+/// The bytes of the two files. The tree is read first, and the trace only if the tree was.
+pub(crate) fn inputs_of<'a, S: Source>(
+    alloc: Global,
+    source: &mut S,
+    run: &Run<'a>,
+) -> Result<Inputs, Failure<'a>>
+    requires { S.failed source.old + 2 < 2 ^ 64 }
+    ensures tree { IfOk result (λ inputs. IfSome (S.files source.old)
+        (λ files. bytes_of files run.now.tree.now ≡ Some inputs.tree.items)) }
+    ensures trace { IfOk result (λ inputs. IfSome (S.files source.old)
+        (λ files. bytes_of files run.now.trace.now ≡ Some inputs.trace.items)) }
+    ensures failure { IfErr result (λ failure. (failure ≡ Failure.Memory)
+        ⊎ (((failure ≡ Failure.Unread run.now.tree) ⊎ (failure ≡ Failure.Unread run.now.trace))
+        × (S.failed source.old < S.failed source.new))) }
+    ensures same_files { S.files source.new ≡ S.files source.old }
+{
+    let tree = bytes_of(alloc, source, run.tree)?;
+    let trace = bytes_of(alloc, source, run.trace)?;
+    Ok(Inputs { tree, trace })
+}

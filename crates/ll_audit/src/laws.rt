@@ -1,0 +1,27 @@
+//! What holds by the definitions alone.
+
+ghost use Rattle.std.specs.Prelude.{◌≡◌, ◌∷◌, [], Some, None, codes};
+ghost use Rattle.clap.specs.declared.error.kind.ErrorKind.TheVariants as kind;
+ghost use Rattle.ll_rights.specs.declared.abi.Abi.TheVariants.{V4, V5};
+ghost use Rattle.ll_audit.specs.Command.{faults, request_of};
+
+/// What some command lines ask for, and what is wrong with others.
+#[tactic(auto, unfolding(clap::proofs::OnLiterals::clap_on_literals, crate::specs::Command::command, crate::specs::Command::faults, crate::specs::Command::request_in, crate::specs::Command::request_of))]
+pub fn command_lines()
+    // Without `--workers` and `--grain` there is one worker, and the grain is 64.
+    ensures short { request_of (codes "landaudit" ∷ codes "--abi" ∷ codes "4" ∷ codes "t" ∷ codes "r" ∷ [])
+        ≡ Some (record { abi = V4; workers = 1; grain = 64; tree = codes "t"; trace = codes "r" }) }
+    ensures long { request_of (codes "landaudit" ∷ codes "--abi=5" ∷ codes "t" ∷ codes "--workers" ∷ codes "64"
+        ∷ codes "r" ∷ codes "--grain=0" ∷ [])
+        ≡ Some (record { abi = V5; workers = 64; grain = 0; tree = codes "t"; trace = codes "r" }) }
+    ensures no_such_version { faults (codes "landaudit" ∷ codes "--abi" ∷ codes "6" ∷ codes "t" ∷ codes "r" ∷ [])
+        ≡ kind.ValueValidation ∷ [] }
+    ensures no_worker { faults (codes "landaudit" ∷ codes "--abi" ∷ codes "4" ∷ codes "--workers" ∷ codes "0"
+        ∷ codes "t" ∷ codes "r" ∷ []) ≡ kind.ValueValidation ∷ [] }
+    ensures no_trace { faults (codes "landaudit" ∷ codes "--abi" ∷ codes "4" ∷ codes "t" ∷ [])
+        ≡ kind.MissingRequiredArgument ∷ [] }
+    ensures no_word { faults (codes "landaudit" ∷ []) ≡ kind.MissingRequiredArgument ∷ [] }
+    ensures help { faults (codes "landaudit" ∷ codes "--help" ∷ []) ≡ kind.DisplayHelp ∷ [] }
+    ensures help_last { faults (codes "landaudit" ∷ codes "--abi" ∷ codes "4" ∷ codes "t" ∷ codes "r" ∷ codes "--help" ∷ [])
+        ≡ kind.DisplayHelp ∷ [] }
+{}

@@ -1,0 +1,26 @@
+//! The audit as a whole: the command line, the files, the report, and the status of the program.
+#![tactic(auto)]
+
+mod auditing;
+mod command;
+mod fault;
+mod inputs;
+mod judging;
+mod laws;
+mod lines;
+mod names;
+mod outcome;
+mod program;
+mod report;
+#[cfg(test)]
+mod runs;
+mod source;
+#[cfg(test)]
+mod tests;
+
+pub use auditing::{Cut, audit};
+pub use fault::Fault;
+pub use laws::command_lines;
+pub use program::front;
+pub use report::Report;
+pub use source::{MemorySource, Source, SourceFault};

@@ -1,0 +1,69 @@
+//! What a run comes to, and how it ends.
+
+ghost use Rattle.std.specs.Prelude.{◌≡◌, OnOk};
+ghost use Rattle.std.specs.Io.KnownBytes.{Appends};
+ghost use Rattle.ll_audit.specs.FaultLines.{failure_status};
+ghost use Rattle.ll_audit.specs.Outcomes.{EndsWith};
+
+use crate::lines::Failure;
+use crate::report::Report;
+use clap::Error;
+use std::io;
+use std::io::Write;
+
+/// What a run comes to, before anything is written.
+#[derive(Debug, Drop)]
+pub(crate) enum Outcome<'a> {
+    /// A report.
+    Report(Report),
+    /// Help was asked for: the error's text.
+    Help(Error),
+    /// The command line is at fault, as the error's text says.
+    Usage(Error),
+    /// No report.
+    Failure(Failure<'a>),
+}
+
+impl Outcome<'_> {
+    /// Writes the report or the help to `out`, or what is wrong to `err`, and gives the status.
+    pub(crate) fn write_to<O: Write, E: Write>(&self, out: &mut O, err: &mut E) -> u8
+        ensures { EndsWith O.contents self.now result out.old out.new err.old err.new }
+    {
+        match self {
+            Outcome::Report(report) => match write_whole(out, report.bytes.as_slice()) {
+                Ok(()) => report.status(),
+                Err(_) => complain(&Failure::Unwritten, err),
+            },
+            Outcome::Help(text) => match write_help(out, text) {
+                Ok(()) => 0,
+                Err(_) => complain(&Failure::Unwritten, err),
+            },
+            Outcome::Usage(error) => {
+                let _ = write!(err, "{error}");
+                2
+            }
+            Outcome::Failure(failure) => complain(failure, err),
+        }
+    }
+}
+
+/// Writes all bytes, and sends them on.
+fn write_whole<O: Write>(out: &mut O, bytes: &[u8]) -> io::Result<()>
+    ensures { OnOk result (Appends (O.contents out.old) (O.contents out.new) bytes.now) }
+{
+    out.write_all(bytes)?;
+    out.flush()
+}
+
+fn write_help<O: Write>(out: &mut O, text: &Error) -> io::Result<()> {
+    write!(out, "{text}")?;
+    out.flush()
+}
+
+/// Writes the line of a failure, if that can be done, and gives the status.
+fn complain<E: Write>(failure: &Failure<'_>, err: &mut E) -> u8
+    ensures { result ≡ failure_status failure.now }
+{
+    let _ = failure.write_to(err);
+    failure.status()
+}

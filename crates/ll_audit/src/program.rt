@@ -1,0 +1,97 @@
+//! The program as a whole, whatever its files and its outputs are.
+
+ghost use Rattle.std.specs.Prelude.{◌≡◌, ◌+◌, ◌^◌, ◌<◌, IfOk, IfErr, map, string_bytes};
+ghost use Rattle.ll_audit.specs.Audits.{IsCrew};
+ghost use Rattle.ll_audit.specs.Command.{request_by};
+ghost use Rattle.ll_audit.specs.Fronts.{GivesHelp, HasFileFault, IsFailureOf, IsOutcomeOf, Reports, WritesNothing, WritesReport};
+
+use crate::auditing::{Cut, audit};
+use crate::command::{Plan, Run, plan_of};
+use crate::fault::Fault;
+use crate::inputs::inputs_of;
+use crate::lines::Failure;
+use crate::outcome::Outcome;
+use crate::report::Report;
+use crate::source::Source;
+use std::alloc::Global;
+use std::io::Write;
+
+/// Runs the program on the words of its command line, of which the first is its own name, and gives
+/// its status: 0 with a report that has no refused record, or with help; 1 with a report that has
+/// one; 2 where the words are wrong; 3 where a file can't be read or doesn't read; 4 where memory or
+/// a thread is wanting, or the output can't be written. The report and the help go to `out`, and what
+/// is wrong to `err`. If that can't be written the status stays.
+pub fn front<R, S: Source, O: Write, E: Write>(
+    rt: &R,
+    alloc: Global,
+    words: &[String],
+    source: &mut S,
+    out: &mut O,
+    err: &mut E,
+) -> u8
+    requires { S.failed source.old + 2 < 2 ^ 64 }
+    ensures report { WritesReport (map string_bytes words.now) (S.files source.old) result
+        (O.contents out.old) (O.contents out.new) }
+    ensures help { GivesHelp (map string_bytes words.now) result }
+    ensures file_fault { HasFileFault (map string_bytes words.now) (S.files source.old)
+        (S.failed source.old) (S.failed source.new) result }
+    ensures nothing { WritesNothing (map string_bytes words.now) (S.files source.old) result
+        out.old out.new }
+{
+    outcome_of(rt, alloc, words, source).write_to(out, err)
+}
+
+/// What the words come to.
+fn outcome_of<'a, R, S: Source>(
+    rt: &R,
+    alloc: Global,
+    words: &'a [String],
+    source: &mut S,
+) -> Outcome<'a>
+    requires { S.failed source.old + 2 < 2 ^ 64 }
+    ensures { IsOutcomeOf (map string_bytes words.entry.now) (S.files source.old)
+        (S.failed source.old) (S.failed source.new) result }
+{
+    match plan_of(alloc, words) {
+        Plan::Run(run) => match report_of(rt, alloc, source, &run) {
+            Ok(report) => Outcome::Report(report),
+            Err(failure) => Outcome::Failure(failure),
+        },
+        Plan::Help(text) => Outcome::Help(text),
+        Plan::Usage(error) => Outcome::Usage(error),
+        Plan::Memory => Outcome::Failure(Failure::Memory),
+    }
+}
+
+/// The report of a run.
+fn report_of<'a, R, S: Source>(
+    rt: &R,
+    alloc: Global,
+    source: &mut S,
+    run: &Run<'a>,
+) -> Result<Report, Failure<'a>>
+    requires failures { S.failed source.old + 2 < 2 ^ 64 }
+    requires crew { IsCrew run.now.workers }
+    ensures report { IfOk result (Reports (S.files source.old) (request_by run.now)) }
+    ensures failure { IfErr result (IsFailureOf (S.files source.old) (request_by run.now)
+        (S.failed source.old) (S.failed source.new)) }
+{
+    let inputs = inputs_of(alloc, source, run)?;
+    let cut = Cut::Grain(run.grain);
+    match audit(
+        rt,
+        alloc,
+        &inputs.tree,
+        &inputs.trace,
+        run.abi,
+        run.workers,
+        cut,
+    ) {
+        Ok(report) => Ok(report),
+        Err(Fault::Tree(fault)) => Err(Failure::Tree(fault)),
+        Err(Fault::Trace(fault)) => Err(Failure::Trace(fault)),
+        Err(Fault::Memory) => Err(Failure::Memory),
+        Err(Fault::NoThread) => Err(Failure::NoThread),
+        Err(Fault::Workers) => unreachable!(),
+    }
+}
