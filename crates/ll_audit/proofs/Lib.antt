@@ -3,4 +3,3 @@ pub mod FilesByName
 pub mod LayerText
 pub mod LinesLeft
 pub mod Endings
-pub mod Folding

@@ -5,6 +5,5 @@ pub mod Report
 pub mod Lines
 pub mod Audits
 pub mod Fronts
-pub mod Folding
 pub mod Outcomes
 pub mod Names

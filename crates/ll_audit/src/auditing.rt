@@ -6,8 +6,9 @@ ghost use Rattle.ll_trace.specs.Records.{IsTrace};
 ghost use Rattle.ll_audit.specs.Audits.{IsCrew, IsFaultOf, IsReport, IsReportOn, IsTraceFault, IsTreeFault};
 
 use crate::fault::Fault;
-use crate::judging::answers_of;
 use crate::report::Report;
+use ll_pool::judge_alone;
+use ll_process::Case;
 use ll_rights::Abi;
 use ll_rules::NoMemory;
 use ll_trace::Trace;
@@ -80,6 +81,7 @@ fn trace_of(alloc: Global, bytes: &[u8]) -> Result<Trace, Fault>
 fn report_on(alloc: Global, tree: Tree, trace: Trace, abi: Abi) -> Result<Report, NoMemory>
     ensures { IfOk result (IsReportOn tree abi trace) }
 {
-    let answers = answers_of(alloc, &tree, &trace, abi)?;
-    Ok(Report::of(alloc, trace.records(), &answers)?)
+    let case = Case::new(alloc, tree, trace, abi)?;
+    let answers = judge_alone(alloc, &case)?;
+    Ok(Report::of(alloc, case.trace().records(), &answers)?)
 }

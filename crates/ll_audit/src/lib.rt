@@ -5,7 +5,6 @@ mod auditing;
 mod command;
 mod fault;
 mod inputs;
-mod judging;
 mod laws;
 mod lines;
 mod names;

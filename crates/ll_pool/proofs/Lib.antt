@@ -1,3 +1,5 @@
 pub mod Counts
 pub mod Placing
 pub mod Answering
+pub mod Sharing
+pub mod FaultFree

@@ -9,7 +9,7 @@ use Rattle.ll_pool.specs.declared.gather.CollectFault.TheVariants.{Missing, Doub
 -- the least process that stands more than once; if there is none, the least that is absent
 abbrev pub IsFault : List Record → List ℕ → CollectFault → Type 0
 IsFault records processes (Double process) =
-    (1 < times process.0 processes) × ((other : ℕ) → other < process.0 → times other processes ≤ 1)
+    (process.0 < process_count records) × (1 < times process.0 processes) × ((other : ℕ) → other < process.0 → times other processes ≤ 1)
 IsFault records processes (Missing process) =
     (process.0 < process_count records) × (times process.0 processes ≡ 0)
     × ((other : ℕ) → other < process.0 → times other processes ≡ 1)

@@ -1,4 +1,0 @@
-use Rattle.ll_audit.proofs.judging.judge_met.Given as goal
-
-abbrev pub ghost-judge : goal.ghost-judge
-ghost-judge g a = g.at

@@ -1,0 +1,62 @@
+//! All processes of a case, judged on the caller's thread.
+
+ghost use Rattle.std.specs.Prelude.{◌≡◌, ℕ, ◌+◌, List, [], IfOk, sum_by};
+ghost use Rattle.ll_state.specs.Worlds.{judged};
+ghost use Rattle.ll_process.specs.Processes.{kids, roots};
+ghost use Rattle.ll_pool.specs.Gathered.{AllOf, processes_in};
+
+use crate::gather::{CollectFault, collect};
+use ll_process::{Case, Hand, Job, Piece, judge};
+use ll_rules::NoMemory;
+use ll_state::Answer;
+use std::alloc::Global;
+
+/// A hand that keeps nothing.
+#[derive(Drop)]
+struct Empty;
+
+impl<'c> Hand<'c> for Empty {
+    ghost use Rattle.std.specs.Prelude.{[]};
+
+    ghost kept = { λ _. [] };
+
+    ghost suits = { λ _ _. Unit {0} };
+
+    ghost stays = { λ _ _. Unit {0} };
+
+    fn give(&mut self, job: Job<'c>) -> Option<Job<'c>> {
+        Some(job)
+    }
+}
+
+/// One piece for each root, with all of its descendants.
+fn pieces_of(alloc: Global, case: &Case) -> Result<Vec<Piece<'_>>, NoMemory>
+    ensures of_case { IfOk result (λ pieces. AllOf case.now pieces.items) }
+    ensures shared { IfOk result (λ pieces. (weight : ℕ → ℕ) → sum_by weight (processes_in pieces.items)
+        ≡ sum_by weight (roots case.now.records) + sum_by weight (kids case.now.records (processes_in pieces.items))) }
+{
+    let mut jobs = case.roots(alloc)?;
+    let mut pieces = Vec::new(alloc);
+    while let Some(job) = jobs.pop() {
+        let piece = judge(alloc, job, &mut Empty)?;
+        if pieces.push(piece).is_err() {
+            return Err(NoMemory);
+        }
+    }
+    Ok(pieces)
+}
+
+/// The answers to all records of a case, in their order, judged process by process on the caller's
+/// thread.
+pub fn judge_alone(alloc: Global, case: &Case) -> Result<Vec<Answer>, NoMemory>
+    ensures { IfOk result (λ answers. answers.items ≡ judged case.now.tree case.now.abi case.now.records) }
+{
+    let pieces = pieces_of(alloc, case)?;
+    let _trace = case.trace();
+    match collect(alloc, case, pieces) {
+        Ok(answers) => Ok(answers),
+        Err(CollectFault::Memory) => Err(NoMemory),
+        Err(CollectFault::Missing(_absent)) => unreachable!(),
+        Err(CollectFault::Double(_doubled)) => unreachable!(),
+    }
+}
