@@ -5,13 +5,14 @@ RUN := --abi 4 $(CURDIR)/$(EXAMPLE)/tree.jsonl $(CURDIR)/$(EXAMPLE)/trace.jsonl
 
 .PHONY: example landaudit test
 
-# Builds landaudit without its proofs and audits the example. Status 1 says that something was refused.
+# Builds landaudit without its proofs and audits the example, which refuses a call: status 1.
 example:
-	@cd crates/landaudit && rt try -- $(RUN); test $$? -eq 1
+	@log=$$(mktemp); cd crates/landaudit; rt try -- $(RUN) 2> $$log; status=$$?; \
+	test $$status -eq 1 || cat $$log >&2; rm -f $$log; test $$status -eq 1
 
-# Builds the proved program at crates/landaudit/out/landaudit.
+# Proves landaudit and builds it, at crates/landaudit/out/landaudit.
 landaudit:
-	cd crates/landaudit && rt lib > /dev/null
+	cd crates/landaudit && rt run -- --help
 
 # Proves everything and runs every test: the gate.
 test:
