@@ -3,7 +3,11 @@
 ghost use Rattle.std.specs.Prelude.{◌≡◌, ◌∷◌, [], Some, None, codes};
 ghost use Rattle.clap.specs.declared.error.kind.ErrorKind.TheVariants as kind;
 ghost use Rattle.ll_rights.specs.declared.abi.Abi.TheVariants.{V4, V5};
+ghost use Rattle.ll_tree.specs.WorkedTree.{worked_tree};
+ghost use Rattle.ll_state.specs.Worlds.{judged};
 ghost use Rattle.ll_audit.specs.Command.{faults, request_of};
+ghost use Rattle.ll_audit.specs.Lines.{lines_of};
+ghost use Rattle.ll_audit.specs.Report.{report_text};
 
 /// What some command lines ask for, and what is wrong with others.
 #[tactic(auto, unfolding(clap::proofs::OnLiterals::clap_on_literals, crate::specs::Command::command, crate::specs::Command::faults, crate::specs::Command::request_in, crate::specs::Command::request_of))]
@@ -24,4 +28,9 @@ pub fn command_lines()
     ensures help { faults (codes "landaudit" ∷ codes "--help" ∷ []) ≡ kind.DisplayHelp ∷ [] }
     ensures help_last { faults (codes "landaudit" ∷ codes "--abi" ∷ codes "4" ∷ codes "t" ∷ codes "r" ∷ codes "--help" ∷ [])
         ≡ kind.DisplayHelp ∷ [] }
+{}
+
+/// The report on an empty trace.
+pub fn empty_report()
+    ensures { report_text (lines_of [] (judged worked_tree V4 [])) ≡ codes "total 0 allowed 0 refused 0 moot 0\n" }
 {}

@@ -19,7 +19,7 @@ mod tests;
 
 pub use auditing::{Cut, audit};
 pub use fault::Fault;
-pub use laws::command_lines;
+pub use laws::{command_lines, empty_report};
 pub use program::front;
 pub use report::Report;
 pub use source::{MemorySource, Source, SourceFault};
