@@ -75,7 +75,7 @@ or_same : (b : Bool) → b ≡ (b || b)
 or_same true = refl
 or_same false = refl
 
-from_path : (rules : RulesOn Path) (path above : Path) (here : Bool) (right : FsRight) → granted_on rules path right ≡ here → above ≡ front path → granted rules path right ≡ (here || granted rules above right)
+pub from_path : (rules : RulesOn Path) (path above : Path) (here : Bool) (right : FsRight) → granted_on rules path right ≡ here → above ≡ front path → granted rules path right ≡ (here || granted rules above right)
 unfolding front
 from_path rules [] above here right on is =
     let root = granted-root rules right ∙ on in

@@ -117,7 +117,7 @@ empty_kept set fits =
     no_numbers [] places again some = absurd (some (sym again))
     no_numbers (x ∷ xs) places again some = sym (ne_eqb (length (x ∷ xs)) 0 (λ same. absurd (omega arith)))
 
-either_bit : (x y : ℕ) → x < 2 → y < 2 → eqb (max x y) 1 ≡ (eqb x 1 || eqb y 1)
+pub either_bit : (x y : ℕ) → x < 2 → y < 2 → eqb (max x y) 1 ≡ (eqb x 1 || eqb y 1)
 either_bit zero zero p q = refl
 either_bit zero (suc zero) p q = refl
 either_bit (suc zero) zero p q = refl

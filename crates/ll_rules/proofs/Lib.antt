@@ -9,3 +9,7 @@ pub mod Ports
 pub mod AskedRights
 pub mod Verdicts
 pub mod SameLayers
+pub mod Marks
+pub mod LaneSets
+pub mod DomainLanes
+pub mod MoveLanes

@@ -87,7 +87,7 @@ pub file_known : files.has (record { 0 = 49159 }) files.other ≡ false
 unfolding files.has
 file_known = refl
 
-has_file : (right : files.FsRight) → files.has (record { 0 = 49159 }) right ≡ files.is_file_right right
+pub has_file : (right : files.FsRight) → files.has (record { 0 = 49159 }) right ≡ files.is_file_right right
 unfolding files.has
 has_file files.other = refl
 has_file right = refl
@@ -103,7 +103,7 @@ file_rights_by_test set =
 
 -- ---- those of known rights that apply to what isn't a directory
 
-both_bits : (x y : ℕ) → x < 2 → y < 2 → eqb (min x y) 1 ≡ (eqb x 1 && eqb y 1)
+pub both_bits : (x y : ℕ) → x < 2 → y < 2 → eqb (min x y) 1 ≡ (eqb x 1 && eqb y 1)
 both_bits zero zero p q = refl
 both_bits zero (suc zero) p q = refl
 both_bits (suc zero) zero p q = refl
@@ -111,7 +111,7 @@ both_bits (suc zero) (suc zero) p q = refl
 both_bits (suc (suc x)) y p q = absurd (omega arith)
 both_bits x (suc (suc y)) p q = absurd (omega arith)
 
-has_place-both : (a b place : ℕ) → b < 2 ^ 16 → has_place 16 (bit_and a b) place ≡ (has_place 16 a place && has_place 16 b place)
+pub has_place-both : (a b place : ℕ) → b < 2 ^ 16 → has_place 16 (bit_and a b) place ≡ (has_place 16 a place && has_place 16 b place)
 has_place-both a b place low =
     elim (cases_lt place 16) [
       | inl named ↦

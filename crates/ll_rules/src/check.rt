@@ -1,10 +1,12 @@
 //! What a domain refuses.
 
-ghost use Rattle.std.specs.Prelude.{◌≡◌, ◌<◌, length, All};
-ghost use Rattle.ll_tree.specs.Trees.{IsNode, path_at};
+ghost use Rattle.std.specs.Prelude.{◌≡◌, ◌+◌, ◌*◌, ◌<◌, ◌≤◌, length, All};
+ghost use Rattle.ll_tree.specs.Trees.{IsNode, path_at, depth_at};
 ghost use Rattle.ll_rules.specs.Layers.{AreInTree};
 ghost use Rattle.ll_rules.specs.Checks.{layer_at, domain_of, all_in_tree, IsDomainOf, refusing, refusing_port, refusing_mount};
 
+use crate::climb::{climbed, handled_in};
+use crate::lanes::{filled, within};
 use crate::{Domain, Layer, LayerId, LayerSet};
 use ll_rights::{Fs, Net};
 use ll_tree::{NodeId, Tree};
@@ -32,13 +34,29 @@ pub fn check_path(
     requires node { IsNode tree.now node }
     ensures { result ≡ refusing (all_in_tree tree.now (domain_of layers.now domain.now)) (path_at tree.now node) wanted }
 {
+    check_path_counted(tree, layers, domain, node, wanted).0
+}
+
+/// What `check_path` answers, and the number of look-ups that it took: questions to one layer for its rule
+/// on one node. There are at most as many as there are layers, for each node from the object to the root.
+pub fn check_path_counted(
+    tree: &Tree,
+    layers: &[Layer],
+    domain: &Domain,
+    node: NodeId,
+    wanted: Fs,
+) -> (LayerSet, u64)
+    requires domain { IsDomainOf layers.now domain.now }
+    requires rules { All (AreInTree tree.now) layers.now }
+    requires node { IsNode tree.now node }
+    ensures answer { result.0 ≡ refusing (all_in_tree tree.now (domain_of layers.now domain.now)) (path_at tree.now node) wanted }
+    ensures look_ups { result.1 ≤ length domain.now * (depth_at tree.now node + 1) }
+{
     let ids = domain.layers();
-    let mut refusing = LayerSet::new();
-    for (place, id) in ids.iter().enumerate() {
-        let refuses = layer_of(layers, *id).refuses(tree, node, wanted);
-        refusing = refusing.noted(place as u32 + 1, refuses);
-    }
-    refusing
+    let mut look_ups = 0;
+    let asked = within(handled_in(layers, ids), wanted);
+    let lacking = climbed(tree, layers, ids, node, asked, &mut look_ups);
+    (filled(lacking), look_ups)
 }
 
 /// The layers of a domain that refuse something of what is wanted on a TCP port: each that handles a

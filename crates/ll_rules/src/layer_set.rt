@@ -1,7 +1,7 @@
 //! Sets of the layers of a domain.
 
 ghost use Rattle.std.specs.Prelude.{◌≡◌, ◌++◌, ◌∷◌, [], ◌≤◌, ◌<◌, ◌==◌, length, All, if◌then◌else◌};
-ghost use Rattle.ll_rules.specs.LayerNumbers.{is_among, numbers_passing, united_numbers};
+ghost use Rattle.ll_rules.specs.LayerNumbers.{is_among, is_at_place, numbers_passing, united_numbers};
 
 use std::marker::Model;
 
@@ -63,6 +63,13 @@ impl LayerSet {
         LayerSet {
             places: self.places | other.places,
         }
+    }
+
+    /// The layers whose places are ones: bit 0 is the place of the oldest.
+    pub(crate) fn at_places(places: u16) -> LayerSet
+        ensures { result ≡ numbers_passing (is_at_place places) }
+    {
+        LayerSet { places }
     }
 
     /// The set with the layer of a number above all others, where that layer `refuses`.

@@ -3,8 +3,11 @@
 #![tactic(auto)]
 
 mod check;
+mod climb;
 mod domain;
 mod errno;
+mod filter;
+mod lanes;
 mod laws;
 mod layer_set;
 mod moves;
@@ -13,7 +16,7 @@ mod sameness;
 #[cfg(test)]
 mod tests;
 
-pub use check::{check_mount, check_path, check_port};
+pub use check::{check_mount, check_path, check_path_counted, check_port};
 pub use domain::{Domain, LayerId};
 pub use errno::{Errno, Full, NoMemory, RuleFault};
 pub use laws::{
@@ -21,6 +24,6 @@ pub use laws::{
     worked_ports_and_mounts, worked_rules_for_files, worked_rules_for_ports,
 };
 pub use layer_set::LayerSet;
-pub use moves::{How, Move, Target, Verdict, check_move};
+pub use moves::{How, Move, Target, Verdict, check_move, check_move_counted};
 pub use ruleset::{Layer, Ruleset};
 pub use sameness::{same_answers, same_rules};

@@ -1,18 +1,22 @@
 //! Moves of objects, and what a domain answers to them.
 
-ghost use Rattle.std.specs.Prelude.{◌≡◌, ◌||◌, ◌∷◌, [], All};
+ghost use Rattle.std.specs.Prelude.{◌≡◌, ℕ, ◌+◌, ◌*◌, ◌^◌, ◌≤◌, ◌<◌, ◌&&◌, ◌||◌, not, length, All};
 ghost use Rattle.std.specs.List.{list_any};
-ghost use Rattle.ll_rights.specs.Rights.{FsRight, has, is_right, refer};
+ghost use Rattle.ll_rights.specs.Rights.{FsRight, has, is_right, is_file_right, some_right};
 ghost use Rattle.ll_tree.specs.Paths.{front};
-ghost use Rattle.ll_tree.specs.Trees.{IsNode, IsTree, path_at, kind_at};
-ghost use Rattle.ll_rules.specs.Layers.{in_tree, AreInTree};
-ghost use Rattle.ll_rules.specs.Checks.{domain_of, all_in_tree, IsDomainOf, lacks, numbers_where};
-ghost use Rattle.ll_rules.specs.Moves.{IsTargetIn, source_of, destination_of as destination_path, kind_there, asked_of_source as asked_there, asked_of_destination as asked_here, lacks_one_of, denies as denying, other_gains as other_object_gains, holds_back as holding_back, move_verdict};
+ghost use Rattle.ll_tree.specs.Trees.{IsNode, IsTree, path_at, depth_at, kind_at, is_dir};
+ghost use Rattle.ll_rules.specs.Layers.{in_tree, AreInTree, granted_on_node};
+ghost use Rattle.ll_rules.specs.Checks.{domain_of, all_in_tree, IsDomainOf};
+ghost use Rattle.ll_rules.specs.Moves.{IsTargetIn, source_of, destination_of as destination_path, kind_there, asked_of_source as asked_there, asked_of_destination as asked_here, other_gains as other_object_gains, holds_back as holding_back, move_verdict};
+ghost use Rattle.ll_rules.specs.Lanes.{lane, layer_in, AreLacking};
 
-use crate::check::layer_of;
-use crate::{Domain, Errno, Layer, LayerSet};
+use crate::climb::{asked_on, climbed, handled_in};
+use crate::lanes::{either, filled, no_rights, within, without};
+use crate::ruleset::is_directory;
+use crate::{Domain, Errno, Layer, LayerId, LayerSet};
 use ll_rights::{Fs, Kind};
 use ll_tree::{NodeId, Tree};
+use std::simd::prelude::*;
 
 /// What a move goes to.
 #[derive(Clone, Copy, Debug, PartialEq, Eq)]
@@ -131,6 +135,7 @@ fn leaving(tree: &Tree, attempt: &Move) -> Asked
     ensures inside { IsNode tree.now result.directory }
     ensures path { path_at tree.now result.directory ≡ source_of tree.now attempt.now }
     ensures rights { (right : FsRight) → has result.rights right ≡ list_any (is_right right) (asked_there attempt.now.how (kind_at tree.now attempt.now.moved) (kind_there tree.now attempt.now.target)) }
+    ensures tree { IsTree tree.now }
 {
     let moved = tree.kind(attempt.moved);
     let there = kind_of_target(tree, attempt.target);
@@ -156,115 +161,188 @@ fn entering(tree: &Tree, attempt: &Move) -> Asked
     }
 }
 
-/// Whether a layer refuses something of what is asked of one directory or of the other.
-fn denies(layer: &Layer, tree: &Tree, leaving: Asked, entering: Asked) -> bool
-    requires rules { AreInTree tree.now layer.now }
-    requires leaving { IsNode tree.now leaving.directory }
-    requires entering { IsNode tree.now entering.directory }
-    ensures { result ≡ (lacks (in_tree tree.now layer.now) (path_at tree.now leaving.directory) leaving.rights
-        || lacks (in_tree tree.now layer.now) (path_at tree.now entering.directory) entering.rights) }
-{
-    layer.refuses(tree, leaving.directory, leaving.rights)
-        || layer.refuses(tree, entering.directory, entering.rights)
+/// What the layers of a domain lack on the two directories of a move, in lanes.
+#[derive(Clone, Copy)]
+struct Lacking {
+    source: u16x16,
+    destination: u16x16,
 }
 
-/// Whether a layer refuses that objects leave a directory for another, or come to it from another.
-fn refuses_to_refer(layer: &Layer, tree: &Tree, directory: NodeId) -> bool
-    requires rules { AreInTree tree.now layer.now }
+/// What the layers of a domain handle and don't grant on a directory, in lanes.
+fn lacking_on(
+    tree: &Tree,
+    layers: &[Layer],
+    ids: &[LayerId],
+    directory: NodeId,
+    look_ups: &mut u64,
+) -> u16x16
+    requires domain { IsDomainOf layers.now ids.now }
+    requires rules { All (AreInTree tree.now) layers.now }
+    requires few { length ids.now ≤ 16 }
     requires directory { IsNode tree.now directory }
-    ensures { result ≡ lacks_one_of (in_tree tree.now layer.now) (path_at tree.now directory) (refer ∷ []) }
+    requires room { look_ups.old < 2 ^ 60 }
+    ensures lacking { AreLacking tree.now (domain_of layers.now ids.now) (path_at tree.now directory) result }
+    ensures count { look_ups.new ≤ look_ups.old + length ids.now * (depth_at tree.now directory + 1) }
+    ensures little { look_ups.new ≤ look_ups.old + 2 ^ 40 }
 {
-    layer.refuses(tree, directory, Fs::REFER)
+    let handled = handled_in(layers, ids);
+    climbed(tree, layers, ids, directory, handled, look_ups)
 }
 
-/// Whether in an exchange the object that is there gains a right by going to the source.
-fn other_gains(layer: &Layer, tree: &Tree, attempt: &Move, source: NodeId) -> bool
-    requires rules { AreInTree tree.now layer.now }
-    requires target { IsTargetIn tree.now attempt.now.target }
+/// What the layers of a domain lack on the directory that a move leaves and on the one that it goes to.
+fn lacking_of(
+    tree: &Tree,
+    layers: &[Layer],
+    ids: &[LayerId],
+    source: NodeId,
+    destination: NodeId,
+    look_ups: &mut u64,
+) -> Lacking
+    requires domain { IsDomainOf layers.now ids.now }
+    requires rules { All (AreInTree tree.now) layers.now }
+    requires few { length ids.now ≤ 16 }
     requires source { IsNode tree.now source }
-    requires path { path_at tree.now source ≡ source_of tree.now attempt.now }
-    ensures { result ≡ other_object_gains tree.now attempt.now (in_tree tree.now layer.now) attempt.now.how attempt.now.target }
+    requires destination { IsNode tree.now destination }
+    requires first { look_ups.old ≡ 0 }
+    ensures source { AreLacking tree.now (domain_of layers.now ids.now) (path_at tree.now source) result.source }
+    ensures destination { AreLacking tree.now (domain_of layers.now ids.now) (path_at tree.now destination) result.destination }
+    ensures count { look_ups.new ≤ length ids.now * (depth_at tree.now source + 1 + (depth_at tree.now destination + 1)) }
+    ensures little { look_ups.new ≤ 2 ^ 41 }
+{
+    let at_source = lacking_on(tree, layers, ids, source, look_ups);
+    if destination == source {
+        return Lacking {
+            source: at_source,
+            destination: at_source,
+        };
+    }
+    let at_destination = lacking_on(tree, layers, ids, destination, look_ups);
+    Lacking {
+        source: at_source,
+        destination: at_destination,
+    }
+}
+
+/// Of some lanes the rights that count for an object of a kind.
+fn counting_for(kind: Kind, lanes: u16x16) -> u16x16
+    ensures { (place : ℕ) (right : FsRight) → has (lane result place) right ≡ (has (lane lanes place) right && (is_dir kind || is_file_right right)) }
+{
+    if is_directory(kind) {
+        lanes
+    } else {
+        within(lanes, Fs::FILE)
+    }
+}
+
+/// What an object gains under each layer by going from its directory to another, where the layers lack
+/// `here` on its directory and `there` on the other. A layer is asked for its rule on the object itself
+/// where there is something to gain.
+fn gained(
+    tree: &Tree,
+    layers: &[Layer],
+    ids: &[LayerId],
+    object: NodeId,
+    here: u16x16,
+    there: u16x16,
+    look_ups: &mut u64,
+) -> u16x16
+    requires domain { IsDomainOf layers.now ids.now }
+    requires few { length ids.now ≤ 16 }
+    requires object { IsNode tree.now object }
+    requires room { look_ups.old < 2 ^ 61 }
+    ensures gained { (place : ℕ) (right : FsRight) → has (lane result place) right
+        ≡ (((has (lane here place) right && not (has (lane there place) right)) && (is_dir (kind_at tree.now object) || is_file_right right))
+        && not (granted_on_node (layer_in (domain_of layers.now ids.now) place) object right)) }
+    ensures count { look_ups.new ≤ look_ups.old + length ids.now }
+{
+    let granted_there = without(here, there);
+    let counted = counting_for(tree.kind(object), granted_there);
+    asked_on(layers, ids, object, counted, look_ups).left
+}
+
+/// What the object that is there already gains in an exchange, under each layer; nothing in other moves.
+fn other_gained(
+    tree: &Tree,
+    layers: &[Layer],
+    ids: &[LayerId],
+    attempt: &Move,
+    lacking: Lacking,
+    look_ups: &mut u64,
+) -> u16x16
+    requires domain { IsDomainOf layers.now ids.now }
+    requires rules { All (AreInTree tree.now) layers.now }
+    requires few { length ids.now ≤ 16 }
+    requires target { IsTargetIn tree.now attempt.now.target }
+    requires tree { IsTree tree.now }
+    requires source { AreLacking tree.now (domain_of layers.now ids.now) (source_of tree.now attempt.now) lacking.source }
+    requires destination { AreLacking tree.now (domain_of layers.now ids.now) (destination_path tree.now attempt.now.target) lacking.destination }
+    requires room { look_ups.old < 2 ^ 61 }
+    ensures gained { (place : ℕ) → some_right (has (lane result place))
+        ≡ other_object_gains tree.now attempt.now (in_tree tree.now (layer_in (domain_of layers.now ids.now) place)) attempt.now.how attempt.now.target }
+    ensures count { look_ups.new ≤ look_ups.old + length ids.now }
 {
     match attempt.how {
         How::Exchange => match attempt.target {
-            Target::Over(there) => layer.gains(tree, there, source),
-            Target::New(_) => false,
+            Target::Over(there) => gained(
+                tree,
+                layers,
+                ids,
+                there,
+                lacking.destination,
+                lacking.source,
+                look_ups,
+            ),
+            Target::New(_) => no_rights(),
         },
-        How::Rename | How::Link => false,
+        How::Rename | How::Link => no_rights(),
     }
 }
 
-/// Whether a layer keeps a move from leaving the directory.
-fn holds_back(
-    layer: &Layer,
-    tree: &Tree,
-    attempt: &Move,
-    source: NodeId,
-    destination: NodeId,
-) -> bool
-    requires rules { AreInTree tree.now layer.now }
-    requires moved { IsNode tree.now attempt.now.moved }
-    requires target { IsTargetIn tree.now attempt.now.target }
-    requires source { IsNode tree.now source }
-    requires source_path { path_at tree.now source ≡ source_of tree.now attempt.now }
-    requires destination { IsNode tree.now destination }
-    requires destination_path { path_at tree.now destination ≡ destination_path tree.now attempt.now.target }
-    ensures { result ≡ holding_back tree.now attempt.now (in_tree tree.now layer.now) }
+/// What each layer denies of what a move asks of the two directories.
+fn denied(lacking: Lacking, from: Asked, to: Asked) -> u16x16
+    ensures { (place : ℕ) (right : FsRight) → has (lane result place) right
+        ≡ ((has (lane lacking.source place) right && has from.rights right) || (has (lane lacking.destination place) right && has to.rights right)) }
 {
-    if refuses_to_refer(layer, tree, source) || refuses_to_refer(layer, tree, destination) {
-        return true;
-    }
-    if layer.gains(tree, attempt.moved, destination) {
-        return true;
-    }
-    other_gains(layer, tree, attempt, source)
+    let at_source = within(lacking.source, from.rights);
+    let at_destination = within(lacking.destination, to.rights);
+    either(at_source, at_destination)
 }
 
-/// The layers that deny what a move asks of the two directories.
-fn denied(tree: &Tree, layers: &[Layer], domain: &Domain, attempt: &Move) -> LayerSet
-    requires domain { IsDomainOf layers.now domain.now }
-    requires rules { All (AreInTree tree.now) layers.now }
-    requires moved { IsNode tree.now attempt.now.moved }
-    requires target { IsTargetIn tree.now attempt.now.target }
-    ensures { result ≡ numbers_where (denying tree.now attempt.now) (all_in_tree tree.now (domain_of layers.now domain.now)) }
-{
-    let from = leaving(tree, attempt);
-    let to = entering(tree, attempt);
-    let ids = domain.layers();
-    let mut refusing = LayerSet::new();
-    for (place, id) in ids.iter().enumerate() {
-        let is_denied = denies(layer_of(layers, *id), tree, from, to);
-        refusing = refusing.noted(place as u32 + 1, is_denied);
-    }
-    refusing
-}
-
-/// The layers that keep a move from leaving the directory.
+/// Why each layer keeps a move from leaving the directory: the right to move files between directories where
+/// it is missing, and what an object would gain.
 fn held_back(
     tree: &Tree,
     layers: &[Layer],
-    domain: &Domain,
+    ids: &[LayerId],
     attempt: &Move,
-    source: NodeId,
-    destination: NodeId,
-) -> LayerSet
-    requires domain { IsDomainOf layers.now domain.now }
+    lacking: Lacking,
+    look_ups: &mut u64,
+) -> u16x16
+    requires domain { IsDomainOf layers.now ids.now }
     requires rules { All (AreInTree tree.now) layers.now }
+    requires few { length ids.now ≤ 16 }
     requires moved { IsNode tree.now attempt.now.moved }
     requires target { IsTargetIn tree.now attempt.now.target }
-    requires source { IsNode tree.now source }
-    requires source_path { path_at tree.now source ≡ source_of tree.now attempt.now }
-    requires destination { IsNode tree.now destination }
-    requires destination_path { path_at tree.now destination ≡ destination_path tree.now attempt.now.target }
-    ensures { result ≡ numbers_where (holding_back tree.now attempt.now) (all_in_tree tree.now (domain_of layers.now domain.now)) }
+    requires tree { IsTree tree.now }
+    requires source { AreLacking tree.now (domain_of layers.now ids.now) (source_of tree.now attempt.now) lacking.source }
+    requires destination { AreLacking tree.now (domain_of layers.now ids.now) (destination_path tree.now attempt.now.target) lacking.destination }
+    requires room { look_ups.old < 2 ^ 60 }
+    ensures held { (place : ℕ) → some_right (has (lane result place))
+        ≡ holding_back tree.now attempt.now (in_tree tree.now (layer_in (domain_of layers.now ids.now) place)) }
+    ensures count { look_ups.new ≤ look_ups.old + length ids.now * 2 }
 {
-    let ids = domain.layers();
-    let mut refusing = LayerSet::new();
-    for (place, id) in ids.iter().enumerate() {
-        let is_held = holds_back(layer_of(layers, *id), tree, attempt, source, destination);
-        refusing = refusing.noted(place as u32 + 1, is_held);
-    }
-    refusing
+    let kept = within(either(lacking.source, lacking.destination), Fs::REFER);
+    let own = gained(
+        tree,
+        layers,
+        ids,
+        attempt.moved,
+        lacking.source,
+        lacking.destination,
+        look_ups,
+    );
+    let other = other_gained(tree, layers, ids, attempt, lacking, look_ups);
+    either(kept, either(own, other))
 }
 
 /// What a domain answers to a rename or a link (landlock(7), "Filesystem actions"). `EACCES` with the layers
@@ -278,18 +356,47 @@ pub fn check_move(tree: &Tree, layers: &[Layer], domain: &Domain, attempt: &Move
     requires target { IsTargetIn tree.now attempt.now.target }
     ensures { result ≡ move_verdict tree.now (all_in_tree tree.now (domain_of layers.now domain.now)) attempt.now }
 {
-    let denied = denied(tree, layers, domain, attempt);
+    check_move_counted(tree, layers, domain, attempt).0
+}
+
+/// What `check_move` answers, and the number of look-ups that it took: questions to one layer for its rule on
+/// one node. There are at most as many as there are layers, for each node from either directory to the root,
+/// and for the two objects.
+pub fn check_move_counted(
+    tree: &Tree,
+    layers: &[Layer],
+    domain: &Domain,
+    attempt: &Move,
+) -> (Verdict, u64)
+    requires domain { IsDomainOf layers.now domain.now }
+    requires rules { All (AreInTree tree.now) layers.now }
+    requires moved { IsNode tree.now attempt.now.moved }
+    requires target { IsTargetIn tree.now attempt.now.target }
+    ensures answer { result.0 ≡ move_verdict tree.now (all_in_tree tree.now (domain_of layers.now domain.now)) attempt.now }
+    ensures look_ups { result.1 ≤ length domain.now * (length (source_of tree.now attempt.now) + 1 + (length (destination_path tree.now attempt.now.target) + 1) + 2) }
+{
+    let ids = domain.layers();
+    let from = leaving(tree, attempt);
+    let to = entering(tree, attempt);
+    let mut look_ups = 0;
+    let lacking = lacking_of(
+        tree,
+        layers,
+        ids,
+        from.directory,
+        to.directory,
+        &mut look_ups,
+    );
+    let denied = filled(denied(lacking, from, to));
     if !denied.is_empty() {
-        return Verdict::Refused(Errno::Acces, denied);
+        return (Verdict::Refused(Errno::Acces, denied), look_ups);
     }
-    let source = directory_of(tree, attempt.moved);
-    let destination = destination_of(tree, attempt.target);
-    if destination == source {
-        return Verdict::Passed;
+    if to.directory == from.directory {
+        return (Verdict::Passed, look_ups);
     }
-    let held_back = held_back(tree, layers, domain, attempt, source, destination);
+    let held_back = filled(held_back(tree, layers, ids, attempt, lacking, &mut look_ups));
     if !held_back.is_empty() {
-        return Verdict::Refused(Errno::XDev, held_back);
+        return (Verdict::Refused(Errno::XDev, held_back), look_ups);
     }
-    Verdict::Passed
+    (Verdict::Passed, look_ups)
 }

@@ -7,6 +7,7 @@ ghost use Rattle.ll_tree.specs.Trees.{is_dir};
 ghost use Rattle.ll_rules.specs.Layers.{without_rules, SameRules, GrantsOnPort, in_tree, AreInTree};
 ghost use Rattle.ll_rules.specs.Rulesets.{has_ports, create_fault, IsOfTree, are_file_rights, add_path_fault, with_rule_at, add_port_fault};
 
+use crate::filter::Filter;
 use crate::{Errno, NoMemory, RuleFault};
 use bitflags::Flags;
 use ll_rights::{Abi, Fs, Kind, Net};
@@ -21,24 +22,27 @@ pub struct Layer {
     files: Fs,
     network: Net,
     on_nodes: HashMap<u32, Fs>,
+    marks: Filter,
     on_ports: BTreeMap<u16, Net>,
 }
 
 impl Model for Layer {
-    ghost use Rattle.std.specs.Prelude.{◌≡◌, ℕ, false, nat_eq};
+    ghost use Rattle.std.specs.Prelude.{◌≡◌, ℕ, false, nat_eq, None};
+    ghost use Rattle.std.specs.Map.{lookup};
     ghost use Rattle.std.specs.Ordering.{nat_cmp};
     ghost use Rattle.std.specs.HashMap.{IsUnique};
     ghost use Rattle.std.specs.BTreeMap.{IsOrdered};
     ghost use Rattle.ll_rights.specs.Rights as for_files;
     ghost use Rattle.ll_rights.specs.NetRights as for_ports;
     ghost use Rattle.ll_rules.specs.Layers.{RulesOn};
+    ghost use Rattle.ll_rules.specs.Filters.{AreMarked};
 
     ghost Value = { RulesOn ℕ };
 
     ghost view = { λ a. record { handled_files = a.files; handled_network = a.network; file_rules = a.on_nodes.entries; port_rules = a.on_ports.entries } };
 
     ghost invariant = { λ a. (for_files.has a.files for_files.other ≡ false) × (for_ports.has a.network for_ports.other ≡ false)
-        × IsUnique nat_eq a.on_nodes × IsOrdered nat_cmp a.on_ports };
+        × IsUnique nat_eq a.on_nodes × IsOrdered nat_cmp a.on_ports × AreMarked a.marks.words a.on_nodes.entries };
 }
 
 /// The rights that a process is about to give up, and the rules by which it keeps some of them
@@ -58,7 +62,7 @@ impl Model for Ruleset {
 }
 
 impl Layer {
-    ghost use Rattle.std.specs.Prelude.{◌≡◌, false, not, OnOk, OnErr, IfOk, IsOkUnless};
+    ghost use Rattle.std.specs.Prelude.{◌≡◌, ◌+◌, ◌<◌, ◌^◌, false, not, OnOk, OnErr, IfOk, IsOkUnless};
     ghost use Rattle.ll_rights.specs.Rights.{FsRight, has, other, is_empty, is_within};
     ghost use Rattle.ll_rights.specs.NetRights as for_ports;
     ghost use Rattle.ll_tree.specs.Trees.{IsNode, path_at, kind_at};
@@ -68,30 +72,28 @@ impl Layer {
 
     /// The rights that the rule on a node grants; none where there is no rule.
     #[tactic(auto, unfolding(crate::specs::Layers::granted_on_node))]
-    fn rule_on(&self, node: NodeId) -> Fs
+    fn rule_at(&self, node: NodeId) -> Fs
         ensures { (right : FsRight) → has result right ≡ granted_on_node self.now node right }
     {
         let number = node.index();
+        if !self.marks.has(number) {
+            return Fs::NONE;
+        }
         self.on_nodes.get(&number).copied().unwrap_or(Fs::NONE)
     }
 
-    /// The rights that the rules on a node and on the directories above it grant.
-    fn granted(&self, tree: &Tree, node: NodeId) -> Fs
-        requires inside { IsNode tree.now node }
-        requires within { AreInTree tree.now self.now }
-        ensures { (right : FsRight) → has result right ≡ granted (in_tree tree.now self.now) (path_at tree.now node) right }
+    /// The one look-up: asks the layer for its rule on a node, and counts the question.
+    pub(crate) fn rule_on(&self, node: NodeId, look_ups: &mut u64) -> Fs
+        requires room { look_ups.old + 1 < 2 ^ 64 }
+        ensures rule { (right : FsRight) → has result right ≡ granted_on_node self.now node right }
+        ensures count { look_ups.new ≡ look_ups.old + 1 }
     {
-        let mut granted = Fs::NONE;
-        let mut at = Some(node);
-        while let Some(here) = at {
-            granted = granted.union(self.rule_on(here));
-            at = tree.parent(here);
-        }
-        granted
+        *look_ups += 1;
+        self.rule_at(node)
     }
 
     /// The rights for files that the layer handles.
-    fn handled(&self) -> Fs
+    pub(crate) fn handled(&self) -> Fs
         ensures handled { (right : FsRight) → has result right ≡ handles self.now right }
         ensures known { has result other ≡ false }
     {
@@ -100,28 +102,6 @@ impl Layer {
         } else {
             self.files.union(Fs::REFER)
         }
-    }
-
-    /// Whether the layer refuses something of what is wanted on a node.
-    pub(crate) fn refuses(&self, tree: &Tree, node: NodeId, wanted: Fs) -> bool
-        requires inside { IsNode tree.now node }
-        requires within { AreInTree tree.now self.now }
-        ensures { result ≡ lacks (in_tree tree.now self.now) (path_at tree.now node) wanted }
-    {
-        wanted.lacks(self.handled(), self.granted(tree, node))
-    }
-
-    /// Whether an object gains a right by going to a directory: one that the layer handles and that counts
-    /// for the object is granted there and not on the object.
-    pub(crate) fn gains(&self, tree: &Tree, object: NodeId, directory: NodeId) -> bool
-        requires object { IsNode tree.now object }
-        requires directory { IsNode tree.now directory }
-        requires within { AreInTree tree.now self.now }
-        ensures { result ≡ gains (in_tree tree.now self.now) (kind_at tree.now object) (path_at tree.now object) (path_at tree.now directory) }
-    {
-        let counted = counting_for(tree.kind(object), self.handled());
-        let granted_there = self.granted(tree, directory);
-        granted_there.lacks(counted, self.granted(tree, object))
     }
 
     /// The rights that the rule on a port grants; none where there is no rule.
@@ -166,8 +146,9 @@ impl Layer {
         ensures err { OnErr result (self.new ≡ self.old) }
         ensures memory { IsOkUnless result RuleFault.Memory }
     {
-        let granted = self.rule_on(node).union(files);
+        let granted = self.rule_at(node).union(files);
         self.on_nodes.insert(node.index(), granted)?;
+        self.marks.mark(node.index());
         Ok(())
     }
 
@@ -190,13 +171,14 @@ impl Layer {
             files: self.files,
             network: self.network,
             on_nodes: self.on_nodes.clone()?,
+            marks: self.marks,
             on_ports: self.on_ports.clone()?,
         })
     }
 }
 
 /// Whether an object of a kind is a directory.
-fn is_directory(kind: Kind) -> bool
+pub(crate) fn is_directory(kind: Kind) -> bool
     ensures { result ≡ is_dir kind }
 {
     matches!(kind, Kind::Dir)
@@ -207,19 +189,6 @@ fn are_for_files(files: Fs) -> bool
     ensures { result ≡ are_file_rights files }
 {
     files.is_within(Fs::FILE)
-}
-
-/// Those of some known rights that count for an object of a kind.
-fn counting_for(kind: Kind, rights: Fs) -> Fs
-    requires { has rights other ≡ false }
-    ensures counted { (right : FsRight) → has result right ≡ (has rights right && (is_dir kind || is_file_right right)) }
-    ensures known { has result other ≡ false }
-{
-    if is_directory(kind) {
-        rights
-    } else {
-        rights.intersection(Fs::FILE)
-    }
 }
 
 /// Whether a version of the interface has rules for ports.
@@ -251,6 +220,7 @@ impl Ruleset {
                 files,
                 network,
                 on_nodes: HashMap::new(alloc),
+                marks: Filter::new(),
                 on_ports: BTreeMap::new(alloc),
             },
         })

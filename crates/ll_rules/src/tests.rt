@@ -1,6 +1,6 @@
 //! The calls against worked cases on a small tree.
 
-ghost use Rattle.std.specs.Prelude.{◌≡◌, All, IfOk, IfSome};
+ghost use Rattle.std.specs.Prelude.{◌≡◌, All, IfOk, IfSome, OnOk};
 ghost use Rattle.ll_tree.specs.Trees.{IsNode};
 ghost use Rattle.ll_rules.specs.Layers.{AreInTree};
 ghost use Rattle.ll_rules.specs.Checks.{IsDomainOf};
@@ -147,6 +147,24 @@ fn frozen(alloc: Global, rules: &Ruleset) -> Result<Layer, Fail>
     }
 }
 
+fn freeze_onto(
+    alloc: Global,
+    tree: &Tree,
+    rules: &Ruleset,
+    layers: &mut Vec<Layer>,
+) -> Result<(), Fail>
+    requires rules { AreInTree tree.now rules.now }
+    requires layers { All (AreInTree tree.now) layers.old.items }
+    ensures { OnOk result (All (AreInTree tree.now) layers.new.items) }
+{
+    let _tree = tree;
+    let layer = frozen(alloc, rules)?;
+    if layers.push(layer).is_err() {
+        return Err(Fail::from("there is memory for the layers"));
+    }
+    Ok(())
+}
+
 /// Whether a set has just some numbers.
 fn has_just(set: LayerSet, numbers: &[u32]) -> bool {
     (0..18).all(|number| set.has(number) == numbers.contains(&number))
@@ -266,12 +284,14 @@ fn a_frozen_layer_stays(rt: HostRuntime) -> Result<(), Fail> {
     let alloc = rt.alloc();
     let tree = worked_tree(alloc)?;
     let mut rules = rules_of(alloc, &tree, &on_paths("read_file", &[]))?;
-    let before = frozen(alloc, &rules)?;
+    let mut layers = Vec::new(alloc);
+    freeze_onto(alloc, &tree, &rules, &mut layers)?;
     assert_eq!(rt; add_path(&mut rules, &tree, "/a", Fs::READ_FILE), Ok(()));
-    let after = frozen(alloc, &rules)?;
+    freeze_onto(alloc, &tree, &rules, &mut layers)?;
+    let domain = stacked(&layers)?;
     let node = node_named(&tree, "/a/f")?;
-    assert!(rt; before.refuses(&tree, node, Fs::READ_FILE));
-    assert!(rt; !after.refuses(&tree, node, Fs::READ_FILE));
+    let set = check_path(&tree, &layers, &domain, node, Fs::READ_FILE);
+    assert!(rt; has_just(set, &[1]));
     Ok(())
 }
 
@@ -454,5 +474,76 @@ fn moves(rt: HostRuntime) -> Result<(), Fail> {
         let verdict = answered(rt.alloc(), layer, from, to, how)?;
         assert_eq!(rt; verdict, refused(error), "{from} {to} {how:?}");
     }
+    Ok(())
+}
+
+#[test]
+fn what_a_new_file_and_a_removal_ask(rt: HostRuntime) -> Result<(), Fail> {
+    let making = [on_paths(
+        "make_reg,make_dir,write_file,truncate,remove_file,execute",
+        &[("/a", "make_reg,write_file")],
+    )];
+    for (path, wanted, refused) in [
+        ("/a", "make_reg,write_file", false),
+        ("/a", "truncate", true),
+        ("/b", "make_reg,write_file", true),
+        ("/a/f", "write_file,truncate", true),
+        ("/a", "make_dir", true),
+        ("/a", "make_reg", false),
+        ("/a", "make_fifo", false),
+        ("/a", "make_sym", false),
+        ("/a", "remove_file", true),
+        ("/a", "remove_dir", false),
+        ("/a/f", "execute", true),
+    ] {
+        let set = refused_on_path(rt.alloc(), &making, path, wanted)?;
+        assert!(rt;
+            has_just(set, if refused { &[1] } else { &[] }),
+            "{path} {wanted}"
+        );
+    }
+    Ok(())
+}
+
+/// How many look-ups a check of reading takes.
+fn look_ups_to_read(alloc: Global, all: &[Wanted], path: &str) -> Result<u64, Fail> {
+    let tree = worked_tree(alloc)?;
+    let layers = layers_of(alloc, &tree, all)?;
+    let domain = stacked(&layers)?;
+    let node = node_named(&tree, path)?;
+    Ok(check_path_counted(&tree, &layers, &domain, node, Fs::READ_FILE).1)
+}
+
+#[test]
+fn look_ups_on_paths(rt: HostRuntime) -> Result<(), Fail> {
+    let alloc = rt.alloc();
+    let both = [
+        on_paths("read_file", &[("/a", "read_file")]),
+        on_paths("read_file", &[("/b", "read_file")]),
+    ];
+    // A layer that refuses is asked on every node from the object to the root.
+    assert_eq!(rt; look_ups_to_read(alloc, &both[..1], "/b/g")?, 3);
+    assert_eq!(rt; look_ups_to_read(alloc, &both, "/dev/tty")?, 6);
+    for path in ["/", "/a", "/a/s", "/a/f", "/dev/tty"] {
+        assert_eq!(rt; look_ups_to_read(alloc, &[], path)?, 0, "{path}");
+    }
+    Ok(())
+}
+
+#[test]
+fn look_ups_of_a_move(rt: HostRuntime) -> Result<(), Fail> {
+    let alloc = rt.alloc();
+    let tree = worked_tree(alloc)?;
+    let layers = layers_of(alloc, &tree, &[on_paths("read_file", &[])])?;
+    let domain = stacked(&layers)?;
+    let attempt = Move {
+        moved: node_named(&tree, "/a/f")?,
+        target: target_named(&tree, "/b/h")?,
+        how: How::Rename,
+    };
+    let (verdict, look_ups) = check_move_counted(&tree, &layers, &domain, &attempt);
+    assert_eq!(rt; verdict, refused(Some(Errno::XDev)));
+    // Both directories and the root above each have to be asked about.
+    assert!(rt; look_ups >= 4 && look_ups <= 6);
     Ok(())
 }

@@ -1,0 +1,5 @@
+use Rattle.ll_rules.specs.Layers.{AreInTree}
+use Rattle.ll_bench_checks.proofs.setting.layer_of.Given as goal
+
+abbrev pub invariant-loop-aside : goal.invariant-loop-aside
+invariant-loop-aside l = AreInTree l.tree l.rules

@@ -1,0 +1,5 @@
+use Rattle.ll_rules.specs.Checks.{IsDomainOf}
+use Rattle.ll_bench_checks.proofs.setting.stacked.Given as goal
+
+abbrev pub invariant-loop-number : goal.invariant-loop-number
+invariant-loop-number l = IsDomainOf l.layers l.domain

@@ -1,0 +1,126 @@
+//! The measuring: the least time of several runs, for each number of layers and each depth.
+
+ghost use Rattle.std.specs.Prelude.{All, length, ◌≤◌};
+ghost use Rattle.ll_tree.specs.Trees.{IsNode};
+ghost use Rattle.ll_rules.specs.Layers.{AreInTree};
+ghost use Rattle.ll_rules.specs.Checks.{IsDomainOf};
+
+use crate::setting::{Layers, deep_tree, layers_of, objects_at};
+use anyhow::{Context, Result};
+use ll_plain::refusing;
+use ll_rights::Fs;
+use ll_rules::check_path;
+use ll_tree::{NodeId, Tree};
+use std::rt::Clock;
+use std::time::{Duration, Instant};
+
+/// How often the objects are checked in one run.
+const ROUNDS: u32 = 500;
+
+/// How many runs there are, of which the quickest counts.
+const RUNS: u32 = 60;
+
+/// What is measured: how many layers refuse or grant in how many checks, and how long these took.
+#[derive(Clone, Copy)]
+struct Taken {
+    refused: u64,
+    time: Duration,
+}
+
+/// Checks all objects again and again, one layer after another.
+fn by_plain<R: Clock>(rt: &R, tree: &Tree, layers: &Layers, nodes: &[NodeId]) -> Result<Taken>
+    requires nodes { All (IsNode tree.now) nodes.now }
+    requires few { length layers.now.plain.items ≤ 16 }
+{
+    let start = Instant::now(rt)?;
+    let mut refused = 0u64;
+    for _ in 0..ROUNDS {
+        for node in nodes {
+            if refusing(tree, &layers.plain, *node, Fs::READ_FILE).contains(&true) {
+                refused = refused.wrapping_add(1);
+            }
+        }
+    }
+    let time = start.elapsed(rt)?;
+    Ok(Taken { refused, time })
+}
+
+/// Checks all objects again and again, by lanes.
+fn by_lanes<R: Clock>(rt: &R, tree: &Tree, layers: &Layers, nodes: &[NodeId]) -> Result<Taken>
+    requires nodes { All (IsNode tree.now) nodes.now }
+    requires rules { All (AreInTree tree.now) layers.now.lanes.items }
+    requires domain { IsDomainOf layers.now.lanes.items layers.now.domain }
+{
+    let start = Instant::now(rt)?;
+    let mut refused = 0u64;
+    for _ in 0..ROUNDS {
+        for node in nodes {
+            let set = check_path(tree, &layers.lanes, &layers.domain, *node, Fs::READ_FILE);
+            if !set.is_empty() {
+                refused = refused.wrapping_add(1);
+            }
+        }
+    }
+    let time = start.elapsed(rt)?;
+    Ok(Taken { refused, time })
+}
+
+/// Nanoseconds for one of so many checks.
+fn nanoseconds(time: Duration, checks: u32) -> f64 {
+    time.as_secs_f64() * 1e9 / f64::from(checks)
+}
+
+/// The quickest of two measured runs.
+fn quicker(first: Duration, second: Duration) -> Duration {
+    if second < first { second } else { first }
+}
+
+/// Measures a number of layers at a depth, and prints a line.
+fn line<R: Clock + Print + AllocGlobal>(
+    rt: &R,
+    tree: &Tree,
+    layers: &Layers,
+    nodes: &[NodeId],
+    what: &str,
+) -> Result<()>
+    requires nodes { All (IsNode tree.now) nodes.now }
+    requires rules { All (AreInTree tree.now) layers.now.lanes.items }
+    requires domain { IsDomainOf layers.now.lanes.items layers.now.domain }
+    requires few { length layers.now.plain.items ≤ 16 }
+{
+    let first = by_plain(rt, tree, layers, nodes)?;
+    let second = by_lanes(rt, tree, layers, nodes)?;
+    if first.refused != second.refused {
+        return None.context("the answers are the same");
+    }
+    let mut plain = first.time;
+    let mut lanes = second.time;
+    for _ in 0..RUNS {
+        plain = quicker(plain, by_plain(rt, tree, layers, nodes)?.time);
+        lanes = quicker(lanes, by_lanes(rt, tree, layers, nodes)?.time);
+    }
+    let checks = ROUNDS * 8;
+    let (plain, lanes) = (nanoseconds(plain, checks), nanoseconds(lanes, checks));
+    let times = plain / lanes;
+    println!(rt; "{what} {plain:>8.1} {lanes:>8.1} {times:>6.2}")?;
+    Ok(())
+}
+
+/// Measures 1, 6 and 16 layers at depths 3, 10 and 40, and prints a table.
+pub(crate) fn measure<R: Clock + Print + AllocGlobal>(rt: &R) -> Result<()> {
+    let alloc = rt.alloc();
+    let tree = deep_tree(alloc)?;
+    println!(rt; "answer  layers depth    plain    lanes  times")?;
+    for granting in [false, true] {
+        let answer = if granting { "granted" } else { "refused" };
+        for count in [1, 6, 16] {
+            let layers = layers_of(alloc, &tree, count, granting)?;
+            for depth in [3, 10, 40] {
+                let nodes = objects_at(alloc, &tree, depth)?;
+                let what = format!(in alloc; "{answer} {count:>6} {depth:>5}")?;
+                line(rt, &tree, &layers, &nodes, &what)?;
+            }
+        }
+    }
+    Ok(())
+}

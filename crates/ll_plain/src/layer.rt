@@ -1,0 +1,103 @@
+//! Plain layers, and which of them refuse what is wanted on a path.
+
+ghost use Rattle.std.specs.Prelude.{◌≤◌, length};
+ghost use Rattle.ll_tree.specs.Trees.{IsNode};
+
+use bitflags::Flags;
+use ll_rights::{Fs, Kind};
+use ll_tree::{NodeId, Tree};
+use std::alloc::{AllocError, Global};
+use std::collections::HashMap;
+
+/// Which of at most sixteen layers refuse, the oldest first.
+pub type Refusing = [bool; 16];
+
+/// The rights for files that a layer handles, and its rules.
+#[derive(Drop)]
+pub struct PlainLayer {
+    files: Fs,
+    on_nodes: HashMap<u32, Fs>,
+}
+
+impl PlainLayer {
+    /// A layer that handles some rights, without a rule.
+    pub fn new(alloc: Global, files: Fs) -> PlainLayer {
+        PlainLayer {
+            files,
+            on_nodes: HashMap::new(alloc),
+        }
+    }
+
+    /// Adds a rule that grants rights on an object and on all beneath it.
+    pub fn grant(&mut self, node: NodeId, files: Fs) -> Result<(), AllocError> {
+        let granted = self.rule_on(node).union(files);
+        self.on_nodes.insert(node.index(), granted)?;
+        Ok(())
+    }
+
+    fn rule_on(&self, node: NodeId) -> Fs {
+        let number = node.index();
+        self.on_nodes.get(&number).copied().unwrap_or(Fs::NONE)
+    }
+
+    /// The rights that the rules on a node and on the directories above it grant.
+    pub(crate) fn granted(&self, tree: &Tree, node: NodeId) -> Fs
+        requires { IsNode tree.now node }
+    {
+        let mut granted = Fs::NONE;
+        let mut at = Some(node);
+        while let Some(here) = at {
+            granted = granted.union(self.rule_on(here));
+            at = tree.parent(here);
+        }
+        granted
+    }
+
+    /// The rights that the layer handles, moving files between directories among them if there are any.
+    fn handled(&self) -> Fs {
+        if self.files.is_empty() {
+            return self.files;
+        }
+        self.files.union(Fs::REFER)
+    }
+
+    /// Whether the layer refuses something of what is wanted on a node.
+    pub(crate) fn refuses(&self, tree: &Tree, node: NodeId, wanted: Fs) -> bool
+        requires { IsNode tree.now node }
+    {
+        let granted = self.granted(tree, node);
+        !wanted
+            .intersection(self.handled())
+            .difference(granted)
+            .is_empty()
+    }
+
+    /// Whether an object gains a right by going to a directory.
+    pub(crate) fn gains(&self, tree: &Tree, object: NodeId, directory: NodeId) -> bool
+        requires object { IsNode tree.now object }
+        requires directory { IsNode tree.now directory }
+    {
+        let counted = match tree.kind(object) {
+            Kind::Dir => self.handled(),
+            _ => self.handled().intersection(Fs::FILE),
+        };
+        let granted_there = self.granted(tree, directory);
+        let granted_here = self.granted(tree, object);
+        !granted_there
+            .intersection(counted)
+            .difference(granted_here)
+            .is_empty()
+    }
+}
+
+/// Which of at most sixteen layers refuse something of what is wanted on a node.
+pub fn refusing(tree: &Tree, layers: &[PlainLayer], node: NodeId, wanted: Fs) -> Refusing
+    requires node { IsNode tree.now node }
+    requires few { length layers.now ≤ 16 }
+{
+    let mut refusing = [false; 16];
+    for (place, layer) in layers.iter().enumerate() {
+        refusing[place] = layer.refuses(tree, node, wanted);
+    }
+    refusing
+}

@@ -1,0 +1,11 @@
+//! A plain checker of paths and moves, which the checks by lanes are compared with: one layer after another, a
+//! climb for each question, and rules in the standard library's map.
+#![tactic(auto)]
+
+mod layer;
+mod moves;
+#[cfg(test)]
+mod tests;
+
+pub use layer::{PlainLayer, Refusing, refusing};
+pub use moves::answer;

@@ -1,0 +1,264 @@
+-- The lanes of a domain: a row of them filled place by place, what is left of them on a climb, and the layers whose lanes are filled.
+use Rattle.std.proofs.Common.{◌≡◌, ℕ, zero, suc, ◌+◌, ◌*◌, ◌^◌, ◌<◌, ◌≤◌, Bool, true, false, not, ◌&&◌, ◌||◌, cond, List, [], ◌∷◌, ◌++◌, map, length, get_or, take, refl, sym, ap, subst, ◌∙◌, arith, inl, inr, append_assoc, append-nil, mul_comm, bit_or}
+use Rattle.std.specs.Prelude.{All, Option, Some, None, IfSome, IfNone}
+use Rattle.std.specs.Option.{option_map_or}
+use Rattle.std.proofs.lemmas.Bool.{cases_lt, cases_eq}
+use Rattle.std.proofs.lemmas.List.{get_or-map, get_or-set_same, get_or-set_other, get_or_past, length-map, take_all, length-take}
+use Rattle.std.proofs.Math.ListN.{set}
+use Rattle.std.proofs.Math.Seq.{take-suc}
+use Rattle.std.proofs.lemmas.Nat.{le_or_l, le_or_r}
+use Rattle.std.proofs.lemmas.List.Elements.{All-nil, All-get_or}
+use Rattle.std.proofs.Math.Nat.{mul-le-mul_left}
+use Rattle.ll_rights.specs.declared.fs.Fs.{Fs}
+use Rattle.ll_rights.specs.Rights as files
+use Rattle.ll_rights.specs.Rights.{FsRight, has, some_right, all_rights, named_rights, is_lacking}
+use Rattle.ll_rights.specs.NetRights as network
+use Rattle.ll_rights.proofs.Sets.{fs_is_empty}
+use Rattle.ll_tree.specs.declared.place.NodeId.{NodeId}
+use Rattle.ll_tree.specs.Paths.{Path, front}
+use Rattle.ll_tree.specs.Trees.{Entry, IsNode, IsTree, StandsIn, path_at, parent_at, parent_of, depth_at}
+use Rattle.ll_rules.specs.declared.domain.LayerId.{LayerId}
+use Rattle.ll_rules.specs.Layers.{RulesOn, without_rules, handles, granted, granted_on_node, in_tree, AreInTree}
+use Rattle.ll_rules.specs.Checks.{layer_at, domain_of, all_in_tree, numbers_from, lacks, refusing}
+use Rattle.ll_rules.specs.LayerNumbers.{passing_upto, numbers_passing}
+use Rattle.ll_rules.specs.Lanes.{lane, is_filled, layer_in}
+use Rattle.ll_rules.proofs.RightSets.{has_nothing}
+use Rattle.ll_rules.proofs.AskedRights.{some_agree}
+use Rattle.ll_rules.proofs.Booleans.{and_none, and_true}
+use Rattle.ll_rules.proofs.Domains.{numbers_from-map}
+use Rattle.ll_rules.proofs.LaneSets.{nothing_in}
+use Rattle.ll_rules.proofs.Climbs.{granted_above, climbed}
+
+-- ---- a row, place by place
+
+module _ (P : ℕ → ℕ → Type 0) (row : List ℕ) (place value : ℕ) (inside : place < length row) where
+  pub row_next : ((p : ℕ) → p < place → P p (get_or row p 0)) → P place value → (p : ℕ) → p < place + 1 → P p (get_or (set row place value) p 0)
+  row_next before here p lt =
+      elim (cases_eq p place) [
+        | inl same ↦ rw (same, get_or-set_same row place value 0 inside) here
+        | inr differs ↦ rw (get_or-set_other row place p value 0 differs) (before p (omega arith))
+      ]
+
+pub row_rest : (row : List ℕ) (place value : ℕ) → ((p : ℕ) → place ≤ p → get_or row p 0 ≡ 0) → (p : ℕ) → place + 1 ≤ p → get_or (set row place value) p 0 ≡ 0
+row_rest row place value rest p le = get_or-set_other row place p value 0 (λ same. absurd (omega arith)) ∙ rest p (omega arith)
+
+-- nothing in any place where nothing is in all together
+pub row_nothing : (row : List ℕ) (place value all : ℕ) → place < length row → ((p : ℕ) → p < place → all ≡ 0 → get_or row p 0 ≡ 0) → (p : ℕ) → p < place + 1 → bit_or all value ≡ 0 → get_or (set row place value) p 0 ≡ 0
+row_nothing row place value all inside before p lt none =
+    elim (cases_eq p place) [
+      | inl same ↦ rw (same, get_or-set_same row place value 0 inside) (omega (arith, le_or_r all value))
+      | inr differs ↦ rw (get_or-set_other row place p value 0 differs) (before p (omega arith) (omega (arith, le_or_l all value)))
+    ]
+
+-- ---- the layers of a domain
+
+module _ (layers : List (RulesOn ℕ)) (ids : List LayerId) where
+  pub layer_in-named : (place : ℕ) (d : LayerId) → place < length ids → layer_in (domain_of layers ids) place ≡ layer_at layers (get_or ids place d)
+  layer_in-named place d inside = get_or-map (layer_at layers) ids place d (without_rules files.no_right network.no_right) inside
+
+  pub layer_in-past : (place : ℕ) → length ids ≤ place → layer_in (domain_of layers ids) place ≡ without_rules files.no_right network.no_right
+  layer_in-past place past = get_or_past (map (layer_at layers) ids) place (without_rules files.no_right network.no_right) (omega (arith, length-map ids (layer_at layers)))
+
+nothing_is_empty : files.is_empty files.no_right ≡ true
+nothing_is_empty = sym (fs_is_empty files.no_right)
+
+pub nothing_handled : (P : Type 0) (right : FsRight) → handles (without_rules {P = P} files.no_right network.no_right) right ≡ false
+nothing_handled P files.refer = ap not nothing_is_empty
+nothing_handled P right = has_nothing right
+
+pub nothing_granted : (here : NodeId) (right : FsRight) → granted_on_node (without_rules files.no_right network.no_right) here right ≡ false
+unfolding granted_on_node
+nothing_granted here right = refl
+
+module _ (layers : List (RulesOn ℕ)) (ids : List LayerId) (row : List ℕ) (count : ℕ) (all : length ids ≤ count) (rest : (place : ℕ) → count ≤ place → get_or row place 0 ≡ 0) where
+  -- a row of what the layers handle, all places together
+  pub all_handled : ((place : ℕ) → place < count → (right : FsRight) → has (lane row place) right ≡ handles (layer_in (domain_of layers ids) place) right)
+      → (place : ℕ) (right : FsRight) → has (lane row place) right ≡ handles (layer_in (domain_of layers ids) place) right
+  all_handled so_far place right =
+      elim (cases_lt place count) [
+        | inl inside ↦ so_far place inside right
+        | inr past ↦
+            nothing_in (get_or row place 0) right (rest place past)
+            ∙ sym (ap (λ (rules : RulesOn ℕ). handles rules right) (layer_in-past layers ids place (omega arith)) ∙ nothing_handled ℕ right)
+      ]
+
+  -- a row of what the layers grant on a node, where lanes want it, all places together
+  pub all_asked : (lanes : List ℕ) (here : NodeId)
+      → ((place : ℕ) → place < count → (right : FsRight) → (has (lane lanes place) right && not (has (lane row place) right)) ≡ (has (lane lanes place) right && not (granted_on_node (layer_in (domain_of layers ids) place) here right)))
+      → (place : ℕ) (right : FsRight) → (has (lane lanes place) right && not (has (lane row place) right)) ≡ (has (lane lanes place) right && not (granted_on_node (layer_in (domain_of layers ids) place) here right))
+  all_asked lanes here so_far place right =
+      elim (cases_lt place count) [
+        | inl inside ↦ so_far place inside right
+        | inr past ↦
+            ap (λ (b : Bool). has (lane lanes place) right && not b)
+            (nothing_in (get_or row place 0) right (rest place past)
+            ∙ sym (ap (λ (rules : RulesOn ℕ). granted_on_node rules here right) (layer_in-past layers ids place (omega arith)) ∙ nothing_granted here right))
+      ]
+
+  -- where the layers grant nothing that lanes want, nothing is taken from these
+  pub all_silent : (lanes : List ℕ) (here : NodeId)
+      → ((place : ℕ) → place < count → (right : FsRight) → (has (lane lanes place) right && not (has (lane row place) right)) ≡ (has (lane lanes place) right && not (granted_on_node (layer_in (domain_of layers ids) place) here right)))
+      → ((place : ℕ) → place < count → get_or row place 0 ≡ 0)
+      → (place : ℕ) (right : FsRight) → has (lane lanes place) right ≡ (has (lane lanes place) right && not (granted_on_node (layer_in (domain_of layers ids) place) here right))
+  all_silent lanes here so_far none place right =
+      let silent : get_or row place 0 ≡ 0 = elim (cases_lt place count) [ inl inside ↦ none place inside | inr past ↦ rest place past ] in
+      sym (and_true (has (lane lanes place) right))
+      ∙ ap (λ (b : Bool). has (lane lanes place) right && not b) (sym (nothing_in (get_or row place 0) right silent))
+      ∙ all_asked lanes here so_far place right
+
+-- ---- one climb
+
+-- how many nodes there are from a node up, it and the root included
+unfoldable pub nodes_up : List Entry → Option NodeId → ℕ
+nodes_up tree at = option_map_or (λ node. length (path_at tree node) + 1) at 0
+
+length-front : (name : List ℕ) (names : Path) → length (front (name ∷ names)) ≡ length names
+unfolding front
+length-front name [] = refl
+length-front name (next ∷ names) = ap (λ (n : ℕ). suc n) (length-front next names)
+
+nodes_up-front : (path above : Path) (up : NodeId) (tree : List Entry) → above ≡ front path → Some up ≡ parent_of tree path → length above + 1 ≤ length path
+unfolding parent_of front
+nodes_up-front [] above up tree is found = absurd cc
+nodes_up-front (name ∷ names) above up tree is found = omega (arith, ap length is, length-front name names)
+
+nodes_up-step : (tree : List Entry) (here : NodeId) (up : Option NodeId) → up ≡ parent_at tree here → IfSome up (StandsIn tree here) → nodes_up tree up + 1 ≤ nodes_up tree (Some here)
+unfolding nodes_up parent_at
+nodes_up-step tree here None found below = omega arith
+nodes_up-step tree here (Some above) found below = omega (arith, nodes_up-front (path_at tree here) (path_at tree above) above tree below.is_front found)
+
+pub count_begins : (tree : List Entry) (here : NodeId) (layers start : ℕ) → start + layers * nodes_up tree (Some here) ≤ start + layers * (depth_at tree here + 1)
+unfolding nodes_up depth_at
+count_begins tree here layers start = omega arith
+
+-- one node further up, and at most one look-up for each layer more
+pub count_goes_on : (tree : List Entry) (here : NodeId) (up : Option NodeId) (layers before after bound : ℕ) → up ≡ parent_at tree here → IfSome up (StandsIn tree here)
+    → after ≤ before + layers → before + layers * nodes_up tree (Some here) ≤ bound → after + layers * nodes_up tree up ≤ bound
+count_goes_on tree here up layers before after bound found below more so_far =
+    let step : layers * (nodes_up tree up + 1) ≤ layers * nodes_up tree (Some here) = mul-le-mul_left layers (nodes_up-step tree here up found below) in
+    let split : layers * (nodes_up tree up + 1) ≡ layers * nodes_up tree up + layers = omega arith in
+    omega arith
+
+-- a climb takes few look-ups, since a depth has 32 bits
+pub few_look_ups : (layers depth : ℕ) → layers ≤ 16 → depth < 2 ^ 32 → layers * (depth + 1) ≤ 2 ^ 37
+few_look_ups layers depth few low =
+    let most : (depth + 1) * layers ≤ (depth + 1) * 16 = mul-le-mul_left (depth + 1) few in
+    let turned : layers * (depth + 1) ≡ (depth + 1) * layers = mul_comm layers (depth + 1) in
+    omega arith
+
+-- what is left of a lane that has this and lacks what is granted from a node up
+abbrev pub left_above : List Entry → RulesOn ℕ → Option NodeId → FsRight → Bool → Bool
+left_above tree rules at right has_it = has_it && not (granted_above tree rules at right)
+
+pub left_begins : (tree : List Entry) (rules : RulesOn ℕ) (here : NodeId) (right : FsRight) (has_it : Bool) → left_above tree rules (Some here) right has_it ≡ (has_it && not (granted (in_tree tree rules) (path_at tree here) right))
+unfolding granted_above
+left_begins tree rules here right has_it = refl
+
+and_split : (has_it rule above : Bool) → (has_it && not (rule || above)) ≡ ((has_it && not rule) && not above)
+and_split true true above = refl
+and_split true false above = refl
+and_split false rule above = refl
+
+pub left_goes_on : (tree : List Entry) (rules : RulesOn ℕ) (here : NodeId) (up : Option NodeId) (right : FsRight) (before after total : Bool) → IsTree tree → IsNode tree here → AreInTree tree rules
+    → IfNone up (path_at tree here ≡ []) → IfSome up (StandsIn tree here)
+    → after ≡ (before && not (granted_on_node rules here right)) → left_above tree rules (Some here) right before ≡ total → left_above tree rules up right after ≡ total
+left_goes_on tree rules here up right before after total listed inside within top below is so_far =
+    ap (λ (b : Bool). b && not (granted_above tree rules up right)) is
+    ∙ sym (and_split before (granted_on_node rules here right) (granted_above tree rules up right))
+    ∙ ap (λ (b : Bool). before && not b) (sym (climbed tree rules here up right listed inside within top below))
+    ∙ sym (left_begins tree rules here right before)
+    ∙ so_far
+
+pub and_comm : (a b : Bool) → (a && b) ≡ (b && a)
+and_comm true true = refl
+and_comm true false = refl
+and_comm false true = refl
+and_comm false false = refl
+
+pub left_ends : (tree : List Entry) (rules : RulesOn ℕ) (right : FsRight) (has_it total : Bool) → left_above tree rules None right has_it ≡ total → has_it ≡ total
+unfolding granted_above
+left_ends tree rules right has_it total so_far = sym (and_true has_it) ∙ so_far
+
+-- of nothing nothing is left
+pub left_nothing : (tree : List Entry) (rules : RulesOn ℕ) (at : Option NodeId) (right : FsRight) (has_it total : Bool) → has_it ≡ false → left_above tree rules at right has_it ≡ total → has_it ≡ total
+left_nothing tree rules at right has_it total none so_far = none ∙ sym (ap (λ (b : Bool). b && not (granted_above tree rules at right)) none) ∙ so_far
+
+-- the layers of a domain have their rules in the tree
+all_in : (tree : List Entry) (layers : List (RulesOn ℕ)) (id : LayerId) → All (AreInTree tree) layers → AreInTree tree (layer_at layers id)
+all_in tree layers id all =
+    let nowhere = without_rules {P = ℕ} files.no_right network.no_right in
+    elim (cases_lt id.0 (length layers)) [
+      | inl inside ↦ All-get_or (AreInTree tree) layers id.0 nowhere inside all
+      | inr past ↦ subst (AreInTree tree) (sym (get_or_past layers id.0 nowhere past)) (All-nil (λ (number : ℕ). number < length tree))
+    ]
+
+pub layer_in-within : (tree : List Entry) (layers : List (RulesOn ℕ)) (ids : List LayerId) (place : ℕ) → All (AreInTree tree) layers → AreInTree tree (layer_in (domain_of layers ids) place)
+layer_in-within tree layers ids place all =
+    elim (cases_lt place (length ids)) [
+      | inl inside ↦ subst (AreInTree tree) (sym (layer_in-named layers ids place (record { 0 = 0 }) inside)) (all_in tree layers (get_or ids place (record { 0 = 0 })) all)
+      | inr past ↦ subst (AreInTree tree) (sym (layer_in-past layers ids place past)) (All-nil (λ (number : ℕ). number < length tree))
+    ]
+
+-- ---- the layers whose lanes are filled
+
+numbers_from-snoc : {L : Type 0} (test : L → Bool) (number : ℕ) (xs : List L) (x : L) → numbers_from test number (xs ++ x ∷ []) ≡ numbers_from test number xs ++ cond (test x) ((number + length xs) ∷ []) []
+unfolding numbers_from
+numbers_from-snoc test number [] x =
+    let same : number + 0 ≡ number = omega arith in
+    rw (same, append-nil) refl
+numbers_from-snoc test number (y ∷ ys) x =
+    let same : number + 1 + length ys ≡ number + suc (length ys) = omega arith in
+    rw (numbers_from-snoc test (number + 1) ys x, append_assoc, same) refl
+
+module _ {L : Type 0} (test : L → Bool) (passes : ℕ → Bool) (domain : List L) (d : L) (nowhere : test d ≡ false) (agree : (place : ℕ) → place < 16 → passes (suc place) ≡ test (get_or domain place d)) where
+  passing_first : (count : ℕ) → count ≤ 16 → passing_upto passes count ≡ numbers_from test 1 (take count domain)
+  unfolding passing_upto numbers_from
+  passing_first zero few = refl
+  passing_first (suc count) few =
+      let before : passing_upto passes count ≡ numbers_from test 1 (take count domain) = passing_first count (omega arith) in
+      let here : passes (suc count) ≡ test (get_or domain count d) = agree count (omega arith) in
+      elim (cases_lt count (length domain)) [
+        | inl inside ↦
+            let more : take (suc count) domain ≡ take count domain ++ get_or domain count d ∷ [] = take-suc domain count d inside in
+            let long : 1 + length (take count domain) ≡ suc count = omega (arith, length-take count domain) in
+            rw (before, here, more, numbers_from-snoc, long) refl
+        | inr past ↦
+            let all : take (suc count) domain ≡ take count domain = take_all (suc count) domain (omega arith) ∙ sym (take_all count domain past) in
+            rw (before, here, get_or_past domain count d past, nowhere, all) (append-nil (numbers_from test 1 (take count domain)))
+      ]
+
+  pub passing_all : length domain ≤ 16 → numbers_passing passes ≡ numbers_from test 1 domain
+  passing_all few = passing_first 16 (omega arith) ∙ ap (numbers_from test 1) (take_all 16 domain few)
+
+not_not : (b : Bool) → not (not b) ≡ b
+not_not true = refl
+not_not false = refl
+
+-- the layers of a domain whose lanes hold what a test finds
+pub filled_numbers : (lanes : List ℕ) (layers : List (RulesOn ℕ)) (ids : List LayerId) (test : RulesOn ℕ → Bool) → length ids ≤ 16 → test (without_rules files.no_right network.no_right) ≡ false
+    → ((place : ℕ) → some_right (has (lane lanes place)) ≡ test (layer_in (domain_of layers ids) place)) → numbers_passing (is_filled lanes) ≡ numbers_from test 1 (domain_of layers ids)
+unfolding is_filled
+filled_numbers lanes layers ids test few nowhere same =
+    passing_all test (is_filled lanes) (domain_of layers ids) (without_rules files.no_right network.no_right) nowhere (λ place inside. not_not (some_right (has (lane lanes place))) ∙ same place) (omega (arith, length-map ids (layer_at layers)))
+
+-- a domain's layers that pass a test, with their rules on paths
+pub filled_in_tree : (tree : List Entry) (lanes : List ℕ) (layers : List (RulesOn ℕ)) (ids : List LayerId) (test : RulesOn Path → Bool) → length ids ≤ 16 → test (in_tree tree (without_rules files.no_right network.no_right)) ≡ false
+    → ((place : ℕ) → some_right (has (lane lanes place)) ≡ test (in_tree tree (layer_in (domain_of layers ids) place))) → numbers_passing (is_filled lanes) ≡ numbers_from test 1 (all_in_tree tree (domain_of layers ids))
+filled_in_tree tree lanes layers ids test few nowhere same =
+    filled_numbers lanes layers ids (λ rules. test (in_tree tree rules)) few nowhere same ∙ sym (numbers_from-map test (in_tree tree) 1 (domain_of layers ids))
+
+-- ---- what is refused on a path
+
+pub none_lacking : (wanted granted : FsRight → Bool) → is_lacking wanted (handles (without_rules {P = Path} files.no_right network.no_right)) granted ≡ false
+unfolding some_right all_rights named_rights
+none_lacking wanted granted =
+    some_agree (λ right. wanted right && handles (without_rules {P = Path} files.no_right network.no_right) right && not (granted right)) (λ right. false)
+    (λ right. ap (λ (b : Bool). wanted right && b && not (granted right)) (nothing_handled Path right) ∙ ap (λ (b : Bool). b && not (granted right)) (and_none (wanted right)))
+
+pub refusing_lanes : (tree : List Entry) (layers : List (RulesOn ℕ)) (ids : List LayerId) (path : Path) (wanted : Fs) (lanes : List ℕ) → length ids ≤ 16
+    → ((place : ℕ) (right : FsRight) → has (lane lanes place) right ≡ ((handles (layer_in (domain_of layers ids) place) right && has wanted right) && not (granted (in_tree tree (layer_in (domain_of layers ids) place)) path right)))
+    → numbers_passing (is_filled lanes) ≡ refusing (all_in_tree tree (domain_of layers ids)) path wanted
+refusing_lanes tree layers ids path wanted lanes few same =
+    filled_in_tree tree lanes layers ids (λ layer. lacks layer path wanted) few (none_lacking (has wanted) _)
+    (λ place. some_agree (has (lane lanes place)) (λ right. has wanted right && handles (layer_in (domain_of layers ids) place) right && not (granted (in_tree tree (layer_in (domain_of layers ids) place)) path right))
+    (λ right. same place right ∙ ap (λ (b : Bool). b && not (granted (in_tree tree (layer_in (domain_of layers ids) place)) path right)) (and_comm (handles (layer_in (domain_of layers ids) place) right) (has wanted right))))

@@ -1,0 +1,22 @@
+use Rattle.std.proofs.Common.{◌≡◌, ℕ, ◌+◌, ◌*◌, ◌≤◌, ◌&&◌, not, length}
+use Rattle.std.specs.Prelude.{IfSome}
+use Rattle.std.specs.Option.{option_map_or}
+use Rattle.ll_rights.specs.Rights.{FsRight, has}
+use Rattle.ll_tree.specs.Trees.{IsNode, path_at, depth_at}
+use Rattle.ll_rules.specs.Layers.{granted, in_tree}
+use Rattle.ll_rules.specs.Checks.{domain_of}
+use Rattle.ll_rules.specs.Lanes.{lane, layer_in}
+use Rattle.ll_rules.proofs.DomainLanes.{left_above, nodes_up}
+use Rattle.ll_rules.proofs.climb.climbed.Given as goal
+
+-- what is left of the lanes, less what is granted from here on up
+abbrev pub invariant-loop-at : goal.invariant-loop-at
+invariant-loop-at l = record {
+  inside : IfSome l.at (IsNode l.tree);
+  so_far : (place : ℕ) (right : FsRight) → left_above l.tree (layer_in (domain_of l.layers l.ids) place) l.at right (has (lane l.left place) right)
+      ≡ (has (lane l.fn.lanes place) right && not (granted (in_tree l.tree (layer_in (domain_of l.layers l.ids) place)) (path_at l.tree l.fn.node) right));
+  count : l.look_ups + length l.ids * nodes_up l.tree l.at ≤ l.fn.look_ups + length l.ids * (depth_at l.tree l.fn.node + 1);
+}
+
+abbrev pub decreases-loop-at : goal.decreases-loop-at
+decreases-loop-at l = option_map_or (λ here. here.0 + 1) l.at 0

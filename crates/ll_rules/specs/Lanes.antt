@@ -1,0 +1,32 @@
+-- Lanes: a set of rights for each layer of a domain, in the place of its layer.
+-- Source: docs/DECISIONS.md, the checks by lanes.
+use Rattle.std.specs.Prelude.{◌≡◌, ℕ, zero, suc, Bool, false, not, ◌&&◌, List, slice_index, slice_index_or}
+use Rattle.ll_rights.specs.declared.fs.Fs.{Fs}
+use Rattle.ll_rights.specs.Rights as files
+use Rattle.ll_rights.specs.Rights.{FsRight, has}
+use Rattle.ll_rights.specs.NetRights as network
+use Rattle.ll_tree.specs.Paths.{Path}
+use Rattle.ll_tree.specs.Trees.{Entry}
+use Rattle.ll_rules.specs.Layers.{RulesOn, without_rules, handles, granted, in_tree}
+
+-- the set of rights that a lane's bits stand for
+abbrev pub set_of : ℕ → Fs
+set_of bits = record { 0 = bits }
+
+-- the set in a lane
+abbrev pub lane : List ℕ → ℕ → Fs
+lane lanes place = set_of (slice_index lanes place)
+
+-- whether the lane of a layer, by the layer's number, holds a right
+unfoldable pub is_filled : List ℕ → ℕ → Bool
+is_filled lanes zero = false
+is_filled lanes (suc place) = not (files.is_empty (lane lanes place))
+
+-- the layer at a place of a domain; past the last there is none, and nothing is handled
+abbrev pub layer_in : {P : Type 0} → List (RulesOn P) → ℕ → RulesOn P
+layer_in domain place = slice_index_or domain place (without_rules files.no_right network.no_right)
+
+-- each lane holds what its layer handles and doesn't grant on a path
+abbrev pub AreLacking : List Entry → List (RulesOn ℕ) → Path → List ℕ → Type 0
+AreLacking tree domain path lanes =
+    (place : ℕ) (right : FsRight) → has (lane lanes place) right ≡ (handles (layer_in domain place) right && not (granted (in_tree tree (layer_in domain place)) path right))
