@@ -1,17 +1,16 @@
 -- The job of a forked child: it begins with what its parent has after the fork record.
-use Rattle.std.proofs.Common.{◌≡◌, ℕ, ◌+◌, ◌<◌, Bool, true, false, List, take, Option, Some, None, refl, sym, ap, ◌∙◌, subst, arith}
-use Rattle.std.specs.Prelude.{slice_get, Result, Ok, Err, IfOk}
-use Rattle.std.proofs.lemmas.Option.{same_Some}
+use Rattle.std.proofs.Common.{◌≡◌, ℕ, ◌<◌, true, take, Some, sym, ap, ◌∙◌, subst, arith}
+use Rattle.std.specs.Prelude.{slice_get}
 use Rattle.ll_trace.specs.declared.record.Record.{Record}
 use Rattle.ll_state.specs.declared.own_state.OwnState.{OwnState}
 use Rattle.ll_state.specs.States.{State}
-use Rattle.ll_state.specs.Worlds.{state_after, world_at}
-use Rattle.ll_process.specs.Processes.{is_fork, process_count, started_at, forked_at}
+use Rattle.ll_state.specs.Worlds.{world_at}
+use Rattle.ll_process.specs.Processes.{is_fork, process_count, forked_at}
 use Rattle.ll_process.specs.Judging.{state_met, state_left}
 use Rattle.ll_process.specs.Cases.{Matter, IsCase, BeginsAs, AgreesIn}
-use Rattle.ll_process.specs.Own.{IsOwn, Leaves}
-use Rattle.ll_process.proofs.Steps.{state_after-fork}
-use Rattle.ll_process.proofs.Numbers.{StartedAt, ForkedAt, forked_at-is, started_at-is, started_once}
+use Rattle.ll_process.specs.Own.{IsOwn}
+use Rattle.ll_state.proofs.Steps.{state_after-fork}
+use Rattle.ll_state.proofs.Numbers.{StartedAt, ForkedAt, forked_at-is, started_at-is, started_once}
 use Rattle.ll_process.proofs.Walks.{left_met}
 use Rattle.ll_process.proofs.Forks.{forked, child_state, child_below}
 use Rattle.ll_process.proofs.OwnSteps.{own_process}

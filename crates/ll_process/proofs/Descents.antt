@@ -1,5 +1,5 @@
 -- How far the judging of a process and its descendants has come.
-use Rattle.std.proofs.Common.{◌≡◌, ◌⊎◌, ℕ, zero, suc, ◌+◌, ◌-◌, ◌<◌, ◌≤◌, List, [], ◌∷◌, ◌++◌, length, map, Option, Some, None, refl, sym, ap, ◌∙◌, subst, inl, inr, arith}
+use Rattle.std.proofs.Common.{◌≡◌, ℕ, zero, suc, ◌+◌, ◌<◌, List, [], ◌∷◌, ◌++◌, Some, refl, sym, ap, ◌∙◌, subst, arith}
 use Rattle.std.specs.Prelude.{slice_get, sum_by}
 use Rattle.std.specs.List.{flat_map}
 use Rattle.std.proofs.lemmas.List.{append-nil, map-append}
@@ -11,7 +11,7 @@ use Rattle.ll_trace.specs.declared.record.ProcessId.{ProcessId}
 use Rattle.ll_state.specs.declared.answer.Answer.{Answer}
 use Rattle.ll_process.specs.declared.job.Job.{Job}
 use Rattle.ll_process.specs.Processes.{children, kids, numbers, process_count}
-use Rattle.ll_process.specs.Cases.{Matter, IsCase, answers_in}
+use Rattle.ll_process.specs.Cases.{Matter, answers_in}
 use Rattle.ll_process.specs.Jobs.{processes_of, AllOf, HandedOut, Accounts, SharesOut}
 use Rattle.ll_process.specs.Weights.{weight, weight_of}
 

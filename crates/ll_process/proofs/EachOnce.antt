@@ -1,15 +1,15 @@
 -- Processes that are the roots together with the children of their own members are all processes, each once.
-use Rattle.std.proofs.Common.{◌≡◌, ◌≢◌, ℕ, zero, suc, ◌+◌, ◌-◌, ◌<◌, ◌≤◌, Bool, true, false, cond, eqb, List, [], ◌∷◌, ◌++◌, length, take, map, Option, Some, None, refl, sym, ap, ◌∙◌, subst, inl, inr, arith, add-one, add-zero}
-use Rattle.std.specs.Prelude.{◌⊎◌, slice_get, sum_by, count_by, filter}
+use Rattle.std.proofs.Common.{◌≡◌, ℕ, zero, suc, ◌+◌, ◌<◌, Bool, true, false, cond, eqb, List, [], ◌∷◌, take, map, Option, Some, None, refl, sym, ap, ◌∙◌, subst, inl, inr, arith}
+use Rattle.std.specs.Prelude.{◌⊎◌, slice_get, sum_by, filter}
 use Rattle.std.specs.List.{filter_map, flat_map, cons_option}
-use Rattle.std.proofs.lemmas.Bool.{cases_Bool, cases_eq, cases_lt, eqb-true, eqb-false, eq-eqb, ne_eqb}
-use Rattle.std.proofs.lemmas.Option.{none-some, same_Some}
+use Rattle.std.proofs.lemmas.Bool.{cases_Bool, cases_eq, eq-eqb, ne_eqb}
+use Rattle.std.proofs.lemmas.Option.{same_Some}
 use Rattle.std.proofs.lemmas.List.Concat.{flat_map-cons}
 use Rattle.std.proofs.lemmas.List.Sums.{sum_by-cons, sum_by-append}
 use Rattle.ll_trace.specs.declared.record.Record.{Record}
-use Rattle.ll_process.specs.Processes.{is_start, is_fork, is_starting, process_count, started_at, forked_at, own_from, own_records, children, kids, roots, times, IsNumbered}
-use Rattle.ll_process.proofs.Steps.{start-starts, fork-starts, starts_alone, fork_no_start}
-use Rattle.ll_process.proofs.Numbers.{StartedAt, ForkedAt, forked_at-is, forked_at-from, forked_at-none, started_once, start_of}
+use Rattle.ll_process.specs.Processes.{is_start, is_fork, process_count, forked_at, own_from, own_records, children, kids, roots, times, IsNumbered}
+use Rattle.ll_state.proofs.Steps.{start-starts, fork-starts, starts_alone, fork_no_start}
+use Rattle.ll_state.proofs.Numbers.{StartedAt, forked_at-is, forked_at-from, forked_at-none, started_once, start_of}
 use Rattle.ll_process.proofs.OwnRecords.{own_from-yes, own_from-no, own_from-nil}
 
 -- 1 at one process, 0 at any other

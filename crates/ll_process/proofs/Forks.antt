@@ -1,21 +1,15 @@
 -- A forked child begins with the state of its parent, and a parent's number is below its child's.
-use Rattle.std.proofs.Common.{◌≡◌, ◌≢◌, ℕ, zero, suc, ◌+◌, ◌-◌, ◌<◌, ◌≤◌, ◌^◌, ◌*◌, Bool, true, false, cond, List, [], ◌∷◌, ◌++◌, length, take, drop, Option, Some, None, refl, sym, ap, ◌∙◌, subst, inl, inr, arith, add-one}
-use Rattle.std.specs.Prelude.{slice_get, sum_by}
-use Rattle.std.specs.List.{filter_map, cons_option}
-use Rattle.std.proofs.lemmas.Bool.{cases_Bool, cases_lt}
-use Rattle.std.proofs.lemmas.Option.{none-some, same_Some}
-use Rattle.std.proofs.lemmas.List.Sums.{sum_by-cons}
+use Rattle.std.proofs.Common.{◌≡◌, ℕ, suc, ◌<◌, true, List, take, Some, refl, sym, ap, ◌∙◌, arith}
+use Rattle.std.specs.Prelude.{slice_get}
 use Rattle.ll_rights.specs.declared.abi.Abi.{Abi}
 use Rattle.ll_tree.specs.Trees.{Entry}
 use Rattle.ll_trace.specs.declared.record.Record.{Record}
-use Rattle.ll_state.specs.States.{State}
 use Rattle.ll_state.specs.Worlds.{state_of, step, world_at}
-use Rattle.ll_process.specs.Processes.{is_start, is_fork, is_starting, process_count, started_at, forked_at, own_from, own_records, children, IsNumbered}
+use Rattle.ll_process.specs.Processes.{is_fork, process_count, IsNumbered}
 use Rattle.ll_process.specs.Judging.{state_met, state_left}
-use Rattle.ll_process.proofs.Worlds.{world_at-more}
-use Rattle.ll_process.proofs.Steps.{step-new, length-world_at, started-fork, fork-starts, fork_no_start}
-use Rattle.ll_process.proofs.Numbers.{count-le, count-all, count-started, StartedAt, started_at-from, forked_at-from, forked_at-none}
-use Rattle.ll_process.proofs.OwnRecords.{own_from-yes, own_from-no, own_from-nil}
+use Rattle.ll_state.proofs.Worlds.{world_at-more}
+use Rattle.ll_state.proofs.Steps.{step-new, length-world_at, started-fork, fork-starts, fork_no_start}
+use Rattle.ll_state.proofs.Numbers.{count-all, count-started, StartedAt}
 use Rattle.ll_process.proofs.Walks.{met_going_on}
 
 -- the child that a fork record starts

@@ -1,18 +1,35 @@
 -- The law of orders, from what one step does.
-use Rattle.std.proofs.Common.{◌≡◌, ◌≢◌, ℕ, suc, ◌+◌, ◌<◌, ◌≤◌, Bool, true, false, List, [], ◌∷◌, ◌++◌, length, get_or, set, Option, Some, None, refl, sym, ap, ◌∙◌, subst, inl, inr, arith}
+use Rattle.std.proofs.Common.{◌≡◌, false, List, length, refl, sym, ap, ◌∙◌, inl, inr, arith}
 use Rattle.std.specs.Prelude.{unwrap_or}
-use Rattle.std.proofs.lemmas.List.{get_or_past, get_or_at}
 use Rattle.ll_rights.specs.declared.abi.Abi.{Abi}
 use Rattle.ll_tree.specs.Trees.{Entry}
 use Rattle.ll_trace.specs.declared.record.Record.{Record}
 use Rattle.ll_trace.specs.declared.op.Op.{Op}
-use Rattle.ll_state.specs.States.{State, fresh}
+use Rattle.ll_trace.specs.declared.op.Op.TheVariants.{Create, AddPath, AddPort}
+use Rattle.ll_state.specs.declared.answer.Answer.{Answer}
+use Rattle.ll_state.specs.declared.answer.Answer.TheVariants.{Allowed}
+use Rattle.ll_state.specs.States.{State, Layer}
 use Rattle.ll_state.specs.Answers.{answer}
-use Rattle.ll_state.specs.Changes.{started}
-use Rattle.ll_state.specs.Worlds.{World, state_of, answer_in, state_after, rulesets_after, step}
-use Rattle.ll_process.specs.Orders.{changes_rulesets, ChangesNoOther, ChangesRulesetsAlone, SeenAlike, DoneAlike, DependsOnOwn}
-use Rattle.ll_process.proofs.Steps.{state_of-is, none, step-other, step-own, step-past, step-rulesets, rulesets_after-same, step-begun}
+use Rattle.ll_state.specs.Changes.{started, rules as rules_of}
+use Rattle.ll_state.specs.Worlds.{World, state_of, if_allowed, answer_in, state_after, rulesets_after}
+use Rattle.ll_process.specs.Orders.{changes_rulesets, ChangesNoOther, ChangesRulesetsAlone, SeenAlike, DependsOnOwn}
+use Rattle.ll_state.proofs.Steps.{none, step-other, step-own, step-past, step-rulesets, step-begun}
 use Rattle.std.proofs.lemmas.Bool.{cases_lt}
+
+rules-same : (tree : List Entry) (rulesets : List Layer) (op : Op) (s : State) → changes_rulesets op ≡ false → rules_of tree rulesets op s ≡ rulesets
+unfolding rules_of changes_rulesets
+rules-same tree rulesets (Create rs fs net) s fails = cc
+rules-same tree rulesets (AddPath rs path fs) s fails = cc
+rules-same tree rulesets (AddPort rs port net) s fails = cc
+rules-same tree rulesets op s fails = refl
+
+if_allowed-same : (A : Type 0) (a : Answer) (x : A) → if_allowed a x x ≡ x
+if_allowed-same A Allowed x = refl
+if_allowed-same A a x = refl
+
+rulesets_after-same : (tree : List Entry) (abi : Abi) (rulesets : List Layer) (op : Op) (s : State) → changes_rulesets op ≡ false → rulesets_after tree abi rulesets op s ≡ rulesets
+unfolding rulesets_after
+rulesets_after-same tree abi rulesets op s fails = rw (rules-same tree rulesets op s fails) (if_allowed-same (List Layer) (answer tree abi rulesets op s) rulesets)
 
 pub changes_no_other : ChangesNoOther
 changes_no_other tree abi w r p other new =

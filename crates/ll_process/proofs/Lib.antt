@@ -1,5 +1,4 @@
 pub mod Worlds
-pub mod Steps
 pub mod LawOfOrders
 pub mod Numbers
 pub mod OwnRecords
@@ -13,6 +12,5 @@ pub mod Walked
 pub mod HandingOut
 pub mod WalkSteps
 pub mod Descents
-pub mod Numbering
 pub mod Roots
 pub mod EachOnce

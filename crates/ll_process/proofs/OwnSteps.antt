@@ -1,5 +1,5 @@
 -- One own record of a case: what it is answered, and what it leaves.
-use Rattle.std.proofs.Common.{◌≡◌, ℕ, ◌+◌, ◌<◌, Bool, true, false, List, Option, Some, refl, sym, ap, ◌∙◌, subst, arith}
+use Rattle.std.proofs.Common.{◌≡◌, ℕ, true, false, Some, refl, sym, ap, ◌∙◌, subst}
 use Rattle.std.specs.Prelude.{slice_get, Result, Ok, Err, IfOk, OnOk}
 use Rattle.ll_rules.specs.declared.errno.NoMemory.{NoMemory}
 use Rattle.std.proofs.lemmas.Option.{same_Some}
@@ -13,11 +13,11 @@ use Rattle.ll_state.specs.Notes.{NoteFits}
 use Rattle.ll_state.specs.States.{State}
 use Rattle.ll_state.specs.Answers.{answer}
 use Rattle.ll_state.specs.Worlds.{state_after, state_of, world_at}
-use Rattle.ll_process.specs.Processes.{is_start, is_fork, process_count}
+use Rattle.ll_process.specs.Processes.{is_start}
 use Rattle.ll_process.specs.Judging.{state_met, state_left, answer_at}
 use Rattle.ll_process.specs.Cases.{Matter, IsCase, AgreesIn}
 use Rattle.ll_process.specs.Own.{IsOwn, Meets, Leaves, situation_at}
-use Rattle.ll_process.proofs.Steps.{answer-start}
+use Rattle.ll_state.proofs.Steps.{answer-start}
 use Rattle.ll_process.proofs.Walks.{answer_met, left_met, met_at_start, met_going_on}
 
 -- the process of an own record

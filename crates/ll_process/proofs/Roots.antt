@@ -1,12 +1,10 @@
 -- The processes that a trace begins with, and what they begin with.
-use Rattle.std.proofs.Common.{◌≡◌, ℕ, zero, suc, ◌+◌, ◌<◌, ◌≤◌, Bool, true, false, cond, List, [], ◌∷◌, ◌++◌, length, take, map, get_or, Option, Some, None, refl, sym, ap, ◌∙◌, subst, inl, inr, arith, add-one}
+use Rattle.std.proofs.Common.{◌≡◌, ℕ, zero, suc, ◌+◌, ◌<◌, ◌≤◌, Bool, true, false, cond, List, [], ◌∷◌, ◌++◌, length, take, map, Option, Some, None, refl, sym, ap, ◌∙◌, subst, arith}
 use Rattle.std.specs.Prelude.{slice_get, filter}
 use Rattle.std.specs.List.{cons_option}
-use Rattle.std.specs.Option.{option_map}
-use Rattle.std.proofs.lemmas.Bool.{cases_Bool}
 use Rattle.std.proofs.lemmas.List.{map-append, take_more, append-nil, take_all}
 use Rattle.std.proofs.lemmas.List.Elements.{filter-append, All-push, All-same}
-use Rattle.std.proofs.lemmas.Option.{none-some, same_Some, slice_get_within, get_or_from_slice_get}
+use Rattle.std.proofs.lemmas.Option.{slice_get_within, get_or_from_slice_get}
 use Rattle.ll_trace.specs.declared.op.Op.{Op}
 use Rattle.ll_trace.specs.declared.op.Op.TheVariants.{Start}
 use Rattle.ll_trace.specs.declared.record.Record.{Record}
@@ -15,13 +13,13 @@ use Rattle.ll_state.specs.States.{State, fresh}
 use Rattle.ll_state.specs.Changes.{started}
 use Rattle.ll_state.specs.Worlds.{state_of, step, world_at}
 use Rattle.ll_process.specs.declared.job.Job.{Job}
-use Rattle.ll_process.specs.Processes.{is_start, process_count, started_at, root_of, root_at, roots}
+use Rattle.ll_process.specs.Processes.{is_start, process_count, root_of, root_at, roots}
 use Rattle.ll_process.specs.Judging.{state_left}
 use Rattle.ll_process.specs.Cases.{Matter, IsCase, BeginsAs, AgreesIn}
 use Rattle.ll_process.specs.Jobs.{processes_of, AllOf}
-use Rattle.ll_process.proofs.Worlds.{world_at-more}
-use Rattle.ll_process.proofs.Steps.{step-new, length-world_at, start-starts, is_start-from}
-use Rattle.ll_process.proofs.Numbers.{StartedAt, started_at-is, started_once, numbered_below, count-all}
+use Rattle.ll_state.proofs.Worlds.{world_at-more}
+use Rattle.ll_state.proofs.Steps.{step-new, length-world_at, start-starts, is_start-from}
+use Rattle.ll_state.proofs.Numbers.{StartedAt, started_at-is, started_once, numbered_below, count-all}
 
 -- ---- one start record
 

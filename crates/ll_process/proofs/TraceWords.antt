@@ -1,19 +1,16 @@
 -- The words of ll_trace for own records and for what a record starts say the same as those of this crate.
-use Rattle.std.proofs.Common.{◌≡◌, ◌≢◌, ℕ, zero, suc, ◌+◌, ◌-◌, ◌<◌, ◌≤◌, Bool, true, false, cond, List, [], ◌∷◌, ◌++◌, length, take, drop, Option, Some, None, refl, sym, ap, ◌∙◌, subst, inl, inr, arith, add-one, if◌then◌else◌}
-use Rattle.std.specs.Prelude.{slice_get, count_by, is_some, ◌==◌}
+use Rattle.std.proofs.Common.{◌≡◌, ℕ, zero, suc, ◌+◌, Bool, true, false, cond, List, [], ◌∷◌, length, take, Option, Some, None, refl, sym, ap, ◌∙◌, subst, inl, inr, arith, if◌then◌else◌}
+use Rattle.std.specs.Prelude.{slice_get, ◌==◌}
 use Rattle.std.specs.Option.{option_map}
 use Rattle.std.proofs.lemmas.Bool.{cases_Bool}
 use Rattle.std.proofs.lemmas.Option.{none-some, same_Some}
-use Rattle.std.proofs.lemmas.List.Sums.{sum_by-cons}
 use Rattle.ll_trace.specs.declared.record.Record.{Record}
 use Rattle.ll_trace.specs.declared.record.ProcessId.{ProcessId}
-use Rattle.ll_trace.specs.declared.op.Op.{Op}
-use Rattle.ll_trace.specs.declared.op.Op.TheVariants.{Start, Fork}
-use Rattle.ll_trace.specs.Entries.{pid_started}
 use Rattle.ll_trace.specs.Processes.{starts_one, parent_in, started_from, started_by, places_from, own_places, parents, forked_by}
 use Rattle.ll_process.specs.Processes.{is_starting, is_fork, process_count, own_from, own_records, forked_at}
-use Rattle.ll_process.proofs.Steps.{process_count-cons, fork-starts}
-use Rattle.ll_process.proofs.Numbers.{forked_at-from, forked_at-none}
+use Rattle.ll_state.proofs.Numbering.{starting-op}
+use Rattle.ll_state.proofs.Steps.{process_count-cons, fork-starts}
+use Rattle.ll_state.proofs.Numbers.{forked_at-from}
 
 places_from-is : (n : ℕ) (rs : List Record) (p : ℕ) → places_from n rs p ≡ own_from p n rs
 unfolding own_from
@@ -23,12 +20,6 @@ places_from-is n (r ∷ rs) p = ap (λ xs. if r.process.0 == p then n ∷ xs els
 pub own_places-is : (records : List Record) (process : ProcessId) → own_places records process ≡ own_records records process.0
 unfolding own_records
 own_places-is records process = places_from-is 0 records process.0
-
-pub starting-op : (op : Op) (pid : ℕ) → is_some (pid_started op pid) ≡ is_starting op
-unfolding pid_started is_starting
-starting-op (Start nnp admin) pid = refl
-starting-op (Fork child) pid = refl
-starting-op op pid = refl
 
 pub starts_one-is : (r : Record) → starts_one r ≡ is_starting r.op
 starts_one-is r = starting-op r.op r.pid

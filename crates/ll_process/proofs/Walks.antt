@@ -1,21 +1,19 @@
 -- Walking over a process's own records meets the states of the fold.
-use Rattle.std.proofs.Common.{◌≡◌, ◌≢◌, ℕ, zero, suc, ◌+◌, ◌-◌, ◌<◌, ◌≤◌, Bool, true, false, cond, eqb, List, [], ◌∷◌, ◌++◌, length, take, drop, Option, Some, None, refl, sym, ap, ◌∙◌, subst, inl, inr, arith, add-one, add-zero, if◌then◌else◌}
+use Rattle.std.proofs.Common.{◌≡◌, ◌≢◌, ℕ, zero, suc, ◌+◌, ◌<◌, ◌≤◌, true, false, List, [], ◌∷◌, length, take, drop, Some, refl, sym, ap, ◌∙◌, subst, inl, inr, arith, add-one}
 use Rattle.std.specs.Prelude.{slice_get, ◌==◌, unwrap_or}
-use Rattle.std.proofs.lemmas.Bool.{eqb-true, eqb-false, eq-eqb, ne_eqb, cases_Bool, cases_lt}
+use Rattle.std.proofs.lemmas.Bool.{eqb-true, eqb-false, cases_Bool, cases_lt}
 use Rattle.std.proofs.lemmas.Option.{none-some, same_Some}
 use Rattle.ll_rights.specs.declared.abi.Abi.{Abi}
 use Rattle.ll_tree.specs.Trees.{Entry}
 use Rattle.ll_trace.specs.declared.record.Record.{Record}
-use Rattle.ll_state.specs.declared.answer.Answer.{Answer}
-use Rattle.ll_state.specs.declared.answer.Answer.TheVariants.{Allowed, Moot}
-use Rattle.ll_state.specs.States.{State}
+use Rattle.ll_state.specs.declared.answer.Answer.TheVariants.{Moot}
 use Rattle.ll_state.specs.Answers.{answer}
 use Rattle.ll_state.specs.Worlds.{World, empty_world, state_of, state_after, answer_in, step, world_after, world_at, judged}
-use Rattle.ll_process.specs.Processes.{is_start, is_fork, is_starting, process_count, own_from, own_records, started_at, forked_at, IsNumbered}
-use Rattle.ll_process.specs.Judging.{place_met, state_met, state_left, answer_at}
-use Rattle.ll_process.proofs.Worlds.{world_at-more, judged-at}
-use Rattle.ll_process.proofs.Steps.{step-other, step-own, step-new, length-step, length-world_at, answer-start, state_after-start, started-fork, fork-starts, fork_no_start, starts_alone}
-use Rattle.ll_process.proofs.Numbers.{count-le, count-started, StartedAt, numbered_below, not_own_before}
+use Rattle.ll_process.specs.Processes.{is_start, process_count, own_from, own_records, IsNumbered}
+use Rattle.ll_process.specs.Judging.{state_met, state_left, answer_at}
+use Rattle.ll_state.proofs.Worlds.{world_at-more, judged-at}
+use Rattle.ll_state.proofs.Steps.{step-other, step-own, length-step, length-world_at, answer-start, state_after-start}
+use Rattle.ll_state.proofs.Numbers.{count-le, count-started, StartedAt, numbered_below, not_own_before}
 use Rattle.ll_process.proofs.OwnRecords.{OwnAt, own_at, own_from-skip, own_from-yes, own_from-no, own_from-nil, own_from-first, slice_get-drop}
 
 -- ---- worlds further on

@@ -2,7 +2,6 @@
 -- Source: the kernel's userspace document on Landlock, "Inheritance": each child begins with what its parent has.
 use Rattle.std.specs.Prelude.{◌≡◌, ℕ, ◌+◌, ◌≤◌, [], ◌∷◌, ◌++◌, List, map, sum_by, ◌⊎◌, All}
 use Rattle.ll_trace.specs.declared.record.Record.{Record}
-use Rattle.ll_trace.specs.declared.record.ProcessId.{ProcessId}
 use Rattle.ll_process.specs.declared.job.Job.{Job}
 use Rattle.ll_process.specs.Cases.{Matter}
 use Rattle.ll_process.specs.Processes.{kids}

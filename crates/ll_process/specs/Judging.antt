@@ -1,14 +1,13 @@
 -- What one process meets and answers, record after record of its own.
 -- Source: landlock(7); the kernel's userspace document on Landlock, "Inheritance".
-use Rattle.std.specs.Prelude.{◌≡◌, ℕ, ◌+◌, List, Bool, true, false, map, Option, Some, None, unwrap_or, slice_get, if◌then◌else◌}
-use Rattle.std.specs.List.{flat_map}
+use Rattle.std.specs.Prelude.{ℕ, ◌+◌, List, map, Option, Some, None, unwrap_or, slice_get, if◌then◌else◌}
 use Rattle.ll_rights.specs.declared.abi.Abi.{Abi}
 use Rattle.ll_tree.specs.Trees.{Entry}
 use Rattle.ll_trace.specs.declared.record.Record.{Record}
 use Rattle.ll_state.specs.declared.answer.Answer.{Answer}
 use Rattle.ll_state.specs.declared.answer.Answer.TheVariants.{Moot}
 use Rattle.ll_state.specs.States.{State}
-use Rattle.ll_state.specs.Worlds.{World, state_of, world_at, judged}
+use Rattle.ll_state.specs.Worlds.{state_of, world_at, judged}
 use Rattle.ll_process.specs.Processes.{is_start, own_records}
 
 -- the place in the trace from which a record finds its process as it is: a start finds it as it begins

@@ -26,8 +26,9 @@ use Rattle.ll_rulebook.specs.Stores.{Extends}
 use Rattle.ll_rulebook.specs.Settled.{met_by}
 use Rattle.ll_rulebook.specs.Passes.{next_world, Settles, HasSettled}
 use Rattle.ll_rulebook.proofs.Places.{slice_get-push}
-use Rattle.ll_rulebook.proofs.Started.{count_at, there_before}
-use Rattle.ll_rulebook.proofs.Worlds.{world_at-next}
+use Rattle.ll_state.proofs.Numbering.{are_numbered}
+use Rattle.ll_state.proofs.Steps.{length-world_at}
+use Rattle.ll_state.proofs.Worlds.{world_at-more}
 
 nothing_stands : {X : Type 0} (xs : List X) (k : ℕ) (x : X) → xs ≡ [] → slice_get xs k ≡ Some x → ⊥
 nothing_stands xs k x empty at = let none : slice_get xs k ≡ None = rw empty refl in cc
@@ -90,7 +91,7 @@ pub settled_next : (tree : List Entry) (abi : Abi) (records : List Record) (k : 
     slice_get records k ≡ Some r → HasSettled tree abi records k old notes → Settles tree abi r.process.0 r.op old new note →
     HasSettled tree abi records (k + 1) new (notes ++ note ∷ [])
 settled_next tree abi records k r old new notes note at so_far settles =
-    let next : world_at tree abi records (k + 1) ≡ next_world tree abi (world_at tree abi records k) r.process.0 r.op = world_at-next tree abi records k r at ∙ step_is_next tree abi (world_at tree abi records k) r in
+    let next : world_at tree abi records (k + 1) ≡ next_world tree abi (world_at tree abi records k) r.process.0 r.op = world_at-more tree abi records k r at ∙ step_is_next tree abi (world_at tree abi records k) r in
     record {
       sound = settles.sound;
       agrees = rw next (settles.agrees (world_at tree abi records k) so_far.agrees);
@@ -116,4 +117,4 @@ settled_next tree abi records k r old new notes note at so_far settles =
 pub has_table : (tree : List Entry) (abi : Abi) (records : List Record) (k : ℕ) (r : Record) (pass : Pass) (notes : List Note) → AreRecords records →
     slice_get records k ≡ Some r → HasSettled tree abi records k pass notes → is_start r.op ≡ false → r.process.0 < length pass.tables.held.items
 has_table tree abi records k r pass notes are at so_far other =
-    omega (arith, so_far.agrees.count, count_at tree abi records k, there_before records are k r at other)
+    omega (arith, so_far.agrees.count, length-world_at tree abi records k, (are_numbered records are).goes_on k r at other)

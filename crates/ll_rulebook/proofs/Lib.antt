@@ -6,5 +6,4 @@ pub mod Quiet
 pub mod Sameness
 pub mod Settling
 pub mod Calls
-pub mod Started
 pub mod Course

@@ -37,7 +37,8 @@ use Rattle.ll_rulebook.specs.Settled.{met_by}
 use Rattle.ll_rulebook.specs.Passes.{next_world, IsSound, Agrees, Settles}
 use Rattle.ll_rulebook.proofs.Sameness.{same_new, are_same_push, are_same_set, other_of}
 use Rattle.ll_rulebook.proofs.Quiet.{kept_unless, kept_if_same, on_rulesets_starts_none, starts_none, rulesets_same, held_same}
-use Rattle.ll_rulebook.proofs.Worlds.{IsOwn, state_of-step, state_of-step_start, processes-step, rulesets-step}
+use Rattle.ll_state.proofs.Steps.{processes-step, step-rulesets}
+use Rattle.ll_rulebook.proofs.Worlds.{IsOwn, state_of-step, state_of-step_start}
 
 -- a pass that has the same rulesets, and tables by which each process holds the same
 pub record IsAlike (old new : Pass) : Type 0 where
@@ -83,7 +84,7 @@ module _ (tree : List Entry) (abi : Abi) (process : ℕ) (op : Op) (old : Pass) 
       ((q : ℕ) → (state_after tree abi world.rulesets op (state_of world process)).held q ≡ (state_of world process).held q) →
       Agrees tree new (next_world tree abi world process op)
   agrees_alike new alike none rules_stay held_stays = record {
-    rulesets = rw (alike.rulesets, rulesets-step tree abi world (record { line = 0; process = record { 0 = process }; pid = 0; op = op }), rules_stay) agrees.rulesets;
+    rulesets = rw (alike.rulesets, step-rulesets tree abi world (record { line = 0; process = record { 0 = process }; pid = 0; op = op }), rules_stay) agrees.rulesets;
     count = rw alike.tables (count_next none);
     held = λ p q. rw alike.tables (same_held q (held_stays q) p ∙ held_next none p q);
   }
@@ -215,7 +216,7 @@ module _ (tree : List Entry) (abi : Abi) (process rs : ℕ) (old new : Pass) (so
         record {
           rulesets = rw (
             pushed,
-            rulesets-step tree abi world (record { line = 0; process = record { 0 = process }; pid = 0; op = op }),
+            step-rulesets tree abi world (record { line = 0; process = record { 0 = process }; pid = 0; op = op }),
             if_allowed_is (answer tree abi world.rulesets op s) (rules tree world.rulesets op s) world.rulesets allowed,
           )
               (are_same_push tree old.store.rulesets world.rulesets made (without_rules fs net) agrees.rulesets (rw plain (same_new tree fs net)));
@@ -255,7 +256,7 @@ module _ (tree : List Entry) (abi : Abi) (process rs : ℕ) (old new : Pass) (so
         record {
           rulesets = rw (
             store,
-            rulesets-step tree abi world (record { line = 0; process = record { 0 = process }; pid = 0; op = op }),
+            step-rulesets tree abi world (record { line = 0; process = record { 0 = process }; pid = 0; op = op }),
             if_allowed_is (answer tree abi world.rulesets op s) (rules tree world.rulesets op s) world.rulesets allowed,
           ) agrees.rulesets;
           count = holds.same_count ∙ count_next tree abi process op old world agrees there refl;
@@ -302,7 +303,7 @@ settles_added tree abi process rs old new op f at before after sound there on ru
       record {
         rulesets = rw (
           is_now,
-          rulesets-step tree abi world (record { line = 0; process = record { 0 = process }; pid = 0; op = op }),
+          step-rulesets tree abi world (record { line = 0; process = record { 0 = process }; pid = 0; op = op }),
           if_allowed_is (answer tree abi world.rulesets op s) (rules tree world.rulesets op s) world.rulesets (allowed world agrees),
           rules_now,
         )
@@ -358,7 +359,7 @@ settles_begun tree abi process old new op held child sound own off starts change
       let after : State = state_after tree abi world.rulesets op s in
       let after_is : after ≡ s = kept_after tree abi world.rulesets op s (change_is world.rulesets s) in
       record {
-        rulesets = rw (store, rulesets-step tree abi world r, rulesets_same tree abi world.rulesets op s off) agrees.rulesets;
+        rulesets = rw (store, step-rulesets tree abi world r, rulesets_same tree abi world.rulesets op s off) agrees.rulesets;
         count =
             let more : length (step tree abi world r).processes ≡ length world.processes + length (option_to_list (started op s)) = processes-step tree abi world r in
             let one : length (option_to_list (started op s)) ≡ 1 = rw (starts world) refl in

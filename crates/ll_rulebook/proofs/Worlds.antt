@@ -1,36 +1,17 @@
 -- What a step does to a world, seen at one process and at the rulesets.
-use Rattle.std.proofs.Common.{◌≡◌, ℕ, suc, zero, ◌+◌, ◌<◌, List, [], ◌∷◌, ◌++◌, length, take, true, false, Option, Some, None, cond, get_or, refl, sym, ◌∙◌, ap, arith, eqb, ◌⊎◌, inl, inr, length-set, length-append, append-nil}
+use Rattle.std.proofs.Common.{◌≡◌, ℕ, suc, zero, ◌<◌, List, [], ◌∷◌, ◌++◌, length, true, false, Option, Some, None, cond, get_or, refl, sym, ◌∙◌, ap, arith, eqb, ◌⊎◌, inl, inr, length-set, append-nil}
 use Rattle.std.proofs.Math.Dec.{eqb-suc-zero, eqb-zero-suc, eqb-suc-suc}
 use Rattle.std.proofs.lemmas.Bool.{cases_eq, eq-eqb, ne_eqb}
 use Rattle.std.proofs.Math.ListN.{set}
-use Rattle.std.specs.List.{slice_get}
 use Rattle.std.specs.Option.{unwrap_or, option_to_list}
-use Rattle.std.proofs.lemmas.Option.{unwrap_or-slice_get}
 use Rattle.ll_rights.specs.declared.abi.Abi.{Abi}
 use Rattle.ll_tree.specs.Trees.{Entry}
 use Rattle.ll_trace.specs.declared.record.Record.{Record}
-use Rattle.ll_trace.specs.declared.op.Op.{Op}
-use Rattle.ll_trace.specs.declared.op.Op.TheVariants as calls
-use Rattle.ll_state.specs.States.{State, Layer, fresh}
-use Rattle.ll_state.specs.Answers.{answer}
-use Rattle.ll_state.specs.Changes.{change, started}
-use Rattle.ll_state.specs.Worlds.{World, empty_world, state_of, state_after, rulesets_after, step, world_after, world_at}
+use Rattle.ll_state.specs.States.{State, fresh}
+use Rattle.ll_state.specs.Changes.{started}
+use Rattle.ll_state.specs.Worlds.{World, state_of, state_after, step}
 use Rattle.ll_trace.specs.Entries.{is_start}
-
--- ---- one record more
-
-world_after-next : (tree : List Entry) (abi : Abi) (world : World) (records : List Record) (k : ℕ) (r : Record) →
-    slice_get records k ≡ Some r → world_after tree abi world (take (suc k) records) ≡ step tree abi (world_after tree abi world (take k records)) r
-unfolding world_after
-world_after-next tree abi world [] k r at = cc
-world_after-next tree abi world (first ∷ records) zero r at = let same : first ≡ r = cc in ap (step tree abi world) same
-world_after-next tree abi world (first ∷ records) (suc k) r at = world_after-next tree abi (step tree abi world first) records k r at
-
--- the world before the next record is the world after this one
-pub world_at-next : (tree : List Entry) (abi : Abi) (records : List Record) (k : ℕ) (r : Record) →
-    slice_get records k ≡ Some r → world_at tree abi records (k + 1) ≡ step tree abi (world_at tree abi records k) r
-unfolding world_at
-world_at-next tree abi records k r at = let one : k + 1 ≡ suc k = omega arith in rw one (world_after-next tree abi empty_world records k r at)
+use Rattle.ll_state.proofs.Steps.{state_of-is, state_after-start}
 
 -- ---- the processes
 
@@ -42,11 +23,6 @@ one_more [] (suc p) None default = rw eqb-suc-zero refl
 one_more [] (suc p) (Some state) default = rw eqb-suc-zero refl
 one_more (first ∷ processes) zero added default = rw eqb-zero-suc refl
 one_more (first ∷ processes) (suc p) added default = rw eqb-suc-suc (one_more processes p added default)
-
--- a state, as what stands under its number
-state_is : (world : World) (p : ℕ) → state_of world p ≡ get_or world.processes p (fresh false false)
-unfolding state_of
-state_is world p = unwrap_or-slice_get world.processes p (fresh false false)
 
 one_set : (processes : List State) (own p : ℕ) (state default : State) → (own < length processes) ⊎ (state ≡ get_or processes own default) →
     get_or (set processes own state) p default ≡ cond (eqb p own) state (get_or processes p default)
@@ -65,17 +41,11 @@ one_set (first ∷ processes) (suc own) (suc p) state default (inr same) = rw eq
 pub record IsOwn (world : World) (r : Record) : Type 0 where
   pub is_own : (r.process.0 < length world.processes) ⊎ (is_start r.op ≡ true)
 
--- a start changes nothing of the process that stands under its number before
-own_stays : (tree : List Entry) (abi : Abi) (rulesets : List Layer) (op : Op) (s : State) → is_start op ≡ true → state_after tree abi rulesets op s ≡ s
-unfolding is_start state_after answer change
-own_stays tree abi rulesets (calls.Start nnp admin) s is = refl
-own_stays tree abi rulesets _ s is = absurd (cc)
-
 own_or_stays : (tree : List Entry) (abi : Abi) (world : World) (r : Record) → IsOwn world r →
     (r.process.0 < length world.processes) ⊎ (state_after tree abi world.rulesets r.op (state_of world r.process.0) ≡ get_or world.processes r.process.0 (fresh false false))
 own_or_stays tree abi world r own = elim own.is_own [
   | inl there ↦ inl there
-  | inr start ↦ inr (own_stays tree abi world.rulesets r.op (state_of world r.process.0) start ∙ state_is world r.process.0)
+  | inr start ↦ inr (state_after-start tree abi world.rulesets r.op (state_of world r.process.0) start ∙ state_of-is world r.process.0)
 ]
 
 module _ (tree : List Entry) (abi : Abi) (world : World) (r : Record) where
@@ -85,11 +55,11 @@ module _ (tree : List Entry) (abi : Abi) (world : World) (r : Record) where
   unfolding step
   state_of-step p own none =
       let after : State = state_after tree abi world.rulesets r.op (state_of world r.process.0) in
-      state_is (step tree abi world r) p
+      state_of-is (step tree abi world r) p
       ∙ ap (λ (added : Option State). get_or (set world.processes r.process.0 after ++ option_to_list added) p (fresh false false)) none
       ∙ ap (λ (processes : List State). get_or processes p (fresh false false)) (append-nil (set world.processes r.process.0 after))
       ∙ one_set world.processes r.process.0 p after (fresh false false) (own_or_stays tree abi world r own)
-      ∙ ap (λ (s : State). cond (eqb p r.process.0) after s) (sym (state_is world p))
+      ∙ ap (λ (s : State). cond (eqb p r.process.0) after s) (sym (state_of-is world p))
 
   -- after a call that starts a process: also the state of that one, under the next number
   pub state_of-step_start : (p : ℕ) (child : State) → IsOwn world r → started r.op (state_of world r.process.0) ≡ Some child →
@@ -98,15 +68,7 @@ module _ (tree : List Entry) (abi : Abi) (world : World) (r : Record) where
   unfolding step
   state_of-step_start p child own some =
       let after : State = state_after tree abi world.rulesets r.op (state_of world r.process.0) in
-      state_is (step tree abi world r) p
+      state_of-is (step tree abi world r) p
       ∙ ap (λ (added : Option State). get_or (set world.processes r.process.0 after ++ option_to_list added) p (fresh false false)) some
       ∙ one_more (set world.processes r.process.0 after) p (Some child) (fresh false false)
-      ∙ rw (length-set, one_set world.processes r.process.0 p after (fresh false false) (own_or_stays tree abi world r own), state_is world p) refl
-
-  pub processes-step : length (step tree abi world r).processes ≡ length world.processes + length (option_to_list (started r.op (state_of world r.process.0)))
-  unfolding step
-  processes-step = simp (length-append, length-set)
-
-  pub rulesets-step : (step tree abi world r).rulesets ≡ rulesets_after tree abi world.rulesets r.op (state_of world r.process.0)
-  unfolding step
-  rulesets-step = refl
+      ∙ rw (length-set, one_set world.processes r.process.0 p after (fresh false false) (own_or_stays tree abi world r own), state_of-is world p) refl

@@ -1,4 +1,7 @@
-pub mod KnownRights
 pub mod SameLayers
 pub mod Restricting
 pub mod Judging
+pub mod Worlds
+pub mod Steps
+pub mod Numbers
+pub mod Numbering

@@ -9,3 +9,4 @@ pub mod Agreement
 pub mod WorkedWords
 pub mod WorkedLayers
 pub mod WorkedCalls
+pub mod Processes

@@ -1,10 +1,10 @@
 -- What each call asks of the file tree: a set of rights on one node, or nothing where the tree decides the call.
 -- Source: landlock(7), "Filesystem actions"; the kernel's userspace document on Landlock, "Filesystem flags".
-use Rattle.std.specs.Prelude.{◌≡◌, List, Bool, false, if◌then◌else◌, Option, Some, None}
+use Rattle.std.specs.Prelude.{List, Bool, if◌then◌else◌, Option, Some, None}
 use Rattle.ll_rights.specs.declared.fs.Fs.{Fs}
 use Rattle.ll_rights.specs.declared.kind.Kind.{Kind}
 use Rattle.ll_rights.specs.declared.kind.Kind.TheVariants.{Dir, Reg, Sym, Char, Block, Fifo, Sock}
-use Rattle.ll_rights.specs.Rights.{execute, write_file, read_file, read_dir, make_dir, make_reg, make_sym, truncate, other, has, only, united}
+use Rattle.ll_rights.specs.Rights.{execute, write_file, read_file, read_dir, make_dir, make_reg, make_sym, truncate, only, united}
 use Rattle.ll_rights.specs.Kinds.{make_right_of, remove_right_of}
 use Rattle.ll_tree.specs.declared.place.NodeId.{NodeId}
 use Rattle.ll_tree.specs.declared.place.Place.{Place}
@@ -16,10 +16,9 @@ use Rattle.ll_trace.specs.declared.op.Mode.{Mode}
 use Rattle.ll_trace.specs.declared.op.Mode.TheVariants.{Read, Write, Both}
 use Rattle.ll_state.specs.declared.requests.Request.{Request}
 
--- a request on a node of the tree that names known rights alone
-pub record IsFit (tree : List Entry) (request : Request) : Type 0 where
-  pub node : IsNode tree request.node
-  pub known : has request.rights other ≡ false
+-- a request on a node of the tree
+abbrev pub IsFit : List Entry → Request → Type 0
+IsFit tree request = IsNode tree request.node
 
 abbrev pub ask : NodeId → Fs → Option Request
 ask node rights = Some (record { node = node; rights = rights })

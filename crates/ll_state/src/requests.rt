@@ -1,7 +1,6 @@
 //! What a call asks of the file tree.
 
-ghost use Rattle.std.specs.Prelude.{◌≡◌, false, IfSome};
-ghost use Rattle.ll_rights.specs.Rights.{has, other};
+ghost use Rattle.std.specs.Prelude.{◌≡◌, IfSome};
 ghost use Rattle.ll_tree.specs.Trees.{IsNode, IsPlace, parent_at};
 ghost use Rattle.ll_state.specs.Requests.{IsFit, rights_of_mode, file_rights, new_file_rights, open_kind, open_asks, regular_asks, make_asks, remove_from, unlink_asks, rmdir_asks, asks};
 
@@ -17,10 +16,9 @@ pub struct Request {
 }
 
 /// The rights to open a file for reading, writing or both (landlock(7), "Filesystem actions").
-#[tactic(auto, unfolding(ll_rights::specs::Rights::has, ll_rights::specs::Rights::only, ll_rights::specs::Rights::united))]
+#[tactic(auto, unfolding(ll_rights::specs::Rights::only, ll_rights::specs::Rights::united))]
 fn rights_of_mode(mode: Mode) -> Fs
-    ensures exact { result ≡ rights_of_mode mode }
-    ensures known { has result other ≡ false }
+    ensures { result ≡ rights_of_mode mode }
 {
     match mode {
         Mode::Read => Fs::READ_FILE,
@@ -30,10 +28,9 @@ fn rights_of_mode(mode: Mode) -> Fs
 }
 
 /// The rights to open a regular file, and to truncate it by that.
-#[tactic(auto, using(crate::proofs::KnownRights::known_united), unfolding(ll_rights::specs::Rights::has, ll_rights::specs::Rights::only))]
+#[tactic(auto, unfolding(ll_rights::specs::Rights::only))]
 fn file_rights(mode: Mode, trunc: bool) -> Fs
-    ensures exact { result ≡ file_rights mode trunc }
-    ensures known { has result other ≡ false }
+    ensures { result ≡ file_rights mode trunc }
 {
     let rights = rights_of_mode(mode);
     if trunc {
@@ -43,20 +40,18 @@ fn file_rights(mode: Mode, trunc: bool) -> Fs
 }
 
 /// The rights to make a file and open it, which ask nothing for truncating it.
-#[tactic(auto, using(crate::proofs::KnownRights::known_united), unfolding(ll_rights::specs::Rights::has, ll_rights::specs::Rights::only))]
+#[tactic(auto, unfolding(ll_rights::specs::Rights::only))]
 fn new_file_rights(mode: Mode) -> Fs
-    ensures exact { result ≡ new_file_rights mode }
-    ensures known { has result other ≡ false }
+    ensures { result ≡ new_file_rights mode }
 {
     Fs::MAKE_REG.union(rights_of_mode(mode))
 }
 
 /// What opening an object of a kind asks.
-#[tactic(auto, unfolding(crate::specs::Requests::open_kind, ll_rights::specs::Rights::has, ll_rights::specs::Rights::only))]
+#[tactic(auto, unfolding(crate::specs::Requests::open_kind, ll_rights::specs::Rights::only))]
 fn open_kind(kind: Kind, node: NodeId, mode: Mode, create: bool, trunc: bool) -> Option<Request>
     ensures exact { result ≡ open_kind kind node mode create trunc }
     ensures same_node { IfSome result (λ request. request.node ≡ node) }
-    ensures known { IfSome result (λ request. has request.rights other ≡ false) }
 {
     let rights = match kind {
         Kind::Dir => match mode {
@@ -96,8 +91,7 @@ pub(crate) fn open_asks(
 /// What a call asks that wants rights on a regular file itself.
 #[tactic(auto, unfolding(crate::specs::Requests::regular_asks, crate::specs::Requests::regular_kind))]
 pub(crate) fn regular_asks(tree: &Tree, place: Place, rights: Fs) -> Option<Request>
-    requires place { IsPlace tree.now place }
-    requires known { has rights other ≡ false }
+    requires { IsPlace tree.now place }
     ensures exact { result ≡ regular_asks tree.now place rights }
     ensures fit { IfSome result (IsFit tree.now) }
 {
@@ -113,8 +107,7 @@ pub(crate) fn regular_asks(tree: &Tree, place: Place, rights: Fs) -> Option<Requ
 /// What a call asks that makes an object: rights on the directory of a gap.
 #[tactic(auto, unfolding(crate::specs::Requests::make_asks))]
 pub(crate) fn make_asks(tree: &Tree, place: Place, rights: Fs) -> Option<Request>
-    requires place { IsPlace tree.now place }
-    requires known { has rights other ≡ false }
+    requires { IsPlace tree.now place }
     ensures exact { result ≡ make_asks place rights }
     ensures fit { IfSome result (IsFit tree.now) }
 {
@@ -125,7 +118,7 @@ pub(crate) fn make_asks(tree: &Tree, place: Place, rights: Fs) -> Option<Request
 }
 
 /// What removing an object of a kind asks of the directory that it stands in, which the root hasn't.
-#[tactic(auto, using(crate::proofs::KnownRights::known_remove), unfolding(crate::specs::Requests::remove_from))]
+#[tactic(auto, unfolding(crate::specs::Requests::remove_from))]
 fn remove_from(tree: &Tree, kind: Kind, node: NodeId) -> Option<Request>
     requires { IsNode tree.now node }
     ensures exact { result ≡ remove_from kind (parent_at tree.now node) }
@@ -170,7 +163,7 @@ pub(crate) fn rmdir_asks(tree: &Tree, place: Place) -> Option<Request>
 }
 
 /// What a call asks of the file tree; None where the tree itself decides it, and where it asks something else.
-#[tactic(auto, using(crate::proofs::KnownRights::known_make), unfolding(crate::specs::Requests::asks, ll_rights::specs::Rights::has, ll_rights::specs::Rights::only))]
+#[tactic(auto, unfolding(crate::specs::Requests::asks, ll_rights::specs::Rights::only))]
 pub(crate) fn asks(tree: &Tree, op: &Op) -> Option<Request>
     ensures exact { result ≡ asks tree.now op.now }
     ensures fit { IfSome result (IsFit tree.now) }

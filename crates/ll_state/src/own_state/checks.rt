@@ -1,8 +1,7 @@
 //! Calls that the domain is asked about.
 
 ghost use Rattle.std.specs.Prelude.{◌≡◌, false, Some, IfSome, IfOk, OnErr};
-ghost use Rattle.ll_rights.specs.Rights.{has, other, only, truncate};
-ghost use Rattle.ll_rights.specs.NetRights as network;
+ghost use Rattle.ll_rights.specs.Rights.{only, truncate};
 ghost use Rattle.ll_rules.specs.Checks.{refusing, refusing_port};
 ghost use Rattle.ll_tree.specs.Trees.{IsNode, IsPlace, path_at, kind_at};
 ghost use Rattle.ll_trace.specs.declared.op.Op.{Op};
@@ -41,7 +40,6 @@ impl OwnState {
         requires met { IsMet at tree.now layers.now }
         requires agrees { Agrees at.tree at.layers self.now at.state }
         requires node { IsNode tree.now node }
-        requires known { has wanted other ≡ false }
         ensures { result ≡ refusing at.state.domain (path_at at.tree node) wanted }
     {
         check_path(tree, layers, &self.domain, node, wanted)
@@ -63,7 +61,7 @@ impl OwnState {
     }
 
     /// What opening a file makes: one that is open for writing keeps the layers that lack `truncate`.
-    #[tactic(auto, unfolding(ll_rights::specs::Rights::has, ll_rights::specs::Rights::only))]
+    #[tactic(auto, unfolding(ll_rights::specs::Rights::only))]
     fn opened_file(&self, tree: &Tree, layers: &[Layer], node: NodeId, mode: Mode) -> Descriptor
         ghost at: { Situation }
         requires met { IsMet at tree.now layers.now }
@@ -81,7 +79,7 @@ impl OwnState {
     }
 
     /// What opening an object makes: a device keeps the layers that lack `ioctl_dev`.
-    #[tactic(auto, unfolding(crate::specs::Changes::opened_kind, ll_rights::specs::Rights::has, ll_rights::specs::Rights::only))]
+    #[tactic(auto, unfolding(crate::specs::Changes::opened_kind, ll_rights::specs::Rights::only))]
     fn opened_node(&self, tree: &Tree, layers: &[Layer], node: NodeId, mode: Mode) -> Descriptor
         ghost at: { Situation }
         requires met { IsMet at tree.now layers.now }
@@ -152,7 +150,6 @@ impl OwnState {
         ghost at: { Situation }
         requires layers { at.layers ≡ layers.now }
         requires agrees { Agrees at.tree at.layers self.now at.state }
-        requires known { network.has wanted network.other ≡ false }
         ensures { result ≡ refused_by Errno.Acces (refusing_port at.state.domain port wanted) }
     {
         refused_by(Errno::Acces, check_port(layers, &self.domain, port, wanted))

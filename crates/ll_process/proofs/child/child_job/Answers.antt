@@ -1,5 +1,4 @@
 -- The child's job keeps its type's own facts.
-use Rattle.std.proofs.Common.{◌≡◌, ℕ}
 use Rattle.ll_process.proofs.ChildJobs.{child_there, child_begins}
 use Rattle.ll_process.proofs.child.child_job.Goals as goal
 

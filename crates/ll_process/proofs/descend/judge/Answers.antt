@@ -1,11 +1,11 @@
 -- The first process, one process more, and the end: nothing is still to do.
-use Rattle.std.proofs.Common.{◌≡◌, ◌++◌, ◌∷◌, [], ◌<◌, ℕ, ap, sym, ◌∙◌, subst, refl, List}
+use Rattle.std.proofs.Common.{◌≡◌, ◌++◌, ◌∷◌, [], ◌<◌, ap, sym, ◌∙◌, subst, refl, List}
 use Rattle.ll_trace.specs.declared.record.ProcessId.{ProcessId}
 use Rattle.ll_process.specs.declared.job.Job.{Job}
 use Rattle.ll_process.specs.Processes.{process_count, children}
 use Rattle.ll_process.specs.Cases.{Matter, answers_in}
 use Rattle.ll_process.specs.Jobs.{processes_of, AllOf, HandedOut}
-use Rattle.ll_process.proofs.Descents.{Descended, Taken, taken, descended_first, descended_more, weighs_less, shares_out}
+use Rattle.ll_process.proofs.Descents.{Descended, Taken, taken, descended_first, descended_more, weighs_less}
 use Rattle.ll_process.proofs.descend.judge.Goals as goal
 
 pub loop-next-init : goal.loop-next-init

@@ -1,5 +1,5 @@
 -- The walk begins, takes one record more, and ends at the process's last record.
-use Rattle.std.proofs.Common.{◌≡◌, ◌++◌, ◌∷◌, [], ℕ, ap, sym, ◌∙◌, subst, refl, Some, arith, List, Option, length, ◌≤◌, get_or}
+use Rattle.std.proofs.Common.{◌≡◌, ◌++◌, ℕ, ap, sym, ◌∙◌, subst, refl, List, Option, length, ◌≤◌, get_or}
 use Rattle.std.specs.Prelude.{IfSome}
 use Rattle.std.specs.Option.{option_map}
 use Rattle.ll_process.specs.declared.job.Job.{Job}

@@ -1,5 +1,3 @@
-use Rattle.std.proofs.Common.{◌≡◌}
-use Rattle.ll_process.specs.Cases.{IsCase}
 use Rattle.ll_process.proofs.Walked.{Walked}
 use Rattle.ll_process.proofs.descend.judge_own.Given as goal
 

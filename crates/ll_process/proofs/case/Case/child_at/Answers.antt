@@ -1,11 +1,9 @@
-use Rattle.std.proofs.Common.{◌≡◌, ◌<◌, ℕ, Bool, true, false, Option, None, ◌∙◌, subst, sym, ap, refl}
+use Rattle.std.proofs.Common.{Option, ◌∙◌, sym, ap}
 use Rattle.std.specs.Option.{option_map}
 use Rattle.ll_trace.specs.declared.record.ProcessId.{ProcessId}
-use Rattle.ll_trace.specs.declared.op.Op.{Op}
 use Rattle.ll_trace.specs.Processes.{started_by}
-use Rattle.ll_process.specs.Processes.{is_fork}
-use Rattle.ll_process.proofs.Steps.{is_fork-from, is_fork-not}
-use Rattle.ll_process.proofs.Numbers.{forked_at-none}
+use Rattle.ll_state.proofs.Steps.{is_fork-from, is_fork-not}
+use Rattle.ll_state.proofs.Numbers.{forked_at-none}
 use Rattle.ll_process.proofs.TraceWords.{forked-started}
 use Rattle.ll_process.proofs.case.Case.child_at.Goals as goal
 

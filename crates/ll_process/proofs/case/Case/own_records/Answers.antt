@@ -1,4 +1,4 @@
-use Rattle.std.proofs.Common.{◌≡◌, ◌<◌, ℕ, ◌∙◌, List, subst, sym, ap, arith}
+use Rattle.std.proofs.Common.{◌∙◌, ap, arith}
 use Rattle.ll_process.specs.Processes.{own_records}
 use Rattle.ll_process.proofs.TraceWords.{own_places-is, length-parents}
 use Rattle.ll_process.proofs.case.Case.own_records.Goals as goal

@@ -1,20 +1,18 @@
 -- The processes of a trace that was read are numbered in the order of the records that start them.
-use Rattle.std.proofs.Common.{◌≡◌, ◌≢◌, ℕ, zero, suc, ◌+◌, ◌-◌, ◌<◌, ◌≤◌, Bool, true, false, not, ◌&&◌, cond, List, [], ◌∷◌, length, take, map, Option, Some, None, refl, sym, ap, ◌∙◌, subst, inl, inr, arith, if◌then◌else◌}
-use Rattle.std.specs.Prelude.{slice_get, is_some, unwrap_or, ◌==◌}
-use Rattle.std.proofs.lemmas.Bool.{cases_Bool, false≢true}
+use Rattle.std.proofs.Common.{◌≡◌, ℕ, zero, suc, ◌+◌, ◌<◌, ◌≤◌, Bool, true, false, not, ◌&&◌, cond, List, [], ◌∷◌, take, map, Option, Some, None, refl, sym, ap, ◌∙◌, subst, inl, inr, arith, if◌then◌else◌}
+use Rattle.std.specs.Prelude.{slice_get, is_some, unwrap_or}
+use Rattle.std.proofs.lemmas.Bool.{cases_Bool}
 use Rattle.std.proofs.lemmas.Option.{none-some, same_Some}
-use Rattle.std.proofs.lemmas.List.Sums.{sum_by-cons}
 use Rattle.ll_tree.specs.declared.fault.Cause.{Cause}
 use Rattle.ll_tree.specs.declared.fault.Cause.TheVariants.{UnknownProcess}
 use Rattle.ll_trace.specs.declared.op.Op.{Op}
-use Rattle.ll_trace.specs.declared.op.Op.TheVariants.{Start}
+use Rattle.ll_trace.specs.declared.op.Op.TheVariants.{Start, Fork}
 use Rattle.ll_trace.specs.declared.record.Record.{Record}
 use Rattle.ll_trace.specs.Entries as entries
 use Rattle.ll_trace.specs.Entries.{Entry, pid_started, started_pid, is_pid, is_start_of, is_end_of, is_live, process_named, misplacement}
 use Rattle.ll_trace.specs.Records.{entry_of, record_of, records_after, process_of, ArePlaced, AreRecords}
-use Rattle.ll_process.specs.Processes.{is_start, is_starting, process_count, IsNumbered}
-use Rattle.ll_process.proofs.Steps.{process_count-cons}
-use Rattle.ll_process.proofs.TraceWords.{starting-op}
+use Rattle.ll_state.specs.Processes.{is_start, is_starting, process_count, IsNumbered}
+use Rattle.ll_state.proofs.Steps.{process_count-cons}
 
 -- ---- a live pid names a process that was started
 
@@ -57,24 +55,25 @@ live_named (entry ∷ past) pid live =
 
 -- ---- one record
 
-same_start : (op : Op) → entries.is_start op ≡ is_start op
-unfolding entries.is_start is_start
-same_start (Start nnp admin) = refl
-same_start op = refl
+pub starting-op : (op : Op) (pid : ℕ) → is_some (pid_started op pid) ≡ is_starting op
+unfolding pid_started is_starting
+starting-op (Start nnp admin) pid = refl
+starting-op (Fork child) pid = refl
+starting-op op pid = refl
 
 not_unknown : (s l : Bool) (rest : Option Cause) → (if not s && not l then Some UnknownProcess else rest) ≡ None → s ≡ false → l ≡ true
 not_unknown true l rest placed goes = cc
 not_unknown false true rest placed goes = refl
 not_unknown false false rest placed goes = cc
 
-placed_live : (past : List Entry) (entry : Entry) → misplacement past entry ≡ None → entries.is_start entry.op ≡ false → is_live past entry.pid ≡ true
-placed_live past entry placed goes = not_unknown (entries.is_start entry.op) (is_live past entry.pid) _ placed goes
+placed_live : (past : List Entry) (entry : Entry) → misplacement past entry ≡ None → is_start entry.op ≡ false → is_live past entry.pid ≡ true
+placed_live past entry placed goes = not_unknown (is_start entry.op) (is_live past entry.pid) _ placed goes
 
 -- the process of a record after the past
-own_process : (past : List Entry) (entry : Entry) → entries.is_start entry.op ≡ true → process_of past entry ≡ entries.process_count past
+own_process : (past : List Entry) (entry : Entry) → is_start entry.op ≡ true → process_of past entry ≡ entries.process_count past
 own_process past entry starts = subst (λ (b : Bool). (if b then entries.process_count past else unwrap_or (process_named past entry.pid) 0) ≡ entries.process_count past) (sym starts) refl
 
-named_process : (past : List Entry) (entry : Entry) → misplacement past entry ≡ None → entries.is_start entry.op ≡ false → process_of past entry < entries.process_count past
+named_process : (past : List Entry) (entry : Entry) → misplacement past entry ≡ None → is_start entry.op ≡ false → process_of past entry < entries.process_count past
 named_process past entry placed goes =
     subst (λ (b : Bool). (if b then entries.process_count past else unwrap_or (process_named past entry.pid) 0) < entries.process_count past) (sym goes)
     (live_named past entry.pid (placed_live past entry placed goes))
@@ -100,7 +99,7 @@ numbered_start past [] k r same at starts = absurd (none-some r at)
 numbered_start past (x ∷ xs) zero r same at starts =
     let here : x ≡ r = same_Some x r at in
     let own : x ≡ record_of past (entry_of x) = same_head x (record_of past (entry_of x)) xs (records_after (entry_of x ∷ past) (map entry_of xs)) same in
-    let start : entries.is_start x.op ≡ true = same_start x.op ∙ ap (λ (y : Record). is_start y.op) here ∙ starts in
+    let start : is_start x.op ≡ true = ap (λ (y : Record). is_start y.op) here ∙ starts in
     omega (arith, no_count (x ∷ xs), ap (λ (y : Record). y.process.0) (sym here), ap (λ (y : Record). y.process.0) own, own_process past (entry_of x) start)
 numbered_start past (x ∷ xs) (suc k) r same at starts =
     numbered_start (entry_of x ∷ past) xs k r (same_tail x (record_of past (entry_of x)) xs (records_after (entry_of x ∷ past) (map entry_of xs)) same) at starts
@@ -111,7 +110,7 @@ numbered_other past [] k r same placed at goes = absurd (none-some r at)
 numbered_other past (x ∷ xs) zero r same placed at goes =
     let here : x ≡ r = same_Some x r at in
     let own : x ≡ record_of past (entry_of x) = same_head x (record_of past (entry_of x)) xs (records_after (entry_of x ∷ past) (map entry_of xs)) same in
-    let other : entries.is_start x.op ≡ false = same_start x.op ∙ ap (λ (y : Record). is_start y.op) here ∙ goes in
+    let other : is_start x.op ≡ false = ap (λ (y : Record). is_start y.op) here ∙ goes in
     omega (arith, no_count (x ∷ xs), ap (λ (y : Record). y.process.0) (sym here), ap (λ (y : Record). y.process.0) own, named_process past (entry_of x) placed.0 other)
 numbered_other past (x ∷ xs) (suc k) r same placed at goes =
     omega (

@@ -1,23 +1,20 @@
 -- What one record does to the processes of a world: its own, the one it starts, and all others.
-use Rattle.std.proofs.Common.{◌≡◌, ◌≢◌, ℕ, zero, suc, ◌+◌, ◌<◌, ◌≤◌, ◌-◌, Bool, true, false, cond, eqb, List, [], ◌∷◌, ◌++◌, length, take, drop, get_or, set, Option, Some, None, refl, sym, ap, ◌∙◌, subst, inl, inr, arith, rules, add-one, add-zero, length-append, length-set, get_or-set_same, get_or-set_other}
-use Rattle.std.specs.Prelude.{unwrap_or, slice_get, slice_set, option_to_list, count_by}
-use Rattle.std.proofs.lemmas.List.{get_or_append_left, get_or-append_right, get_or_past, get_or_at, set_past}
+use Rattle.std.proofs.Common.{◌≡◌, ◌≢◌, ℕ, ◌+◌, ◌<◌, ◌≤◌, Bool, true, false, cond, List, [], ◌∷◌, ◌++◌, length, take, get_or, set, Option, Some, None, refl, sym, ap, ◌∙◌, subst, arith, length-append, length-set, get_or-set_same, get_or-set_other}
+use Rattle.std.specs.Prelude.{unwrap_or, option_to_list}
+use Rattle.std.proofs.lemmas.List.{get_or_append_left, get_or_past, get_or_at}
 use Rattle.std.proofs.lemmas.Option.{unwrap_or-slice_get}
 use Rattle.std.proofs.lemmas.List.Sums.{sum_by-cons}
-use Rattle.std.proofs.lemmas.Grind.{common_steps}
 use Rattle.ll_rights.specs.declared.abi.Abi.{Abi}
 use Rattle.ll_tree.specs.Trees.{Entry}
 use Rattle.ll_trace.specs.declared.record.Record.{Record}
 use Rattle.ll_trace.specs.declared.op.Op.{Op}
-use Rattle.ll_trace.specs.declared.op.Op.TheVariants.{Start, Fork, Create, AddPath, AddPort}
-use Rattle.ll_state.specs.declared.answer.Answer.{Answer}
+use Rattle.ll_trace.specs.declared.op.Op.TheVariants.{Start, Fork}
 use Rattle.ll_state.specs.declared.answer.Answer.TheVariants.{Allowed}
 use Rattle.ll_state.specs.States.{State, Layer, fresh}
 use Rattle.ll_state.specs.Answers.{answer}
-use Rattle.ll_state.specs.Changes.{change, rules as rules_of, started}
-use Rattle.ll_state.specs.Worlds.{World, state_of, if_allowed, answer_in, state_after, rulesets_after, step, world_after, world_at, empty_world}
-use Rattle.ll_process.specs.Processes.{is_start, is_fork, is_starting, process_count}
-use Rattle.ll_process.specs.Orders.{changes_rulesets}
+use Rattle.ll_state.specs.Changes.{change, started}
+use Rattle.ll_state.specs.Worlds.{World, state_of, state_after, rulesets_after, step, world_after, world_at, empty_world}
+use Rattle.ll_state.specs.Processes.{is_start, is_fork, is_starting, process_count}
 
 -- ---- places in the list of processes
 
@@ -90,6 +87,10 @@ step-past tree abi w r p past =
 
 -- ---- how many processes there are
 
+pub processes-step : (tree : List Entry) (abi : Abi) (w : World) (r : Record) → length (step tree abi w r).processes ≡ length w.processes + length (option_to_list (started r.op (state_of w r.process.0)))
+unfolding step
+processes-step tree abi w r = rw (length-append, length-set) refl
+
 length-started : (op : Op) (s : State) → length (option_to_list (started op s)) ≡ cond (is_starting op) 1 0
 unfolding started is_starting
 length-started (Start nnp admin) s = refl
@@ -97,8 +98,7 @@ length-started (Fork child) s = refl
 length-started op s = refl
 
 pub length-step : (tree : List Entry) (abi : Abi) (w : World) (r : Record) → length (step tree abi w r).processes ≡ length w.processes + cond (is_starting r.op) 1 0
-unfolding step
-length-step tree abi w r = rw (length-append, length-set, length-started r.op (state_of w r.process.0)) refl
+length-step tree abi w r = processes-step tree abi w r ∙ ap (λ (n : ℕ). length w.processes + n) (length-started r.op (state_of w r.process.0))
 
 pub process_count-cons : (r : Record) (rs : List Record) → process_count (r ∷ rs) ≡ cond (is_starting r.op) 1 0 + process_count rs
 unfolding process_count
@@ -120,21 +120,6 @@ unfolding started is_starting
 started-none (Start nnp admin) s fails = cc
 started-none (Fork child) s fails = cc
 started-none op s fails = refl
-
-pub rules-same : (tree : List Entry) (rulesets : List Layer) (op : Op) (s : State) → changes_rulesets op ≡ false → rules_of tree rulesets op s ≡ rulesets
-unfolding rules_of changes_rulesets
-rules-same tree rulesets (Create rs fs net) s fails = cc
-rules-same tree rulesets (AddPath rs path fs) s fails = cc
-rules-same tree rulesets (AddPort rs port net) s fails = cc
-rules-same tree rulesets op s fails = refl
-
-if_allowed-same : (A : Type 0) (a : Answer) (x : A) → if_allowed a x x ≡ x
-if_allowed-same A Allowed x = refl
-if_allowed-same A a x = refl
-
-pub rulesets_after-same : (tree : List Entry) (abi : Abi) (rulesets : List Layer) (op : Op) (s : State) → changes_rulesets op ≡ false → rulesets_after tree abi rulesets op s ≡ rulesets
-unfolding rulesets_after
-rulesets_after-same tree abi rulesets op s fails = rw (rules-same tree rulesets op s fails) (if_allowed-same (List Layer) (answer tree abi rulesets op s) rulesets)
 
 pub step-rulesets : (tree : List Entry) (abi : Abi) (w : World) (r : Record) → (step tree abi w r).rulesets ≡ rulesets_after tree abi w.rulesets r.op (state_of w r.process.0)
 unfolding step

@@ -1,0 +1,148 @@
+-- What a caller has judged so far and the jobs that it still holds, with all that the judged processes have forked.
+use Rattle.std.proofs.Common.{◌≡◌, ℕ, ◌+◌, ◌<◌, ◌≤◌, List, [], ◌∷◌, ◌++◌, length, Some, refl, sym, ap, ◌∙◌, subst, arith}
+use Rattle.std.specs.Prelude.{sum_by, slice_get}
+use Rattle.std.specs.List.Sorted.{IsPermutation}
+use Rattle.std.proofs.lemmas.List.{append-nil}
+use Rattle.std.proofs.lemmas.List.Sums.{sum_by-append, sum_by-cons}
+use Rattle.std.proofs.lemmas.List.Sorted.{All-permutation, sum_by_popped}
+use Rattle.std.proofs.lemmas.List.Elements.{All-push, All-nil, All-head, All-tail}
+use Rattle.std.proofs.lemmas.Grind.{flat_map-append}
+use Rattle.std.proofs.lemmas.Option.{none-some}
+use Rattle.ll_trace.specs.declared.record.Record.{Record}
+use Rattle.ll_trace.specs.declared.record.ProcessId.{ProcessId}
+use Rattle.ll_process.specs.declared.job.Job.{Job}
+use Rattle.ll_process.specs.declared.piece.Piece.{Piece}
+use Rattle.ll_process.specs.Processes.{IsNumbered, process_count, children, kids, roots, numbers, times}
+use Rattle.ll_process.specs.Weights.{weight, weight_of}
+use Rattle.ll_process.specs.Cases.{Matter}
+use Rattle.ll_process.specs.Jobs.{processes_of, AllOf as AllJobsOf, SharesOut}
+use Rattle.ll_process.proofs.Weighing.{weight_of-children}
+use Rattle.ll_process.proofs.EachOnce.{each_once}
+use Rattle.ll_pool.specs.Gathered.{AllOf, processes_in}
+
+pub record Judged (of : Matter) (held : List Job) (pieces : List Piece) : Type 0 where
+  pub held_of : AllJobsOf of held
+  pub pieces_of : AllOf of pieces
+  pub shared : (weight : ℕ → ℕ) → sum_by weight (processes_in pieces) + sum_by weight (processes_of held) ≡ sum_by weight (roots of.records) + sum_by weight (kids of.records (processes_in pieces))
+
+no_processes : processes_in [] ≡ []
+unfolding processes_in
+no_processes = refl
+
+no_kids : (records : List Record) → kids records [] ≡ []
+unfolding kids
+no_kids records = refl
+
+pub judged_none : (of : Matter) (held : List Job) → AllJobsOf of held → processes_of held ≡ roots of.records → Judged of held []
+judged_none of held all are = record {
+  held_of = all;
+  pieces_of = All-nil (λ (piece : Piece). piece.case.now ≡ of);
+  shared = λ weight. rw (no_processes, no_kids of.records, are) (omega arith);
+}
+
+processes_in-push : (pieces : List Piece) (piece : Piece) → processes_in (pieces ++ piece ∷ []) ≡ processes_in pieces ++ numbers piece.processes.items
+unfolding processes_in
+processes_in-push pieces piece =
+    flat_map-append (λ (one : Piece). numbers one.processes.items) pieces (piece ∷ [])
+    ∙ ap (λ (xs : List ℕ). processes_in pieces ++ xs) (append-nil (numbers piece.processes.items))
+
+kids-append : (records : List Record) (xs ys : List ℕ) → kids records (xs ++ ys) ≡ kids records xs ++ kids records ys
+unfolding kids
+kids-append records xs ys = flat_map-append (children records) xs ys
+
+kids-cons : (records : List Record) (x : ℕ) (xs : List ℕ) → kids records (x ∷ xs) ≡ children records x ++ kids records xs
+unfolding kids
+kids-cons records x xs = refl
+
+sum_by-processes : (weight : ℕ → ℕ) (held : List Job) → sum_by weight (processes_of held) ≡ sum_by (λ (one : Job). weight one.process.0) held
+sum_by-processes weight [] = refl
+sum_by-processes weight (job ∷ rest) =
+    sum_by-cons weight job.process.0 (processes_of rest)
+    ∙ ap (λ (n : ℕ). weight job.process.0 + n) (sum_by-processes weight rest)
+    ∙ sym (sum_by-cons (λ (one : Job). weight one.process.0) job rest)
+
+-- what a job taken out adds to what is left
+held_weighs : (weight : ℕ → ℕ) (before rest : List Job) (job : Job) → IsPermutation before (job ∷ rest)
+    → sum_by weight (processes_of rest) + weight job.process.0 ≡ sum_by weight (processes_of before)
+held_weighs weight before rest job taken =
+    omega (
+      arith,
+      sum_by_popped (λ (one : Job). weight one.process.0) job before rest taken,
+      sum_by-processes weight rest,
+      sum_by-processes weight before,
+    )
+
+pub record TakenOut (of : Matter) (rest : List Job) (job : Job) : Type 0 where
+  pub its_case : job.case.now ≡ of
+  pub rest_of : AllJobsOf of rest
+
+pub taken_out : (of : Matter) (before rest : List Job) (job : Job) → IsPermutation before (job ∷ rest) → AllJobsOf of before → TakenOut of rest job
+taken_out of before rest job taken all =
+    let both : AllJobsOf of (job ∷ rest) = All-permutation (λ (one : Job). one.case.now ≡ of) before (job ∷ rest) taken all in
+    record {
+      its_case = All-head (λ (one : Job). one.case.now ≡ of) job rest both;
+      rest_of = All-tail (λ (one : Job). one.case.now ≡ of) job rest both;
+    }
+
+pub judged_more : (of : Matter) (before rest after : List Job) (job : Job) (pieces : List Piece) (piece : Piece) → IsPermutation before (job ∷ rest) → piece.case.now ≡ job.case.now → AllJobsOf job.case.now after
+    → SharesOut job.case.now.records job.process.0 (numbers piece.processes.items) (processes_of rest) (processes_of after) → Judged of before pieces → Judged of after (pieces ++ piece ∷ [])
+judged_more of before rest after job pieces piece taken same all shares so_far =
+    let of_case : job.case.now ≡ of = (taken_out of before rest job taken so_far.held_of).its_case in
+    record {
+      held_of = subst (λ (case : Matter). AllJobsOf case after) of_case all;
+      pieces_of = All-push (λ (one : Piece). one.case.now ≡ of) pieces piece so_far.pieces_of (same ∙ of_case);
+      shared = λ weight.
+          let here = subst (λ (case : Matter). SharesOut case.records job.process.0 (numbers piece.processes.items) (processes_of rest) (processes_of after)) of_case shares in
+          rw (processes_in-push pieces piece, kids-append of.records (processes_in pieces) (numbers piece.processes.items))
+          (omega (
+            arith,
+            so_far.shared weight,
+            here.shared weight,
+            held_weighs weight before rest job taken,
+            sum_by-append weight (processes_in pieces) (numbers piece.processes.items),
+            sum_by-append weight (kids of.records (processes_in pieces)) (kids of.records (numbers piece.processes.items)),
+            sum_by-cons weight job.process.0 (kids of.records (numbers piece.processes.items)),
+          ));
+    }
+
+-- all is judged
+pub judged_all : (of : Matter) (held : List Job) (pieces : List Piece) → IsNumbered of.records → held ≡ [] → Judged of held pieces
+    → (process : ℕ) → process < process_count of.records → times process (processes_in pieces) ≡ 1
+judged_all of held pieces numbered none all process there =
+    each_once of.records (processes_in pieces) numbered
+    (record { shared = λ weight. omega (arith, all.shared weight, ap (λ (xs : List Job). sum_by weight (processes_of xs)) none) }) process there
+
+-- the children of processes weigh at most what these weigh
+kids_weigh : (records : List Record) (n : ℕ) (processes : List ℕ) → IsNumbered records → process_count records ≤ n → sum_by (weight n) (kids records processes) + length processes ≤ sum_by (weight n) processes
+unfolding weight_of
+kids_weigh records n [] numbered all = rw (no_kids records) (omega arith)
+kids_weigh records n (p ∷ ps) numbered all =
+    rw (kids-cons records p ps)
+    (omega (
+      arith,
+      kids_weigh records n ps numbered all,
+      weight_of-children records p n numbered all,
+      sum_by-append (weight n) (children records p) (kids records ps),
+      sum_by-cons (weight n) p ps,
+    ))
+
+some_stands : (processes : List ProcessId) (first : ProcessId) → slice_get processes 0 ≡ Some first → 0 < length (numbers processes)
+some_stands [] first at = absurd (none-some first at)
+some_stands (p ∷ ps) first at = omega arith
+
+pub weighs_less : (of : Matter) (before rest after : List Job) (job : Job) (piece : Piece) → IsNumbered of.records → IsPermutation before (job ∷ rest) → AllJobsOf of before
+    → slice_get piece.processes.items 0 ≡ Some job.process
+    → SharesOut job.case.now.records job.process.0 (numbers piece.processes.items) (processes_of rest) (processes_of after)
+    → weight_of (process_count of.records) (processes_of after) < weight_of (process_count of.records) (processes_of before)
+unfolding weight_of
+weighs_less of before rest after job piece numbered taken all first shares =
+    let n : ℕ = process_count of.records in
+    let here = subst (λ (case : Matter). SharesOut case.records job.process.0 (numbers piece.processes.items) (processes_of rest) (processes_of after)) (taken_out of before rest job taken all).its_case shares in
+    omega (
+      arith,
+      here.shared (weight n),
+      held_weighs (weight n) before rest job taken,
+      kids_weigh of.records n (numbers piece.processes.items) numbered (omega arith),
+      some_stands piece.processes.items job.process first,
+      sum_by-cons (weight n) job.process.0 (kids of.records (numbers piece.processes.items)),
+    )

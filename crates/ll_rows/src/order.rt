@@ -1,0 +1,34 @@
+//! All processes of a case, in an order of the caller's own.
+
+ghost use Rattle.std.specs.Prelude.{◌≡◌, ◌<◌, ◌+◌, ℕ, IfOk, sum_by};
+ghost use Rattle.ll_process.specs.Processes.{process_count, times};
+ghost use Rattle.ll_pool.specs.Gathered.{AllOf, processes_in};
+
+use crate::keeper::{Keeper, Wanted};
+use ll_process::{Case, Piece, judge};
+use ll_rules::NoMemory;
+use std::alloc::Global;
+
+/// Judges all processes of a case with a hand that keeps what is wanted. Of the roots and the jobs kept,
+/// the one of the greatest process number is judged first, until none is left.
+pub fn judge_greatest_first(
+    alloc: Global,
+    case: &Case,
+    wanted: Wanted,
+) -> Result<Vec<Piece<'_>>, NoMemory>
+    ensures of_case { IfOk result (λ pieces. AllOf case.now pieces.items) }
+    ensures each_once { IfOk result (λ pieces. (process : ℕ) → process < process_count case.now.records
+        → times process (processes_in pieces.items) ≡ 1) }
+{
+    let _trace = case.trace();
+    let jobs = case.roots(alloc)?;
+    let mut keeper = Keeper { wanted, jobs };
+    let mut pieces = Vec::new(alloc);
+    while let Some(job) = keeper.take_greatest() {
+        let piece = judge(alloc, job, &mut keeper)?;
+        if pieces.push(piece).is_err() {
+            return Err(NoMemory);
+        }
+    }
+    Ok(pieces)
+}
