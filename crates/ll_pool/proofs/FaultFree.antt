@@ -1,10 +1,10 @@
 -- Pieces of all roots leave no process out and hold none twice.
-use Rattle.std.proofs.Common.{◌≡◌, ℕ, ◌+◌, ◌<◌, ◌≤◌, List, []}
+use Rattle.std.proofs.Common.{◌≡◌, ℕ, ◌+◌, List}
 use Rattle.std.proofs.Common.{arith}
 use Rattle.std.specs.Prelude.{sum_by}
 use Rattle.ll_trace.specs.declared.record.Record.{Record}
 use Rattle.ll_trace.specs.declared.record.ProcessId.{ProcessId}
-use Rattle.ll_process.specs.Processes.{IsNumbered, process_count, kids, roots, times}
+use Rattle.ll_process.specs.Processes.{IsNumbered, kids, roots, times}
 use Rattle.ll_process.proofs.EachOnce.{each_once}
 use Rattle.ll_pool.specs.declared.gather.CollectFault.TheVariants.{Missing, Double}
 use Rattle.ll_pool.specs.Faults.{IsFault}

@@ -1,3 +1,6 @@
+mod RuleSteps
+mod Accounting
+mod AllOnce
 pub mod Counts
 pub mod Placing
 pub mod Answering

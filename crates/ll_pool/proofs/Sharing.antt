@@ -1,7 +1,6 @@
 -- The pieces of roots that were judged so far, and the roots still to do, with all that the pieces have forked.
-use Rattle.std.proofs.Common.{◌≡◌, ℕ, ◌+◌, List, [], ◌∷◌, ◌++◌, length, map, Option, Some, None, refl, sym, ap, ◌∙◌, subst, arith}
-use Rattle.std.specs.Prelude.{sum_by, option_to_list}
-use Rattle.std.specs.List.{flat_map, All}
+use Rattle.std.proofs.Common.{◌≡◌, ℕ, ◌+◌, List, [], ◌∷◌, ◌++◌, Some, refl, ap, ◌∙◌, subst, arith}
+use Rattle.std.specs.Prelude.{sum_by}
 use Rattle.std.proofs.lemmas.List.{append-nil, map-append}
 use Rattle.std.proofs.lemmas.List.Sums.{sum_by-append, sum_by-cons}
 use Rattle.std.proofs.lemmas.List.Elements.{All-pop, All-push, All-nil}
@@ -19,11 +18,11 @@ pub record AreShared (of : Matter) (jobs : List Job) (pieces : List Piece) : Typ
   pub pieces_of : AllOf of pieces
   pub shared : (weight : ℕ → ℕ) → sum_by weight (processes_in pieces) + sum_by weight (processes_of jobs) ≡ sum_by weight (roots of.records) + sum_by weight (kids of.records (processes_in pieces))
 
-no_processes : processes_in [] ≡ []
+pub no_processes : processes_in [] ≡ []
 unfolding processes_in
 no_processes = refl
 
-no_kids : (records : List Record) → kids records [] ≡ []
+pub no_kids : (records : List Record) → kids records [] ≡ []
 unfolding kids
 no_kids records = refl
 
@@ -34,13 +33,13 @@ shared_first of jobs all are = record {
   shared = λ weight. rw (no_processes, no_kids of.records, are) (omega arith);
 }
 
-processes_in-push : (pieces : List Piece) (piece : Piece) → processes_in (pieces ++ piece ∷ []) ≡ processes_in pieces ++ numbers piece.processes.items
+pub processes_in-push : (pieces : List Piece) (piece : Piece) → processes_in (pieces ++ piece ∷ []) ≡ processes_in pieces ++ numbers piece.processes.items
 unfolding processes_in
 processes_in-push pieces piece =
     flat_map-append (λ (one : Piece). numbers one.processes.items) pieces (piece ∷ [])
     ∙ ap (λ (xs : List ℕ). processes_in pieces ++ xs) (append-nil (numbers piece.processes.items))
 
-kids-append : (records : List Record) (xs ys : List ℕ) → kids records (xs ++ ys) ≡ kids records xs ++ kids records ys
+pub kids-append : (records : List Record) (xs ys : List ℕ) → kids records (xs ++ ys) ≡ kids records xs ++ kids records ys
 unfolding kids
 kids-append records xs ys = flat_map-append (children records) xs ys
 

@@ -1,2 +1,4 @@
+pub mod Crews
+pub mod Rule
 pub mod Gathered
 pub mod Faults

@@ -5,29 +5,12 @@ ghost use Rattle.ll_state.specs.Worlds.{judged};
 ghost use Rattle.ll_process.specs.Processes.{kids, roots};
 ghost use Rattle.ll_pool.specs.Gathered.{AllOf, processes_in};
 
+use crate::empty::Empty;
 use crate::gather::{CollectFault, collect};
-use ll_process::{Case, Hand, Job, Piece, judge};
+use ll_process::{Case, Piece, judge};
 use ll_rules::NoMemory;
 use ll_state::Answer;
 use std::alloc::Global;
-
-/// A hand that keeps nothing.
-#[derive(Drop)]
-struct Empty;
-
-impl<'c> Hand<'c> for Empty {
-    ghost use Rattle.std.specs.Prelude.{[]};
-
-    ghost kept = { λ _. [] };
-
-    ghost suits = { λ _ _. Unit {0} };
-
-    ghost stays = { λ _ _. Unit {0} };
-
-    fn give(&mut self, job: Job<'c>) -> Option<Job<'c>> {
-        Some(job)
-    }
-}
 
 /// One piece for each root, with all of its descendants.
 fn pieces_of(alloc: Global, case: &Case) -> Result<Vec<Piece<'_>>, NoMemory>

@@ -1,7 +1,6 @@
-use Rattle.std.proofs.Common.{◌≡◌, ◌++◌, ◌∷◌, [], arith, sym}
+use Rattle.std.proofs.Common.{◌≡◌, ◌++◌, ◌∷◌, [], arith}
 use Rattle.std.proofs.lemmas.Grind.{common_steps}
-use Rattle.std.proofs.lemmas.List.{nil_from_length}
-use Rattle.ll_pool.proofs.Sharing.{AreShared, shared_first, shared_more, shared_all}
+use Rattle.ll_pool.proofs.Sharing.{shared_first, shared_more, shared_all}
 use Rattle.ll_pool.proofs.alone.pieces_of.Goals as goal
 
 pub loop-job-init : goal.loop-job-init

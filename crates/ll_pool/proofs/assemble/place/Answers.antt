@@ -1,5 +1,5 @@
 -- What is left of the parts goes to its places.
-use Rattle.std.proofs.Common.{◌≡◌, ◌+◌, ◌∷◌, ℕ, List, [], length, drop, get_or, refl, sym, ap, ◌∙◌, arith}
+use Rattle.std.proofs.Common.{◌+◌, ◌∷◌, ℕ, List, drop, sym, ap, ◌∙◌}
 use Rattle.std.proofs.lemmas.List.{length-set, drop_more, drop_all}
 use Rattle.ll_state.specs.declared.answer.Answer.{Answer}
 use Rattle.ll_pool.specs.Gathered.{placed}

@@ -1,5 +1,5 @@
 -- There are at most 65,536 processes.
-use Rattle.std.proofs.Common.{◌≡◌, ◌≤◌, ℕ, List, length, sym, ap, subst, arith}
+use Rattle.std.proofs.Common.{◌≤◌, ℕ, List, length, sym, subst}
 use Rattle.ll_pool.proofs.gather.collect.Goals as goal
 
 pub first_double-requires : goal.first_double-requires

@@ -1,14 +1,13 @@
 -- Each piece's processes are counted.
-use Rattle.std.proofs.Common.{◌≡◌, ◌<◌, ◌+◌, min, ℕ, List, length, replicate, get_or, refl, sym, ap, ◌∙◌, subst, arith}
-use Rattle.std.specs.Prelude.{slice_get, slice_index, All, vec_len, Some}
+use Rattle.std.proofs.Common.{◌≡◌, ◌<◌, ◌+◌, min, ℕ, List, length, replicate, sym, ap, ◌∙◌, subst, arith}
+use Rattle.std.specs.Prelude.{slice_index, All, vec_len, Some}
 use Rattle.std.proofs.lemmas.Option.{slice_get-get_or}
-use Rattle.std.proofs.lemmas.List.{get_or-replicate, length-replicate}
+use Rattle.std.proofs.lemmas.List.{length-replicate}
 use Rattle.ll_trace.specs.declared.record.ProcessId.{ProcessId}
 use Rattle.ll_trace.specs.declared.record.Record.{Record}
 use Rattle.ll_trace.specs.Processes.{parents}
 use Rattle.ll_process.specs.declared.piece.Piece.{Piece}
 use Rattle.ll_process.specs.Processes.{process_count, numbers, times}
-use Rattle.ll_process.specs.Cases.{Matter}
 use Rattle.ll_process.proofs.TraceWords.{length-parents}
 use Rattle.ll_pool.proofs.Counts.{tally_none, tally_more, all_there, piece_at, zeros}
 use Rattle.ll_pool.proofs.tally.tally.Goals as goal

@@ -1,0 +1,100 @@
+//! Judging all processes of a case by workers.
+ghost use Rattle.std.specs.Prelude.{◌≡◌, ◌≤◌, ◌<◌, ℕ, IfOk};
+ghost use Rattle.ll_process.specs.Processes.{process_count, times};
+ghost use Rattle.ll_pool.specs.Gathered.{AllOf, processes_in};
+
+use crate::busy::Busy;
+use crate::drain::drain;
+use crate::gate::Gate;
+use crate::lead::{Roots, lead};
+use crate::line::{ROOM, open};
+use crate::member::Member;
+use crate::pool::Pool;
+use crate::rule::Naming;
+use crate::worker::Worked;
+use ll_process::{Case, Piece};
+use ll_rules::NoMemory;
+use std::alloc::{AllocError, Global};
+use std::marker::Brand;
+use std::sync::Wait;
+use std::thread::Threads;
+
+/// Why not all was judged.
+#[derive(Clone, Copy, Debug, PartialEq, Eq)]
+pub enum PoolFault {
+    /// There is no memory.
+    Memory,
+    /// A thread could not be started.
+    NoThread,
+}
+
+impl From<NoMemory> for PoolFault {
+    fn from(_failed: NoMemory) -> PoolFault {
+        PoolFault::Memory
+    }
+}
+
+impl From<AllocError> for PoolFault {
+    fn from(_failed: AllocError) -> PoolFault {
+        PoolFault::Memory
+    }
+}
+
+/// Judges all processes of a case, each as part of one piece: by so many workers, each on a thread of
+/// its own, who share a queue of 1,024 jobs. The roots go to the queue, and so does each child where
+/// `cut` is true at its number; an absent place is false. Other children are judged with their
+/// parent, and so is one that finds the queue full.
+///
+/// The gate is told of each job before it is judged. Where a thread can't be started the answer is
+/// `NoThread`, else `Memory` where memory ran out. All workers have ended when it answers.
+pub fn run<'c, R: Threads + Wait + Sync, G: Gate + Sync>(
+    rt: &R,
+    alloc: Global,
+    case: &'c Case,
+    workers: usize,
+    cut: &[bool],
+    gate: &G,
+) -> Result<Vec<Piece<'c>>, PoolFault>
+    requires { (1 ≤ workers) × (workers ≤ 64) }
+    ensures of_case { IfOk result (λ pieces. AllOf case.now pieces.items) }
+    ensures each_once { IfOk result
+        (λ pieces. (process : ℕ) → process < process_count case.now.records → times process (processes_in pieces.items) ≡ 1) }
+{
+    run_named::<Brand, R, G>(rt, alloc, case, workers, cut, gate)
+}
+
+/// `run` on the case that `N` names.
+fn run_named<'s, 'c, N: Naming + Send + Sync, R: Threads + Wait + Sync, G: Gate + Sync>(
+    rt: &'s R,
+    alloc: Global,
+    case: &'c Case,
+    workers: usize,
+    cut: &'s [bool],
+    gate: &'s G,
+) -> Result<Vec<Piece<'c>>, PoolFault>
+    requires named { case.now ≡ N.case }
+    requires workers { workers ≤ 64 }
+    ensures of_case { IfOk result (λ pieces. AllOf case.now pieces.items) }
+    ensures each_once { IfOk result
+        (λ pieces. (process : ℕ) → process < process_count case.now.records → times process (processes_in pieces.items) ≡ 1) }
+{
+    let _trace = case.trace();
+    let mut first = case.roots(alloc)?;
+    let rest = first.split_off(first.len().min(ROOM))?;
+    let (line, pass) = open::<N>(alloc)?;
+    let pool: Pool<'s, 'c, N, R, G> = Pool {
+        rt,
+        alloc,
+        gate,
+        cut,
+        line,
+        busy: Busy::new(),
+    };
+    let me = Member { pool: &pool, pass };
+    let Worked {
+        mut pass,
+        mut pieces,
+    } = lead(me, Roots { first, rest }, workers)?;
+    drain(&pool, &mut pass, &mut pieces)?;
+    Ok(pieces)
+}
