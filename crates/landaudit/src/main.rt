@@ -4,7 +4,7 @@
 mod files;
 
 use files::FileSource;
-use ll_audit::front;
+use ll_audit::{Idle, front};
 use std::io::ErrorKind;
 use std::process::ExitCode;
 use std::{env, io};
@@ -28,6 +28,14 @@ fn main(rt: HostRuntime) -> ExitCode {
     };
     let mut source = FileSource::new(&rt);
     let (mut out, mut err) = (rt.stdout(), rt.stderr());
-    let status = front(&rt, rt.alloc(), &words, &mut source, &mut out, &mut err);
+    let status = front(
+        &rt,
+        rt.alloc(),
+        &words,
+        &mut source,
+        &mut out,
+        &mut err,
+        &Idle,
+    );
     ExitCode::from(status)
 }

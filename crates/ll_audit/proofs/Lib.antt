@@ -1,5 +1,7 @@
+pub mod AllJudged
 pub mod CommandLine
 pub mod FilesByName
 pub mod LayerText
 pub mod LinesLeft
 pub mod Endings
+pub mod Wants

@@ -1,6 +1,6 @@
 -- What an audit answers: the report, or why there is none.
 -- Source: docs/FORMATS.md, "The report" and "Faults of a run"; docs/SEMANTICS.md.
-use Rattle.std.specs.Prelude.{◌≡◌, ◌<◌, ◌≤◌, ℕ, List}
+use Rattle.std.specs.Prelude.{◌≡◌, ◌⊎◌, ◌<◌, ◌≤◌, ℕ, List}
 use Rattle.ll_rights.specs.declared.abi.Abi.{Abi}
 use Rattle.ll_tree.specs.Reading.{IsBad}
 use Rattle.ll_tree.specs.TreeReading.{IsTreeOf, tree_format}
@@ -9,6 +9,8 @@ use Rattle.ll_trace.specs.declared.record.Record.{Record}
 use Rattle.ll_trace.specs.Entries.{trace_file}
 use Rattle.ll_trace.specs.Records.{IsTrace}
 use Rattle.ll_state.specs.Worlds.{judged}
+use Rattle.ll_pool.specs.declared.running.PoolFault.{PoolFault}
+use Rattle.ll_pool.specs.declared.running.PoolFault.TheVariants as pool
 use Rattle.ll_audit.specs.declared.fault.Fault.{Fault}
 use Rattle.ll_audit.specs.declared.fault.Fault.TheVariants as fault
 use Rattle.ll_audit.specs.declared.report.Report.{Report}
@@ -47,11 +49,24 @@ IsTraceFault bytes _ = ⊥
 abbrev pub ReadsAsTree : List ℕ → Type 0
 ReadsAsTree bytes = (tree : List Entry) × IsTreeOf bytes tree
 
--- Why there is no report: the tree doesn't read, or it does and the trace doesn't. Want of memory says nothing of
--- the files, and no thread is started yet.
+-- some records are what the bytes read as
+abbrev pub ReadsAsTrace : List ℕ → Type 0
+ReadsAsTrace bytes = (records : List Record) × IsTrace bytes records
+
+-- what the pool's want comes to
+abbrev pub fault_of_pool : PoolFault → Fault
+fault_of_pool pool.Memory = fault.Memory
+fault_of_pool pool.NoThread = fault.NoThread
+
+-- memory or a thread is wanting
+abbrev pub IsWant : Fault → Type 0
+IsWant of = (of ≡ fault.Memory) ⊎ (of ≡ fault.NoThread)
+
+-- Why there is no report: the tree doesn't read, or it does and the trace doesn't. A thread is wanting only where both
+-- read. Want of memory says nothing of the files.
 abbrev pub IsFaultOf : ℕ → List ℕ → List ℕ → Fault → Type 0
 IsFaultOf workers tree_bytes trace_bytes fault.Workers = IsCrew workers → ⊥
 IsFaultOf workers tree_bytes trace_bytes (fault.Tree of) = IsCrew workers × IsBad tree_format tree_bytes of
 IsFaultOf workers tree_bytes trace_bytes (fault.Trace of) = IsCrew workers × ReadsAsTree tree_bytes × IsBad trace_file trace_bytes of
 IsFaultOf workers tree_bytes trace_bytes fault.Memory = IsCrew workers
-IsFaultOf workers tree_bytes trace_bytes fault.NoThread = ⊥
+IsFaultOf workers tree_bytes trace_bytes fault.NoThread = IsCrew workers × ReadsAsTree tree_bytes × ReadsAsTrace trace_bytes

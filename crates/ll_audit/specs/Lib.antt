@@ -7,3 +7,4 @@ pub mod Audits
 pub mod Fronts
 pub mod Outcomes
 pub mod Names
+pub mod Cuts

@@ -3,39 +3,35 @@
 ghost use Rattle.std.specs.Prelude.{◌≡◌, ◌++◌, IfOk, IfErr};
 ghost use Rattle.ll_tree.specs.TreeReading.{IsTreeOf};
 ghost use Rattle.ll_trace.specs.Records.{IsTrace};
-ghost use Rattle.ll_audit.specs.Audits.{IsCrew, IsFaultOf, IsReport, IsReportOn, IsTraceFault, IsTreeFault};
+ghost use Rattle.ll_state.specs.Worlds.{judged};
+ghost use Rattle.ll_audit.specs.Audits.{IsCrew, IsFaultOf, IsReport, IsReportOn, IsTraceFault, IsTreeFault, IsWant};
 
+use crate::cut::{Cut, cuts_of};
 use crate::fault::Fault;
 use crate::report::Report;
-use ll_pool::judge_alone;
+use ll_pool::{CollectFault, Gate, collect, run};
 use ll_process::Case;
 use ll_rights::Abi;
-use ll_rules::NoMemory;
+use ll_state::Answer;
 use ll_trace::Trace;
 use ll_tree::{Cause, Tree};
 use std::alloc::Global;
-
-/// At which forks a child may be judged by another thread than its parent.
-#[derive(Debug, Drop)]
-pub enum Cut {
-    /// Where the child has at least this many records.
-    Grain(u64),
-    /// Where the list has `true` at the child's number. An absent place is `false`.
-    List(Vec<bool>),
-}
+use std::sync::Wait;
+use std::thread::Threads;
 
 /// Audits a trace against a tree, both as the bytes of their files: says for each record what
 /// Landlock answers under a version of its interface. The report is the same for every number of
-/// workers, which is 1 to 64, and for every cut; neither has an effect yet, since all is judged on
-/// the caller's thread.
-pub fn audit<R>(
-    _rt: &R,
+/// workers, which is 1 to 64, and for every cut; they say only which threads judge. The gate is told
+/// of each job that a thread begins.
+pub fn audit<R: Threads + Wait + Sync, G: Gate + Sync>(
+    rt: &R,
     alloc: Global,
     tree: &[u8],
     trace: &[u8],
     abi: Abi,
     workers: u64,
-    _cut: Cut,
+    cut: Cut,
+    gate: &G,
 ) -> Result<Report, Fault>
     ensures report { IfOk result (IsReport abi tree.now trace.now) }
     ensures crew { IfOk result (λ _. IsCrew workers) }
@@ -46,7 +42,8 @@ pub fn audit<R>(
     }
     let tree = tree_of(alloc, tree)?;
     let trace = trace_of(alloc, trace)?;
-    Ok(report_on(alloc, tree, trace, abi)?)
+    let case = Case::new(alloc, tree, trace, abi)?;
+    report_on(rt, alloc, &case, workers, cut, gate)
 }
 
 /// The tree that a file reads as.
@@ -77,11 +74,43 @@ fn trace_of(alloc: Global, bytes: &[u8]) -> Result<Trace, Fault>
     }
 }
 
-/// The report on a trace.
-fn report_on(alloc: Global, tree: Tree, trace: Trace, abi: Abi) -> Result<Report, NoMemory>
-    ensures { IfOk result (IsReportOn tree abi trace) }
+/// The report on a case.
+fn report_on<R: Threads + Wait + Sync, G: Gate + Sync>(
+    rt: &R,
+    alloc: Global,
+    case: &Case,
+    workers: u64,
+    cut: Cut,
+    gate: &G,
+) -> Result<Report, Fault>
+    requires { IsCrew workers }
+    ensures report { IfOk result (IsReportOn case.now.tree case.now.abi case.now.records) }
+    ensures fault { IfErr result IsWant }
 {
-    let case = Case::new(alloc, tree, trace, abi)?;
-    let answers = judge_alone(alloc, &case)?;
+    let answers = answers_of(rt, alloc, case, workers, cut, gate)?;
     Ok(Report::of(alloc, case.trace().records(), &answers)?)
+}
+
+/// The answers to all records, judged by this many workers.
+fn answers_of<R: Threads + Wait + Sync, G: Gate + Sync>(
+    rt: &R,
+    alloc: Global,
+    case: &Case,
+    workers: u64,
+    cut: Cut,
+    gate: &G,
+) -> Result<Vec<Answer>, Fault>
+    requires { IsCrew workers }
+    ensures answers { IfOk result
+        (λ answers. answers.items ≡ judged case.now.tree case.now.abi case.now.records) }
+    ensures fault { IfErr result IsWant }
+{
+    let cuts = cuts_of(alloc, case.trace(), cut)?;
+    let pieces = run(rt, alloc, case, workers as usize, &cuts, gate)?;
+    match collect(alloc, case, pieces) {
+        Ok(answers) => Ok(answers),
+        Err(CollectFault::Memory) => Err(Fault::Memory),
+        Err(CollectFault::Missing(_absent)) => unreachable!(),
+        Err(CollectFault::Double(_doubled)) => unreachable!(),
+    }
 }

@@ -2,9 +2,12 @@
 
 ghost use Rattle.std.specs.Prelude.{◌≡◌};
 ghost use Rattle.ll_audit.specs.declared.fault.Fault.TheVariants.{Memory};
+ghost use Rattle.ll_audit.specs.Audits.{fault_of_pool};
 
+use ll_pool::PoolFault;
 use ll_rules::NoMemory;
 use ll_tree::ReadFault;
+use std::alloc::AllocError;
 use thiserror::Error;
 
 /// Why an audit gives no report. They are looked for in the order `Workers`, `Tree`, `Trace`,
@@ -34,5 +37,24 @@ impl From<NoMemory> for Fault {
 
     fn from(_none: NoMemory) -> Fault {
         Fault::Memory
+    }
+}
+
+impl From<AllocError> for Fault {
+    ghost from_gives = { λ _ fault. fault ≡ Memory };
+
+    fn from(_refused: AllocError) -> Fault {
+        Fault::Memory
+    }
+}
+
+impl From<PoolFault> for Fault {
+    ghost from_gives = { λ why fault. fault ≡ fault_of_pool why };
+
+    fn from(why: PoolFault) -> Fault {
+        match why {
+            PoolFault::Memory => Fault::Memory,
+            PoolFault::NoThread => Fault::NoThread,
+        }
     }
 }

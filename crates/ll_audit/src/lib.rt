@@ -3,7 +3,9 @@
 
 mod auditing;
 mod command;
+mod cut;
 mod fault;
+mod idle;
 mod inputs;
 mod laws;
 mod lines;
@@ -11,14 +13,14 @@ mod names;
 mod outcome;
 mod program;
 mod report;
-#[cfg(test)]
-mod runs;
 mod source;
 #[cfg(test)]
 mod tests;
 
-pub use auditing::{Cut, audit};
+pub use auditing::audit;
+pub use cut::Cut;
 pub use fault::Fault;
+pub use idle::Idle;
 pub use laws::{command_lines, empty_report};
 pub use program::front;
 pub use report::Report;

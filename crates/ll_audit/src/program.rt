@@ -5,29 +5,34 @@ ghost use Rattle.ll_audit.specs.Audits.{IsCrew};
 ghost use Rattle.ll_audit.specs.Command.{request_by};
 ghost use Rattle.ll_audit.specs.Fronts.{GivesHelp, HasFileFault, IsFailureOf, IsOutcomeOf, Reports, WritesNothing, WritesReport};
 
-use crate::auditing::{Cut, audit};
+use crate::auditing::audit;
 use crate::command::{Plan, Run, plan_of};
+use crate::cut::Cut;
 use crate::fault::Fault;
 use crate::inputs::inputs_of;
 use crate::lines::Failure;
 use crate::outcome::Outcome;
 use crate::report::Report;
 use crate::source::Source;
+use ll_pool::Gate;
 use std::alloc::Global;
 use std::io::Write;
+use std::sync::Wait;
+use std::thread::Threads;
 
 /// Runs the program on the words of its command line, of which the first is its own name, and gives
 /// its status: 0 with a report that has no refused record, or with help; 1 with a report that has
 /// one; 2 where the words are wrong; 3 where a file can't be read or doesn't read; 4 where memory or
 /// a thread is wanting, or the output can't be written. The report and the help go to `out`, and what
 /// is wrong to `err`. If that can't be written the status stays.
-pub fn front<R, S: Source, O: Write, E: Write>(
+pub fn front<R: Threads + Wait + Sync, S: Source, O: Write, E: Write, G: Gate + Sync>(
     rt: &R,
     alloc: Global,
     words: &[String],
     source: &mut S,
     out: &mut O,
     err: &mut E,
+    gate: &G,
 ) -> u8
     requires { S.failed source.old + 2 < 2 ^ 64 }
     ensures report { WritesReport (map string_bytes words.now) (S.files source.old) result
@@ -38,22 +43,23 @@ pub fn front<R, S: Source, O: Write, E: Write>(
     ensures nothing { WritesNothing (map string_bytes words.now) (S.files source.old) result
         out.old out.new }
 {
-    outcome_of(rt, alloc, words, source).write_to(out, err)
+    outcome_of(rt, alloc, words, source, gate).write_to(out, err)
 }
 
 /// What the words come to.
-fn outcome_of<'a, R, S: Source>(
+fn outcome_of<'a, R: Threads + Wait + Sync, S: Source, G: Gate + Sync>(
     rt: &R,
     alloc: Global,
     words: &'a [String],
     source: &mut S,
+    gate: &G,
 ) -> Outcome<'a>
     requires { S.failed source.old + 2 < 2 ^ 64 }
     ensures { IsOutcomeOf (map string_bytes words.entry.now) (S.files source.old)
         (S.failed source.old) (S.failed source.new) result }
 {
     match plan_of(alloc, words) {
-        Plan::Run(run) => match report_of(rt, alloc, source, &run) {
+        Plan::Run(run) => match report_of(rt, alloc, source, &run, gate) {
             Ok(report) => Outcome::Report(report),
             Err(failure) => Outcome::Failure(failure),
         },
@@ -64,11 +70,12 @@ fn outcome_of<'a, R, S: Source>(
 }
 
 /// The report of a run.
-fn report_of<'a, R, S: Source>(
+fn report_of<'a, R: Threads + Wait + Sync, S: Source, G: Gate + Sync>(
     rt: &R,
     alloc: Global,
     source: &mut S,
     run: &Run<'a>,
+    gate: &G,
 ) -> Result<Report, Failure<'a>>
     requires failures { S.failed source.old + 2 < 2 ^ 64 }
     requires crew { IsCrew run.now.workers }
@@ -86,6 +93,7 @@ fn report_of<'a, R, S: Source>(
         run.abi,
         run.workers,
         cut,
+        gate,
     ) {
         Ok(report) => Ok(report),
         Err(Fault::Tree(fault)) => Err(Failure::Tree(fault)),

@@ -1,0 +1,120 @@
+//! That two workers judge at once.
+
+use crate::ready::{TREE, owned};
+use ll_audit::{Cut, MemorySource, audit, front};
+use ll_pool::Gate;
+use ll_rights::Abi;
+use ll_trace::ProcessId;
+use std::sync::atomic::{AtomicU64, Ordering};
+use std::test::Fail;
+
+/// A gate that holds whichever of some jobs begins first until another of them has begun, or for a
+/// billion looks.
+#[derive(Drop)]
+struct Meeting {
+    /// The least process whose job is held.
+    from: u32,
+    /// How many of them have begun.
+    begun: AtomicU64,
+    /// How many waited for another one in vain.
+    in_vain: AtomicU64,
+}
+
+impl Meeting {
+    fn from(process: u32) -> Meeting {
+        Meeting {
+            from: process,
+            begun: AtomicU64::new(0),
+            in_vain: AtomicU64::new(0),
+        }
+    }
+
+    /// Looks a billion times whether another job has begun.
+    fn is_met(&self) -> bool {
+        for _ in 0..1_000_000_000 {
+            if self.begun.load(Ordering::SeqCst) > 1 {
+                return true;
+            }
+        }
+        false
+    }
+}
+
+impl Gate for Meeting {
+    fn begun(&self, process: ProcessId) {
+        if process.0 < self.from {
+            return;
+        }
+        self.begun.fetch_add(1, Ordering::SeqCst);
+        if !self.is_met() {
+            self.in_vain.fetch_add(1, Ordering::SeqCst);
+        }
+    }
+}
+
+const SIBLINGS: &str = "\
+{\"op\":\"start\",\"pid\":1}
+{\"op\":\"fork\",\"pid\":1,\"child\":2}
+{\"op\":\"fork\",\"pid\":1,\"child\":3}
+";
+
+const SIBLINGS_REPORT: &str = "\
+1 1 start allowed
+2 1 fork allowed
+3 1 fork allowed
+total 3 allowed 3 refused 0 moot 0
+";
+
+#[test]
+fn two_workers_meet_in_an_audit(rt: HostRuntime) -> Result<(), Fail> {
+    let gate = Meeting::from(1);
+    let answer = audit(
+        &rt,
+        rt.alloc(),
+        TREE.as_bytes(),
+        SIBLINGS.as_bytes(),
+        Abi::V4,
+        2,
+        Cut::Grain(0),
+        &gate,
+    );
+    let report = answer.ok().ok_or("no report")?;
+    assert_eq!(rt; report.bytes.as_slice(), SIBLINGS_REPORT.as_bytes());
+    assert_eq!(rt; gate.begun.load(Ordering::SeqCst), 2);
+    assert_eq!(rt; gate.in_vain.load(Ordering::SeqCst), 0);
+    Ok(())
+}
+
+#[test]
+fn two_workers_meet_in_the_program(rt: HostRuntime) -> Result<(), Fail> {
+    let words = [
+        "landaudit",
+        "--abi",
+        "4",
+        "--workers",
+        "2",
+        "--grain",
+        "0",
+        "t",
+        "r",
+    ];
+    let words = owned(rt.alloc(), words.as_slice())?;
+    let files = [("t", TREE.as_bytes()), ("r", SIBLINGS.as_bytes())];
+    let mut source = MemorySource::new(files.as_slice());
+    let (mut out, mut err) = (Vec::new(rt.alloc()), Vec::new(rt.alloc()));
+    let gate = Meeting::from(1);
+    let status = front(
+        &rt,
+        rt.alloc(),
+        &words,
+        &mut source,
+        &mut out,
+        &mut err,
+        &gate,
+    );
+    assert_eq!(rt; status, 0);
+    assert_eq!(rt; out.as_slice(), SIBLINGS_REPORT.as_bytes());
+    assert_eq!(rt; gate.begun.load(Ordering::SeqCst), 2);
+    assert_eq!(rt; gate.in_vain.load(Ordering::SeqCst), 0);
+    Ok(())
+}

@@ -1,0 +1,174 @@
+//! Sources and writers that fail.
+
+ghost use Rattle.std.specs.Prelude.{None};
+
+use crate::ready::{REPORT, TRACE, TREE, owned};
+use ll_audit::{Idle, MemorySource, Source, SourceFault, front};
+use std::alloc::Global;
+use std::io;
+use std::io::{ErrorKind, Write};
+use std::sync::Wait;
+use std::test::Fail;
+use std::thread::Threads;
+
+/// A source that gives the worked tree for `t` and the worked trace for all else, until it fails.
+#[derive(Drop)]
+struct Failing {
+    good_calls: u64,
+    fault: SourceFault,
+    failures: u64,
+}
+
+impl Source for Failing {
+    ghost files = { λ _. None };
+
+    ghost failed = { λ source. source.failures };
+
+    fn bytes_of(&mut self, alloc: Global, name: &str) -> Result<Vec<u8>, SourceFault> {
+        if self.good_calls == 0 {
+            if self.fault == SourceFault::Unread {
+                self.failures += 1;
+            }
+            return Err(self.fault);
+        }
+        self.good_calls -= 1;
+        let text = if name == "t" { TREE } else { TRACE };
+        Ok(Vec::from_slice(alloc, text.as_bytes())?)
+    }
+
+    fn failures(&self) -> u64 {
+        self.failures
+    }
+}
+
+/// A writer of at most sixteen bytes a call, that fails from one of its calls on.
+#[derive(Drop)]
+struct Stubborn {
+    good_calls: u64,
+    bytes: Vec<u8>,
+}
+
+impl Stubborn {
+    fn count(&mut self) -> io::Result<()> {
+        if self.good_calls == 0 {
+            return Err(ErrorKind::BrokenPipe.into());
+        }
+        self.good_calls -= 1;
+        Ok(())
+    }
+}
+
+impl Write for Stubborn {
+    fn write(&mut self, buf: &[u8]) -> io::Result<usize> {
+        self.count()?;
+        let taken = buf.len().min(16);
+        self.bytes.extend_from_slice(&buf[..taken])?;
+        Ok(taken)
+    }
+
+    fn flush(&mut self) -> io::Result<()> {
+        self.count()
+    }
+}
+
+const WORDS: [&str; 5] = ["landaudit", "--abi", "4", "t", "r"];
+
+#[test]
+fn sources_that_fail(rt: HostRuntime) -> Result<(), Fail> {
+    let words = owned(rt.alloc(), WORDS.as_slice())?;
+    let cases = [
+        (0, SourceFault::Unread, 3, "landaudit: cannot read t\n"),
+        (1, SourceFault::Unread, 3, "landaudit: cannot read r\n"),
+        (0, SourceFault::Memory, 4, "landaudit: no memory\n"),
+        (1, SourceFault::Memory, 4, "landaudit: no memory\n"),
+    ];
+    for (good_calls, fault, want, line) in cases {
+        let mut source = Failing {
+            good_calls,
+            fault,
+            failures: 0,
+        };
+        let (mut out, mut err) = (Vec::new(rt.alloc()), Vec::new(rt.alloc()));
+        let status = front(
+            &rt,
+            rt.alloc(),
+            &words,
+            &mut source,
+            &mut out,
+            &mut err,
+            &Idle,
+        );
+        assert_eq!(rt; status, want);
+        assert_eq!(rt; err.as_slice(), line.as_bytes());
+        assert!(rt; out.is_empty());
+    }
+    Ok(())
+}
+
+/// Runs the program on the worked files, with an output that fails from one of its calls on.
+fn run_into<R: Threads + Wait + AllocGlobal + Sync>(
+    rt: &R,
+    good_calls: u64,
+    err: &mut impl Write,
+) -> Result<(u8, Vec<u8>), Fail> {
+    let words = owned(rt.alloc(), WORDS.as_slice())?;
+    let files = [("t", TREE.as_bytes()), ("r", TRACE.as_bytes())];
+    let mut source = MemorySource::new(files.as_slice());
+    let mut out = Stubborn {
+        good_calls,
+        bytes: Vec::new(rt.alloc()),
+    };
+    let status = front(rt, rt.alloc(), &words, &mut source, &mut out, err, &Idle);
+    Ok((status, out.bytes))
+}
+
+#[test]
+fn outputs_that_fail_at_each_call(rt: HostRuntime) -> Result<(), Fail> {
+    let calls = REPORT.len().div_ceil(16) as u64 + 1;
+    for good_calls in 0..calls {
+        let mut err = Vec::new(rt.alloc());
+        let (status, out) = run_into(&rt, good_calls, &mut err)?;
+        assert_eq!(rt; status, 4);
+        assert_eq!(rt; err.as_slice(), b"landaudit: cannot write\n".as_slice());
+        assert!(rt; REPORT.as_bytes().starts_with(out.as_slice()));
+    }
+    let mut err = Vec::new(rt.alloc());
+    let (status, out) = run_into(&rt, calls, &mut err)?;
+    assert_eq!(rt; status, 1);
+    assert_eq!(rt; out.as_slice(), REPORT.as_bytes());
+    assert!(rt; err.is_empty());
+    Ok(())
+}
+
+#[test]
+fn a_status_stays_where_nothing_can_be_said(rt: HostRuntime) -> Result<(), Fail> {
+    let mut mute = Stubborn {
+        good_calls: 0,
+        bytes: Vec::new(rt.alloc()),
+    };
+    let (status, _) = run_into(&rt, 0, &mut mute)?;
+    assert_eq!(rt; status, 4);
+    let cases: [(&[&str], &[u8], u8); 3] = [
+        (WORDS.as_slice(), b"[]", 3),
+        (["landaudit", "--abi", "4", "x", "r"].as_slice(), b"", 3),
+        (["landaudit", "--abi", "6", "t", "r"].as_slice(), b"", 2),
+    ];
+    for (words, tree, want) in cases {
+        let words = owned(rt.alloc(), words)?;
+        let files = [("t", tree), ("r", TRACE.as_bytes())];
+        let mut source = MemorySource::new(files.as_slice());
+        let mut out = Vec::new(rt.alloc());
+        let status = front(
+            &rt,
+            rt.alloc(),
+            &words,
+            &mut source,
+            &mut out,
+            &mut mute,
+            &Idle,
+        );
+        assert_eq!(rt; status, want);
+        assert!(rt; out.is_empty());
+    }
+    Ok(())
+}
