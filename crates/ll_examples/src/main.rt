@@ -2,12 +2,14 @@
 #![tactic(auto)]
 
 use anyhow::{Context, Result};
-use ll_audit::{Cut, audit};
+use ll_audit::{Cut, Idle, audit};
 use ll_rights::Abi;
 use serde_json::Value;
 use std::fs;
 use std::process::ExitCode;
 use std::rt::Files;
+use std::sync::Wait;
+use std::thread::Threads;
 
 /// An example: the names of its files, and the version of the interface to audit it at.
 #[derive(Drop)]
@@ -31,11 +33,14 @@ fn example_of(value: &Value) -> Option<Example<'_>> {
 }
 
 /// Whether the report on an example is the documented one, for one worker and for several.
-fn is_documented<R: Files + AllocGlobal>(rt: &R, example: &Example<'_>) -> Result<bool> {
+fn is_documented<R: Files + AllocGlobal + Threads + Wait + Sync>(
+    rt: &R,
+    example: &Example<'_>,
+) -> Result<bool> {
     let tree = fs::read(rt, example.tree)?;
     let trace = fs::read(rt, example.trace)?;
     let wanted = fs::read(rt, example.report)?;
-    for workers in [1, 8] {
+    for workers in [1, 3, 8] {
         let audited = audit(
             rt,
             rt.alloc(),
@@ -44,6 +49,7 @@ fn is_documented<R: Files + AllocGlobal>(rt: &R, example: &Example<'_>) -> Resul
             example.abi,
             workers,
             Cut::Grain(0),
+            &Idle,
         );
         let Ok(report) = audited else {
             return Ok(false);
@@ -56,7 +62,7 @@ fn is_documented<R: Files + AllocGlobal>(rt: &R, example: &Example<'_>) -> Resul
 }
 
 /// Goes over the index, and says whether all reports are the documented ones.
-fn run<R: Files + Print + AllocGlobal>(rt: &R) -> Result<bool> {
+fn run<R: Files + Print + AllocGlobal + Threads + Wait + Sync>(rt: &R) -> Result<bool> {
     let index = fs::read_to_string(rt, "index.jsonl")?;
     let mut all = true;
     for line in index.lines() {
