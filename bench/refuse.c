@@ -1,0 +1,35 @@
+// Preloaded before a program. Refuses its Nth request for memory, where N is REFUSE of the environment,
+// and, if REFUSE_ON is there, every later one too. Writes a byte to descriptor 3 for each refusal.
+
+typedef __SIZE_TYPE__ size_t;
+
+void *__libc_malloc(size_t size);
+void *__libc_calloc(size_t count, size_t size);
+void *__libc_realloc(void *kept, size_t size);
+char *getenv(const char *name);
+long write(int descriptor, const void *bytes, size_t count);
+long atol(const char *text);
+
+static long first;
+static int goes_on;
+static long requests;
+
+__attribute__((constructor)) static void begin(void) {
+    const char *refuse = getenv("REFUSE");
+    first = refuse ? atol(refuse) : 0;
+    goes_on = getenv("REFUSE_ON") != 0;
+}
+
+static int is_refused(void) {
+    if (first == 0) return 0;
+    long request = __atomic_add_fetch(&requests, 1, __ATOMIC_SEQ_CST);
+    if (request < first || (request > first && !goes_on)) return 0;
+    write(3, "", 1);
+    return 1;
+}
+
+void *malloc(size_t size) { return is_refused() ? 0 : __libc_malloc(size); }
+
+void *calloc(size_t count, size_t size) { return is_refused() ? 0 : __libc_calloc(count, size); }
+
+void *realloc(void *kept, size_t size) { return is_refused() ? 0 : __libc_realloc(kept, size); }

@@ -1,0 +1,107 @@
+//! The stages of an audit, measured one after another.
+
+ghost use Rattle.std.specs.Prelude.{◌≤◌, IfOk};
+ghost use Rattle.ll_pool.specs.Gathered.{AllOf};
+
+use crate::stopwatch::Stopwatch;
+use anyhow::{Context, Result};
+use ll_audit::{Cut, Idle, audit};
+use ll_pool::{collect, run};
+use ll_process::{Case, Piece};
+use ll_rights::Abi;
+use ll_trace::Trace;
+use ll_tree::Tree;
+use std::fs;
+use std::rt::{Clock, Files};
+use std::sync::Wait;
+use std::thread::Threads;
+
+/// What to audit: a version of the interface, and the names of the files.
+#[derive(Drop)]
+pub(crate) struct Run<'a> {
+    pub(crate) abi: Abi,
+    pub(crate) tree: &'a str,
+    pub(crate) trace: &'a str,
+}
+
+/// Audits stage by stage and then as a whole, and prints a line for each stage and a line on the run.
+pub(crate) fn measure<R: Clock + Files + Print + AllocGlobal + Threads + Wait + Sync>(
+    rt: &R,
+    run: &Run<'_>,
+) -> Result<()> {
+    let mut watch = Stopwatch::start(rt)?;
+    let tree = fs::read(rt, run.tree)?;
+    let trace = fs::read(rt, run.trace)?;
+    watch.lap("read both files")?;
+    by_stages(rt, &mut watch, run.abi, &tree, &trace)?;
+    watch.lap("give the memory back")?;
+    let cut = Cut::Grain(64);
+    let report = audit(rt, rt.alloc(), &tree, &trace, run.abi, 1, cut, &Idle)
+        .ok()
+        .context("audit")?;
+    watch.lap("audit as a whole")?;
+    let (bytes, refused) = (report.bytes.len(), report.refused);
+    println!(rt; "report: {bytes} bytes, {refused} refused")?;
+    Ok(())
+}
+
+/// The stages from the bytes of the files to the answers.
+fn by_stages<R: Clock + Files + Print + AllocGlobal + Threads + Wait + Sync>(
+    rt: &R,
+    watch: &mut Stopwatch<'_, R>,
+    abi: Abi,
+    tree: &[u8],
+    trace: &[u8],
+) -> Result<()> {
+    let tree = Tree::read(rt.alloc(), tree).ok().context("the tree")?;
+    watch.lap("make the tree")?;
+    let trace = Trace::read(rt.alloc(), trace).ok().context("the trace")?;
+    watch.lap("make the trace")?;
+    let case = Case::new(rt.alloc(), tree, trace, abi)
+        .ok()
+        .context("the rulebook")?;
+    watch.lap("make the rulebook")?;
+    judging(rt, watch, &case)
+}
+
+/// The judging of a case by more and more workers, and the collecting of the last pieces.
+fn judging<R: Clock + Files + Print + AllocGlobal + Threads + Wait + Sync>(
+    rt: &R,
+    watch: &mut Stopwatch<'_, R>,
+    case: &Case,
+) -> Result<()> {
+    for (workers, stage) in [
+        (1, "judge with 1 worker"),
+        (2, "judge with 2 workers"),
+        (4, "judge with 4 workers"),
+    ] {
+        let pieces = pieces_by(rt, case, workers)?;
+        watch.lap(stage)?;
+        drop(pieces);
+        watch.restart()?;
+    }
+    let pieces = pieces_by(rt, case, 1)?;
+    watch.restart()?;
+    let answers = collect(rt.alloc(), case, pieces)
+        .ok()
+        .context("collecting")?;
+    watch.lap("collect the pieces")?;
+    let (answers, processes) = (answers.len(), case.trace().processes());
+    println!(rt; "trace: {answers} records, {processes} processes")?;
+    Ok(())
+}
+
+/// The pieces of a case, judged by so many workers, with a cut at each fork.
+fn pieces_by<'c, R: AllocGlobal + Threads + Wait + Sync>(
+    rt: &R,
+    case: &'c Case,
+    workers: usize,
+) -> Result<Vec<Piece<'c>>>
+    requires { (1 ≤ workers) × (workers ≤ 64) }
+    ensures { IfOk result (λ pieces. AllOf case.now pieces.items) }
+{
+    let cut = vec![in rt.alloc(); true; case.trace().processes() as usize]?;
+    run(rt, rt.alloc(), case, workers, &cut, &Idle)
+        .ok()
+        .context("judging")
+}

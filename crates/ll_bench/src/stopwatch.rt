@@ -1,0 +1,66 @@
+//! Time and memory, stage by stage.
+
+use anyhow::{Context, Result};
+use std::fs;
+use std::rt::{Clock, Files};
+use std::time::Instant;
+
+/// Measures stages that follow one another, and prints a line for each.
+#[derive(Drop)]
+pub(crate) struct Stopwatch<'a, R> {
+    rt: &'a R,
+    since: Instant,
+    ticks: u64,
+}
+
+impl<'a, R: Clock + Files + Print + AllocGlobal> Stopwatch<'a, R> {
+    /// Prints the head of the table, and begins the first stage.
+    pub(crate) fn start(rt: &'a R) -> Result<Stopwatch<'a, R>> {
+        println!(rt; "seconds  processor  peak MiB  stage")?;
+        let ticks = ticks(rt)?;
+        let since = Instant::now(rt)?;
+        Ok(Stopwatch { rt, since, ticks })
+    }
+
+    /// Begins the next stage now, and leaves out what came since the last.
+    pub(crate) fn restart(&mut self) -> Result<()> {
+        self.ticks = ticks(self.rt)?;
+        self.since = Instant::now(self.rt)?;
+        Ok(())
+    }
+
+    /// Ends a stage, prints its line, and begins the next.
+    pub(crate) fn lap(&mut self, stage: &str) -> Result<()> {
+        let took = self.since.elapsed(self.rt)?;
+        let (seconds, millis) = (took.as_secs(), took.subsec_millis());
+        let busy = ticks(self.rt)?.saturating_sub(self.ticks);
+        let (busy, hundredths) = (busy / 100, busy % 100);
+        let peak = peak_kib(self.rt)? / 1024;
+        println!(self.rt;
+            "{seconds:>3}.{millis:03}  {busy:>6}.{hundredths:02}  {peak:>8}  {stage}"
+        )?;
+        self.restart()
+    }
+}
+
+/// The time that all threads of the process have spent on processors, in hundredths of a second: `utime`
+/// and `stime` of proc_pid_stat(5).
+fn ticks<R: Files + AllocGlobal>(rt: &R) -> Result<u64> {
+    let text = fs::read_to_string(rt, "/proc/self/stat")?;
+    let (_, fields) = text.rsplit_once(") ").context("/proc/self/stat")?;
+    let mut times = fields.split_ascii_whitespace().skip(11);
+    let user: u64 = times.next().context("utime")?.parse()?;
+    let system: u64 = times.next().context("stime")?.parse()?;
+    Ok(user.saturating_add(system))
+}
+
+/// The most memory that the process has had so far, in KiB: `VmHWM` of proc_pid_status(5).
+fn peak_kib<R: Files + AllocGlobal>(rt: &R) -> Result<u64> {
+    let text = fs::read_to_string(rt, "/proc/self/status")?;
+    let words = text
+        .lines()
+        .find_map(|line| line.strip_prefix("VmHWM:"))
+        .context("/proc/self/status has no VmHWM")?;
+    let number = words.trim().strip_suffix(" kB").context("VmHWM in kB")?;
+    Ok(number.parse()?)
+}
