@@ -17,5 +17,5 @@ landaudit:
 # Proves everything and runs every test; then refuses the built program each of its requests for memory.
 test:
 	rt ci
-	@log=$$(mktemp); bench/refuse-memory crates/landaudit/out/landaudit > $$log 2>&1; status=$$?; \
+	@log=$$(mktemp); bench/refuse-memory $$(ls crates/landaudit/out/landaudit) > $$log 2>&1; status=$$?; \
 	test $$status -eq 0 || cat $$log >&2; rm -f $$log; exit $$status

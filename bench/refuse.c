@@ -1,5 +1,6 @@
 // Preloaded before a program. Refuses its Nth request for memory, where N is REFUSE of the environment,
-// and, if REFUSE_ON is there, every later one too. Writes a byte to descriptor 3 for each refusal.
+// and, if REFUSE_ON is there, every later one too. Sets errno as malloc(3) does, and writes a
+// byte to descriptor 3 for each refusal.
 
 typedef __SIZE_TYPE__ size_t;
 
@@ -9,6 +10,9 @@ void *__libc_realloc(void *kept, size_t size);
 char *getenv(const char *name);
 long write(int descriptor, const void *bytes, size_t count);
 long atol(const char *text);
+int *__errno_location(void);
+
+enum { NO_MEMORY = 12 };
 
 static long first;
 static int goes_on;
@@ -25,6 +29,7 @@ static int is_refused(void) {
     long request = __atomic_add_fetch(&requests, 1, __ATOMIC_SEQ_CST);
     if (request < first || (request > first && !goes_on)) return 0;
     write(3, "", 1);
+    *__errno_location() = NO_MEMORY;
     return 1;
 }
 
