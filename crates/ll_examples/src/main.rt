@@ -32,7 +32,7 @@ fn example_of(value: &Value) -> Option<Example<'_>> {
     })
 }
 
-/// Whether the report on an example is the documented one, for one worker and for several.
+/// Whether the report on an example is the documented one, for one worker, for three and for eight.
 fn is_documented<R: Files + AllocGlobal + Threads + Wait + Sync>(
     rt: &R,
     example: &Example<'_>,
