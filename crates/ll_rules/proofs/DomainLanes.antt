@@ -21,7 +21,7 @@ use Rattle.ll_rules.specs.declared.domain.LayerId.{LayerId}
 use Rattle.ll_rules.specs.Layers.{RulesOn, without_rules, handles, granted, granted_on_node, in_tree, AreInTree}
 use Rattle.ll_rules.specs.Checks.{layer_at, domain_of, all_in_tree, numbers_from, lacks, refusing}
 use Rattle.ll_rules.specs.LayerNumbers.{passing_upto, numbers_passing}
-use Rattle.ll_rules.specs.Lanes.{lane, is_filled, layer_in}
+use Rattle.ll_rules.specs.Lanes.{set_of, lane, is_filled, layer_in}
 use Rattle.ll_rules.proofs.RightSets.{has_nothing}
 use Rattle.ll_rules.proofs.AskedRights.{some_agree}
 use Rattle.ll_rules.proofs.Booleans.{and_none, and_true}
@@ -41,6 +41,10 @@ module _ (P : ℕ → ℕ → Type 0) (row : List ℕ) (place value : ℕ) (insi
 
 pub row_rest : (row : List ℕ) (place value : ℕ) → ((p : ℕ) → place ≤ p → get_or row p 0 ≡ 0) → (p : ℕ) → place + 1 ≤ p → get_or (set row place value) p 0 ≡ 0
 row_rest row place value rest p le = get_or-set_other row place p value 0 (λ same. absurd (omega arith)) ∙ rest p (omega arith)
+
+-- the places that are still to come are as they were before
+pub row_still : (row before : List ℕ) (place value : ℕ) → ((p : ℕ) → place ≤ p → get_or row p 0 ≡ get_or before p 0) → (p : ℕ) → place + 1 ≤ p → get_or (set row place value) p 0 ≡ get_or before p 0
+row_still row before place value rest p le = get_or-set_other row place p value 0 (λ same. absurd (omega arith)) ∙ rest p (omega arith)
 
 -- nothing in any place where nothing is in all together
 pub row_nothing : (row : List ℕ) (place value all : ℕ) → place < length row → ((p : ℕ) → p < place → all ≡ 0 → get_or row p 0 ≡ 0) → (p : ℕ) → p < place + 1 → bit_or all value ≡ 0 → get_or (set row place value) p 0 ≡ 0
@@ -82,29 +86,31 @@ module _ (layers : List (RulesOn ℕ)) (ids : List LayerId) (row : List ℕ) (co
             ∙ sym (ap (λ (rules : RulesOn ℕ). handles rules right) (layer_in-past layers ids place (omega arith)) ∙ nothing_handled ℕ right)
       ]
 
-  -- a row of what the layers grant on a node, where lanes want it, all places together
-  pub all_asked : (lanes : List ℕ) (here : NodeId)
-      → ((place : ℕ) → place < count → (right : FsRight) → (has (lane lanes place) right && not (has (lane row place) right)) ≡ (has (lane lanes place) right && not (granted_on_node (layer_in (domain_of layers ids) place) here right)))
-      → (place : ℕ) (right : FsRight) → (has (lane lanes place) right && not (has (lane row place) right)) ≡ (has (lane lanes place) right && not (granted_on_node (layer_in (domain_of layers ids) place) here right))
-  all_asked lanes here so_far place right =
+  -- a row of what the layers handle of some rights, all places together
+  pub all_asked : (wanted : Fs) → ((place : ℕ) → place < count → (right : FsRight) → has (lane row place) right ≡ (handles (layer_in (domain_of layers ids) place) right && has wanted right))
+      → (place : ℕ) (right : FsRight) → has (lane row place) right ≡ (handles (layer_in (domain_of layers ids) place) right && has wanted right)
+  all_asked wanted so_far place right =
       elim (cases_lt place count) [
         | inl inside ↦ so_far place inside right
         | inr past ↦
-            ap (λ (b : Bool). has (lane lanes place) right && not b)
-            (nothing_in (get_or row place 0) right (rest place past)
-            ∙ sym (ap (λ (rules : RulesOn ℕ). granted_on_node rules here right) (layer_in-past layers ids place (omega arith)) ∙ nothing_granted here right))
+            nothing_in (get_or row place 0) right (rest place past)
+            ∙ sym (ap (λ (b : Bool). b && has wanted right) (ap (λ (rules : RulesOn ℕ). handles rules right) (layer_in-past layers ids place (omega arith)) ∙ nothing_handled ℕ right))
       ]
 
-  -- where the layers grant nothing that lanes want, nothing is taken from these
-  pub all_silent : (lanes : List ℕ) (here : NodeId)
-      → ((place : ℕ) → place < count → (right : FsRight) → (has (lane lanes place) right && not (has (lane row place) right)) ≡ (has (lane lanes place) right && not (granted_on_node (layer_in (domain_of layers ids) place) here right)))
-      → ((place : ℕ) → place < count → get_or row place 0 ≡ 0)
-      → (place : ℕ) (right : FsRight) → has (lane lanes place) right ≡ (has (lane lanes place) right && not (granted_on_node (layer_in (domain_of layers ids) place) here right))
-  all_silent lanes here so_far none place right =
-      let silent : get_or row place 0 ≡ 0 = elim (cases_lt place count) [ inl inside ↦ none place inside | inr past ↦ rest place past ] in
-      sym (and_true (has (lane lanes place) right))
-      ∙ ap (λ (b : Bool). has (lane lanes place) right && not b) (sym (nothing_in (get_or row place 0) right silent))
-      ∙ all_asked lanes here so_far place right
+-- what is left of lanes once their layers were asked on a node, all places together
+pub all_left : (layers : List (RulesOn ℕ)) (ids : List LayerId) (before after : List ℕ) (count : ℕ) → length ids ≤ count → (here : NodeId)
+    → ((place : ℕ) → place < count → (right : FsRight) → has (lane after place) right ≡ (has (lane before place) right && not (granted_on_node (layer_in (domain_of layers ids) place) here right)))
+    → ((place : ℕ) → count ≤ place → get_or after place 0 ≡ get_or before place 0)
+    → (place : ℕ) (right : FsRight) → has (lane after place) right ≡ (has (lane before place) right && not (granted_on_node (layer_in (domain_of layers ids) place) here right))
+all_left layers ids before after count all here so_far rest place right =
+    elim (cases_lt place count) [
+      | inl inside ↦ so_far place inside right
+      | inr past ↦
+          ap (λ (bits : ℕ). has (set_of bits) right) (rest place past)
+          ∙ sym (and_true (has (lane before place) right))
+          ∙ ap (λ (b : Bool). has (lane before place) right && not b)
+          (sym (ap (λ (rules : RulesOn ℕ). granted_on_node rules here right) (layer_in-past layers ids place (omega arith)) ∙ nothing_granted here right))
+    ]
 
 -- ---- one climb
 
@@ -182,6 +188,15 @@ left_ends tree rules right has_it total so_far = sym (and_true has_it) ∙ so_fa
 -- of nothing nothing is left
 pub left_nothing : (tree : List Entry) (rules : RulesOn ℕ) (at : Option NodeId) (right : FsRight) (has_it total : Bool) → has_it ≡ false → left_above tree rules at right has_it ≡ total → has_it ≡ total
 left_nothing tree rules at right has_it total none so_far = none ∙ sym (ap (λ (b : Bool). b && not (granted_above tree rules at right)) none) ∙ so_far
+
+-- without rules nothing is granted
+nothing_above : (tree : List Entry) (rules : RulesOn ℕ) (at : Option NodeId) (right : FsRight) → rules ≡ without_rules files.no_right network.no_right → granted_above tree rules at right ≡ false
+unfolding granted_above granted
+nothing_above tree rules None right is = refl
+nothing_above tree rules (Some up) right is = rw is refl
+
+pub left_unasked : (tree : List Entry) (rules : RulesOn ℕ) (at : Option NodeId) (right : FsRight) (has_it total : Bool) → rules ≡ without_rules files.no_right network.no_right → left_above tree rules at right has_it ≡ total → has_it ≡ total
+left_unasked tree rules at right has_it total is so_far = sym (and_true has_it) ∙ sym (ap (λ (b : Bool). has_it && not b) (nothing_above tree rules at right is)) ∙ so_far
 
 -- the layers of a domain have their rules in the tree
 all_in : (tree : List Entry) (layers : List (RulesOn ℕ)) (id : LayerId) → All (AreInTree tree) layers → AreInTree tree (layer_at layers id)

@@ -47,7 +47,7 @@ unnamed_none x right fits unnamed = has_place-other 16 x (bit_of right) unnamed 
 pub nothing_in : (x : ℕ) (right : FsRight) → x ≡ 0 → has (set_of x) right ≡ false
 nothing_in x right none = ap (λ (bits : ℕ). has (set_of bits) right) none ∙ has_nothing right
 
-without_bits : (x g : ℕ) (right : FsRight) → x < 2 ^ 16 → g < 2 ^ 16 → has (set_of (bit_and x (bit_not w16 g))) right ≡ (has (set_of x) right && not (has (set_of g) right))
+pub without_bits : (x g : ℕ) (right : FsRight) → x < 2 ^ 16 → g < 2 ^ 16 → has (set_of (bit_and x (bit_not w16 g))) right ≡ (has (set_of x) right && not (has (set_of g) right))
 without_bits x g right fits granted_fits =
     let place = bit_of right in
     elim (cases_lt place 16) [
@@ -66,7 +66,7 @@ low_bits set right named =
     rw (has_place-named 16 (bit_and set.0 65535) (bit_of right) named, has_place-named 16 set.0 (bit_of right) named, bit_at_and set.0 65535 (bit_of right), bit_at_ones 16 (bit_of right) named)
     (ap (λ (bit : ℕ). eqb bit 1) (omega (arith, bit_at-lt set.0 (bit_of right))))
 
-within_bits : (x w : ℕ) (set : Fs) (right : FsRight) → x < 2 ^ 16 → ((one : FsRight) → bit_of one < 16 → has (set_of w) one ≡ has set one) → has (set_of (bit_and x w)) right ≡ (has (set_of x) right && has set right)
+pub within_bits : (x w : ℕ) (set : Fs) (right : FsRight) → x < 2 ^ 16 → ((one : FsRight) → bit_of one < 16 → has (set_of w) one ≡ has set one) → has (set_of (bit_and x w)) right ≡ (has (set_of x) right && has set right)
 within_bits x w set right fits same =
     let place = bit_of right in
     elim (cases_lt place 16) [
@@ -78,9 +78,9 @@ within_bits x w set right fits same =
           ∙ sym (ap (λ (b : Bool). b && has set right) (unnamed_none x right fits unnamed))
     ]
 
--- nothing is left of nothing
-pub nothing_wanted : (x : ℕ) (right : FsRight) (a b : Bool) → x ≡ 0 → (has (set_of x) right && a) ≡ (has (set_of x) right && b)
-nothing_wanted x right a b none = ap (λ (w : Bool). w && a) (nothing_in x right none) ∙ sym (ap (λ (w : Bool). w && b) (nothing_in x right none))
+-- of an empty lane nothing is left
+pub nothing_left : (x : ℕ) (right : FsRight) (a : Bool) → x ≡ 0 → has (set_of 0) right ≡ (has (set_of x) right && a)
+nothing_left x right a none = nothing_in 0 right refl ∙ sym (ap (λ (w : Bool). w && a) (nothing_in x right none))
 
 -- of a lane the named rights of a set take away what the set takes away
 pub rest_of_named : (x g : ℕ) (set : Fs) (right : FsRight) (granted : Bool) → x < 2 ^ 16 → ((one : FsRight) → bit_of one < 16 → has (set_of g) one ≡ has set one) → has set right ≡ granted

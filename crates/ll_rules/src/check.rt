@@ -5,11 +5,12 @@ ghost use Rattle.ll_tree.specs.Trees.{IsNode, path_at, depth_at};
 ghost use Rattle.ll_rules.specs.Layers.{AreInTree};
 ghost use Rattle.ll_rules.specs.Checks.{layer_at, domain_of, all_in_tree, IsDomainOf, refusing, refusing_port, refusing_mount};
 
-use crate::climb::{climbed, handled_in};
-use crate::lanes::{filled, within};
+use crate::climb::{asked_in, climb};
+use crate::lanes::filled;
 use crate::{Domain, Layer, LayerId, LayerSet};
 use ll_rights::{Fs, Net};
 use ll_tree::{NodeId, Tree};
+use std::simd::prelude::*;
 
 /// The layer at a place of a slice.
 pub(crate) fn layer_of(layers: &[Layer], id: LayerId) -> &Layer
@@ -54,9 +55,9 @@ pub fn check_path_counted(
 {
     let ids = domain.layers();
     let mut look_ups = 0;
-    let asked = within(handled_in(layers, ids), wanted);
-    let lacking = climbed(tree, layers, ids, node, asked, &mut look_ups);
-    (filled(lacking), look_ups)
+    let mut lacking = asked_in(layers, ids, wanted);
+    climb(tree, layers, ids, node, &mut lacking, &mut look_ups);
+    (filled(u16x16::from_array(lacking)), look_ups)
 }
 
 /// The layers of a domain that refuse something of what is wanted on a TCP port: each that handles a

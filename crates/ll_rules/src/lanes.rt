@@ -59,10 +59,3 @@ pub(crate) fn filled(lanes: u16x16) -> LayerSet
 {
     LayerSet::at_places(places(lanes))
 }
-
-/// Whether no lane holds a right.
-pub(crate) fn are_empty(lanes: u16x16) -> bool
-    ensures { result ≡ true → (place : ℕ) (right : FsRight) → has (lane lanes place) right ≡ false }
-{
-    places(lanes) == 0
-}

@@ -11,6 +11,7 @@ mod lanes;
 mod laws;
 mod layer_set;
 mod moves;
+mod recent;
 mod ruleset;
 mod sameness;
 #[cfg(test)]

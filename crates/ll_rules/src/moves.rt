@@ -10,7 +10,7 @@ ghost use Rattle.ll_rules.specs.Checks.{domain_of, all_in_tree, IsDomainOf};
 ghost use Rattle.ll_rules.specs.Moves.{IsTargetIn, source_of, destination_of as destination_path, kind_there, asked_of_source as asked_there, asked_of_destination as asked_here, other_gains as other_object_gains, holds_back as holding_back, move_verdict};
 ghost use Rattle.ll_rules.specs.Lanes.{lane, layer_in, AreLacking};
 
-use crate::climb::{asked_on, climbed, handled_in};
+use crate::climb::{ask_on, climb, handled_in};
 use crate::lanes::{either, filled, no_rights, within, without};
 use crate::ruleset::is_directory;
 use crate::{Domain, Errno, Layer, LayerId, LayerSet};
@@ -185,8 +185,9 @@ fn lacking_on(
     ensures count { look_ups.new ≤ look_ups.old + length ids.now * (depth_at tree.now directory + 1) }
     ensures little { look_ups.new ≤ look_ups.old + 2 ^ 40 }
 {
-    let handled = handled_in(layers, ids);
-    climbed(tree, layers, ids, directory, handled, look_ups)
+    let mut lacking = handled_in(layers, ids);
+    climb(tree, layers, ids, directory, &mut lacking, look_ups);
+    u16x16::from_array(lacking)
 }
 
 /// What the layers of a domain lack on the directory that a move leaves and on the one that it goes to.
@@ -257,7 +258,9 @@ fn gained(
 {
     let granted_there = without(here, there);
     let counted = counting_for(tree.kind(object), granted_there);
-    asked_on(layers, ids, object, counted, look_ups).left
+    let mut left = counted.to_array();
+    ask_on(layers, ids, object, &mut left, look_ups);
+    u16x16::from_array(left)
 }
 
 /// What the object that is there already gains in an exchange, under each layer; nothing in other moves.

@@ -8,6 +8,7 @@ ghost use Rattle.ll_rules.specs.Layers.{without_rules, SameRules, GrantsOnPort, 
 ghost use Rattle.ll_rules.specs.Rulesets.{has_ports, create_fault, IsOfTree, are_file_rights, add_path_fault, with_rule_at, add_port_fault};
 
 use crate::filter::Filter;
+use crate::recent::Recent;
 use crate::{Errno, NoMemory, RuleFault};
 use bitflags::Flags;
 use ll_rights::{Abi, Fs, Kind, Net};
@@ -23,6 +24,7 @@ pub struct Layer {
     network: Net,
     on_nodes: HashMap<u32, Fs>,
     marks: Filter,
+    recent: Recent,
     on_ports: BTreeMap<u16, Net>,
 }
 
@@ -35,14 +37,15 @@ impl Model for Layer {
     ghost use Rattle.ll_rights.specs.Rights as for_files;
     ghost use Rattle.ll_rights.specs.NetRights as for_ports;
     ghost use Rattle.ll_rules.specs.Layers.{RulesOn};
-    ghost use Rattle.ll_rules.specs.Filters.{AreMarked};
+    ghost use Rattle.ll_rules.specs.Filters.{AreMarked, AreRecalled};
 
     ghost Value = { RulesOn ℕ };
 
     ghost view = { λ a. record { handled_files = a.files; handled_network = a.network; file_rules = a.on_nodes.entries; port_rules = a.on_ports.entries } };
 
     ghost invariant = { λ a. (for_files.has a.files for_files.other ≡ false) × (for_ports.has a.network for_ports.other ≡ false)
-        × IsUnique nat_eq a.on_nodes × IsOrdered nat_cmp a.on_ports × AreMarked a.marks.words a.on_nodes.entries };
+        × IsUnique nat_eq a.on_nodes × IsOrdered nat_cmp a.on_ports × AreMarked a.marks.words a.on_nodes.entries
+        × AreRecalled a.recent.numbers a.recent.rights a.on_nodes.entries };
 }
 
 /// The rights that a process is about to give up, and the rules by which it keeps some of them
@@ -66,9 +69,19 @@ impl Layer {
     ghost use Rattle.ll_rights.specs.Rights.{FsRight, has, other, is_empty, is_within};
     ghost use Rattle.ll_rights.specs.NetRights as for_ports;
     ghost use Rattle.ll_tree.specs.Trees.{IsNode, path_at, kind_at};
-    ghost use Rattle.ll_rules.specs.Layers.{handles, granted, granted_on_node, in_tree, AreInTree, granted_on_port, GrantsOn, GrantsOnPort};
+    ghost use Rattle.ll_rules.specs.Layers.{handles, granted, granted_on_node, node, in_tree, AreInTree, granted_on_port, GrantsOn, GrantsOnPort};
     ghost use Rattle.ll_rules.specs.Checks.{lacks, lacks_on_port};
     ghost use Rattle.ll_rules.specs.Moves.{gains};
+
+    /// The rights that the rule on a node of this number grants, by the map of all rules. It is seldom asked,
+    /// and the loops that come here are quicker where it stands apart from them.
+    #[cold]
+    #[inline(never)]
+    fn rule_in_map(&self, number: u32) -> Fs
+        ensures { (right : FsRight) → has result right ≡ granted_on_node self.now (node number) right }
+    {
+        self.on_nodes.get(&number).copied().unwrap_or(Fs::NONE)
+    }
 
     /// The rights that the rule on a node grants; none where there is no rule.
     #[tactic(auto, unfolding(crate::specs::Layers::granted_on_node))]
@@ -79,7 +92,10 @@ impl Layer {
         if !self.marks.has(number) {
             return Fs::NONE;
         }
-        self.on_nodes.get(&number).copied().unwrap_or(Fs::NONE)
+        if let Some(rights) = self.recent.find(number) {
+            return rights;
+        }
+        self.rule_in_map(number)
     }
 
     /// The one look-up: asks the layer for its rule on a node, and counts the question.
@@ -149,6 +165,7 @@ impl Layer {
         let granted = self.rule_at(node).union(files);
         self.on_nodes.insert(node.index(), granted)?;
         self.marks.mark(node.index());
+        self.recent.note(node.index(), granted);
         Ok(())
     }
 
@@ -172,6 +189,7 @@ impl Layer {
             network: self.network,
             on_nodes: self.on_nodes.clone()?,
             marks: self.marks,
+            recent: self.recent,
             on_ports: self.on_ports.clone()?,
         })
     }
@@ -221,6 +239,7 @@ impl Ruleset {
                 network,
                 on_nodes: HashMap::new(alloc),
                 marks: Filter::new(),
+                recent: Recent::new(),
                 on_ports: BTreeMap::new(alloc),
             },
         })

@@ -1,5 +1,4 @@
 use Rattle.std.proofs.Common.{◌∙◌, ◌&&◌, ap, Bool, List, not, length, ◌≤◌}
-use Rattle.ll_rights.specs.Rights.{has}
 use Rattle.ll_tree.specs.Trees.{path_at}
 use Rattle.ll_rules.specs.declared.domain.LayerId.{LayerId}
 use Rattle.ll_rules.specs.Layers.{granted, in_tree}
@@ -12,9 +11,9 @@ pub returns-clause-answer : goal.returns-clause-answer
 returns-clause-answer c =
     let few : length c.layers-ids.result.now ≤ 16 = rw c.layers-ids.ensures.value c.layers-ids.ensures.at_most_sixteen in
     c.filled.ensures
-    ∙ refusing_lanes c.args.tree.now c.args.layers.now c.layers-ids.result.now (path_at c.args.tree.now c.args.node) c.args.wanted c.climbed-lacking.result few
+    ∙ refusing_lanes c.args.tree.now c.args.layers.now c.layers-ids.result.now (path_at c.args.tree.now c.args.node) c.args.wanted c.climb.new.lanes few
     (λ place right.
-    c.climbed-lacking.ensures.left place right
+    c.climb.ensures.left place right
     ∙ ap (λ (b : Bool). b && not (granted (in_tree c.args.tree.now (layer_in (domain_of c.args.layers.now c.layers-ids.result.now) place)) (path_at c.args.tree.now c.args.node) right))
-    (c.within-asked.ensures place right ∙ ap (λ (b : Bool). b && has c.args.wanted right) (c.handled_in.ensures place right)))
+    (c.asked_in-lacking.ensures place right))
     ∙ ap (λ (ids : List LayerId). refusing (all_in_tree c.args.tree.now (domain_of c.args.layers.now ids)) (path_at c.args.tree.now c.args.node) c.args.wanted) c.layers-ids.ensures.value

@@ -7,13 +7,13 @@ use Rattle.ll_rules.specs.Layers.{granted, in_tree}
 use Rattle.ll_rules.specs.Checks.{domain_of}
 use Rattle.ll_rules.specs.Lanes.{lane, layer_in}
 use Rattle.ll_rules.proofs.DomainLanes.{left_above, nodes_up}
-use Rattle.ll_rules.proofs.climb.climbed.Given as goal
+use Rattle.ll_rules.proofs.climb.climb.Given as goal
 
 -- what is left of the lanes, less what is granted from here on up
 abbrev pub invariant-loop-at : goal.invariant-loop-at
 invariant-loop-at l = record {
   inside : IfSome l.at (IsNode l.tree);
-  so_far : (place : ℕ) (right : FsRight) → left_above l.tree (layer_in (domain_of l.layers l.ids) place) l.at right (has (lane l.left place) right)
+  so_far : (place : ℕ) (right : FsRight) → left_above l.tree (layer_in (domain_of l.layers l.ids) place) l.at right (has (lane l.lanes place) right)
       ≡ (has (lane l.fn.lanes place) right && not (granted (in_tree l.tree (layer_in (domain_of l.layers l.ids) place)) (path_at l.tree l.fn.node) right));
   count : l.look_ups + length l.ids * nodes_up l.tree l.at ≤ l.fn.look_ups + length l.ids * (depth_at l.tree l.fn.node + 1);
 }

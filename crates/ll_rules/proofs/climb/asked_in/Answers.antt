@@ -1,0 +1,26 @@
+use Rattle.std.proofs.Common.{◌≡◌, ◌∙◌, ◌&&◌, ◌<◌, ℕ, Bool, length, ap, sym, arith, rules}
+use Rattle.ll_rights.specs.Rights.{FsRight, has}
+use Rattle.ll_rules.specs.Layers.{RulesOn, handles}
+use Rattle.ll_rules.specs.Checks.{domain_of}
+use Rattle.ll_rules.specs.Lanes.{set_of, layer_in}
+use Rattle.ll_rules.proofs.DomainLanes.{all_asked, layer_in-named, row_next, row_rest}
+use Rattle.ll_rules.proofs.LaneSets.{within_bits}
+use Rattle.ll_rules.proofs.climb.asked_in.Goals as goal
+
+pub loop-place-preserved : goal.loop-place-preserved
+loop-place-preserved c =
+    let inside : c.loop-place.place < length c.loop-place.row = omega arith in
+    record {
+      long = search rules;
+      so_far =
+          row_next (λ (place value : ℕ). (right : FsRight) → has (set_of value) right ≡ (handles (layer_in (domain_of c.args.layers.now c.args.ids.now) place) right && has c.args.wanted right))
+          c.loop-place.row c.loop-place.place _ inside c.loop-place.invariant.so_far
+          (λ right.
+          within_bits c.handled_bits.result c.bits_of.result c.args.wanted right c.handled_bits.type_inv c.bits_of.ensures
+          ∙ ap (λ (b : Bool). b && has c.args.wanted right)
+          (c.handled_bits.ensures right ∙ ap (λ (rules : RulesOn ℕ). handles rules right) (c.layer_of.ensures ∙ sym (layer_in-named c.args.layers.now c.args.ids.now c.loop-place.place _ c.loop-place-test.true))));
+      rest = row_rest c.loop-place.row c.loop-place.place _ c.loop-place.invariant.rest;
+    }
+
+pub returns : goal.returns
+returns c = all_asked c.args.layers.now c.args.ids.now c.loop-place.row c.loop-place.place (omega arith) c.loop-place.invariant.rest c.args.wanted c.loop-place.invariant.so_far

@@ -1,0 +1,11 @@
+use Rattle.std.proofs.Common.{◌∙◌}
+use Rattle.ll_rules.proofs.LaneSets.{nothing_left, rest_of_named, without_bits}
+use Rattle.ll_rules.proofs.climb.left_of.Goals as goal
+
+pub returns-then-lane-eq0-clause-left : goal.returns-then-lane-eq0-clause-left
+returns-then-lane-eq0-clause-left c = λ right. nothing_left c.args.lane right _ c.if-lane-eq0.true
+
+pub returns-clause-left : goal.returns-clause-left
+returns-clause-left c = λ right.
+    without_bits c.args.lane c.bits_of.result right c.ranges.lane.fits c.bits_of.type_inv
+    ∙ rest_of_named c.args.lane c.bits_of.result c.rule_on.result right _ c.ranges.lane.fits c.bits_of.ensures (c.rule_on.ensures.rule right)
