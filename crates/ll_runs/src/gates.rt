@@ -1,12 +1,15 @@
-//! That two workers judge at once.
+//! That two workers judge at once, and that jobs begin where the work is cut.
 
 use crate::ready::{TREE, owned};
 use ll_audit::{Cut, MemorySource, audit, front};
 use ll_pool::Gate;
 use ll_rights::Abi;
 use ll_trace::ProcessId;
+use std::alloc::{AllocError, Global};
+use std::sync::Wait;
 use std::sync::atomic::{AtomicU64, Ordering};
 use std::test::Fail;
+use std::thread::Threads;
 
 /// A gate that holds whichever of some jobs begins first until another of them has begun, or for a
 /// billion looks.
@@ -116,5 +119,83 @@ fn two_workers_meet_in_the_program(rt: HostRuntime) -> Result<(), Fail> {
     assert_eq!(rt; out.as_slice(), SIBLINGS_REPORT.as_bytes());
     assert_eq!(rt; gate.begun.load(Ordering::SeqCst), 2);
     assert_eq!(rt; gate.in_vain.load(Ordering::SeqCst), 0);
+    Ok(())
+}
+
+/// A gate that notes of which processes a job has begun, each as a bit, and how many jobs have.
+#[derive(Drop)]
+struct Noted {
+    processes: AtomicU64,
+    jobs: AtomicU64,
+}
+
+impl Gate for Noted {
+    fn begun(&self, process: ProcessId) {
+        self.processes
+            .fetch_or(1u64.wrapping_shl(process.0), Ordering::SeqCst);
+        self.jobs.fetch_add(1, Ordering::SeqCst);
+    }
+}
+
+/// The first process starts a second, with two records of its own, and a third, with one.
+const UNLIKE_SIBLINGS: &str = "\
+{\"op\":\"start\",\"pid\":1}
+{\"op\":\"fork\",\"pid\":1,\"child\":2}
+{\"op\":\"fork\",\"pid\":1,\"child\":3}
+{\"op\":\"nnp\",\"pid\":2}
+{\"op\":\"nnp\",\"pid\":3}
+{\"op\":\"nnp\",\"pid\":2}
+";
+
+/// Of which processes a job begins where the work is cut so, and how many jobs do.
+fn jobs_begun<R: Threads + Wait + AllocGlobal + Sync>(
+    rt: &R,
+    workers: u64,
+    cut: Cut,
+) -> Result<(u64, u64), Fail> {
+    let gate = Noted {
+        processes: AtomicU64::new(0),
+        jobs: AtomicU64::new(0),
+    };
+    let answer = audit(
+        rt,
+        rt.alloc(),
+        TREE.as_bytes(),
+        UNLIKE_SIBLINGS.as_bytes(),
+        Abi::V4,
+        workers,
+        cut,
+        &gate,
+    );
+    let report = answer.ok().ok_or("no report")?;
+    assert_eq!(rt; report.refused, 0);
+    Ok((
+        gate.processes.load(Ordering::SeqCst),
+        gate.jobs.load(Ordering::SeqCst),
+    ))
+}
+
+/// A cut at the processes of a list.
+fn listed(alloc: Global, cuts: &[bool]) -> Result<Cut, AllocError> {
+    let mut list = Vec::new(alloc);
+    for cut in cuts {
+        list.push(*cut)?;
+    }
+    Ok(Cut::List(list))
+}
+
+#[test]
+fn jobs_begin_where_the_work_is_cut(rt: HostRuntime) -> Result<(), Fail> {
+    for workers in [1, 3] {
+        let by_grain = |grain| jobs_begun(&rt, workers, Cut::Grain(grain));
+        assert_eq!(rt; by_grain(0)?, (0b111, 3));
+        assert_eq!(rt; by_grain(1)?, (0b111, 3));
+        assert_eq!(rt; by_grain(2)?, (0b011, 2));
+        assert_eq!(rt; by_grain(3)?, (0b001, 1));
+        let by_list = |cuts: &[bool]| jobs_begun(&rt, workers, listed(rt.alloc(), cuts)?);
+        assert_eq!(rt; by_list(&[])?, (0b001, 1));
+        assert_eq!(rt; by_list(&[true, false, true])?, (0b101, 2));
+        assert_eq!(rt; by_list(&[false, true, true, true])?, (0b111, 3));
+    }
     Ok(())
 }
