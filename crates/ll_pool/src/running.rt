@@ -29,12 +29,22 @@ pub enum PoolFault {
 }
 
 impl From<NoMemory> for PoolFault {
+    ghost use Rattle.std.specs.Prelude.{◌≡◌};
+    ghost use Rattle.ll_pool.specs.declared.running.PoolFault.TheVariants.{Memory};
+
+    ghost from_gives = { λ _ e. e ≡ Memory };
+
     fn from(_failed: NoMemory) -> PoolFault {
         PoolFault::Memory
     }
 }
 
 impl From<AllocError> for PoolFault {
+    ghost use Rattle.std.specs.Prelude.{◌≡◌};
+    ghost use Rattle.ll_pool.specs.declared.running.PoolFault.TheVariants.{Memory};
+
+    ghost from_gives = { λ _ e. e ≡ Memory };
+
     fn from(_failed: AllocError) -> PoolFault {
         PoolFault::Memory
     }
