@@ -1,6 +1,6 @@
 //! Plain layers, and which of them refuse what is wanted on a path.
 
-ghost use Rattle.std.specs.Prelude.{◌≤◌, length};
+ghost use Rattle.std.specs.Prelude.{◌≡◌, ◌≤◌, [], length};
 ghost use Rattle.ll_tree.specs.Trees.{IsNode};
 
 use bitflags::Flags;
@@ -21,7 +21,10 @@ pub struct PlainLayer {
 
 impl PlainLayer {
     /// A layer that handles some rights, without a rule.
-    pub fn new(alloc: Global, files: Fs) -> PlainLayer {
+    pub fn new(alloc: Global, files: Fs) -> PlainLayer
+        ensures handles { result.files ≡ files }
+        ensures empty { result.on_nodes.entries ≡ [] }
+    {
         PlainLayer {
             files,
             on_nodes: HashMap::new(alloc),
