@@ -1,4 +1,3 @@
-pub mod AllJudged
 pub mod CommandLine
 pub mod FilesByName
 pub mod LayerText

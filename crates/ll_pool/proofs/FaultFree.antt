@@ -1,24 +1,21 @@
--- Pieces of all roots leave no process out and hold none twice.
-use Rattle.std.proofs.Common.{◌≡◌, ℕ, ◌+◌, List}
-use Rattle.std.proofs.Common.{arith}
-use Rattle.std.specs.Prelude.{sum_by}
+-- Where each process stands once in the pieces, collecting them finds none missing and none doubled.
+use Rattle.std.proofs.Common.{◌≡◌, ℕ, ◌<◌, List, arith}
 use Rattle.ll_trace.specs.declared.record.Record.{Record}
 use Rattle.ll_trace.specs.declared.record.ProcessId.{ProcessId}
-use Rattle.ll_process.specs.Processes.{IsNumbered, kids, roots, times}
-use Rattle.ll_process.proofs.EachOnce.{each_once}
+use Rattle.ll_process.specs.Processes.{process_count, times}
 use Rattle.ll_pool.specs.declared.gather.CollectFault.TheVariants.{Missing, Double}
 use Rattle.ll_pool.specs.Faults.{IsFault}
 
-pub not_missing : (records : List Record) (processes : List ℕ) (process : ProcessId) → IsNumbered records
-    → ((weight : ℕ → ℕ) → sum_by weight processes ≡ sum_by weight (roots records) + sum_by weight (kids records processes))
+pub not_missing : (records : List Record) (processes : List ℕ) (process : ProcessId)
+    → ((one : ℕ) → one < process_count records → times one processes ≡ 1)
     → IsFault records processes (Missing process) → ⊥
-not_missing records processes process numbered shared fault =
-    let once : times process.0 processes ≡ 1 = each_once records processes numbered (record { shared = shared }) process.0 fault.0 in
-    omega (arith, once, fault.1)
+not_missing records processes process once fault =
+    let here = once process.0 fault.0 in
+    omega (arith, here, fault.1)
 
-pub not_double : (records : List Record) (processes : List ℕ) (process : ProcessId) → IsNumbered records
-    → ((weight : ℕ → ℕ) → sum_by weight processes ≡ sum_by weight (roots records) + sum_by weight (kids records processes))
+pub not_double : (records : List Record) (processes : List ℕ) (process : ProcessId)
+    → ((one : ℕ) → one < process_count records → times one processes ≡ 1)
     → IsFault records processes (Double process) → ⊥
-not_double records processes process numbered shared fault =
-    let once : times process.0 processes ≡ 1 = each_once records processes numbered (record { shared = shared }) process.0 fault.0 in
-    omega (arith, once, fault.1)
+not_double records processes process once fault =
+    let here = once process.0 fault.0 in
+    omega (arith, here, fault.1)
