@@ -1,5 +1,10 @@
 //! Cases that tests judge.
 
+ghost use Rattle.std.specs.Prelude.{◌≡◌, IfOk};
+ghost use Rattle.ll_rights.specs.declared.abi.Abi.TheVariants.{V4};
+ghost use Rattle.ll_tree.specs.TreeReading.{IsTreeOf};
+ghost use Rattle.ll_trace.specs.Records.{IsTrace};
+
 use ll_process::Case;
 use ll_rights::Abi;
 use ll_rules::Errno;
@@ -9,7 +14,7 @@ use ll_tree::Tree;
 use std::alloc::{AllocError, Global};
 use std::test::Fail;
 
-const TREE: &str = "\
+pub(crate) const TREE: &str = "\
 {\"path\":\"/a\",\"kind\":\"dir\"}\n\
 {\"path\":\"/b\",\"kind\":\"dir\"}\n\
 {\"path\":\"/a/s\",\"kind\":\"dir\"}\n\
@@ -77,9 +82,13 @@ pub(crate) fn letters(alloc: Global, answers: &[Answer]) -> Result<String, Alloc
     Ok(text)
 }
 
-/// The case of a trace against one tree, at version 4.
-pub(crate) fn case_of(alloc: Global, trace: &str) -> Result<Case, Fail> {
-    let Ok(tree) = Tree::read(alloc, TREE.as_bytes()) else {
+/// The case of a trace against a tree, both as the texts of their files, at version 4.
+pub fn case_of(alloc: Global, tree: &str, trace: &str) -> Result<Case, Fail>
+    ensures tree { IfOk result (λ case. IsTreeOf tree.now case.tree) }
+    ensures trace { IfOk result (λ case. IsTrace trace.now case.records) }
+    ensures abi { IfOk result (λ case. case.abi ≡ V4) }
+{
+    let Ok(tree) = Tree::read(alloc, tree.as_bytes()) else {
         return Err(Fail::new("the tree doesn't read"));
     };
     let Ok(trace) = Trace::read(alloc, trace.as_bytes()) else {

@@ -2,7 +2,7 @@
 //! memory and threads are there.
 ghost use Rattle.std.specs.Prelude.{◌≤◌};
 
-use crate::cases::{FAMILY, FAMILY_ANSWERS, case_of, letters, push_fork, push_start};
+use crate::cases::{FAMILY, FAMILY_ANSWERS, TREE, case_of, letters, push_fork, push_start};
 use crate::gates::{Meeting, Open};
 use ll_pool::{CollectFault, collect, judge_alone, run};
 use ll_process::{Case, Piece};
@@ -59,7 +59,7 @@ fn the_answers_are_the_same_for_every_number_of_workers_and_every_cut(
     rt: HostRuntime,
 ) -> Result<(), Fail> {
     let alloc = rt.alloc();
-    let case = case_of(alloc, FAMILY)?;
+    let case = case_of(alloc, TREE, FAMILY)?;
     for cut in [&[], EVERY.as_slice(), EVEN.as_slice()] {
         assert_eq!(rt;
             letters_by(&rt, alloc, &case, 1, cut)?.as_str(),
@@ -80,7 +80,7 @@ fn the_answers_are_the_same_for_every_number_of_workers_and_every_cut(
 #[test]
 fn one_thread_gives_the_same_answers(rt: HostRuntime) -> Result<(), Fail> {
     let alloc = rt.alloc();
-    let case = case_of(alloc, FAMILY)?;
+    let case = case_of(alloc, TREE, FAMILY)?;
     let answers = judge_alone(alloc, &case)?;
     assert_eq!(rt; letters(alloc, &answers)?.as_str(), FAMILY_ANSWERS);
     Ok(())
@@ -89,7 +89,7 @@ fn one_thread_gives_the_same_answers(rt: HostRuntime) -> Result<(), Fail> {
 #[test]
 fn one_piece_of_the_whole_family_is_collected(rt: HostRuntime) -> Result<(), Fail> {
     let alloc = rt.alloc();
-    let case = case_of(alloc, FAMILY)?;
+    let case = case_of(alloc, TREE, FAMILY)?;
     let pieces = run(&rt, alloc, &case, 1, &[], &Open)?;
     assert_eq!(rt; pieces.len(), 1);
     assert_eq!(rt; pieces_of(&pieces, 12), 1);
@@ -101,7 +101,7 @@ fn one_piece_of_the_whole_family_is_collected(rt: HostRuntime) -> Result<(), Fai
 #[test]
 fn without_a_piece_the_first_process_is_missing(rt: HostRuntime) -> Result<(), Fail> {
     let alloc = rt.alloc();
-    let case = case_of(alloc, FAMILY)?;
+    let case = case_of(alloc, TREE, FAMILY)?;
     let fault = collect(alloc, &case, Vec::new(alloc)).err();
     assert_eq!(rt; fault, Some(CollectFault::Missing(ProcessId(0))));
     Ok(())
@@ -110,7 +110,7 @@ fn without_a_piece_the_first_process_is_missing(rt: HostRuntime) -> Result<(), F
 #[test]
 fn a_piece_made_twice_doubles_the_first_process(rt: HostRuntime) -> Result<(), Fail> {
     let alloc = rt.alloc();
-    let case = case_of(alloc, FAMILY)?;
+    let case = case_of(alloc, TREE, FAMILY)?;
     let mut pieces = run(&rt, alloc, &case, 1, &[], &Open)?;
     let mut again = run(&rt, alloc, &case, 1, &[], &Open)?;
     pieces.append(&mut again)?;
@@ -122,7 +122,7 @@ fn a_piece_made_twice_doubles_the_first_process(rt: HostRuntime) -> Result<(), F
 #[test]
 fn an_empty_trace_has_no_answers(rt: HostRuntime) -> Result<(), Fail> {
     let alloc = rt.alloc();
-    let case = case_of(alloc, "")?;
+    let case = case_of(alloc, TREE, "")?;
     assert_eq!(rt; collect(alloc, &case, Vec::new(alloc))?.len(), 0);
     assert_eq!(rt; pieces_by(&rt, alloc, &case, 8, &[])?, 0);
     Ok(())
@@ -134,7 +134,7 @@ fn a_child_is_judged_apart_where_the_cut_says_so(rt: HostRuntime) -> Result<(), 
     let mut trace = String::new(alloc);
     push_start(alloc, &mut trace, 1)?;
     push_fork(alloc, &mut trace, 1, 2)?;
-    let case = case_of(alloc, &trace)?;
+    let case = case_of(alloc, TREE, &trace)?;
     assert_eq!(rt; pieces_by(&rt, alloc, &case, 1, &[false, true])?, 2);
     assert_eq!(rt; pieces_by(&rt, alloc, &case, 1, &[])?, 1);
     Ok(())
@@ -150,7 +150,7 @@ fn children_that_find_the_queue_full_are_judged_with_their_parent(
     for child in 2..1102 {
         push_fork(alloc, &mut trace, 1, child)?;
     }
-    let case = case_of(alloc, &trace)?;
+    let case = case_of(alloc, TREE, &trace)?;
     let every = vec![in alloc; true; 1101]?;
     let pieces = run(&rt, alloc, &case, 1, &every, &Open)?;
     assert_eq!(rt; pieces.len(), 1025);
@@ -166,7 +166,7 @@ fn more_roots_than_the_queue_holds_are_all_judged(rt: HostRuntime) -> Result<(),
     for pid in 1..1101 {
         push_start(alloc, &mut trace, pid)?;
     }
-    let case = case_of(alloc, &trace)?;
+    let case = case_of(alloc, TREE, &trace)?;
     assert_eq!(rt; pieces_by(&rt, alloc, &case, 8, &[])?, 1100);
     Ok(())
 }
@@ -182,7 +182,7 @@ fn a_tree_of_forks_is_cut_into_single_processes_a_hundred_times(
         push_fork(alloc, &mut trace, pid, 2 * pid)?;
         push_fork(alloc, &mut trace, pid, 2 * pid + 1)?;
     }
-    let case = case_of(alloc, &trace)?;
+    let case = case_of(alloc, TREE, &trace)?;
     let every = vec![in alloc; true; 1023]?;
     for _ in 0..100 {
         assert_eq!(rt; pieces_by(&rt, alloc, &case, 8, &every)?, 1023);
@@ -198,7 +198,7 @@ fn a_long_line_of_descendants_is_judged_whole(rt: HostRuntime) -> Result<(), Fai
     for pid in 1..8192 {
         push_fork(alloc, &mut trace, pid, pid + 1)?;
     }
-    let case = case_of(alloc, &trace)?;
+    let case = case_of(alloc, TREE, &trace)?;
     let every = vec![in alloc; true; 8192]?;
     assert_eq!(rt; pieces_by(&rt, alloc, &case, 8, &every)?, 8192);
     assert_eq!(rt; pieces_by(&rt, alloc, &case, 8, &[])?, 1);
@@ -211,7 +211,7 @@ fn two_roots_are_judged_at_once(rt: HostRuntime) -> Result<(), Fail> {
     let mut trace = String::new(alloc);
     push_start(alloc, &mut trace, 1)?;
     push_start(alloc, &mut trace, 2)?;
-    let case = case_of(alloc, &trace)?;
+    let case = case_of(alloc, TREE, &trace)?;
     let gate = Meeting::of(0, 1);
     assert_eq!(rt; run(&rt, alloc, &case, 2, &[], &gate)?.len(), 2);
     assert!(rt; gate.was_met());
@@ -225,7 +225,7 @@ fn two_children_are_judged_at_once(rt: HostRuntime) -> Result<(), Fail> {
     push_start(alloc, &mut trace, 1)?;
     push_fork(alloc, &mut trace, 1, 2)?;
     push_fork(alloc, &mut trace, 1, 3)?;
-    let case = case_of(alloc, &trace)?;
+    let case = case_of(alloc, TREE, &trace)?;
     let gate = Meeting::of(1, 2);
     let cut = [true, true, true];
     assert_eq!(rt; run(&rt, alloc, &case, 2, &cut, &gate)?.len(), 3);

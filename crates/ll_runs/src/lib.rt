@@ -2,6 +2,7 @@
 //! writers that fail.
 #![tactic(auto)]
 
+mod failing;
 #[cfg(test)]
 mod families;
 #[cfg(test)]
@@ -12,3 +13,5 @@ mod ready;
 mod refusals;
 #[cfg(test)]
 mod runs;
+
+pub use failing::FailingSource;

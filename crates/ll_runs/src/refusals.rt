@@ -1,45 +1,13 @@
 //! Sources and writers that fail.
 
-ghost use Rattle.std.specs.Prelude.{None};
-
+use crate::failing::FailingSource;
 use crate::ready::{REPORT, TRACE, TREE, owned};
-use ll_audit::{Idle, MemorySource, Source, SourceFault, front};
-use std::alloc::Global;
+use ll_audit::{Idle, MemorySource, SourceFault, front};
 use std::io;
 use std::io::{ErrorKind, Write};
 use std::sync::Wait;
 use std::test::Fail;
 use std::thread::Threads;
-
-/// A source that gives the worked tree for `t` and the worked trace for all else, until it fails.
-#[derive(Drop)]
-struct Failing {
-    good_calls: u64,
-    fault: SourceFault,
-    failures: u64,
-}
-
-impl Source for Failing {
-    ghost files = { λ _. None };
-
-    ghost failed = { λ source. source.failures };
-
-    fn bytes_of(&mut self, alloc: Global, name: &str) -> Result<Vec<u8>, SourceFault> {
-        if self.good_calls == 0 {
-            if self.fault == SourceFault::Unread {
-                self.failures += 1;
-            }
-            return Err(self.fault);
-        }
-        self.good_calls -= 1;
-        let text = if name == "t" { TREE } else { TRACE };
-        Ok(Vec::from_slice(alloc, text.as_bytes())?)
-    }
-
-    fn failures(&self) -> u64 {
-        self.failures
-    }
-}
 
 /// A writer of at most sixteen bytes a call, that fails from one of its calls on.
 #[derive(Drop)]
@@ -83,11 +51,7 @@ fn sources_that_fail(rt: HostRuntime) -> Result<(), Fail> {
         (1, SourceFault::Memory, 4, "landaudit: no memory\n"),
     ];
     for (good_calls, fault, want, line) in cases {
-        let mut source = Failing {
-            good_calls,
-            fault,
-            failures: 0,
-        };
+        let mut source = FailingSource::new(TREE.as_bytes(), TRACE.as_bytes(), good_calls, fault);
         let (mut out, mut err) = (Vec::new(rt.alloc()), Vec::new(rt.alloc()));
         let status = front(
             &rt,
