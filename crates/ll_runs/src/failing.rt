@@ -1,15 +1,15 @@
 //! A source that fails.
 
-ghost use Rattle.std.specs.Prelude.{◌≡◌, None};
+ghost use Rattle.std.specs.Prelude.{◌≡◌, Some};
+ghost use Rattle.ll_audit.specs.Files.{files_of};
 
-use ll_audit::{Source, SourceFault};
+use ll_audit::{MemorySource, Source, SourceFault};
 use std::alloc::Global;
 
-/// A source that gives a tree for the name `t` and a trace for every other name, until it fails.
+/// Files in memory, as names beside their bytes, that can be read until the source fails.
 #[derive(Drop)]
 pub struct FailingSource<'a> {
-    tree: &'a [u8],
-    trace: &'a [u8],
+    files: &'a [(&'a str, &'a [u8])],
     good_calls: u64,
     fault: SourceFault,
     failures: u64,
@@ -18,20 +18,17 @@ pub struct FailingSource<'a> {
 impl<'a> FailingSource<'a> {
     /// A source that fails with a fault once it was asked for so many files. None has failed yet.
     pub fn new(
-        tree: &'a [u8],
-        trace: &'a [u8],
+        files: &'a [(&'a str, &'a [u8])],
         good_calls: u64,
         fault: SourceFault,
     ) -> FailingSource<'a>
-        ensures tree { result.tree.now ≡ tree.now }
-        ensures trace { result.trace.now ≡ trace.now }
+        ensures files { result.files.now ≡ files.now }
         ensures calls { result.good_calls ≡ good_calls }
         ensures fault { result.fault ≡ fault }
         ensures none_failed { result.failures ≡ 0 }
     {
         FailingSource {
-            tree,
-            trace,
+            files,
             good_calls,
             fault,
             failures: 0,
@@ -40,20 +37,21 @@ impl<'a> FailingSource<'a> {
 }
 
 impl<'a> Source for FailingSource<'a> {
-    ghost files = { λ _. None };
+    ghost files = { λ source. Some (files_of source.files.now) };
 
     ghost failed = { λ source. source.failures };
 
     fn bytes_of(&mut self, alloc: Global, name: &str) -> Result<Vec<u8>, SourceFault> {
-        if self.good_calls == 0 {
-            if self.fault == SourceFault::Unread {
-                self.failures += 1;
-            }
-            return Err(self.fault);
+        let read = if self.good_calls == 0 {
+            Err(self.fault)
+        } else {
+            self.good_calls -= 1;
+            MemorySource::new(self.files).bytes_of(alloc, name)
+        };
+        if let Err(SourceFault::Unread) = read {
+            self.failures += 1;
         }
-        self.good_calls -= 1;
-        let bytes = if name == "t" { self.tree } else { self.trace };
-        Ok(Vec::from_slice(alloc, bytes)?)
+        read
     }
 
     fn failures(&self) -> u64 {

@@ -50,8 +50,9 @@ fn sources_that_fail(rt: HostRuntime) -> Result<(), Fail> {
         (0, SourceFault::Memory, 4, "landaudit: no memory\n"),
         (1, SourceFault::Memory, 4, "landaudit: no memory\n"),
     ];
+    let files = [("t", TREE.as_bytes()), ("r", TRACE.as_bytes())];
     for (good_calls, fault, want, line) in cases {
-        let mut source = FailingSource::new(TREE.as_bytes(), TRACE.as_bytes(), good_calls, fault);
+        let mut source = FailingSource::new(files.as_slice(), good_calls, fault);
         let (mut out, mut err) = (Vec::new(rt.alloc()), Vec::new(rt.alloc()));
         let status = front(
             &rt,
