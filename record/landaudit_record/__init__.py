@@ -1,0 +1,1 @@
+"""landaudit-record: from a command line to an audit of what a Landlock policy breaks."""

@@ -1,0 +1,79 @@
+"""Compares landaudit's answers with what the kernel did, in a recording that was made under a policy."""
+
+from __future__ import annotations
+
+import argparse
+import json
+import os
+import tempfile
+from collections.abc import Iterable
+from pathlib import Path
+
+from .. import comparing, comparing_text, finished, jsonl, landaudit, trees
+from ..comparing import Classes, Difference, Tally
+from ..finished import Finished
+from ..kernel_calls import judged_calls
+from ..options import add_landaudit
+from ..problems import WANTING, Problem
+from ..reading import judged
+from ..rights import NEWEST_ABI, OLDEST_ABI
+
+NAME = "compare"
+HELP = "compare landaudit's answers with what the kernel did to a program that was under a layer"
+EXAMPLE = """landaudit-record run rec -- setpriv --landlock-access fs:write -- touch /tmp/f
+  landaudit-record compare rec"""
+
+
+def add_arguments(parser: argparse.ArgumentParser) -> None:
+    """Names the words of the subcommand."""
+    parser.add_argument("recording", metavar="OUT", help="the folder of a recording that was made under a policy")
+    parser.add_argument(
+        "--abi",
+        type=int,
+        choices=range(OLDEST_ABI, NEWEST_ABI + 1),
+        default=NEWEST_ABI,
+        help=f"Landlock's ABI ({NEWEST_ABI} if it is left out); where the recording names a right that is newer, "
+        "its 'create' is EINVAL, and no layer comes of it",
+    )
+    parser.add_argument("--json", action="store_true", help="print the same as data")
+    parser.add_argument("--differences", metavar="FILE", type=Path, help="write each difference, one JSON object a line")
+    add_landaudit(parser)
+
+
+def run(arguments: argparse.Namespace) -> int:
+    """Prints what agrees and what differs; the status is 1 if a difference has no name."""
+    program = landaudit.find(arguments.landaudit)
+    recording = finished.opened(arguments.recording)
+    tally = Tally()
+    with tempfile.TemporaryDirectory() as folder:
+        report = Path(folder) / "report.txt"
+        landaudit.audit(program, arguments.abi, recording.tree, recording.trace, report)
+        _keep(_differences(recording, report, arguments.abi, tally), arguments.differences)
+    if not tally.calls:
+        raise Problem(f"{recording.folder} has no call under a layer: record a program that confines itself", WANTING)
+    if arguments.json:
+        print(json.dumps(comparing_text.as_data(tally, arguments.abi), indent=2))
+    else:
+        for line in comparing_text.lines(tally, f"{arguments.recording} at ABI {arguments.abi}"):
+            print(line)
+    return 1 if tally.unnamed else 0
+
+
+def _differences(recording: Finished, report: Path, abi: int, tally: Tally) -> Iterable[Difference]:
+    """The calls that differ, as they are counted."""
+    tree = trees.read(recording.tree)
+    calls = judged_calls(judged(tree, recording.trace, report), abi)
+    return comparing.compare(calls, Classes(tree, abi, _stat_of), tally)
+
+
+def _keep(differences: Iterable[Difference], file: Path | None) -> None:
+    """Goes through the differences, and writes them to a file if one is named."""
+    jsonl.write(file or Path(os.devnull), map(comparing_text.difference_data, differences))
+
+
+def _stat_of(path: str) -> os.stat_result | None:
+    """What stands at a path on this machine now."""
+    try:
+        return os.stat(path)
+    except OSError:
+        return None

@@ -1,0 +1,54 @@
+"""Converts a kept log again."""
+
+from __future__ import annotations
+
+import argparse
+import sys
+from pathlib import Path
+
+from .. import policies
+from ..recorder import converting
+from ..recorder.ports import Ports
+
+NAME = "convert"
+HELP = "write the tree and the trace of a recording again, from the log that it keeps"
+EXAMPLE = "landaudit-record convert rec"
+
+
+def add_arguments(parser: argparse.ArgumentParser) -> None:
+    parser.add_argument("out", metavar="OUT", type=Path, help="the folder of a recording")
+    add_port_rules(parser)
+
+
+def add_port_rules(parser: argparse.ArgumentParser) -> None:
+    """The option that says what a strace before 6.7 can't read."""
+    parser.add_argument(
+        "--port-rules",
+        metavar="POLICY.toml",
+        type=Path,
+        help="the policy that the command puts on itself: what it says of ports, which strace before 6.7 does not"
+        " decode, is taken from here in its order",
+    )
+
+
+def run(arguments: argparse.Namespace) -> int:
+    """Converts the log of a recording."""
+    converted(arguments.out, arguments.port_rules)
+    return 0
+
+
+def converted(folder: Path, port_rules: Path | None) -> None:
+    """Converts a recording, and says what came of it and what to do next."""
+    ports = Ports(policies.read(port_rules) if port_rules is not None else None)
+    done = converting.convert(folder, ports)
+    say(f"{done.records:,} records of {done.processes:,} processes on {done.objects:,} objects, in {folder}")
+    if done.unsaid:
+        say(f"not said, in {folder / 'unsaid.jsonl'}:")
+        for reason, count in done.unsaid.most_common():
+            say(f"  {count:>9,}  {reason}")
+    say(f"next: landaudit-record audit {folder} --policy POLICY.toml")
+
+
+def say(text: str) -> None:
+    """A line for the user, apart from what the command wrote to standard output."""
+    print(f"landaudit-record: {text}", file=sys.stderr)

@@ -1,0 +1,46 @@
+"""Writes a trace with a policy's records in it."""
+
+from __future__ import annotations
+
+import argparse
+import sys
+from pathlib import Path
+
+from .. import applying, fitting, policies, trees
+from ..options import add_abi, add_program, note
+from ..problems import USAGE, Problem
+
+NAME = "policy"
+HELP = "write a trace in which each program starts under a policy"
+EXAMPLE = "landaudit-record policy policy.toml rec --out tried.jsonl"
+
+
+def add_arguments(parser: argparse.ArgumentParser) -> None:
+    """Names the words of the subcommand."""
+    parser.add_argument("policy", metavar="POLICY.toml", help="the policy: layers with what they handle and their rules")
+    parser.add_argument("trace", metavar="TRACE", help="a recording's folder, or its trace.jsonl")
+    parser.add_argument("--out", metavar="FILE", help="where the trace goes (standard output if it is left out)")
+    parser.add_argument("--tree", metavar="TREE", help="the tree (tree.jsonl beside the trace if it is left out)")
+    add_program(parser)
+    add_abi(parser)
+
+
+def run(arguments: argparse.Namespace) -> int:
+    """Writes the trace; notes on what the ABI drops go to standard error."""
+    named = Path(arguments.trace)
+    trace = named / "trace.jsonl" if named.is_dir() else named
+    tree = trees.read(Path(arguments.tree) if arguments.tree else trace.with_name("tree.jsonl"))
+    policy = policies.read(Path(arguments.policy))
+    layers, notes = fitting.fit(policy, arguments.abi)
+    places = applying.plan(trace, tree, arguments.program)
+    inserted = applying.records(policy, layers, tree, places.rs)
+    note(notes)
+    if arguments.out is None:
+        applying.write(trace, places, inserted, sys.stdout.buffer)
+        return 0
+    out = Path(arguments.out)
+    if out.exists() and out.samefile(trace):
+        raise Problem(f"--out {out} is the trace itself: name another file", USAGE)
+    with open(out, "wb") as file:
+        applying.write(trace, places, inserted, file)
+    return 0

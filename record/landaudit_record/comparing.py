@@ -1,0 +1,235 @@
+"""Compares landaudit's answers with what the kernel did, and puts each difference into a class.
+
+The classes that have a name in docs/SEMANTICS.md are those of "Where a running kernel differs" and of what it says
+is not judged or left out.
+"""
+
+from __future__ import annotations
+
+import enum
+import os
+import stat
+from collections import Counter
+from collections.abc import Callable, Iterable, Iterator
+from dataclasses import dataclass, field
+
+from .kernel_calls import RULESET_CALLS, Call, newer_rights
+from .jsonl import Record
+from .processes import shown
+from .trees import Tree, directory_of
+
+OK = "ok"
+MOVES = frozenset({"rename", "link"})
+PATH_CALLS = frozenset({"open", "truncate", "exec", "mknod", "mkdir", "symlink", "unlink", "rmdir"}) | MOVES
+LEFT_OUT_ERRORS = frozenset({"EFAULT", "EOPNOTSUPP", "EBADFD", "EAFNOSUPPORT"})
+
+Stat = Callable[[str], "os.stat_result | None"]
+"""What stands at a path on this machine, if something does."""
+
+
+class Class(enum.Enum):
+    """Why landaudit and a kernel differ. The value is the class's name for a person."""
+
+    NEWER = "rights newer than the ABI"
+    LEFT_OUT = "errors that are left out"
+    RUNNING_READS = "running a file also reads it"
+    PORTS_AND_MOVES = "a layer of ports and moves"
+    BEFORE_THE_TREE = "Landlock asked before the tree"
+    WHITEOUTS = "whiteouts"
+    IOCTL = "ioctl's driver"
+    MODES = "file modes and privileges"
+    MOUNTS = "several mounts"
+    NOT_LISTED = "not in the tree or the trace"
+    UNNAMED = "unnamed"
+
+    @property
+    def named(self) -> bool:
+        """Whether docs/SEMANTICS.md says that a kernel differs in this way."""
+        return self not in (Class.NOT_LISTED, Class.UNNAMED)
+
+
+@dataclass(frozen=True)
+class Difference:
+    """A call that the kernel answered in another way than landaudit."""
+
+    call: Call
+    because: Class
+
+
+def errors_of_landlock(op: str) -> frozenset[str]:
+    """The errors by which Landlock refuses a call."""
+    match op:
+        case "rename" | "link":
+            return frozenset({"EACCES", "EXDEV"})
+        case "mount":
+            return frozenset({"EPERM"})
+    return frozenset({"EACCES"})
+
+
+def agree(call: Call) -> bool:
+    """Whether landaudit's answer is what the kernel did.
+
+    A call that landaudit refuses has just that error. A call on a ruleset is let through by both. Any other call that
+    landaudit allows, or is not asked about, the kernel does not refuse by Landlock: it may do so for another reason.
+    What the kernel let through on a path, Landlock was asked about, so landaudit must have been.
+    """
+    answer = call.answer
+    if answer.refused:
+        return call.kernel == answer.error
+    if call.op in RULESET_CALLS:
+        return call.kernel == OK and answer.verdict == "allowed"
+    if call.kernel == OK:
+        return call.op not in PATH_CALLS or not call.partly_moot or _on_itself(call.record)
+    return call.kernel not in errors_of_landlock(call.op)
+
+
+def _on_itself(record: Record) -> bool:
+    return record.get("from") is not None and record.get("from") == record.get("to")
+
+
+class Classes:
+    """Finds the class of a difference: by the call, the tree, the ABI, and what stands on this machine."""
+
+    def __init__(self, tree: Tree, abi: int, stat_of: Stat) -> None:
+        self._tree = tree
+        self._abi = abi
+        self._stat_of = stat_of
+        self._tests = (
+            (Class.NEWER, self._newer),
+            (Class.UNNAMED, lambda call: call.by_kernel.layer),
+            (Class.LEFT_OUT, _left_out),
+            (Class.BEFORE_THE_TREE, self._before_the_tree),
+            (Class.WHITEOUTS, self._whiteout),
+            (Class.PORTS_AND_MOVES, _ports_and_moves),
+            (Class.RUNNING_READS, _running_reads),
+            (Class.IOCTL, _ioctl),
+            (Class.MOUNTS, self._mounts),
+            (Class.MODES, self._modes),
+            (Class.NOT_LISTED, lambda call: call.partly_moot),
+        )
+
+    def of(self, call: Call) -> Class:
+        """The first class that explains why a call differs."""
+        return next((because for because, explains in self._tests if explains(call)), Class.UNNAMED)
+
+    def _newer(self, call: Call) -> bool:
+        """A ruleset with rights that the ABI lacks is EINVAL there, and what comes of it is not there."""
+        if call.op == "create":
+            return call.answer.error == "EINVAL" and bool(newer_rights(call.record, self._abi))
+        return call.by_kernel.newer
+
+    def _before_the_tree(self, call: Call) -> bool:
+        """The shapes of calls that the tree forbids, and that the kernel asks Landlock about all the same."""
+        if not call.partly_moot or call.kernel not in errors_of_landlock(call.op):
+            return False
+        record = call.record
+        match call.op:
+            case "unlink":
+                return self._kind(record, "path") == "dir"
+            case "rmdir":
+                return self._kind(record, "path") not in ("dir", None)
+            case "open":
+                return self._kind(record, "path") == "sock"
+            case "link":
+                return self._kind(record, "from") == "dir"
+            case "rename":
+                return _on_itself(record) or self._unlike(record)
+        return False
+
+    def _kind(self, record: Record, member: str) -> str | None:
+        return self._tree.kind(record[member])
+
+    def _unlike(self, record: Record) -> bool:
+        """Whether a rename would put a directory in the place of something else, or the reverse."""
+        moved, onto = self._kind(record, "from"), self._kind(record, "to")
+        return None not in (moved, onto) and (moved == "dir") != (onto == "dir")
+
+    def _whiteout(self, call: Call) -> bool:
+        """A character device that is made, removed or moved: only a whiteout is judged in another way than landaudit's."""
+        record = call.record
+        if call.op == "mknod":
+            return record["kind"] == "char"
+        members = {"unlink": ("path",), "rename": ("from", "to"), "link": ("from",)}.get(call.op, ())
+        return any(self._kind(record, member) == "char" for member in members)
+
+    def _mounts(self, call: Call) -> bool:
+        """A move between file systems, which the kernel refuses before Landlock is asked."""
+        if call.op not in MOVES or call.kernel != "EXDEV":
+            return False
+        source, target = (self._stat_of(directory_of(call.record[member])) for member in ("from", "to"))
+        return source is not None and target is not None and source.st_dev != target.st_dev
+
+    def _modes(self, call: Call) -> bool:
+        """A refusal by privileges (of a mount), or because a file may not be run whatever the policy."""
+        if call.answer.refused:
+            return False
+        if call.op == "mount":
+            return call.kernel == "EPERM"
+        return call.op == "exec" and call.kernel == "EACCES" and any(map(self._not_to_be_run, call.records))
+
+    def _not_to_be_run(self, record: Record) -> bool:
+        if self._tree.kind(record["path"]) not in ("reg", None):
+            return True
+        found = self._stat_of(shown(record, "path") or record["path"])
+        return found is not None and not (stat.S_ISREG(found.st_mode) and found.st_mode & 0o111)
+
+
+def _left_out(call: Call) -> bool:
+    return call.kernel in LEFT_OUT_ERRORS and (call.op in RULESET_CALLS or call.op in ("bind", "connect"))
+
+
+def _ports_and_moves(call: Call) -> bool:
+    """A layer without rights for files, beside one that has some, refuses moves to another directory."""
+    files = [bool(layer.handled_fs) for layer in call.domain]
+    moved = call.op in MOVES and call.kernel == "EXDEV" and not call.answer.refused
+    return moved and any(files) and not all(files)
+
+
+def _running_reads(call: Call) -> bool:
+    """An exec whose trace does not say what the kernel opens for it."""
+    alone = call.op == "exec" and all(record["op"] == "exec" for record in call.records)
+    reads = any(layer.handles("read_file") for layer in call.domain)
+    return alone and reads and call.kernel == "EACCES" and not call.answer.refused
+
+
+def _ioctl(call: Call) -> bool:
+    """A command that the kernel judges in another way than `driver` says."""
+    if call.op != "ioctl":
+        return False
+    if call.record["driver"]:
+        return call.answer.refused
+    return call.kernel == "EACCES"
+
+
+@dataclass
+class Tally:
+    """The calls that were compared: how many there were, how many landaudit was not asked about, and what differs."""
+
+    calls: int = 0
+    moot: int = 0
+    by_op: Counter[str] = field(default_factory=Counter)
+    differences: Counter[Class] = field(default_factory=Counter)
+    examples: dict[Class, Difference] = field(default_factory=dict)
+
+    @property
+    def agreed(self) -> int:
+        return self.calls - self.differences.total()
+
+    @property
+    def unnamed(self) -> int:
+        """How many differences have no name in docs/SEMANTICS.md."""
+        return sum(count for because, count in self.differences.items() if not because.named)
+
+
+def compare(calls: Iterable[Call], classes: Classes, tally: Tally) -> Iterator[Difference]:
+    """Gives each call that differs, and counts all of them."""
+    for call in calls:
+        tally.calls += 1
+        tally.by_op[call.op] += 1
+        tally.moot += call.answer.verdict == "moot"
+        if agree(call):
+            continue
+        difference = Difference(call, classes.of(call))
+        tally.differences[difference.because] += 1
+        tally.examples.setdefault(difference.because, difference)
+        yield difference

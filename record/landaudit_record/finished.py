@@ -1,0 +1,45 @@
+"""A finished recording: the files of its folder, by what they hold."""
+
+from __future__ import annotations
+
+from dataclasses import dataclass
+from pathlib import Path
+
+from .problems import Problem
+
+
+@dataclass(frozen=True)
+class Finished:
+    """The folder of a recording that has a tree and a trace."""
+
+    folder: Path
+
+    @property
+    def tree(self) -> Path:
+        return self.folder / "tree.jsonl"
+
+    @property
+    def trace(self) -> Path:
+        return self.folder / "trace.jsonl"
+
+    @property
+    def unsaid(self) -> Path:
+        return self.folder / "unsaid.jsonl"
+
+    @property
+    def tried(self) -> Path:
+        """The trace with a policy's records in it, where a policy was tried."""
+        return self.folder / "tried.jsonl"
+
+    @property
+    def report(self) -> Path:
+        return self.folder / "report.txt"
+
+
+def opened(folder: str) -> Finished:
+    """The recording in a folder; a folder without one is a Problem."""
+    recording = Finished(Path(folder))
+    for path in (recording.tree, recording.trace):
+        if not path.is_file():
+            raise Problem(f"{folder} has no {path.name}: record first, by landaudit-record run {folder} -- COMMAND")
+    return recording

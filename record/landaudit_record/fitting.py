@@ -1,0 +1,100 @@
+"""A policy as one ABI knows it, by best effort: what the ABI lacks is dropped, never asked for.
+
+This is what the kernel's document advises and libraries do. A program that asks
+an older kernel for a right that it does not know gets EINVAL, and no layer.
+"""
+
+from __future__ import annotations
+
+from dataclasses import dataclass
+
+from .policies import Access, Layer, PathRule, Policy, PortRule
+from .rights import FILE_RIGHTS, FS, NET, Family, Rights
+
+
+@dataclass(frozen=True)
+class FittedPathRule:
+    """What a rule grants beneath its parents: by a group, a parent that is a file gets the rights for files alone."""
+
+    place: str
+    parents: tuple[str, ...]
+    on_directory: list[str]
+    on_file: list[str]
+
+    def on(self, kind: str | None) -> list[str]:
+        """What the rule asks to be granted on an object of a kind; None is an object that is not listed.
+
+        Where nothing of the rule applies to a file, all of it is asked for, and
+        the kernel refuses that rule: the audit then names it.
+        """
+        return self.on_directory if kind in ("dir", None) else self.on_file or self.on_directory
+
+
+@dataclass(frozen=True)
+class FittedPortRule:
+    """What a rule grants on its ports."""
+
+    place: str
+    ports: tuple[int, ...]
+    on_port: list[str]
+
+
+@dataclass(frozen=True)
+class FittedLayer:
+    """A layer of which the ABI knows every right. The number is the one in the policy."""
+
+    number: int
+    handled_fs: list[str]
+    handled_net: list[str]
+    path_rules: tuple[FittedPathRule, ...]
+    port_rules: tuple[FittedPortRule, ...]
+
+
+def fit(policy: Policy, abi: int) -> tuple[tuple[FittedLayer, ...], list[str]]:
+    """A policy's layers as an ABI knows them, and a note for all that was dropped though it was named outright."""
+    notes: list[str] = []
+    layers = tuple(fitted for layer in policy.layers if (fitted := _layer(layer, abi, notes)) is not None)
+    return layers, notes
+
+
+def _layer(layer: Layer, abi: int, notes: list[str]) -> FittedLayer | None:
+    """A layer without what the ABI lacks, or None where nothing that it handles is left."""
+    where = f"layer {layer.number}"
+    handled_fs = _known(layer.handled_access_fs, FS, abi, f"{where}, handled_access_fs", notes)
+    handled_net = _known(layer.handled_access_net, NET, abi, f"{where}, handled_access_net", notes)
+    if not handled_fs and not handled_net:
+        notes.append(f"{where} is left out: ABI {abi} knows nothing that it handles")
+        return None
+    return FittedLayer(
+        layer.number,
+        FS.ordered(handled_fs),
+        NET.ordered(handled_net),
+        tuple(fitted for rule in layer.path_beneath if (fitted := _path_rule(rule, handled_fs, abi, where, notes))),
+        tuple(fitted for rule in layer.net_port if (fitted := _port_rule(rule, handled_net, abi, where, notes))),
+    )
+
+
+def _known(access: Access, family: Family, abi: int, where: str, notes: list[str]) -> Rights:
+    """The rights of a list that an ABI knows."""
+    known = family.known(abi)
+    dropped = family.ordered(access.outright - known)
+    if dropped:
+        notes.append(f"{where}: ABI {abi} does not know {', '.join(dropped)}: dropped")
+    return access.rights & known
+
+
+def _path_rule(rule: PathRule, handled: Rights, abi: int, where: str, notes: list[str]) -> FittedPathRule | None:
+    on_directory = _known(rule.allowed_access, FS, abi, f"{where}, {rule.place}", notes) & handled
+    on_file = (rule.allowed_access.outright | FILE_RIGHTS) & on_directory
+    if not on_directory:
+        notes.append(f"{where}, {rule.place} is left out: ABI {abi} knows nothing that it allows")
+        return None
+    return FittedPathRule(rule.place, rule.parents, FS.ordered(on_directory), FS.ordered(on_file))
+
+
+def _port_rule(rule: PortRule, handled: Rights, abi: int, where: str, notes: list[str]) -> FittedPortRule | None:
+    on_port = _known(rule.allowed_access, NET, abi, f"{where}, {rule.place}", notes) & handled
+    if not on_port:
+        notes.append(f"{where}, {rule.place} is left out: ABI {abi} knows nothing that it allows")
+        return None
+    return FittedPortRule(rule.place, rule.ports, NET.ordered(on_port))

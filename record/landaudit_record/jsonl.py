@@ -1,0 +1,50 @@
+"""JSON Lines: one JSON object a line, read and written as landaudit reads them."""
+
+from __future__ import annotations
+
+import json
+from collections.abc import Iterable, Iterator
+from pathlib import Path
+from typing import Any
+
+from .problems import Problem
+
+Record = dict[str, Any]
+
+_encode = json.JSONEncoder(ensure_ascii=False, separators=(",", ":")).encode
+
+
+def numbered(path: Path) -> Iterator[tuple[int, Record]]:
+    """The objects of a file with the numbers of their lines, from 1. Blank lines count and are skipped."""
+    try:
+        with open(path, "rb") as lines:
+            for number, line in enumerate(lines, start=1):
+                if line.strip(b" \t\r\n"):
+                    yield number, _object(path, number, line)
+    except OSError as error:
+        raise Problem(f"cannot read {path}: {error.strerror}") from error
+
+
+def _object(path: Path, number: int, line: bytes) -> Record:
+    try:
+        value = json.loads(line)
+    except ValueError as error:
+        raise Problem(f"{path} line {number} is no JSON: {error}") from error
+    if not isinstance(value, dict):
+        raise Problem(f"{path} line {number} is no JSON object")
+    return value
+
+
+def line(record: Record) -> str:
+    """A record as a line, with its line feed."""
+    return _encode(record) + "\n"
+
+
+def write(path: Path, records: Iterable[Record]) -> int:
+    """Writes records, one a line, and says how many there were."""
+    count = 0
+    with open(path, "w", encoding="utf-8") as out:
+        for record in records:
+            out.write(line(record))
+            count += 1
+    return count

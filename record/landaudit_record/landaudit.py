@@ -1,0 +1,76 @@
+"""landaudit itself: where it is, how it is run, and what its report says."""
+
+from __future__ import annotations
+
+import os
+import shutil
+import subprocess
+from collections.abc import Iterator
+from dataclasses import dataclass
+from pathlib import Path
+
+from .problems import UNREADABLE, WANTING, Problem
+
+BUILT = Path(__file__).resolve().parents[2] / "crates" / "landaudit" / "out" / "landaudit"
+NEWEST_ABI = 5
+
+
+@dataclass(frozen=True)
+class Answer:
+    """What the report says of one record."""
+
+    line: int
+    pid: int
+    op: str
+    verdict: str
+    error: str | None
+    layers: tuple[int, ...]
+
+    @property
+    def refused(self) -> bool:
+        return self.verdict == "refused"
+
+
+def find(named: str | None) -> Path:
+    """The program: the one that is named, else the one that `make landaudit` built, else the one on PATH."""
+    if named is not None:
+        if os.access(named, os.X_OK) and Path(named).is_file():
+            return Path(named)
+        raise Problem(f"{named} is no program: give --landaudit the path of landaudit", WANTING)
+    if os.access(BUILT, os.X_OK):
+        return BUILT
+    found = shutil.which("landaudit")
+    if found is None:
+        raise Problem("landaudit is not built: run 'make landaudit', or name it by --landaudit", WANTING)
+    return Path(found)
+
+
+def audit(program: Path, abi: int, tree: Path, trace: Path, report: Path) -> int:
+    """Runs landaudit, writes its report to a file and gives its status, 0 or 1; a fault of the run is a Problem."""
+    command = [str(program), "--abi", str(abi), str(tree), str(trace)]
+    with open(report, "wb") as out:
+        try:
+            run = subprocess.run(command, stdout=out, stderr=subprocess.PIPE, check=False)
+        except OSError as error:
+            raise Problem(f"cannot run {program}: {error.strerror}", WANTING) from error
+    if run.returncode in (0, 1):
+        return run.returncode
+    said = run.stderr.decode(errors="replace").strip().splitlines() or [f"landaudit ended with status {run.returncode}"]
+    status = run.returncode if run.returncode in (UNREADABLE, WANTING) else WANTING
+    raise Problem(f"{said[0]} (tree {tree}, trace {trace})", status)
+
+
+def answers(report: Path) -> Iterator[Answer]:
+    """The answers of a report, in its order, without the totals."""
+    with open(report, encoding="utf-8") as lines:
+        for line in lines:
+            words = line.split()
+            if words and words[0] != "total":
+                yield _answer(words)
+
+
+def _answer(words: list[str]) -> Answer:
+    line, pid, op, verdict, *rest = words
+    error = rest[0] if rest else None
+    layers = tuple(int(layer) for layer in rest[1].split(",")) if rest and rest[1] != "-" else ()
+    return Answer(int(line), int(pid), op, verdict, error, layers)

@@ -1,0 +1,243 @@
+"""A policy as its author writes it: a TOML file in the words of Landlock's own structures.
+
+A policy has layers, and a layer what it handles and its rules:
+
+    [[layer]]
+    handled_access_fs = ["all"]
+    handled_access_net = ["connect_tcp"]
+    [[layer.path_beneath]]
+    allowed_access = ["read", "execute"]
+    parent = ["/usr", "/lib"]
+    [[layer.net_port]]
+    allowed_access = ["connect_tcp"]
+    port = [443]
+
+A list of rights has rights by name and groups (`all`, `read`, `write`,
+`execute`). A right that a rule names must be handled by its layer, since the
+kernel refuses the whole rule otherwise; a group in a rule stands for those of
+its rights that the layer handles.
+"""
+
+from __future__ import annotations
+
+import difflib
+import tomllib
+from collections.abc import Callable, Iterable, Mapping
+from dataclasses import dataclass
+from pathlib import Path
+from typing import Any, NoReturn, TypeVar
+
+from .problems import Problem
+from .rights import FS, NET, NONE, Family, Rights
+
+MOST_LAYERS = 16
+HIGHEST_PORT = 65535
+LONGEST_PATH = 4096
+
+T = TypeVar("T")
+
+
+@dataclass(frozen=True)
+class Access:
+    """Rights as a policy lists them: those named outright, and those that groups stand for."""
+
+    outright: Rights = NONE
+    grouped: Rights = NONE
+
+    @property
+    def rights(self) -> Rights:
+        return self.outright | self.grouped
+
+
+@dataclass(frozen=True)
+class PathRule:
+    """A rule beneath each of some paths. `place` names it, as `path_beneath 2`."""
+
+    place: str
+    allowed_access: Access
+    parents: tuple[str, ...]
+
+
+@dataclass(frozen=True)
+class PortRule:
+    """A rule on each of some TCP ports. `place` names it, as `net_port 1`."""
+
+    place: str
+    allowed_access: Access
+    ports: tuple[int, ...]
+
+
+@dataclass(frozen=True)
+class Layer:
+    """One layer: what it handles, and its rules. Layers are numbered from 1."""
+
+    number: int
+    handled_access_fs: Access
+    handled_access_net: Access
+    path_beneath: tuple[PathRule, ...]
+    net_port: tuple[PortRule, ...]
+
+
+@dataclass(frozen=True)
+class Policy:
+    """A policy's layers, the oldest first, and the file that they were read from."""
+
+    path: Path
+    layers: tuple[Layer, ...]
+
+
+@dataclass(frozen=True)
+class _Place:
+    """Where in a policy's file something stands, so that a fault can name it."""
+
+    path: Path
+    steps: tuple[str, ...] = ()
+
+    def __truediv__(self, step: str) -> _Place:
+        return _Place(self.path, (*self.steps, step))
+
+    def fault(self, text: str) -> NoReturn:
+        where = ", ".join(self.steps)
+        raise Problem(f"{self.path}: {where}: {text}" if where else f"{self.path}: {text}")
+
+
+def read(path: Path) -> Policy:
+    """The policy in a file; whatever is wrong with it is a Problem that names the place and what would be right."""
+    try:
+        with open(path, "rb") as file:
+            document = tomllib.load(file)
+    except OSError as error:
+        raise Problem(f"cannot read {path}: {error.strerror}") from error
+    except (tomllib.TOMLDecodeError, UnicodeDecodeError, RecursionError) as error:
+        raise Problem(f"{path}: no TOML: {error}") from error
+    return _policy(document, _Place(path))
+
+
+def _policy(document: Mapping[str, Any], place: _Place) -> Policy:
+    _check_keys(document, ("layer",), place)
+    tables = _tables(document.get("layer", []), "layer", place)
+    if not tables:
+        place.fault("no layer: write one as [[layer]] with handled_access_fs")
+    if len(tables) > MOST_LAYERS:
+        place.fault(f"{len(tables)} layers: the kernel takes at most {MOST_LAYERS}")
+    layers = (_layer(table, number, place / f"layer {number}") for number, table in enumerate(tables, start=1))
+    return Policy(place.path, tuple(layers))
+
+
+def _layer(table: Mapping[str, Any], number: int, place: _Place) -> Layer:
+    _check_keys(table, ("handled_access_fs", "handled_access_net", "path_beneath", "net_port"), place)
+    fs = _access(table.get("handled_access_fs", []), FS, place / "handled_access_fs")
+    net = _access(table.get("handled_access_net", []), NET, place / "handled_access_net")
+    if not fs.rights and not net.rights:
+        place.fault('handles nothing: give handled_access_fs or handled_access_net rights, as ["all"]')
+    return Layer(
+        number,
+        fs,
+        net,
+        _rules(table, "path_beneath", place, lambda rule, name, where: _path_rule(rule, name, fs.rights, where)),
+        _rules(table, "net_port", place, lambda rule, name, where: _port_rule(rule, name, net.rights, where)),
+    )
+
+
+def _rules(
+    layer: Mapping[str, Any], kind: str, place: _Place, rule: Callable[[Mapping[str, Any], str, _Place], T]
+) -> tuple[T, ...]:
+    """The rules of one kind, each named by the kind and its number from 1."""
+    tables = _tables(layer.get(kind, []), f"layer.{kind}", place)
+    names = (f"{kind} {number}" for number in range(1, len(tables) + 1))
+    return tuple(rule(table, name, place / name) for name, table in zip(names, tables))
+
+
+def _path_rule(table: Mapping[str, Any], name: str, handled: Rights, place: _Place) -> PathRule:
+    _check_keys(table, ("allowed_access", "parent"), place, all_needed=True)
+    access = _allowed(table["allowed_access"], FS, handled, "handled_access_fs", place / "allowed_access")
+    return PathRule(name, access, _one_or_several(table["parent"], _parent, place / "parent"))
+
+
+def _port_rule(table: Mapping[str, Any], name: str, handled: Rights, place: _Place) -> PortRule:
+    _check_keys(table, ("allowed_access", "port"), place, all_needed=True)
+    access = _allowed(table["allowed_access"], NET, handled, "handled_access_net", place / "allowed_access")
+    return PortRule(name, access, _one_or_several(table["port"], _port, place / "port"))
+
+
+def _allowed(value: Any, family: Family, handled: Rights, handled_key: str, place: _Place) -> Access:
+    """What a rule allows. A right that is named and not handled would make the kernel refuse the rule."""
+    access = _access(value, family, place)
+    if not access.rights:
+        place.fault(f"is empty: a rule allows a right {family.what} at least, as {_listed(family.words())}")
+    unhandled = family.ordered(access.outright - handled)
+    if unhandled:
+        place.fault(f"the layer does not handle {_listed(unhandled)}: name it in {handled_key}, or leave it out here")
+    if not access.rights & handled:
+        place.fault(f"the layer handles none of these: it handles {_listed(family.ordered(handled)) or 'nothing'}")
+    return access
+
+
+def _access(value: Any, family: Family, place: _Place) -> Access:
+    if not isinstance(value, list):
+        place.fault(f"must be a list of rights {family.what}, of {_listed(family.words())}")
+    outright: set[str] = set()
+    grouped: set[str] = set()
+    for word in value:
+        if not isinstance(word, str):
+            place.fault(f"{word!r} is no name of a right: use {_listed(family.words())}")
+        elif word in family.groups:
+            grouped |= family.groups[word]
+        elif word in family.since:
+            outright.add(word)
+        else:
+            place.fault(f"unknown right {family.what} {_unknown(word, family.words())}")
+    return Access(frozenset(outright), frozenset(grouped))
+
+
+def _parent(value: Any, place: _Place) -> str:
+    if not isinstance(value, str):
+        place.fault(f"{value!r} is no path: write it as a text, as \"/usr\"")
+    if not value.startswith("/"):
+        place.fault(f"{value!r} is not absolute: begin it with /")
+    if "\0" in value:
+        place.fault(f"{value!r} has a NUL character")
+    if len(value.encode()) > LONGEST_PATH:
+        place.fault(f"the path is longer than {LONGEST_PATH} bytes")
+    return value
+
+
+def _port(value: Any, place: _Place) -> int:
+    if type(value) is not int or not 0 <= value <= HIGHEST_PORT:
+        place.fault(f"{value!r} is no port: write a number from 0 to {HIGHEST_PORT}")
+    return value
+
+
+def _one_or_several(value: Any, one: Callable[[Any, _Place], T], place: _Place) -> tuple[T, ...]:
+    if not isinstance(value, list):
+        return (one(value, place),)
+    if not value:
+        place.fault("is empty: give one or several")
+    return tuple(one(item, place) for item in value)
+
+
+def _tables(value: Any, key: str, place: _Place) -> list[Mapping[str, Any]]:
+    if not isinstance(value, list) or not all(isinstance(item, dict) for item in value):
+        place.fault(f"{key} must be tables: write each as [[{key}]]")
+    return value
+
+
+def _check_keys(table: Mapping[str, Any], known: tuple[str, ...], place: _Place, all_needed: bool = False) -> None:
+    for key in table:
+        if key not in known:
+            place.fault(f"unknown key {_unknown(key, known)}")
+    for key in known if all_needed else ():
+        if key not in table:
+            place.fault(f"{key} is missing")
+
+
+def _unknown(word: str, known: Iterable[str]) -> str:
+    """An unknown word with what would be right: a near name where one is near, and all names."""
+    names = list(known)
+    near = difflib.get_close_matches(word, names, n=1)
+    meant = f", did you mean {near[0]!r}?" if near else ":"
+    return f"{word!r}{meant} use {_listed(names)}"
+
+
+def _listed(words: Iterable[str]) -> str:
+    return ", ".join(words)

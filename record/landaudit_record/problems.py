@@ -1,0 +1,20 @@
+"""Faults that end a run: one line for the user, and the status that goes with it."""
+
+from __future__ import annotations
+
+USAGE = 2
+UNREADABLE = 3
+WANTING = 4
+
+
+class Problem(Exception):
+    """A fault that the user can do something about.
+
+    The text is one line that says what is wrong and what to do; `status` is the
+    exit status: 2 for wrong usage, 3 for input that can't be read, 4 where
+    something that is needed is not there.
+    """
+
+    def __init__(self, text: str, status: int = UNREADABLE) -> None:
+        super().__init__(text)
+        self.status = status

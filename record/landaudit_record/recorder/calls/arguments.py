@@ -1,0 +1,63 @@
+"""Arguments that many calls have: a path, a directory's descriptor with a path, flags."""
+
+from __future__ import annotations
+
+from .. import values
+from ..processes import Thread
+from ..scene import Scene, Spot
+from ..strace_log import Call
+from ..values import Descriptor
+from ..writing import CannotSay
+
+AT_EMPTY_PATH = 0x1000
+AT_SYMLINK_FOLLOW = 0x400
+AT_SYMLINK_NOFOLLOW = 0x100
+
+#: Errors by which a call ends before the kernel has looked at its paths.
+BEFORE_PATHS = frozenset({"EBADF", "EFAULT", "EINVAL", "EMFILE", "ENAMETOOLONG", "ENFILE", "ENOSYS"})
+
+#: Errors by which a path may have led nowhere.
+NOT_REACHED = frozenset({"ENOENT", "ENOTDIR", "ELOOP", "ENXIO"})
+
+
+def path_at(call: Call, index: int) -> str:
+    """The path that an argument is."""
+    path = values.text(call.arguments[index])
+    if path is None:
+        raise CannotSay("a path that could not be read")
+    return path
+
+
+def number_at(call: Call, index: int) -> int:
+    """The number that an argument is; 0 where the call has no such argument."""
+    return values.number(call.arguments[index]) if index < len(call.arguments) else 0
+
+
+def spot_at(scene: Scene, thread: Thread, call: Call, base: int | None, path: int, follow: bool) -> Spot:
+    """What a path argument names, from the directory that the argument `base` is a descriptor of."""
+    if call.error in BEFORE_PATHS:
+        raise CannotSay(f"{call.error} before Landlock is asked")
+    return scene.spot(thread, descriptor_at(scene, call, base), path_at(call, path), follow)
+
+
+def object_at(scene: Scene, call: Call, spot: Spot, kind: str) -> Spot:
+    """What a call needs that works on an object, where the kernel has the last word on whether it is there.
+
+    The kernel looks for the object before it asks Landlock: so where it says anything else than that
+    nothing is there, something is.
+    """
+    if call.error == "ENOENT":
+        return scene.as_missing(spot)
+    if spot.node is None and spot.in_directory and call.error not in NOT_REACHED:
+        return scene.present(spot.real, kind)
+    return spot
+
+
+def descriptor_at(scene: Scene, call: Call, index: int | None) -> Descriptor | None:
+    """The descriptor that an argument is, if the call has one."""
+    return None if index is None else scene.descriptor(call.arguments[index])
+
+
+def shown(spot: Spot, to: Spot | None = None) -> dict[str, str | None]:
+    """The members that say the real paths of a record."""
+    return {"shown": spot.shown, "shown_to": to.shown if to is not None else None}

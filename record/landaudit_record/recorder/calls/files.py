@@ -1,0 +1,141 @@
+"""Making, removing and cutting objects by their paths, and working directories."""
+
+from __future__ import annotations
+
+import stat
+
+from .. import values
+from ..disk import kind_of
+from ..names import Node
+from ..processes import Thread
+from ..scene import Scene, Spot
+from ..strace_log import Call
+from ..writing import CannotSay
+from . import arguments
+
+AT_REMOVEDIR = 0x200
+AF_UNIX = 1
+
+
+def _made(scene: Scene, thread: Thread, call: Call, op: str, spot: Spot, node: Node, **members: str) -> None:
+    """A call that makes an object of a name."""
+    if call.ok and spot.node is not None:
+        spot = scene.absent(spot.real)
+    elif call.error == "EEXIST" and spot.node is None and spot.in_directory:
+        spot = scene.present(spot.real, "reg")
+    scene.say(thread, call, op, path=spot.path, **members, **arguments.shown(spot))
+    if call.ok:
+        scene.names.put(spot.real, node)
+
+
+def _mkdir(scene: Scene, thread: Thread, call: Call) -> None:
+    _made(scene, thread, call, "mkdir", arguments.spot_at(scene, thread, call, None, 0, False), Node("dir"))
+
+
+def _mkdirat(scene: Scene, thread: Thread, call: Call) -> None:
+    _made(scene, thread, call, "mkdir", arguments.spot_at(scene, thread, call, 0, 1, False), Node("dir"))
+
+
+def _mknod(scene: Scene, thread: Thread, call: Call) -> None:
+    _made_node(scene, thread, call, arguments.spot_at(scene, thread, call, None, 0, False), 1)
+
+
+def _mknodat(scene: Scene, thread: Thread, call: Call) -> None:
+    _made_node(scene, thread, call, arguments.spot_at(scene, thread, call, 0, 1, False), 2)
+
+
+def _made_node(scene: Scene, thread: Thread, call: Call, spot: Spot, mode: int) -> None:
+    wanted = stat.S_IFMT(arguments.number_at(call, mode)) or stat.S_IFREG
+    if wanted == stat.S_IFDIR:
+        raise CannotSay("mknod of a directory")
+    device = call.arguments[mode + 1] if mode + 1 < len(call.arguments) else "0"
+    kind = kind_of(wanted, 0 if device.split(" ", 1)[0] in ("0", "0x0") else 1)
+    _made(scene, thread, call, "mknod", spot, Node(kind), kind=kind)
+
+
+def _symlink(scene: Scene, thread: Thread, call: Call) -> None:
+    _made_link(scene, thread, call, arguments.spot_at(scene, thread, call, None, 1, False))
+
+
+def _symlinkat(scene: Scene, thread: Thread, call: Call) -> None:
+    _made_link(scene, thread, call, arguments.spot_at(scene, thread, call, 1, 2, False))
+
+
+def _made_link(scene: Scene, thread: Thread, call: Call, spot: Spot) -> None:
+    _made(scene, thread, call, "symlink", spot, Node("sym", target=arguments.path_at(call, 0)))
+
+
+def bound(scene: Scene, thread: Thread, call: Call) -> None:
+    """A UNIX socket that is bound to a name is made like any other object (bind(2), unix(7))."""
+    path = values.member(call.arguments[1], "sun_path")
+    name = values.text(path) if path is not None else None
+    if name and call.error not in arguments.BEFORE_PATHS:
+        _made(scene, thread, call, "mknod", scene.spot(thread, None, name, False), Node("sock"), kind="sock")
+
+
+def _unlink(scene: Scene, thread: Thread, call: Call) -> None:
+    _removed(scene, thread, call, "unlink", arguments.spot_at(scene, thread, call, None, 0, False))
+
+
+def _rmdir(scene: Scene, thread: Thread, call: Call) -> None:
+    _removed(scene, thread, call, "rmdir", arguments.spot_at(scene, thread, call, None, 0, False))
+
+
+def _unlinkat(scene: Scene, thread: Thread, call: Call) -> None:
+    op = "rmdir" if arguments.number_at(call, 2) & AT_REMOVEDIR else "unlink"
+    _removed(scene, thread, call, op, arguments.spot_at(scene, thread, call, 0, 1, False))
+
+
+def _removed(scene: Scene, thread: Thread, call: Call, op: str, spot: Spot) -> None:
+    spot = arguments.object_at(scene, call, spot, "dir" if op == "rmdir" else "reg")
+    scene.say(thread, call, op, path=spot.path, **arguments.shown(spot))
+    if call.ok:
+        scene.names.put(spot.real, None)
+
+
+def _truncate(scene: Scene, thread: Thread, call: Call) -> None:
+    spot = arguments.object_at(scene, call, arguments.spot_at(scene, thread, call, None, 0, True), "reg")
+    scene.say(thread, call, "truncate", path=spot.path, **arguments.shown(spot))
+
+
+def _chdir(scene: Scene, thread: Thread, call: Call) -> None:
+    if call.ok:
+        thread.place.directory = arguments.spot_at(scene, thread, call, None, 0, True).real
+
+
+def _fchdir(scene: Scene, thread: Thread, call: Call) -> None:
+    path = scene.descriptor(call.arguments[0]).path
+    if call.ok and path is not None:
+        thread.place.directory = path
+
+
+def _chroot(scene: Scene, thread: Thread, call: Call) -> None:
+    if call.ok:
+        thread.place.root = arguments.spot_at(scene, thread, call, None, 0, True).real
+
+
+def _mount(scene: Scene, thread: Thread, call: Call) -> None:
+    scene.say(thread, call, "mount")
+    if call.ok:
+        scene.leave_out(thread, call, "a mount that changes the tree")
+
+
+HANDLERS = {
+    "mkdir": _mkdir,
+    "mkdirat": _mkdirat,
+    "mknod": _mknod,
+    "mknodat": _mknodat,
+    "symlink": _symlink,
+    "symlinkat": _symlinkat,
+    "unlink": _unlink,
+    "rmdir": _rmdir,
+    "unlinkat": _unlinkat,
+    "truncate": _truncate,
+    "chdir": _chdir,
+    "fchdir": _fchdir,
+    "chroot": _chroot,
+    "mount": _mount,
+    "umount2": _mount,
+    "pivot_root": _mount,
+    "move_mount": _mount,
+}

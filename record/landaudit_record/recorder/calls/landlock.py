@@ -1,0 +1,124 @@
+"""Landlock's own calls, and no_new_privs (landlock(7), prctl(2))."""
+
+from __future__ import annotations
+
+from .. import values
+from ..names import Node
+from ..processes import Handle, Thread
+from ...rights import FS, NET, Family
+from ..scene import Scene
+from ..strace_log import Call
+from ..writing import CannotSay
+from . import arguments
+
+PR_SET_NO_NEW_PRIVS = 38
+RULE_PATH_BENEATH = 1
+RULE_NET_PORT = 2
+
+NOT_DECODED = " (strace before 6.7 does not decode it: see --port-rules)"
+
+
+def named(bits: int, family: Family) -> list[str] | None:
+    """The names of a set of rights by their bits; a bit without a name here becomes a name that no ABI knows."""
+    names = list(family.since)
+    found = [names[bit] if bit < len(names) else f"bit_{bit}" for bit in range(64) if bits >> bit & 1]
+    return found or None
+
+
+def _handled(scene: Scene, thread: Thread, call: Call) -> tuple[list[str] | None, list[str] | None, bool]:
+    """Handled rights for files and for ports, and whether there are scopes.
+
+    strace before 6.7 prints nothing but an ellipsis of what stands behind the rights for files.
+    """
+    argument = call.arguments[0]
+    files, ports, scoped = (_member(argument, name) for name in ("handled_access_fs", "handled_access_net", "scoped"))
+    if "..." not in argument:
+        return named(files, FS), named(ports, NET), scoped != 0
+    of_policy = scene.ports.handled()
+    if of_policy is None:
+        scene.leave_out(thread, call, "what a ruleset handles beside files" + NOT_DECODED)
+    return named(files, FS), of_policy or None, False
+
+
+def _member(argument: str, name: str) -> int:
+    found = values.member(argument, name)
+    return values.number(found) if found is not None else 0
+
+
+def _create_ruleset(scene: Scene, thread: Thread, call: Call) -> None:
+    if arguments.number_at(call, 2) or call.error in ("EFAULT", "EOPNOTSUPP", "ENOSYS"):
+        return
+    files, ports, scoped = _handled(scene, thread, call)
+    can_be_said = bool(files or ports) or not call.ok
+    number = thread.process.made_up()
+    if call.ok and call.value is not None:
+        number = call.value
+        scene.put(thread, call, number, Handle(close_on_exec=True, ruleset=can_be_said))
+    if scoped:
+        scene.leave_out(thread, call, "scopes of a ruleset")
+    if can_be_said:
+        scene.say(thread, call, "create", rs=number, fs=files, net=ports)
+
+
+def _add_rule(scene: Scene, thread: Thread, call: Call) -> None:
+    number = scene.descriptor(call.arguments[0]).number
+    kind = arguments.number_at(call, 1)
+    if call.error == "EFAULT":
+        return
+    if kind == RULE_PATH_BENEATH:
+        _add_path(scene, thread, call, number)
+    elif kind == RULE_NET_PORT:
+        _add_port(scene, thread, call, number)
+    else:
+        raise CannotSay("a rule of a kind that is not known")
+
+
+def _add_path(scene: Scene, thread: Thread, call: Call, number: int) -> None:
+    parent = values.member(call.arguments[2], "parent_fd")
+    allowed = values.member(call.arguments[2], "allowed_access")
+    path = scene.descriptor(parent).path if parent is not None else None
+    if path is None or allowed is None:
+        raise CannotSay("a rule beneath what has no path")
+    node = scene.names.at(path) or Node("dir")
+    spot = scene.present(path, node.kind)
+    granted = named(values.number(allowed), FS)
+    scene.say(thread, call, "add_path", rs=number, path=spot.path, fs=granted, **arguments.shown(spot))
+
+
+def _add_port(scene: Scene, thread: Thread, call: Call, number: int) -> None:
+    allowed, port = (values.member(call.arguments[2], name) for name in ("allowed_access", "port"))
+    if allowed is not None and port is not None:
+        granted, on = named(values.number(allowed), NET), values.number(port)
+    else:
+        rule = scene.ports.rule()
+        if rule is None:
+            raise CannotSay("a rule on a port" + NOT_DECODED)
+        granted, on = rule
+    scene.say(thread, call, "add_port", rs=number, port=on, net=granted)
+
+
+def _restrict_self(scene: Scene, thread: Thread, call: Call) -> None:
+    number = scene.descriptor(call.arguments[0]).number
+    restricted = thread.process.restricted
+    if call.ok and thread.layers < len(restricted):
+        if restricted[thread.layers] != number:
+            raise CannotSay("a thread that restricts itself otherwise than its siblings")
+        thread.layers += 1
+        return
+    scene.say(thread, call, "restrict", rs=number)
+    if call.ok:
+        restricted.append(number)
+        thread.layers += 1
+
+
+def _prctl(scene: Scene, thread: Thread, call: Call) -> None:
+    if call.ok and arguments.number_at(call, 0) == PR_SET_NO_NEW_PRIVS and arguments.number_at(call, 1) == 1:
+        scene.note(thread, call, "nnp")
+
+
+HANDLERS = {
+    "landlock_create_ruleset": _create_ruleset,
+    "landlock_add_rule": _add_rule,
+    "landlock_restrict_self": _restrict_self,
+    "prctl": _prctl,
+}

@@ -1,0 +1,94 @@
+"""Renaming and linking: rename(2), renameat2(2), link(2), linkat(2)."""
+
+from __future__ import annotations
+
+from ..names import Node
+from ..processes import Thread
+from ..scene import Scene, Spot
+from ..strace_log import Call
+from ..writing import CannotSay
+from . import arguments
+
+RENAME_NOREPLACE = 1
+RENAME_EXCHANGE = 2
+RENAME_WHITEOUT = 4
+
+
+def _rename(scene: Scene, thread: Thread, call: Call) -> None:
+    _renamed(scene, thread, call, (None, 0), (None, 1), 0)
+
+
+def _renameat(scene: Scene, thread: Thread, call: Call) -> None:
+    _renamed(scene, thread, call, (0, 1), (2, 3), 0)
+
+
+def _renameat2(scene: Scene, thread: Thread, call: Call) -> None:
+    _renamed(scene, thread, call, (0, 1), (2, 3), arguments.number_at(call, 4))
+
+
+Argument = tuple[int | None, int]
+
+
+def _renamed(scene: Scene, thread: Thread, call: Call, start: Argument, end: Argument, flags: int) -> None:
+    if flags & RENAME_WHITEOUT:
+        raise CannotSay("a rename that leaves a whiteout")
+    exchange = bool(flags & RENAME_EXCHANGE)
+    if call.error == "EEXIST" and flags & RENAME_NOREPLACE:
+        raise CannotSay("EEXIST before Landlock is asked")
+    moved = arguments.spot_at(scene, thread, call, *start, False)
+    target = arguments.spot_at(scene, thread, call, *end, False)
+    moved = _source(scene, call, moved, target)
+    if call.ok and exchange:
+        target = arguments.object_at(scene, call, target, "reg")
+    elif call.ok and flags & RENAME_NOREPLACE and target.node is not None:
+        target = scene.absent(target.real)
+    _say_move(scene, thread, call, "rename", moved, target, exchange)
+    if call.ok and moved.real != target.real:
+        (scene.names.exchange if exchange else scene.names.move)(moved.real, target.real)
+
+
+def _source(scene: Scene, call: Call, source: Spot, target: Spot) -> Spot:
+    """What is moved or linked. ENOENT is about it where the directory of the new name is there."""
+    if call.error == "ENOENT" and target.node is None and not target.in_directory:
+        return source
+    return arguments.object_at(scene, call, source, "reg")
+
+
+def _say_move(scene: Scene, thread: Thread, call: Call, op: str, start: Spot, end: Spot, exchange: bool) -> None:
+    scene.say(
+        thread, call, op, **{"from": start.path}, to=end.path, exchange=exchange, **arguments.shown(start, end)
+    )
+
+
+def _link(scene: Scene, thread: Thread, call: Call) -> None:
+    _linked(scene, thread, call, (None, 0), (None, 1), 0)
+
+
+def _linkat(scene: Scene, thread: Thread, call: Call) -> None:
+    _linked(scene, thread, call, (0, 1), (2, 3), arguments.number_at(call, 4))
+
+
+def _linked(scene: Scene, thread: Thread, call: Call, start: Argument, end: Argument, flags: int) -> None:
+    follow = bool(flags & arguments.AT_SYMLINK_FOLLOW)
+    source = arguments.spot_at(scene, thread, call, *start, follow)
+    target = arguments.spot_at(scene, thread, call, *end, False)
+    if call.ok and source.node is None and (follow or flags & arguments.AT_EMPTY_PATH):
+        scene.names.put(target.real, Node("reg"))
+        raise CannotSay("a link of a file that has no name")
+    source = _source(scene, call, source, target)
+    if call.ok and target.node is not None:
+        target = scene.absent(target.real)
+    elif call.error == "EEXIST" and target.node is None and target.in_directory:
+        target = scene.present(target.real, "reg")
+    _say_move(scene, thread, call, "link", source, target, False)
+    if call.ok:
+        scene.names.put(target.real, source.node)
+
+
+HANDLERS = {
+    "rename": _rename,
+    "renameat": _renameat,
+    "renameat2": _renameat2,
+    "link": _link,
+    "linkat": _linkat,
+}

@@ -1,0 +1,145 @@
+"""Opening files: open(2), openat(2), openat2(2), creat(2)."""
+
+from __future__ import annotations
+
+from .. import values
+from ..names import Node, join, split
+from ..processes import Handle, Thread
+from ..scene import Scene, Spot
+from ..strace_log import Call
+from ..values import Descriptor
+from ..writing import ABSENT, CannotSay
+from . import arguments
+
+O_CREAT = 0o100
+O_EXCL = 0o200
+O_TRUNC = 0o1000
+O_DIRECTORY = 0o200000
+O_NOFOLLOW = 0o400000
+O_CLOEXEC = 0o2000000
+O_PATH = 0o10000000
+O_TMPFILE = 0o20000000 | O_DIRECTORY
+MODES = ("r", "w", "rw")
+ACCESS_MODE = 0o3
+#: The name of a file that O_TMPFILE would have made, had it been allowed.
+UNNAMED = f"tmpfile{ABSENT}"
+
+
+def _open(scene: Scene, thread: Thread, call: Call) -> None:
+    _opened(scene, thread, call, None, 0, arguments.number_at(call, 1))
+
+
+def _openat(scene: Scene, thread: Thread, call: Call) -> None:
+    _opened(scene, thread, call, 0, 1, arguments.number_at(call, 2))
+
+
+def _openat2(scene: Scene, thread: Thread, call: Call) -> None:
+    flags = values.member(call.arguments[2], "flags")
+    _opened(scene, thread, call, 0, 1, values.number(flags) if flags else 0)
+
+
+def _creat(scene: Scene, thread: Thread, call: Call) -> None:
+    _opened(scene, thread, call, None, 0, O_CREAT | O_TRUNC | 1)
+
+
+def _opened(scene: Scene, thread: Thread, call: Call, base: int | None, path: int, flags: int) -> None:
+    if call.ok:
+        result = scene.descriptor(f"{call.value}{call.note}")
+        scene.put(thread, call, result.number, Handle(result.path, close_on_exec=bool(flags & O_CLOEXEC)))
+        succeeded(scene, thread, call, result, flags, lambda: _links_on_the_way(scene, thread, call, base, path, result))
+    elif not flags & O_PATH:
+        _failed(scene, thread, call, base, path, flags)
+
+
+def succeeded(scene: Scene, thread: Thread, call: Call, result: Descriptor, flags: int, walk=lambda: None) -> None:
+    """A descriptor that is open now: a record, or what is needed to adopt it where Landlock was not asked."""
+    handle = thread.process.table[result.number]
+    if result.path is None or flags & O_PATH:
+        handle.adopted = "device" if result.device and not flags & O_PATH else "other"
+        return
+    if flags & ACCESS_MODE == ACCESS_MODE:
+        handle.adopted = "device" if result.device else "other"
+        raise CannotSay("an open for ioctl alone (access mode 3)")
+    walk()
+    spot, made = _opened_spot(scene, result, flags)
+    _say_open(scene, thread, call, spot, result.number, flags, made)
+    handle.in_trace = True
+    if made:
+        scene.names.put(result.path, Node("reg"))
+
+
+def _opened_spot(scene: Scene, result: Descriptor, flags: int) -> tuple[Spot, bool]:
+    """What was opened, and whether the call made it."""
+    path = result.path or "/"
+    node = scene.names.at(path)
+    if flags & O_TMPFILE == O_TMPFILE:
+        return _without_name(scene, path), False
+    if flags & O_CREAT and (node is None or flags & O_EXCL):
+        return scene.absent(path), True
+    if result.device is not None:
+        return scene.present(path, result.device), False
+    if flags & O_DIRECTORY:
+        return scene.present(path, "dir"), False
+    return scene.present(path, node.kind if node is not None else _kind_after(scene, path)), False
+
+
+def _without_name(scene: Scene, path: str) -> Spot:
+    """A file that O_TMPFILE makes: Landlock is asked for the open file alone, which has a path but no name."""
+    return Spot(scene.tree.place(path, "reg"), path, Node("reg"), True)
+
+
+def _kind_after(scene: Scene, path: str) -> str:
+    """The kind of an object that nothing was known of: what the disk says after the run, else a regular file."""
+    seen = scene.disk.look(path)
+    return seen.kind if seen is not None and seen.kind != "sym" else "reg"
+
+
+def _links_on_the_way(scene: Scene, thread: Thread, call: Call, base: int | None, path: int, result: Descriptor) -> None:
+    """Lists the symbolic links by which a path led to the file, if it led there by any."""
+    text = values.text(call.arguments[path])
+    if text is not None and text != result.path:
+        scene.list_links(thread, arguments.descriptor_at(scene, call, base), text)
+
+
+def _failed(scene: Scene, thread: Thread, call: Call, base: int | None, path: int, flags: int) -> None:
+    if flags & ACCESS_MODE == ACCESS_MODE:
+        raise CannotSay("an open for ioctl alone (access mode 3)")
+    exclusive = bool(flags & O_CREAT and flags & O_EXCL)
+    spot = arguments.spot_at(scene, thread, call, base, path, not flags & O_NOFOLLOW and not exclusive)
+    if call.error == "EEXIST":
+        raise CannotSay("EEXIST before Landlock is asked")
+    spot = _after_failure(scene, call, spot, flags)
+    made = spot.node is None and bool(flags & O_CREAT)
+    number = thread.process.made_up()
+    _say_open(scene, thread, call, spot, number, flags, made)
+    if spot.node is not None or made:
+        scene.note(thread, call, "close", fd=number)
+
+
+def _after_failure(scene: Scene, call: Call, spot: Spot, flags: int) -> Spot:
+    """What an open that failed was about, after what the kernel answered."""
+    if flags & O_TMPFILE == O_TMPFILE:
+        there = spot.node is not None and call.error != "ENOENT"
+        return _without_name(scene, join([*split(spot.real), UNNAMED])) if there else scene.as_missing(spot)
+    if call.error == "ENOTDIR" and flags & O_DIRECTORY:
+        return scene.as_missing(spot)
+    if flags & O_CREAT:
+        return scene.as_missing(spot) if call.error == "ENOENT" else spot
+    return arguments.object_at(scene, call, spot, "dir" if flags & O_DIRECTORY else "reg")
+
+
+def _say_open(scene: Scene, thread: Thread, call: Call, spot: Spot, number: int, flags: int, made: bool) -> None:
+    scene.say(
+        thread,
+        call,
+        "open",
+        path=spot.path,
+        fd=number,
+        mode=MODES[flags & ACCESS_MODE],
+        create=made,
+        trunc=bool(flags & O_TRUNC),
+        **arguments.shown(spot),
+    )
+
+
+HANDLERS = {"open": _open, "openat": _openat, "openat2": _openat2, "creat": _creat}

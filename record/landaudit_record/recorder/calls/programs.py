@@ -1,0 +1,116 @@
+"""Running programs and forking: execve(2), execveat(2), clone(2), fork(2), vfork(2)."""
+
+from __future__ import annotations
+
+from dataclasses import replace
+
+from ..processes import Thread
+from ..scene import CLONE_FILES, CLONE_FS, NO_PATH, Scene, Spot
+from ..strace_log import Call
+from ..writing import CannotSay
+from . import arguments
+
+#: The kernel follows this many interpreters of interpreters (execve(2)).
+MOST_INTERPRETERS = 5
+USUAL_PROGRAM = "/bin/sh"
+
+
+def _execve(scene: Scene, thread: Thread, call: Call) -> None:
+    _run(scene, thread, call, arguments.spot_at(scene, thread, call, None, 0, True))
+
+
+def _execveat(scene: Scene, thread: Thread, call: Call) -> None:
+    follow = not arguments.number_at(call, 4) & arguments.AT_SYMLINK_NOFOLLOW
+    _run(scene, thread, call, arguments.spot_at(scene, thread, call, 0, 1, follow))
+
+
+def _run(scene: Scene, thread: Thread, call: Call, spot: Spot) -> None:
+    """A program that is run: what the kernel opens for it, then what closes with it."""
+    if spot.real.startswith("/memfd:"):
+        raise CannotSay(NO_PATH)
+    if call.error != "ENOENT":
+        spot = arguments.object_at(scene, call, spot, "reg")
+    if call.error == "EACCES" and _may_not_run(scene, spot):
+        raise CannotSay("EACCES of what is no file that may be run")
+    made_up = [_run_one(scene, thread, call, spot, None)]
+    if spot.node is not None:
+        made_up += [_run_one(scene, thread, call, one, "interpreter") for one in _interpreters(scene, thread, call, spot)]
+    for number in made_up:
+        if number is not None:
+            scene.note(thread, call, "close", fd=number)
+    if call.ok:
+        _became(scene, thread, call, spot)
+
+
+def _may_not_run(scene: Scene, spot: Spot) -> bool:
+    """Whether the kind or the mode of a file forbids to run it, whatever Landlock says (execve(2))."""
+    seen = scene.disk.look(spot.real)
+    return spot.node is not None and (spot.node.kind != "reg" or (seen is not None and not seen.runs))
+
+
+def _run_one(scene: Scene, thread: Thread, call: Call, spot: Spot, role: str | None) -> int | None:
+    """One file that the kernel opens and runs, by a descriptor of its own."""
+    number = None
+    if spot.node is not None:
+        number = thread.process.made_up()
+        scene.say(thread, call, "open", path=spot.path, fd=number, mode="r", role=role, **arguments.shown(spot))
+    scene.say(thread, call, "exec", path=spot.path, role=role, **arguments.shown(spot))
+    return number
+
+
+def _interpreters(scene: Scene, thread: Thread, call: Call, program: Spot) -> list[Spot]:
+    """What a program is run by: the program after `#!` and its like, then the loader."""
+    found: list[Spot] = []
+    spot = program
+    while len(found) < MOST_INTERPRETERS:
+        text = scene.disk.interpreter(spot.real)
+        if text is None and spot is program and scene.disk.look(spot.real) is None:
+            scene.leave_out(thread, call, "a program that is gone: its loader is taken to be the usual one")
+            text = scene.disk.interpreter(scene.spot(thread, None, USUAL_PROGRAM, True).real)
+        if text is None:
+            return found
+        spot = scene.spot(thread, None, text, True)
+        found.append(spot)
+        if spot.node is None:
+            return found
+    return found
+
+
+def _became(scene: Scene, thread: Thread, call: Call, spot: Spot) -> None:
+    """The process runs the program: what closes on exec is closed, and no other thread is left."""
+    process = thread.process
+    for tid in process.threads - {thread.tid}:
+        scene.threads.pop(tid, None)
+    process.threads = {thread.tid}
+    process.program = spot.real
+    for number in sorted(process.table):
+        if process.table[number].close_on_exec:
+            scene.close(thread, call, number)
+
+
+def _forked(scene: Scene, thread: Thread, call: Call) -> None:
+    if not call.ok or call.value is None or call.line in scene.begun:
+        return
+    birth = scene.births.next(call.value)
+    if birth is not None:
+        scene.begin(birth, call.value, call)
+
+
+def _unshared(scene: Scene, thread: Thread, call: Call) -> None:
+    """A thread that no longer shares its working directory or its descriptors (unshare(2))."""
+    flags = arguments.number_at(call, 0)
+    if call.ok and flags & CLONE_FS:
+        thread.place = replace(thread.place)
+    if call.ok and flags & CLONE_FILES and len(thread.process.threads) > 1:
+        scene.leave_out(thread, call, "a thread with a descriptor table of its own")
+
+
+HANDLERS = {
+    "unshare": _unshared,
+    "execve": _execve,
+    "execveat": _execveat,
+    "clone": _forked,
+    "clone3": _forked,
+    "fork": _forked,
+    "vfork": _forked,
+}

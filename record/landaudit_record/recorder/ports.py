@@ -1,0 +1,33 @@
+"""What a policy says of ports, for a strace that can't read it from the calls (before 6.7)."""
+
+from __future__ import annotations
+
+from collections.abc import Iterator
+from itertools import cycle
+
+from ..policies import Policy
+from ..rights import NET
+
+
+class Ports:
+    """The rights for ports that each layer handles, and the rules on ports, each in the policy's order, over and over."""
+
+    def __init__(self, policy: Policy | None = None) -> None:
+        layers = policy.layers if policy is not None else ()
+        self._handled: Iterator[list[str]] = cycle([NET.ordered(layer.handled_access_net.rights) for layer in layers])
+        self._rules: Iterator[tuple[list[str], int]] = cycle(
+            [
+                (NET.ordered(rule.allowed_access.rights), port)
+                for layer in layers
+                for rule in layer.net_port
+                for port in rule.ports
+            ]
+        )
+
+    def handled(self) -> list[str] | None:
+        """What the next ruleset handles; None without a policy."""
+        return next(self._handled, None)
+
+    def rule(self) -> tuple[list[str], int] | None:
+        """The next rule: its rights and its port."""
+        return next(self._rules, None)

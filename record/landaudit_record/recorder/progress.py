@@ -1,0 +1,34 @@
+"""How far a long work is, shown on a terminal and nowhere else."""
+
+from __future__ import annotations
+
+import sys
+import time
+from types import TracebackType
+from typing import Self
+
+EVERY = 0.5
+
+
+class Progress:
+    """A counter that is written over itself on standard error."""
+
+    def __init__(self, what: str) -> None:
+        self._what = what
+        self._shows = sys.stderr.isatty()
+        self._next = time.monotonic() + EVERY
+        self._shown = False
+
+    def __enter__(self) -> Self:
+        return self
+
+    def show(self, count: int) -> None:
+        """Shows the count, if it is a while since it was shown."""
+        if self._shows and time.monotonic() >= self._next:
+            self._next = time.monotonic() + EVERY
+            self._shown = True
+            print(f"\r{count:,} {self._what}", end="", file=sys.stderr, flush=True)
+
+    def __exit__(self, kind: type[BaseException] | None, error: BaseException | None, at: TracebackType | None) -> None:
+        if self._shown:
+            print("\r\033[K", end="", file=sys.stderr, flush=True)

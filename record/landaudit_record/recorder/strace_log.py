@@ -1,0 +1,214 @@
+"""The log of strace: its lines as calls, in the order in which the calls ended.
+
+A call that another process's line interrupts is written in two halves, "<unfinished ...>" and
+"<... resumed>", which are put together here. A child may run before its parent's fork has ended, so
+the children of all forks are looked up in a first reading.
+"""
+
+from __future__ import annotations
+
+import gzip
+import re
+from collections import deque
+from collections.abc import Iterator
+from dataclasses import dataclass, field
+from pathlib import Path
+from typing import TextIO
+
+from . import values
+from ..problems import Problem
+
+UNFINISHED = " <unfinished ...>"
+
+_LINE = re.compile(r"(\d+) +(.*)")
+_RESUMED = re.compile(r"<\.\.\. (\w+) resumed>")
+_RESULT = re.compile(r"\)\s*= (-?\d+|0x[0-9a-f]+|\?)(.*)", re.DOTALL)
+_ERROR = re.compile(r" (E[A-Z0-9]+) ")
+_SUPERSEDED = re.compile(r"superseded by execve in pid (\d+)")
+_PIECE = re.compile(r'"(?:[^"\\]|\\.)*"|/\*.*?\*/|<(?:[^<>]|<[^<>]*>)*>|[()\[\]{},]')
+_FORK = re.compile(r"(\d+) +(?:(?:clone|clone3|fork|vfork)\(.*|<\.\.\. (?:clone|clone3|fork|vfork) resumed>.*)\)\s*= (\d+)$")
+_FORK_BEGINS = re.compile(r"(\d+) +(?:clone|clone3|fork|vfork)\(.*<unfinished \.\.\.>$")
+_FLAGS = re.compile(r"flags=([^,}]+)")
+
+
+@dataclass(slots=True)
+class Call:
+    """A system call that ended: its thread, where it began, its arguments as strace wrote them, its result.
+
+    `value` is what the kernel returned (None where it returned nothing, as a call that is restarted),
+    `error` the name of its error, `note` what strace says behind the result (the path of a descriptor).
+    """
+
+    line: int
+    tid: int
+    name: str
+    arguments: list[str]
+    value: int | None
+    error: str | None
+    note: str
+    text: str
+
+    @property
+    def ok(self) -> bool:
+        return self.error is None and self.value is not None
+
+
+@dataclass(slots=True)
+class Ended:
+    """A thread that ended."""
+
+    line: int
+    tid: int
+
+
+@dataclass(slots=True)
+class Superseded:
+    """The leader of a process whose other thread runs a program: from here on that thread has the leader's number."""
+
+    line: int
+    tid: int
+    by: int
+
+
+@dataclass(slots=True)
+class Unread:
+    """A line that is no line of strace's."""
+
+    line: int
+    tid: int
+    text: str
+
+
+Event = Call | Ended | Superseded | Unread
+
+
+@dataclass(frozen=True, slots=True)
+class Birth:
+    """A fork that made a thread: the line where it began, the thread that forks, the flags of its clone."""
+
+    line: int
+    maker: int
+    flags: int
+
+
+@dataclass
+class Births:
+    """Who was started by whom: for each new thread the forks that made one of its number, in their order."""
+
+    forks: dict[int, deque[Birth]] = field(default_factory=dict)
+
+    def next(self, tid: int) -> Birth | None:
+        """The fork that makes the next thread of this number."""
+        made = self.forks.get(tid)
+        return made.popleft() if made else None
+
+
+def open_log(path: Path) -> TextIO:
+    """The log as text; strace writes nothing but ASCII."""
+    if path.suffix == ".gz":
+        return gzip.open(path, "rt", encoding="latin-1", newline="\n")
+    return open(path, encoding="latin-1", newline="\n")
+
+
+def find_log(folder: Path) -> Path:
+    """The log that a recording keeps, compressed or not."""
+    for name in ("strace.txt", "strace.txt.gz"):
+        if (folder / name).is_file():
+            return folder / name
+    raise Problem(f"{folder} has no strace.txt: name a folder that 'landaudit-record run' made")
+
+
+def births(path: Path) -> Births:
+    """All forks of a log."""
+    found = Births()
+    begun: dict[int, tuple[int, int]] = {}
+    with open_log(path) as lines:
+        for number, line in enumerate(lines, start=1):
+            if "clone" not in line and "fork" not in line:
+                continue
+            if begins := _FORK_BEGINS.match(line):
+                begun[int(begins[1])] = number, _clone_flags(line)
+            elif ends := _FORK.match(line):
+                maker, child = int(ends[1]), int(ends[2])
+                here = number, _clone_flags(line)
+                first, flags = begun.pop(maker, here) if "resumed>" in line else here
+                found.forks.setdefault(child, deque()).append(Birth(first, maker, flags))
+    return found
+
+
+def _clone_flags(line: str) -> int:
+    flags = _FLAGS.search(line)
+    return values.number(flags[1]) if flags else 0
+
+
+def events(path: Path) -> Iterator[Event]:
+    """What a log says, in the order in which the calls ended."""
+    pending: dict[int, tuple[int, str]] = {}
+    with open_log(path) as lines:
+        for number, line in enumerate(lines, start=1):
+            match = _LINE.match(line)
+            if match is None:
+                yield Unread(number, 0, line.rstrip("\n"))
+                continue
+            event = _event(number, int(match[1]), match[2], pending)
+            if event is not None:
+                yield event
+
+
+def _event(number: int, tid: int, text: str, pending: dict[int, tuple[int, str]]) -> Event | None:
+    if text.endswith(UNFINISHED):
+        pending[tid] = (number, text[: -len(UNFINISHED)])
+        return None
+    if text.startswith("+++ "):
+        superseded = _SUPERSEDED.search(text)
+        if superseded is None:
+            pending.pop(tid, None)
+            return Ended(number, tid)
+        by = int(superseded[1])
+        if by in pending:
+            pending[tid] = pending.pop(by)
+        return Superseded(number, tid, by)
+    if text.startswith("--- "):
+        return None
+    resumed = _RESUMED.match(text)
+    if resumed is None:
+        return _call(number, tid, text)
+    begun = pending.pop(tid, None)
+    if begun is None:
+        return Unread(number, tid, text)
+    return _call(begun[0], tid, begun[1] + text[resumed.end() :])
+
+
+def _call(number: int, tid: int, text: str) -> Event:
+    opening = text.find("(")
+    name = text[:opening]
+    if opening < 1 or not name.replace("_", "a").isalnum():
+        return Unread(number, tid, text)
+    arguments, end = split_arguments(text, opening + 1)
+    result = _RESULT.match(text, end)
+    if result is None:
+        return Unread(number, tid, text)
+    value = None if result[1] == "?" else int(result[1], 0)
+    error = _ERROR.match(result[2])
+    failed = error[1] if error is not None and (value is None or value == -1) else None
+    return Call(number, tid, name, arguments, value, failed, result[2], text)
+
+
+def split_arguments(text: str, start: int) -> tuple[list[str], int]:
+    """The arguments that begin at `start`, and the place of the bracket that closes them."""
+    arguments: list[str] = []
+    depth, begin = 0, start
+    for piece in _PIECE.finditer(text, start):
+        mark = piece[0]
+        if mark in "([{":
+            depth += 1
+        elif mark in ")]}":
+            if depth == 0:
+                if begin < piece.start() or arguments:
+                    arguments.append(text[begin : piece.start()].strip())
+                return arguments, piece.start()
+            depth -= 1
+        elif mark == "," and depth == 0:
+            arguments.append(text[begin : piece.start()].strip())
+            begin = piece.end()
+    return arguments, len(text)

@@ -1,0 +1,98 @@
+"""What an argument of a call says, as strace writes it with numbers beside their names."""
+
+from __future__ import annotations
+
+import re
+from dataclasses import dataclass
+from functools import lru_cache
+
+_ESCAPE = re.compile(rb"\\(x[0-9a-f]{2}|[0-7]{1,3}|.)", re.DOTALL)
+_LETTERS = {b"n": b"\n", b"t": b"\t", b"r": b"\r", b"v": b"\v", b"f": b"\f"}
+_COMMENT = re.compile(r"\s*/\*.*?\*/")
+#: Programs repeat themselves: so many different arguments are kept with what they say.
+KEPT = 16_384
+
+_NUMBER = re.compile(r"\s*(-?0x[0-9a-f]+|-?\d+)")
+_DESCRIPTOR = re.compile(r"(-?\d+)(?: /\*[^*]*\*/)?(?:<((?:[^<>]|<[^<>]*>)*)>(\(deleted\))?)?")
+_DEVICE = re.compile(r"<(char|block) \d+:\d+>$")
+
+
+@dataclass(frozen=True, slots=True)
+class Descriptor:
+    """A descriptor's number, and what strace says stands behind it: a path or a name as `pipe:[1]`, the kind of a device."""
+
+    number: int
+    behind: str | None
+    device: str | None = None
+    deleted: bool = False
+
+    @property
+    def path(self) -> str | None:
+        """The path behind it, if it has one."""
+        return self.behind if self.behind is not None and self.behind.startswith("/") else None
+
+
+def _unescaped(match: re.Match[bytes]) -> bytes:
+    code = match[1]
+    if code[:1] == b"x":
+        return bytes([int(code[1:], 16)])
+    if code[:1].isdigit():
+        return bytes([int(code, 8) & 0xFF])
+    return _LETTERS.get(code, code)
+
+
+def unescaped(text: str) -> str:
+    """The name that an escaped text stands for; a byte that is not UTF-8 becomes a lone surrogate."""
+    if "\\" not in text:
+        return text
+    return _ESCAPE.sub(_unescaped, text.encode("latin-1")).decode("utf-8", "surrogateescape")
+
+
+@lru_cache(KEPT)
+def text(argument: str) -> str | None:
+    """A text in quotes; None where the call was given no text that could be read."""
+    if len(argument) < 2 or argument[0] != '"' or not argument.endswith('"'):
+        return None
+    return unescaped(argument[1:-1])
+
+
+@lru_cache(KEPT)
+def number(argument: str) -> int:
+    """A number, or several joined by `|`, with names in comments beside them; NULL is 0."""
+    total = 0
+    for part in _COMMENT.sub("", argument).split("|"):
+        digits = _NUMBER.match(part)
+        if digits is None:
+            if part.strip() != "NULL":
+                raise ValueError(f"{argument} is no number")
+            continue
+        total |= int(digits[1], 8) if digits[1].startswith("0") and digits[1].isdigit() else int(digits[1], 0)
+    return total
+
+
+@lru_cache(KEPT)
+def descriptor(argument: str) -> Descriptor | None:
+    """A descriptor with what stands behind it."""
+    match = _DESCRIPTOR.match(argument)
+    if match is None:
+        return None
+    behind, device = match[2], None
+    if behind is not None:
+        if kind := _DEVICE.search(behind):
+            device, behind = kind[1], behind[: kind.start()]
+        behind = unescaped(behind)
+    return Descriptor(int(match[1]), behind, device, match[3] is not None)
+
+
+def member(argument: str, name: str) -> str | None:
+    """A member of a structure, as it is written there."""
+    match = re.search(rf"[{{ ]{name}=", argument)
+    if match is None:
+        return None
+    rest = argument[match.end() :]
+    end = re.search(r"(?:, \w+=|\}|, \.\.\.)", _without_texts(rest))
+    return rest[: end.start()] if end else rest
+
+
+def _without_texts(argument: str) -> str:
+    return re.sub(r'"(?:[^"\\]|\\.)*"', lambda text: "_" * len(text[0]), argument)

@@ -1,0 +1,136 @@
+"""Suggests the rules that would have let refused calls pass."""
+
+from __future__ import annotations
+
+from collections import Counter, defaultdict
+from collections.abc import Callable, Iterable, Iterator, Mapping
+from dataclasses import dataclass, field, replace
+
+from . import wants
+from .asking import Moot, asked, lacking
+from .jsonl import Record
+from .landaudit import Answer
+from .policies import Access, Layer, PathRule, Policy, PortRule
+from .processes import Process, objects_made, of_policy
+from .reading import Judged, call_text
+from .rights import FS, NET, Rights
+from .trees import Tree
+from .wants import Rule, Wants
+
+MOST_ROUNDS = 30
+
+
+@dataclass
+class Round:
+    """What one audit shows: what the policy's layers lack, refusals that no rule mends, and what the run made."""
+
+    wants: dict[int, Wants] = field(default_factory=dict)
+    unmended: Counter[str] = field(default_factory=Counter)
+    of_program: Counter[str] = field(default_factory=Counter)
+    made: set[str] = field(default_factory=set)
+
+
+@dataclass(frozen=True)
+class Suggestion:
+    """The rules for each layer by its number, and what stays refused with them.
+
+    `unmended` are refusals of the policy's layers that no rule mends,
+    `of_program` those of layers that the program makes itself, both by call.
+    `rounds` is how many audits it took; it is not `finished` where it took too many.
+    """
+
+    rules: Mapping[int, list[Rule]]
+    unmended: Counter[str]
+    of_program: Counter[str]
+    rounds: int
+    finished: bool
+
+
+def suggest(tree: Tree, policy: Policy, abi: int, audit: Callable[[Policy], Iterable[Judged]]) -> Suggestion:
+    """Rules until no layer of the policy refuses what a rule would mend.
+
+    `audit` answers the recording under a policy. Under the rules of one round
+    the next may show refusals that stood behind those which they mend.
+    """
+    found, rules = Round(), {}
+    lacked: dict[int, Wants] = defaultdict(dict)
+    made: set[str] = set()
+    for rounds in range(1, MOST_ROUNDS + 1):
+        found = _look(tree, abi, audit(with_rules(policy, rules)))
+        if not found.wants:
+            return Suggestion(rules, found.unmended, found.of_program, rounds, True)
+        made |= found.made
+        for number, more in found.wants.items():
+            wants.unite(lacked[number], more)
+        rules = {number: wants.rules(tree, lacked[number], made) for number in sorted(lacked)}
+    return Suggestion(rules, found.unmended, found.of_program, MOST_ROUNDS, False)
+
+
+def needs_refer(layer: Layer, rules: Iterable[Rule]) -> bool:
+    """Whether a layer must handle `refer` by name before the suggested rules may grant it."""
+    return "refer" not in layer.handled_access_fs.rights and any("refer" in rule.rights for rule in rules)
+
+
+def with_rules(policy: Policy, rules: Mapping[int, list[Rule]]) -> Policy:
+    """A policy with suggested rules, each in its layer."""
+    return replace(policy, layers=tuple(_layer_with(layer, rules.get(layer.number, [])) for layer in policy.layers))
+
+
+def _layer_with(layer: Layer, rules: list[Rule]) -> Layer:
+    handled = layer.handled_access_fs
+    if needs_refer(layer, rules):
+        handled = replace(handled, outright=handled.outright | {"refer"})
+    return replace(
+        layer,
+        handled_access_fs=handled,
+        path_beneath=(*layer.path_beneath, *_path_rules(rules)),
+        net_port=(*layer.net_port, *_port_rules(rules)),
+    )
+
+
+def _path_rules(rules: list[Rule]) -> Iterator[PathRule]:
+    for rule in rules:
+        if isinstance(rule.place, str):
+            yield PathRule("suggested", Access(rule.rights), (rule.place,))
+
+
+def _port_rules(rules: list[Rule]) -> Iterator[PortRule]:
+    for rule in rules:
+        if not isinstance(rule.place, str):
+            yield PortRule("suggested", Access(rule.rights), rule.place)
+
+
+def _look(tree: Tree, abi: int, calls: Iterable[Judged]) -> Round:
+    """What one audit shows. A call has the number that the recording gives it, else that of its own record, negative."""
+    seen = Round()
+    known = FS.known(abi) | NET.known(abi)
+    ordinal = 0
+    for record, answer, process in calls:
+        if of_policy(record) is not None:
+            continue
+        ordinal += 1
+        seen.made.update(objects_made(record))
+        if answer.refused:
+            call = record.get("call")
+            _refused(seen, tree, known, record, answer, process, call if type(call) is int else -ordinal)
+    return seen
+
+
+def _refused(
+    seen: Round, tree: Tree, known: Rights, record: Record, answer: Answer, process: Process, call: int
+) -> None:
+    """Takes up one refused call, for each layer that refuses it."""
+    found = asked(tree, record, process)
+    for number in answer.layers:
+        layer = process.domain[number - 1]
+        if layer.policy is None:
+            seen.of_program[call_text(record)] += 1
+            continue
+        lacked: Wants = {}
+        if found is not None and not isinstance(found, Moot):
+            for place, rights in lacking(found, answer.error or "", layer):
+                wants.unite(lacked, {place: {right: {call} for right in rights & known}})
+        if any(lacked.values()):
+            wants.unite(seen.wants.setdefault(layer.policy, {}), lacked)
+        else:
+            seen.unmended[call_text(record)] += 1

@@ -1,0 +1,77 @@
+"""Suggested rules written out as TOML to paste, with what a person has to know of them in comments."""
+
+from __future__ import annotations
+
+import json
+from collections import Counter
+from collections.abc import Iterator
+
+from .policies import Layer, Policy
+from .rights import FS, NET
+from .suggesting import Suggestion, needs_refer
+from .wants import Rule
+
+
+def lines(suggestion: Suggestion, policy: Policy) -> Iterator[str]:
+    """The lines, each without its line feed. All but rules is comment, so the whole may be pasted into a layer."""
+    for layer in policy.layers:
+        rules = suggestion.rules.get(layer.number, [])
+        if rules:
+            yield from _of_layer(layer, rules, policy)
+    yield from _ending(suggestion)
+
+
+def _of_layer(layer: Layer, rules: list[Rule], policy: Policy) -> Iterator[str]:
+    only = "" if len(policy.layers) == 1 else f": paste them beneath the [[layer]] of that number in {policy.path}"
+    yield f"# {_counted(len(rules), 'rule')} for layer {layer.number}{only}"
+    if needs_refer(layer, rules):
+        handled = _list(FS.ordered(layer.handled_access_fs.rights | {"refer"}))
+        yield "# rules may grant refer only where the layer handles it; first change its line to"
+        yield f"# handled_access_fs = {handled}"
+    for rule in rules:
+        yield ""
+        yield f"# {_counted(rule.calls, 'call')}"
+        yield from _rule(rule)
+    yield ""
+
+
+def _rule(rule: Rule) -> Iterator[str]:
+    if isinstance(rule.place, str):
+        yield "[[layer.path_beneath]]"
+        yield f"allowed_access = {_list(FS.ordered(rule.rights))}"
+        yield f"parent = {_text(rule.place)}"
+    else:
+        yield "[[layer.net_port]]"
+        yield f"allowed_access = {_list(NET.ordered(rule.rights))}"
+        yield f"port = [{', '.join(map(str, rule.place))}]"
+
+
+def _ending(suggestion: Suggestion) -> Iterator[str]:
+    """What stays refused under the rules, or that nothing does."""
+    if not suggestion.finished:
+        yield f"# after {suggestion.rounds} audits the policy still refuses calls that more rules would mend: run this again"
+    elif suggestion.rules:
+        yield f"# with these rules no layer of the policy refuses what a rule can mend ({suggestion.rounds} audits)"
+    else:
+        yield "# the policy refuses nothing that a rule can mend"
+    yield from _staying(suggestion.unmended, "refused by layers of the policy whatever their rules are")
+    yield from _staying(suggestion.of_program, "refused by layers that the program makes itself")
+
+
+def _staying(calls: Counter[str], why: str) -> Iterator[str]:
+    if calls:
+        by_call = ", ".join(f"{name} {times}" for name, times in calls.most_common())
+        yield f"# {_counted(calls.total(), 'call')} {'is' if calls.total() == 1 else 'are'} {why}: {by_call}"
+
+
+def _counted(number: int, thing: str) -> str:
+    return f"{number} {thing}" if number == 1 else f"{number} {thing}s"
+
+
+def _list(words: list[str]) -> str:
+    return "[" + ", ".join(map(_text, words)) + "]"
+
+
+def _text(text: str) -> str:
+    """A TOML basic string."""
+    return json.dumps(text, ensure_ascii=False).replace("\x7f", "\\u007f")

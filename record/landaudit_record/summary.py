@@ -1,0 +1,190 @@
+"""What an audit comes to: refusals grouped and counted, what was moot and why, and what to be warned of."""
+
+from __future__ import annotations
+
+from collections import Counter
+from collections.abc import Iterable
+from dataclasses import dataclass, field
+from pathlib import Path
+from typing import Any
+
+from . import jsonl
+from .asking import Moot, why_moot
+from .jsonl import Record
+from .landaudit import Answer
+from .processes import Process, objects_made, of_policy
+from .reading import Judged, call_text, place_text
+from .rights import FILE_RIGHTS, FS, NET
+from .trees import Tree
+
+# Calls on paths, and what the kernel answers to those of them that it asked Landlock about.
+PATH_CALLS = frozenset(
+    {"open", "truncate", "exec", "mknod", "mkdir", "symlink", "unlink", "rmdir", "rename", "link"},
+)
+ASKED_LANDLOCK = (None, "ok", "EACCES", "EPERM", "EXDEV")
+UNTOLD = "the tree or the descriptors decide it"
+
+
+@dataclass(frozen=True)
+class LayerName:
+    """A layer by its number in the domain, with its number in the tried policy if it is of that."""
+
+    number: int
+    policy: int | None
+
+    def __str__(self) -> str:
+        return f"program's {self.number}" if self.policy is None else f"policy's {self.policy}"
+
+
+@dataclass(frozen=True)
+class Refusal:
+    """Refused calls that are alike."""
+
+    call: str
+    place: str
+    error: str
+    layers: tuple[LayerName, ...]
+
+
+@dataclass
+class Summary:
+    """All that is said of an audit."""
+
+    abi: int
+    verdicts: Counter[str] = field(default_factory=Counter)
+    refusals: dict[Refusal, Counter[str]] = field(default_factory=dict)
+    moot: dict[str, Counter[str]] = field(default_factory=dict)
+    path_calls: int = 0
+    moot_path_calls: int = 0
+    warnings: dict[str, int] = field(default_factory=dict)
+    unsaid: Counter[str] = field(default_factory=Counter)
+
+    @property
+    def records(self) -> int:
+        return sum(self.verdicts.values())
+
+    def by_frequency(self) -> list[tuple[Refusal, Counter[str]]]:
+        """The refusals, the most frequent first; those that are as frequent, in the order of the trace."""
+        return sorted(self.refusals.items(), key=lambda item: -item[1].total())
+
+
+def summarize(tree: Tree, calls: Iterable[Judged], abi: int, unsaid: Path) -> Summary:
+    """The summary of an audit whose records are given with their answers."""
+    summary = Summary(abi)
+    rules: dict[str, str] = {}
+    made: set[str] = set()
+    for record, answer, process in calls:
+        summary.verdicts[answer.verdict] += 1
+        made.update(objects_made(record))
+        if record["op"] in PATH_CALLS and record.get("kernel") in ASKED_LANDLOCK:
+            summary.path_calls += 1
+            summary.moot_path_calls += answer.verdict == "moot"
+        if answer.verdict == "refused":
+            _refused(summary, record, answer, process, tree)
+        elif answer.verdict == "moot":
+            _moot(summary, record, process, tree)
+        elif (origin := of_policy(record)) is not None and "path" in record:
+            rules[_rule_text(origin, record)] = record["path"]
+    for rule, path in rules.items():
+        if path in made:
+            _warn(summary, f"{rule}: the run makes {path} itself, so the rule finds none or an older one: grant it on "
+                           "the directory")
+    if 10 * summary.moot_path_calls > summary.path_calls:
+        _warn(summary, _many_moot(summary))
+    summary.unsaid = _unsaid(unsaid)
+    return summary
+
+
+def _refused(summary: Summary, record: Record, answer: Answer, process: Process, tree: Tree) -> None:
+    origin = of_policy(record)
+    if origin is not None:
+        _warn(summary, f"{_rule_text(origin, record)} is refused with {answer.error}{_fault(record, tree)}")
+        return
+    if record["op"] == "create":
+        rights = FS.ordered(record.get("fs", ())) + NET.ordered(record.get("net", ()))
+        _warn(summary, f"a ruleset of the program is refused at ABI {summary.abi} with {answer.error}: a program that "
+                       f"asks for {', '.join(rights)} must drop what the kernel lacks, or it runs without that layer")
+    layers = tuple(LayerName(number, process.domain[number - 1].policy) for number in answer.layers)
+    refusal = Refusal(call_text(record), place_text(record, process), answer.error or "-", layers)
+    summary.refusals.setdefault(refusal, Counter())[process.program or "-"] += 1
+
+
+def _moot(summary: Summary, record: Record, process: Process, tree: Tree) -> None:
+    why, at = _because(record, process, tree)
+    summary.moot.setdefault(why, Counter())[at] += 1
+    origin = of_policy(record)
+    if origin is not None:
+        _warn(summary, f"{_rule_text(origin, record)} is moot, {why} in the tree: {at}; was it never touched in the "
+                       "run, or is the name wrong?")
+
+
+def _because(record: Record, process: Process, tree: Tree) -> tuple[str, str]:
+    """Why a call is moot, and at which path or number that shows."""
+    kernel, place = record.get("kernel"), place_text(record, process)
+    if kernel not in ASKED_LANDLOCK:
+        return f"the call failed in the recording too: {kernel}", place
+    why = why_moot(tree, record, process) or Moot(UNTOLD)
+    return why.why, place if why.at in (None, record.get("path"), record.get("to")) else why.at
+
+
+def _rule_text(origin: dict[str, Any], record: Record) -> str:
+    """A rule as the policy names it, or what else a record of the policy is."""
+    words = [f"layer {origin['layer']}"] if "layer" in origin else []
+    words.append(origin.get("rule", record["op"]))
+    words += [f"{key} {origin[key]}" for key in ("parent", "port") if key in origin]
+    return "policy: " + ", ".join(words)
+
+
+def _fault(record: Record, tree: Tree) -> str:
+    """What to do about a rule that is refused, where it can be told."""
+    rights = FS.ordered(frozenset(record.get("fs", ())) - FILE_RIGHTS)
+    if record["op"] == "add_path" and rights and not tree.is_dir(record["path"]):
+        return f": {', '.join(rights)} are rights on directories, and {record['path']} is none"
+    return ""
+
+
+def _many_moot(summary: Summary) -> str:
+    return (f"{summary.moot_path_calls} of {summary.path_calls} calls on paths are moot: the policy was not asked about "
+            "them; does the tree list what the run touched?")
+
+
+def _warn(summary: Summary, text: str) -> None:
+    summary.warnings[text] = summary.warnings.get(text, 0) + 1
+
+
+def _unsaid(path: Path) -> Counter[str]:
+    """What the recording could not say, by class; nothing where it left no list."""
+    if not path.exists():
+        return Counter()
+    return Counter(str(entry.get("class")) for _, entry in jsonl.numbered(path))
+
+
+def as_data(summary: Summary) -> dict[str, Any]:
+    """The summary as data for programs; its keys stay."""
+    return {
+        "abi": summary.abi,
+        "records": summary.records,
+        "allowed": summary.verdicts["allowed"],
+        "refused": summary.verdicts["refused"],
+        "moot": summary.verdicts["moot"],
+        "refusals": [_refusal_data(refusal, programs) for refusal, programs in summary.by_frequency()],
+        "moot_because": [
+            {"why": why, "times": at.total(), "at": dict(at.most_common())}
+            for why, at in sorted(summary.moot.items(), key=lambda item: -item[1].total())
+        ],
+        "path_calls": summary.path_calls,
+        "moot_path_calls": summary.moot_path_calls,
+        "warnings": [{"text": text, "times": times} for text, times in summary.warnings.items()],
+        "unsaid": dict(summary.unsaid.most_common()),
+    }
+
+
+def _refusal_data(refusal: Refusal, programs: Counter[str]) -> dict[str, Any]:
+    return {
+        "times": programs.total(),
+        "call": refusal.call,
+        "place": refusal.place,
+        "error": refusal.error,
+        "layers": [{"number": layer.number, "policy": layer.policy} for layer in refusal.layers],
+        "programs": dict(programs.most_common()),
+    }

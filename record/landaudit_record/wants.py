@@ -1,0 +1,95 @@
+"""What a layer lacks for refused calls, and the rules that would grant it."""
+
+from __future__ import annotations
+
+import re
+from collections import Counter, defaultdict
+from dataclasses import dataclass
+
+from .rights import Rights
+from .trees import ROOT, Tree, directory_of, upwards
+
+SEVERAL = 2
+_OF_A_PROCESS = re.compile(r"/proc/[0-9]+")
+
+# What is lacking on a path or a port: each right with the calls that ask for it, by their numbers.
+Wants = dict[str | int, dict[str, set[int]]]
+
+
+@dataclass(frozen=True)
+class Rule:
+    """A rule to be written, on a path or on ports, and how many calls ask for it."""
+
+    place: str | tuple[int, ...]
+    rights: Rights
+    calls: int
+
+
+def unite(wants: Wants, more: Wants) -> None:
+    """Adds to what is lacking what more calls lack."""
+    for place, rights in more.items():
+        here = wants.setdefault(place, {})
+        for right, calls in rights.items():
+            here.setdefault(right, set()).update(calls)
+
+
+def rules(tree: Tree, wants: Wants, made: set[str]) -> list[Rule]:
+    """The rules that grant what is lacking, those first for which most calls ask.
+
+    A rule stands on what is there before the run: for an object that is made in
+    it, on the directory over that. What several files of one directory lack is
+    granted on the directory, but for the root.
+    """
+    found = _path_rules(_together(tree, _lasting(wants, made))) + _port_rules(wants)
+    return sorted(found, key=lambda rule: -rule.calls)
+
+
+def _lasting(wants: Wants, made: set[str]) -> Wants:
+    """What is lacking on paths, each of them there before the run."""
+    lasting: Wants = {}
+    for place, rights in wants.items():
+        if isinstance(place, str):
+            unite(lasting, {_there_before(place, made): rights})
+    return lasting
+
+
+def _there_before(path: str, made: set[str]) -> str:
+    """A path, or the directory over the uppermost of its components that the run or a process made."""
+    before = path
+    for over in upwards(path):
+        if over in made or _OF_A_PROCESS.fullmatch(over):
+            before = directory_of(over)
+    return before
+
+
+def _together(tree: Tree, wants: Wants) -> Wants:
+    """What several files of a directory lack, on the directory; all else as it is."""
+    files = {path: directory_of(path) for path in wants if not tree.is_dir(path) and directory_of(path) != ROOT}
+    alike = Counter((directory, right) for path, directory in files.items() for right in wants[path])
+    together: Wants = {}
+    for path, rights in wants.items():
+        for right, calls in rights.items():
+            several = path in files and alike[files[path], right] >= SEVERAL
+            unite(together, {files[path] if several else path: {right: calls}})
+    return together
+
+
+def _path_rules(wants: Wants) -> list[Rule]:
+    """One rule a path. What a rule on a directory over a path grants is not granted again."""
+    granted: Wants = {}
+    for path in sorted(wants):
+        for right, calls in wants[path].items():
+            place = next((over for over in upwards(path) if right in granted.get(over, {})), path)
+            unite(granted, {place: {right: calls}})
+    return [Rule(path, frozenset(rights), len(set().union(*rights.values()))) for path, rights in granted.items()]
+
+
+def _port_rules(wants: Wants) -> list[Rule]:
+    """One rule for all ports that lack the same rights."""
+    ports: dict[Rights, list[int]] = defaultdict(list)
+    calls: dict[Rights, set[int]] = defaultdict(set)
+    for port in sorted(place for place in wants if isinstance(place, int)):
+        rights = frozenset(wants[port])
+        ports[rights].append(port)
+        calls[rights].update(*wants[port].values())
+    return [Rule(tuple(ports[rights]), rights, len(calls[rights])) for rights in ports]

@@ -1,0 +1,93 @@
+"""Runs every command of docs/TUTORIAL.md and of the README's way, and compares what they print.
+
+It needs strace, git and a built landaudit, and says which of them is missing.
+"""
+
+from __future__ import annotations
+
+import os
+import re
+import shutil
+import subprocess
+import tempfile
+import unittest
+from dataclasses import dataclass, field
+from pathlib import Path
+
+from landaudit_record.landaudit import BUILT
+
+TOP = Path(__file__).resolve().parents[2]
+#: The folder in which the documents run their commands.
+WORKED_IN = "/tmp/tutorial"
+
+
+@dataclass
+class Step:
+    """A command of a document, the lines that it is to print, and its status if the document says it."""
+
+    command: str
+    shown: list[str] = field(default_factory=list)
+    status: int | None = None
+
+
+def steps(document: Path) -> list[Step]:
+    """The commands of a document that stand behind `$` in indented blocks."""
+    found: list[Step] = []
+    for line in document.read_text(encoding="utf-8").splitlines():
+        if line.startswith("    $ "):
+            found.append(Step(line[6:]))
+        elif line.startswith("    (status ") and found:
+            found[-1].status = int(line.strip("() ").split()[1])
+        elif line.startswith("    ") and found:
+            found[-1].shown.append(line.strip())
+        elif line and found and not line.startswith(" "):
+            found.append(Step(":"))
+    return [step for step in found if step.command != ":" or step.shown]
+
+
+def alike(text: str) -> str:
+    """A line without what differs from machine to machine: counts, and the width of columns."""
+    return " ".join(re.sub(r"\d+", "N", text).split())
+
+
+def missing() -> str | None:
+    """Why the commands can't be run here, if they can't."""
+    for program in ("strace", "git"):
+        if shutil.which(program) is None:
+            return f"{program} is not installed"
+    return None if BUILT.exists() else f"{BUILT} is not built: run 'make landaudit'"
+
+
+@unittest.skipIf(missing() is not None, missing())
+class Tutorial(unittest.TestCase):
+    def test_every_command_prints_what_the_tutorial_shows(self) -> None:
+        self.run_document(TOP / "docs" / "TUTORIAL.md")
+
+    def test_every_command_of_the_readme(self) -> None:
+        self.run_document(TOP / "README.md")
+
+    def run_document(self, document: Path) -> None:
+        environment = {**os.environ, "PATH": f"{TOP / 'record'}:{BUILT.parent}:{os.environ['PATH']}"}
+        with tempfile.TemporaryDirectory() as folder:
+            for step in steps(document):
+                with self.subTest(step.command):
+                    self.run_step(step, folder, environment)
+
+    def run_step(self, step: Step, folder: str, environment: dict[str, str]) -> None:
+        run = subprocess.run(
+            ["sh", "-c", step.command],
+            cwd=folder,
+            env=environment,
+            stdout=subprocess.PIPE,
+            stderr=subprocess.STDOUT,
+            text=True,
+            check=False,
+        )
+        self.assertEqual(run.returncode, step.status or 0, run.stdout)
+        printed = {alike(line) for line in run.stdout.replace(folder, WORKED_IN).splitlines()}
+        for line in step.shown:
+            self.assertIn(alike(line), printed, run.stdout)
+
+
+if __name__ == "__main__":
+    unittest.main()

@@ -1,0 +1,141 @@
+"""Where a policy's records go in a trace, and which they are."""
+
+from __future__ import annotations
+
+import io
+import json
+import tempfile
+import unittest
+from pathlib import Path
+
+from landaudit_record import applying
+from landaudit_record.fitting import fit
+from landaudit_record.jsonl import Record
+from landaudit_record.policies import Access, Layer, PathRule, Policy, PortRule
+from landaudit_record.problems import Problem
+from landaudit_record.rights import FS
+from landaudit_record.trees import Tree
+
+from .recorded import write_lines
+
+TREE = Tree(
+    {"/": "dir", "/usr": "dir", "/usr/ls": "reg", "/usr/dash": "reg", "/bin": "sym", "/sh": "sym", "/loop": "sym"},
+    {"/bin": "usr", "/sh": "/bin/dash", "/loop": "loop"},
+)
+RUN = {"op": "exec", "pid": 10, "path": "/usr/ls", "call": 5, "kernel": "ok"}
+START = {"op": "start", "pid": 10, "call": 5}
+
+
+def access(*rights: str) -> Access:
+    return Access(outright=frozenset(rights))
+
+
+def policy(*parents: str, fs: Access = access("read_file"), allowed: Access = access("read_file")) -> Policy:
+    """A policy of one layer with one rule on some parents."""
+    rule = PathRule("path_beneath 1", allowed, parents)
+    return Policy(Path("P.toml"), (Layer(1, fs, Access(), (rule,), ()),))
+
+
+class Applying(unittest.TestCase):
+    def setUp(self) -> None:
+        self.folder = tempfile.TemporaryDirectory()
+        self.addCleanup(self.folder.cleanup)
+
+    def before(self, trace: list[Record], program: str | None = None) -> dict[int, int]:
+        """The lines before which a policy goes, each with the process."""
+        return applying.plan(write_lines(Path(self.folder.name, "trace.jsonl"), trace), TREE, program).before
+
+    def test_before_the_first_program_of_each_start(self) -> None:
+        trace = [START, RUN, {**RUN, "call": 6}, {"op": "fork", "pid": 10, "child": 11}, {**RUN, "pid": 11, "call": 7},
+                 {"op": "start", "pid": 12}, {**RUN, "pid": 12, "call": 8}]
+        self.assertEqual(self.before(trace), {2: 10, 7: 12})
+
+    def test_before_all_records_of_the_exec(self) -> None:
+        trace = [
+            START,
+            {"op": "adopt", "pid": 10, "fd": 0, "kind": "other", "call": 5},
+            {"op": "close", "pid": 10, "fd": 0, "call": 5},
+            {"op": "open", "pid": 10, "path": "/usr/ls", "fd": 9, "mode": "r", "call": 5},
+            RUN,
+        ]
+        self.assertEqual(self.before(trace), {3: 10})
+
+    def test_records_of_other_processes_between_do_not_part_an_exec(self) -> None:
+        trace = [START, {"op": "start", "pid": 20}, {"op": "open", "pid": 10, "call": 5, "path": "/usr/ls", "fd": 9, "mode": "r"},
+                 {"op": "close", "pid": 20, "fd": 3, "call": 6}, RUN]
+        self.assertEqual(self.before(trace), {3: 10})
+
+    def test_an_exec_that_failed_or_of_the_loader_is_no_program(self) -> None:
+        trace = [START, {**RUN, "kernel": "ENOENT", "call": 6}, {**RUN, "role": "interpreter", "call": 7}, {**RUN, "call": 8}]
+        self.assertEqual(self.before(trace), {4: 10})
+
+    def test_a_pid_that_is_used_again(self) -> None:
+        trace = [START, {"op": "exit", "pid": 10}, {"op": "start", "pid": 11}, {"op": "fork", "pid": 11, "child": 10}, RUN,
+                 {**RUN, "pid": 11}]
+        self.assertEqual(self.before(trace), {6: 11})
+
+    def test_before_each_run_of_a_program(self) -> None:
+        trace = [START, RUN, {"op": "fork", "pid": 10, "child": 11}, {**RUN, "pid": 11, "path": "/usr/dash", "call": 7},
+                 {**RUN, "pid": 11, "call": 8}, {**RUN, "pid": 11, "path": "/usr/dash", "call": 9}]
+        for name in ("dash", "/usr/dash", "/bin/dash", "sh"):
+            with self.subTest(name=name):
+                self.assertEqual(self.before(trace, name), {4: 11, 6: 11})
+
+    def test_a_program_that_never_runs(self) -> None:
+        with self.assertRaisesRegex(Problem, "never runs dahs, did you mean dash.*it runs /usr/dash, /usr/ls"):
+            self.before([START, RUN, {**RUN, "path": "/usr/dash", "call": 6}], "dahs")
+
+    def test_a_trace_without_a_program(self) -> None:
+        with self.assertRaisesRegex(Problem, "runs no program"):
+            self.before([START])
+
+    def test_a_line_that_is_no_record(self) -> None:
+        with self.assertRaisesRegex(Problem, "line 1 is no record: its pid"):
+            self.before([{"op": "start"}])
+
+    def test_a_number_that_the_trace_never_uses(self) -> None:
+        path = write_lines(Path(self.folder.name, "trace.jsonl"), [START, {"op": "create", "pid": 10, "rs": 7}, RUN])
+        self.assertEqual(applying.plan(path, TREE, None).rs, 8)
+
+    def test_the_records_of_a_policy(self) -> None:
+        port = PortRule("net_port 1", access("connect_tcp"), (443,))
+        path = PathRule("path_beneath 1", access("read_file"), ("/bin/ls", "/none"))
+        tried = Policy(Path("P.toml"), (Layer(1, access("read_file"), access("connect_tcp"), (path,), (port,)),))
+        rule = {"layer": 1, "rule": "path_beneath 1"}
+        self.assertEqual(
+            applying.records(tried, fit(tried, 5)[0], TREE, 8),
+            [
+                {"op": "nnp", "policy": {}},
+                {"op": "create", "rs": 8, "fs": ["read_file"], "net": ["connect_tcp"], "policy": {"layer": 1}},
+                {"op": "add_path", "rs": 8, "path": "/usr/ls", "fs": ["read_file"], "policy": {**rule, "parent": "/bin/ls"}},
+                {"op": "add_path", "rs": 8, "path": "/none", "fs": ["read_file"], "policy": {**rule, "parent": "/none"}},
+                {"op": "add_port", "rs": 8, "port": 443, "net": ["connect_tcp"],
+                 "policy": {"layer": 1, "rule": "net_port 1", "port": 443}},
+                {"op": "restrict", "rs": 8, "policy": {"layer": 1}},
+                {"op": "close_rs", "rs": 8, "policy": {"layer": 1}},
+            ],
+        )
+
+    def test_a_group_on_a_file(self) -> None:
+        grouped = policy("/usr", "/usr/ls", fs=Access(grouped=FS.groups["all"]), allowed=Access(grouped=FS.groups["read"]))
+        added = [record["fs"] for record in applying.records(grouped, fit(grouped, 5)[0], TREE, 1) if record["op"] == "add_path"]
+        self.assertEqual(added, [["read_file", "read_dir"], ["read_file"]])
+
+    def test_a_parent_that_is_a_loop(self) -> None:
+        looped = policy("/loop")
+        with self.assertRaisesRegex(Problem, "P.toml: layer 1, path_beneath 1, parent: /loop is a loop"):
+            applying.records(looped, fit(looped, 5)[0], TREE, 1)
+
+    def test_a_trace_keeps_its_own_lines(self) -> None:
+        trace = Path(self.folder.name, "trace.jsonl")
+        own = b'{"op":"start" , "pid":10}\n\n{"op":"exec","pid":10,"path":"/usr/ls"}'
+        trace.write_bytes(own)
+        out = io.BytesIO()
+        applying.write(trace, applying.plan(trace, TREE, None), [{"op": "nnp", "policy": {}}], out)
+        first, blank, put, last = out.getvalue().split(b"\n")
+        self.assertEqual(b"\n".join([first, blank, last]), own)
+        self.assertEqual(json.loads(put), {"op": "nnp", "pid": 10, "policy": {}})
+
+
+if __name__ == "__main__":
+    unittest.main()

@@ -1,0 +1,77 @@
+"""A policy at an older ABI: what it lacks is dropped, as the kernel's document advises (docs/FORMATS.md, "Names of rights")."""
+
+from __future__ import annotations
+
+import unittest
+from pathlib import Path
+
+from landaudit_record.fitting import FittedPathRule, fit
+from landaudit_record.policies import Access, Layer, PathRule, Policy, PortRule
+from landaudit_record.rights import FS, NET
+
+ALL_FS = Access(grouped=FS.groups["all"])
+ALL_NET = Access(grouped=NET.groups["all"])
+
+
+def policy(fs: Access, net: Access = Access(), paths: tuple[PathRule, ...] = (), ports: tuple[PortRule, ...] = ()) -> Policy:
+    """A policy of one layer."""
+    return Policy(Path("P.toml"), (Layer(1, fs, net, paths, ports),))
+
+
+class Fitting(unittest.TestCase):
+    def test_a_group_is_what_each_abi_knows_of_it(self) -> None:
+        known = ["execute", "write_file", "read_file", "read_dir", "remove_dir", "remove_file", "make_char", "make_dir",
+                 "make_reg", "make_sock", "make_fifo", "make_block", "make_sym"]
+        for abi, new in ((1, []), (2, ["refer"]), (3, ["truncate"]), (4, []), (5, ["ioctl_dev"])):
+            known = known + new
+            (layer,), notes = fit(policy(ALL_FS), abi)
+            self.assertEqual((layer.handled_fs, notes), (known, []))
+
+    def test_ports_are_dropped_before_abi_4(self) -> None:
+        ports = (PortRule("net_port 1", ALL_NET, (443,)),)
+        (layer,), notes = fit(policy(ALL_FS, ALL_NET, ports=ports), 3)
+        self.assertEqual((layer.handled_net, layer.port_rules), ([], ()))
+        self.assertEqual(notes, ["layer 1, net_port 1 is left out: ABI 3 knows nothing that it allows"])
+        (layer,), notes = fit(policy(ALL_FS, ALL_NET, ports=ports), 4)
+        self.assertEqual((layer.handled_net, layer.port_rules[0].on_port), (["bind_tcp", "connect_tcp"],) * 2)
+        self.assertEqual(notes, [])
+
+    def test_a_right_that_is_named_is_dropped_with_a_note(self) -> None:
+        named = Access(outright=frozenset({"read_file", "truncate"}))
+        (layer,), notes = fit(policy(named, paths=(PathRule("path_beneath 1", named, ("/a",)),)), 2)
+        self.assertEqual(layer.handled_fs, ["read_file"])
+        self.assertEqual(layer.path_rules[0].on_directory, ["read_file"])
+        self.assertEqual(
+            notes,
+            ["layer 1, handled_access_fs: ABI 2 does not know truncate: dropped",
+             "layer 1, path_beneath 1: ABI 2 does not know truncate: dropped"],
+        )
+
+    def test_a_layer_of_which_nothing_is_left_is_left_out(self) -> None:
+        layers, notes = fit(policy(Access(), ALL_NET), 3)
+        self.assertEqual(layers, ())
+        self.assertEqual(notes, ["layer 1 is left out: ABI 3 knows nothing that it handles"])
+
+    def test_a_group_in_a_rule_is_what_the_layer_handles(self) -> None:
+        rule = PathRule("path_beneath 1", Access(grouped=FS.groups["write"]), ("/a",))
+        (layer,), _ = fit(policy(Access(outright=frozenset({"read_file", "write_file", "make_reg"})), paths=(rule,)), 5)
+        self.assertEqual(layer.path_rules[0].on_directory, ["write_file", "make_reg"])
+
+    def test_a_group_on_a_file_is_what_applies_to_files(self) -> None:
+        rule = FittedPathRule("path_beneath 1", ("/a",), ["read_file", "read_dir"], ["read_file"])
+        self.assertEqual(rule.on("reg"), ["read_file"])
+        self.assertEqual(rule.on("dir"), ["read_file", "read_dir"])
+        self.assertEqual(rule.on(None), ["read_file", "read_dir"])
+
+    def test_a_right_on_directories_that_is_named_stays_on_a_file(self) -> None:
+        access = Access(outright=frozenset({"read_dir"}), grouped=frozenset({"read_file", "make_reg"}))
+        (layer,), _ = fit(policy(ALL_FS, paths=(PathRule("path_beneath 1", access, ("/a",)),)), 5)
+        self.assertEqual(layer.path_rules[0].on("reg"), ["read_file", "read_dir"])
+
+    def test_a_rule_without_a_right_for_files_asks_for_all_of_it(self) -> None:
+        rule = FittedPathRule("path_beneath 1", ("/a",), ["make_reg"], [])
+        self.assertEqual(rule.on("reg"), ["make_reg"])
+
+
+if __name__ == "__main__":
+    unittest.main()

@@ -1,0 +1,88 @@
+"""How paths are resolved while the run makes, removes and moves objects (path_resolution(7), rename(2))."""
+
+from __future__ import annotations
+
+import unittest
+
+from landaudit_record.recorder.disk import Disk, Seen
+from landaudit_record.recorder.names import Found, Names, Node
+
+DISK = {
+    "/usr": Seen("dir"),
+    "/usr/lib": Seen("dir"),
+    "/usr/lib/x.so": Seen("reg"),
+    "/lib": Seen("sym", "usr/lib"),
+    "/loop": Seen("sym", "loop"),
+    "/far": Seen("sym", "/lib"),
+    "/w": Seen("dir"),
+    "/w/later": Seen("reg", None, True),
+    "/w/moved": Seen("dir"),
+    "/w/moved/in": Seen("reg"),
+}
+
+
+class Paths(unittest.TestCase):
+    def setUp(self) -> None:
+        self.names = Names(Disk(0.0, DISK), {}, [])
+        self.links: list[str] = []
+
+    def find(self, path: str, follow: bool = True, directory: str = "/w", root: str = "/") -> Found:
+        return self.names.find(root, directory, path, follow, lambda link: None, lambda link, node: self.links.append(link))
+
+    def test_links_are_followed_and_told(self) -> None:
+        self.assertEqual(self.find("/far/x.so").path, "/usr/lib/x.so")
+        self.assertEqual(self.links, ["/far", "/lib"])
+
+    def test_a_link_at_the_end_is_followed_where_it_is_asked(self) -> None:
+        self.assertEqual(self.find("/lib").path, "/usr/lib")
+        self.assertEqual(self.find("/lib", follow=False).path, "/lib")
+        self.assertEqual(self.find("/lib/", follow=False).path, "/usr/lib")
+
+    def test_relative_paths_and_dots(self) -> None:
+        self.assertEqual(self.find("../usr/./lib/../lib/x.so").path, "/usr/lib/x.so")
+        self.assertEqual(self.find("../../..").path, "/")
+        self.assertEqual(self.find("/usr", root="/w").names, ["w", "usr"])
+
+    def test_where_a_path_breaks_off(self) -> None:
+        missing = self.find("/usr/none")
+        self.assertEqual((missing.node, missing.path, missing.in_directory), (None, "/usr/none", True))
+        deeper = self.find("/usr/none/deep")
+        self.assertEqual((deeper.path, deeper.broken, deeper.in_directory), ("/usr/none/deep", 1, False))
+        through = self.find("/usr/lib/x.so/y")
+        self.assertEqual((through.path, through.broken), ("/usr/lib/x.so/y", 3))
+
+    def test_a_loop_of_links_leads_nowhere(self) -> None:
+        self.assertIsNone(self.find("/loop").node)
+
+    def test_what_was_made_after_the_run_began_was_not_there(self) -> None:
+        self.assertIsNone(self.find("/w/later").node)
+
+    def test_what_the_run_makes_removes_and_moves(self) -> None:
+        self.names.put("/w/a", Node("dir"))
+        self.names.put("/w/a/f", Node("reg"))
+        self.names.move("/w/a", "/w/b")
+        self.assertIsNone(self.find("/w/a").node)
+        self.assertEqual(getattr(self.find("b/f").node, "kind", None), "reg")
+        self.names.put("/w/b/f", None)
+        self.assertIsNone(self.find("b/f").node)
+
+    def test_what_is_in_a_moved_directory_is_looked_up_where_it_went(self) -> None:
+        self.names.ensure("/w/old", "dir")
+        self.names.put("/w/moved", None)
+        self.names.move("/w/old", "/w/moved")
+        self.assertIsNotNone(self.find("moved/in").node)
+
+    def test_an_exchange(self) -> None:
+        self.names.put("/w/d", Node("dir"))
+        self.names.exchange("/w/d", "/usr/lib/x.so")
+        self.assertEqual(getattr(self.names.at("/w/d"), "kind", None), "reg")
+        self.assertEqual(getattr(self.names.at("/usr/lib/x.so"), "kind", None), "dir")
+
+    def test_what_stood_before_the_run_counts_in_a_watched_directory(self) -> None:
+        names = Names(Disk(0.0, DISK), {"/w/gone": Seen("fifo")}, ["/w"])
+        self.assertEqual(getattr(names.at("/w/gone"), "kind", None), "fifo")
+        self.assertIsNone(names.at("/w/moved"))
+
+
+if __name__ == "__main__":
+    unittest.main()

@@ -1,0 +1,109 @@
+"""How lines of strace become calls (strace(1))."""
+
+from __future__ import annotations
+
+import tempfile
+import unittest
+from pathlib import Path
+
+from landaudit_record.recorder import strace_log
+from landaudit_record.recorder.strace_log import Call, Ended, Event, Superseded, Unread
+
+
+def read(*lines: str) -> list[Event]:
+    with tempfile.TemporaryDirectory() as folder:
+        log = Path(folder) / "strace.txt"
+        log.write_text("".join(line + "\n" for line in lines), encoding="ascii")
+        return list(strace_log.events(log))
+
+
+class Lines(unittest.TestCase):
+    def test_a_call_with_its_result(self) -> None:
+        (call,) = read('12  openat(-100 /* AT_FDCWD */</w>, "a, b) = 7", 0x241 /* O_WRONLY|O_CREAT */, 0666) = 3</w/a>')
+        assert isinstance(call, Call)
+        self.assertEqual((call.tid, call.name, call.value, call.error), (12, "openat", 3, None))
+        self.assertEqual(
+            call.arguments, ["-100 /* AT_FDCWD */</w>", '"a, b) = 7"', "0x241 /* O_WRONLY|O_CREAT */", "0666"]
+        )
+        self.assertEqual(call.note, "</w/a>")
+
+    def test_a_failed_call_has_the_name_of_its_error(self) -> None:
+        (call,) = read('12  unlink("x")                       = -1 ENOENT (No such file or directory)')
+        assert isinstance(call, Call)
+        self.assertEqual((call.value, call.error, call.ok), (-1, "ENOENT", False))
+
+    def test_structures_and_lists_are_one_argument(self) -> None:
+        (call,) = read('1  f([3, 4], {a=1, b=[2, 3]}, "}") = 0')
+        assert isinstance(call, Call)
+        self.assertEqual(call.arguments, ["[3, 4]", "{a=1, b=[2, 3]}", '"}"'])
+
+    def test_a_call_without_arguments(self) -> None:
+        (call,) = read("1  vfork() = 2")
+        assert isinstance(call, Call)
+        self.assertEqual((call.arguments, call.value), ([], 2))
+
+    def test_halves_are_put_together_where_the_call_ends(self) -> None:
+        first, second = read(
+            "1  close(3</a> <unfinished ...>",
+            "2  close(4</b>) = 0",
+            "1  <... close resumed>) = 0",
+        )
+        assert isinstance(first, Call) and isinstance(second, Call)
+        self.assertEqual((first.tid, first.line), (2, 2))
+        self.assertEqual((second.tid, second.line, second.arguments), (1, 1, ["3</a>"]))
+
+    def test_a_call_that_is_restarted_has_no_value(self) -> None:
+        (call,) = read('1  openat(-100, "p", 0) = ? ERESTARTSYS (To be restarted if SA_RESTART is set)')
+        assert isinstance(call, Call)
+        self.assertFalse(call.ok)
+
+    def test_ends_of_threads(self) -> None:
+        self.assertEqual(read("7  +++ exited with 1 +++", "8  +++ killed by SIGKILL +++"), [Ended(1, 7), Ended(2, 8)])
+
+    def test_a_thread_that_runs_a_program_takes_its_leaders_number(self) -> None:
+        taken, call = read(
+            '9  execve("/bin/true", ["true"], 0x1 /* 2 vars */ <unfinished ...>',
+            "8  +++ superseded by execve in pid 9 +++",
+            "8  <... execve resumed>) = 0",
+        )
+        self.assertEqual(taken, Superseded(2, 8, 9))
+        assert isinstance(call, Call)
+        self.assertEqual((call.tid, call.name, call.line), (8, "execve", 1))
+
+    def test_what_is_no_line_of_strace(self) -> None:
+        self.assertEqual(read("hello", "1  <... close resumed>) = 0"), [Unread(1, 0, "hello"), Unread(2, 1, "<... close resumed>) = 0")])
+
+    def test_a_cut_line_is_told(self) -> None:
+        (cut,) = read('1  openat(-100 /* AT_FDCWD */</w>, "/etc/pas')
+        self.assertIsInstance(cut, Unread)
+
+
+class Forks(unittest.TestCase):
+    def births(self, *lines: str) -> strace_log.Births:
+        with tempfile.TemporaryDirectory() as folder:
+            log = Path(folder) / "strace.txt"
+            log.write_text("".join(line + "\n" for line in lines), encoding="ascii")
+            return strace_log.births(log)
+
+    def test_a_child_that_runs_before_its_fork_has_ended(self) -> None:
+        births = self.births(
+            "1  vfork( <unfinished ...>", '2  execve("/bin/true", ["true"], 0x1) = 0', "1  <... vfork resumed>) = 2"
+        )
+        self.assertEqual(births.next(2), strace_log.Birth(1, 1, 0))
+        self.assertIsNone(births.next(2))
+
+    def test_flags_of_a_clone(self) -> None:
+        births = self.births(
+            "1  clone(child_stack=NULL, flags=0x1200000 /* CLONE_CHILD_CLEARTID|CLONE_CHILD_SETTID */|17 /* SIGCHLD */,"
+            " child_tidptr=0x7f) = 5",
+            "1  clone3({flags=0x10f00 /* CLONE_VM */, exit_signal=0} => {parent_tid=[6]}, 88) = 6",
+        )
+        self.assertEqual(births.next(5), strace_log.Birth(1, 1, 0x1200000 | 17))
+        self.assertEqual(births.next(6), strace_log.Birth(2, 1, 0x10F00))
+
+    def test_a_failed_fork_makes_nobody(self) -> None:
+        self.assertEqual(self.births("1  fork() = -1 EAGAIN (Resource temporarily unavailable)").forks, {})
+
+
+if __name__ == "__main__":
+    unittest.main()

@@ -1,0 +1,268 @@
+"""Rules that would have let refused calls pass: small traces with reports by the rules of docs/SEMANTICS.md."""
+
+from __future__ import annotations
+
+import tempfile
+import tomllib
+import unittest
+from collections import Counter
+from collections.abc import Iterator, Sequence
+from pathlib import Path
+
+from landaudit_record import policies, suggestion_text
+from landaudit_record.jsonl import Record
+from landaudit_record.policies import Policy
+from landaudit_record.reading import Judged, judged
+from landaudit_record.suggesting import Suggestion, suggest, with_rules
+from landaudit_record.trees import Tree
+from landaudit_record.wants import Rule
+
+from .recorded import records, write_lines, write_report
+
+TREE = Tree(
+    {
+        "/": "dir",
+        "/x": "reg",
+        "/y": "reg",
+        "/a": "dir",
+        "/a/f": "reg",
+        "/a/g": "reg",
+        "/a/h": "reg",
+        "/a/s": "dir",
+        "/a/s/t": "reg",
+        "/b": "dir",
+        "/proc": "dir",
+        "/proc/7": "dir",
+        "/proc/7/maps": "reg",
+        "/tty": "char",
+    }
+)
+DENY = '[[layer]]\nhandled_access_fs = ["all"]\nhandled_access_net = ["all"]\n'
+EVERYTHING = ["execute", "write_file", "read_file", "read_dir", "remove_dir", "remove_file", "make_char", "make_dir", "make_reg",
+              "make_sock", "make_fifo", "make_block", "make_sym", "refer", "truncate", "ioctl_dev"]
+
+Call = tuple[Record, str]
+NONE: Counter[str] = Counter()
+
+
+def policy(text: str = DENY) -> Policy:
+    with tempfile.TemporaryDirectory() as folder:
+        path = Path(folder, "P.toml")
+        path.write_text(text)
+        return policies.read(path)
+
+
+def layer(number: int | None = 1, fs: Sequence[str] = EVERYTHING, rules: Sequence[tuple[str, list[str]]] = ()) -> list[Call]:
+    """The records of one layer, of the policy or (None) of the program itself."""
+    origin: Record = {} if number is None else {"policy": {"layer": number}}
+    calls: list[Record] = [
+        {"op": "create", "rs": 3, "fs": list(fs), "net": ["bind_tcp", "connect_tcp"]},
+        *({"op": "add_path", "rs": 3, "path": path, "fs": rights} for path, rights in rules),
+        {"op": "restrict", "rs": 3},
+        {"op": "close_rs", "rs": 3},
+    ]
+    return [({**call, **origin}, "allowed") for call in calls]
+
+
+def opened(path: str, mode: str = "r", call: int = 1, **members: object) -> Record:
+    return {"op": "open", "path": path, "fd": 5, "mode": mode, "call": call, "kernel": "ok", **members}
+
+
+def suggested(*rounds: list[Call], to: Policy | None = None, abi: int = 5) -> Suggestion:
+    """What is suggested where the audits answer one after another as the rounds say, and then nothing is refused."""
+    audits = iter(rounds)
+
+    def audit(_: Policy) -> Iterator[Judged]:
+        calls = next(audits, [])
+        trace = records({"op": "nnp", "policy": {}}, *(record for record, _ in calls))
+        with tempfile.TemporaryDirectory() as folder:
+            answers = ["allowed", "allowed", *(answer for _, answer in calls)]
+            report = write_report(Path(folder, "report.txt"), trace, answers)
+            yield from judged(TREE, write_lines(Path(folder, "trace.jsonl"), trace), report)
+
+    return suggest(TREE, to or policy(), abi, audit)
+
+
+def rules(*calls: Call, handled: Sequence[str] = EVERYTHING, granted: Sequence[tuple[str, list[str]]] = ()) -> list[tuple[object, list[str], int]]:
+    """The rules for refused calls under one layer: the place, the rights by name, the calls that ask."""
+    found = suggested([*layer(1, handled, granted), *calls])
+    return [(rule.place, sorted(rule.rights), rule.calls) for rule in found.rules.get(1, [])]
+
+
+REFUSED = "refused EACCES 1"
+
+
+class Paths(unittest.TestCase):
+    def test_a_file_lacks_what_no_rule_grants(self) -> None:
+        call = (opened("/a/f", "rw", trunc=True), REFUSED)
+        self.assertEqual(rules(call), [("/a/f", ["read_file", "truncate", "write_file"], 1)])
+        self.assertEqual(rules(call, granted=[("/a", ["read_file"]), ("/a/f", ["truncate"])]), [("/a/f", ["write_file"], 1)])
+
+    def test_what_is_not_handled_is_not_lacking(self) -> None:
+        self.assertEqual(rules((opened("/a/f", "rw"), REFUSED), handled=["write_file"]), [("/a/f", ["write_file"], 1)])
+
+    def test_records_of_one_call_count_once(self) -> None:
+        run = ({"op": "exec", "path": "/a/f", "call": 1, "kernel": "ok"}, REFUSED)
+        again = (opened("/a/f", call=2), REFUSED)
+        self.assertEqual(rules((opened("/a/f"), REFUSED), run, again), [("/a/f", ["execute", "read_file"], 2)])
+
+    def test_records_without_a_number_count_each(self) -> None:
+        call = ({"op": "open", "path": "/a/f", "fd": 5, "mode": "r"}, REFUSED)
+        self.assertEqual(rules(call, call), [("/a/f", ["read_file"], 2)])
+
+    def test_several_files_of_a_directory_are_one_rule(self) -> None:
+        calls = [(opened(path, call=call), REFUSED) for call, path in enumerate(("/a/f", "/a/g", "/a/s/t"), start=1)]
+        self.assertEqual(rules(*calls), [("/a", ["read_file"], 3)])
+
+    def test_what_one_file_of_them_needs_alone_stays_with_it(self) -> None:
+        calls = [(opened("/a/f", call=1), REFUSED), (opened("/a/g", "rw", call=2), REFUSED)]
+        self.assertEqual(rules(*calls), [("/a", ["read_file"], 2), ("/a/g", ["write_file"], 1)])
+
+    def test_files_in_the_root_are_not_joined(self) -> None:
+        calls = [(opened("/x", call=1), REFUSED), (opened("/y", call=2), REFUSED)]
+        self.assertEqual(rules(*calls), [("/x", ["read_file"], 1), ("/y", ["read_file"], 1)])
+
+    def test_directories_are_not_joined(self) -> None:
+        calls = [(opened("/a", call=1), REFUSED), (opened("/b", call=2), REFUSED)]
+        self.assertEqual(rules(*calls), [("/a", ["read_dir"], 1), ("/b", ["read_dir"], 1)])
+
+    def test_a_rule_on_a_directory_serves_what_is_beneath(self) -> None:
+        calls = [(opened("/a/s", call=1), REFUSED), (opened("/a", call=2), REFUSED)]
+        self.assertEqual(rules(*calls), [("/a", ["read_dir"], 2)])
+
+    def test_new_objects_ask_their_directory(self) -> None:
+        make = opened("/a/~new~", "w", create=True, shown="/a/n")
+        self.assertEqual(rules((make, REFUSED)), [("/a", ["make_reg", "write_file"], 1)])
+
+    def test_what_the_run_makes_is_granted_on_the_directory_that_was_there(self) -> None:
+        make = ({"op": "mkdir", "path": "/a/~new~", "shown": "/a/s", "call": 1, "kernel": "ok"}, REFUSED)
+        read = (opened("/a/s/t", call=2), REFUSED)
+        self.assertEqual(rules(make, read), [("/a", ["make_dir", "read_file"], 2)])
+
+    def test_a_name_that_was_never_made_moves_nothing(self) -> None:
+        look = (opened("/a/~new~", call=1, shown="/a/f", kernel="ENOENT"), "moot")
+        self.assertEqual(rules(look, (opened("/a/f", call=2), REFUSED)), [("/a/f", ["read_file"], 1)])
+
+    def test_files_of_a_process_are_granted_on_proc(self) -> None:
+        self.assertEqual(rules((opened("/proc/7/maps"), REFUSED)), [("/proc", ["read_file"], 1)])
+
+    def test_the_rule_for_which_most_calls_ask_comes_first(self) -> None:
+        calls = [(opened("/a/f", call=1), REFUSED), (opened("/b", call=2), REFUSED), (opened("/b", call=3), REFUSED)]
+        self.assertEqual([place for place, _, _ in rules(*calls)], ["/b", "/a/f"])
+
+
+class Descriptors(unittest.TestCase):
+    def test_ftruncate_lacks_truncate_on_the_file(self) -> None:
+        cut = ({"op": "ftruncate", "fd": 5, "call": 2}, REFUSED)
+        self.assertEqual(rules((opened("/a/f", "w"), "allowed"), cut, granted=[("/a", ["write_file"])]), [("/a/f", ["truncate"], 1)])
+
+    def test_and_on_the_directory_of_a_new_file(self) -> None:
+        cut = ({"op": "ftruncate", "fd": 5, "call": 2}, REFUSED)
+        make = (opened("/a/~new~", "w", create=True, shown="/a/n"), "allowed")
+        self.assertEqual(rules(make, cut, granted=[("/a", ["write_file", "make_reg"])]), [("/a", ["truncate"], 1)])
+
+    def test_ioctl_lacks_ioctl_dev_on_the_device(self) -> None:
+        ask = ({"op": "ioctl", "fd": 5, "driver": True, "call": 2}, REFUSED)
+        self.assertEqual(rules((opened("/tty"), "allowed"), ask, granted=[("/tty", ["read_file"])]), [("/tty", ["ioctl_dev"], 1)])
+
+
+class Moves(unittest.TestCase):
+    MOVE = {"op": "rename", "from": "/a/f", "to": "/b/~new~", "shown_to": "/b/n", "call": 1, "kernel": "ok"}
+
+    def test_eacces_asks_to_remove_and_to_make(self) -> None:
+        self.assertEqual(rules((self.MOVE, REFUSED)), [("/a", ["remove_file"], 1), ("/b", ["make_reg"], 1)])
+
+    def test_exdev_asks_for_refer_on_both_directories(self) -> None:
+        granted = [("/a", ["remove_file", "refer"]), ("/b", ["make_reg"])]
+        self.assertEqual(rules((self.MOVE, "refused EXDEV 1"), granted=granted), [("/b", ["refer"], 1)])
+
+    def test_what_would_be_gained_is_granted_on_the_object(self) -> None:
+        granted = [("/a", ["remove_file", "refer"]), ("/b", ["make_reg", "refer", "execute"])]
+        self.assertEqual(rules((self.MOVE, "refused EXDEV 1"), granted=granted), [("/a/f", ["execute"], 1)])
+
+    def test_refer_is_unknown_to_abi_1(self) -> None:
+        found = suggested([*layer(1, ["read_file"]), (self.MOVE, "refused EXDEV 1")], abi=1)
+        self.assertEqual((found.rules, found.unmended), ({}, {"rename": 1}))
+
+    def test_a_layer_that_does_not_handle_refer_by_name_must(self) -> None:
+        reading = policy('[[layer]]\nhandled_access_fs = ["read_file"]\n')
+        found = suggested([*layer(1, ["read_file"]), (self.MOVE, "refused EXDEV 1")], to=reading)
+        written = "\n".join(suggestion_text.lines(found, reading))
+        self.assertIn('# handled_access_fs = ["read_file", "refer"]', written)
+        handled = with_rules(reading, found.rules).layers[0].handled_access_fs
+        self.assertEqual(handled.rights, {"read_file", "refer"})
+
+
+class Ports(unittest.TestCase):
+    def test_ports_that_lack_the_same_are_one_rule(self) -> None:
+        calls = [({"op": op, "port": port, "call": call}, REFUSED) for call, (op, port) in
+                 enumerate((("connect", 443), ("connect", 80), ("bind", 8080), ("connect", 80)), start=1)]
+        self.assertEqual(rules(*calls), [((80, 443), ["connect_tcp"], 3), ((8080,), ["bind_tcp"], 1)])
+
+
+class Layers(unittest.TestCase):
+    def test_each_layer_lacks_its_own(self) -> None:
+        two = [*layer(1, ["read_file"]), *layer(2, ["read_file", "write_file"], [("/a", ["read_file"])])]
+        found = suggested([*two, (opened("/a/f", "rw"), "refused EACCES 1,2")], to=policy(DENY + DENY))
+        self.assertEqual(found.rules, {1: [Rule("/a/f", frozenset({"read_file"}), 1)], 2: [Rule("/a/f", frozenset({"write_file"}), 1)]})
+
+    def test_a_layer_of_the_program_is_not_mended(self) -> None:
+        found = suggested([*layer(None, ["read_file"]), (opened("/a/f"), REFUSED)])
+        self.assertEqual((found.rules, found.of_program), ({}, {"open r": 1}))
+
+    def test_a_forked_child_has_its_parents_layers(self) -> None:
+        child = [({"op": "fork", "child": 11}, "allowed"), ({**opened("/a/f"), "pid": 11}, REFUSED)]
+        self.assertEqual(rules(*child), [("/a/f", ["read_file"], 1)])
+
+    def test_a_mount_is_not_mended(self) -> None:
+        found = suggested([*layer(), ({"op": "mount"}, "refused EPERM 1")])
+        self.assertEqual((found.rules, found.unmended), ({}, {"mount": 1}))
+
+
+class Rounds(unittest.TestCase):
+    def test_what_stood_behind_a_refusal_is_asked_for_too(self) -> None:
+        first = [*layer(), (opened("/a/f", "w"), REFUSED), ({"op": "ftruncate", "fd": 5, "call": 2}, "moot")]
+        second = [*layer(1, rules=[("/a/f", ["write_file"])]), (opened("/a/f", "w"), "allowed"), ({"op": "ftruncate", "fd": 5, "call": 2}, REFUSED)]
+        found = suggested(first, second)
+        self.assertEqual(found.rules, {1: [Rule("/a/f", frozenset({"write_file", "truncate"}), 2)]})
+        self.assertEqual((found.rounds, found.finished), (3, True))
+
+    def test_nothing_refused_suggests_nothing(self) -> None:
+        found = suggested([*layer(), (opened("/none"), "moot")])
+        self.assertEqual((found.rules, found.rounds, found.finished), ({}, 1, True))
+
+    def test_it_comes_to_an_end(self) -> None:
+        again = [*layer(), (opened("/a/f"), REFUSED)]
+        self.assertFalse(suggested(*[again] * 50).finished)
+
+
+class Text(unittest.TestCase):
+    def test_what_is_printed_pastes_into_the_policy(self) -> None:
+        calls = [(opened("/a/f"), REFUSED), ({"op": "connect", "port": 80, "call": 2}, REFUSED)]
+        found = suggested([*layer(), *calls])
+        written = "\n".join(suggestion_text.lines(found, policy()))
+        read = policy(DENY + written)
+        self.assertEqual([rule.parents for rule in read.layers[0].path_beneath], [("/a/f",)])
+        self.assertEqual([rule.ports for rule in read.layers[0].net_port], [(80,)])
+        self.assertIn("# 1 call\n[[layer.path_beneath]]", written)
+
+    def test_any_path_is_a_toml_text(self) -> None:
+        for path in ('/a"b\\c', "/é\u2028\U0001f600", "/\x7f\x01\t\n"):
+            with self.subTest(path=path):
+                rule = Rule(path, frozenset({"read_file"}), 1)
+                written = "\n".join(suggestion_text.lines(Suggestion({1: [rule]}, NONE, NONE, 1, True), policy()))
+                self.assertEqual(tomllib.loads(DENY + written)["layer"][0]["path_beneath"][0]["parent"], path)
+
+    def test_with_several_layers_each_is_named(self) -> None:
+        rule = Rule("/a", frozenset({"read_file"}), 2)
+        written = list(suggestion_text.lines(Suggestion({2: [rule]}, NONE, NONE, 1, True), policy(DENY + DENY)))
+        self.assertRegex(written[0], "^# 1 rule for layer 2: paste them beneath the .*layer.* of that number")
+
+    def test_what_stays_refused_is_said(self) -> None:
+        found = suggested([*layer(), ({"op": "mount"}, "refused EPERM 1")])
+        written = "\n".join(suggestion_text.lines(found, policy()))
+        self.assertIn("# 1 call is refused by layers of the policy whatever their rules are: mount 1", written)
+
+
+if __name__ == "__main__":
+    unittest.main()
