@@ -23,7 +23,7 @@ MOVES = frozenset({"rename", "link"})
 PATH_CALLS = frozenset({"open", "truncate", "exec", "mknod", "mkdir", "symlink", "unlink", "rmdir"}) | MOVES
 LEFT_OUT_ERRORS = frozenset({"EFAULT", "EOPNOTSUPP", "EBADFD", "EAFNOSUPPORT"})
 
-Stat = Callable[[str], "os.stat_result | None"]
+Stat = Callable[[str], os.stat_result | None]
 """What stands at a path on this machine, if something does."""
 
 
@@ -145,7 +145,7 @@ class Classes:
         return None not in (moved, onto) and (moved == "dir") != (onto == "dir")
 
     def _whiteout(self, call: Call) -> bool:
-        """A character device that is made, removed or moved: only a whiteout is judged in another way than landaudit's."""
+        """A character device that is made, removed or moved: of these, a kernel judges a whiteout in another way."""
         record = call.record
         if call.op == "mknod":
             return record["kind"] == "char"
@@ -213,6 +213,7 @@ class Tally:
 
     @property
     def agreed(self) -> int:
+        """How many calls the kernel answered as landaudit did."""
         return self.calls - self.differences.total()
 
     @property

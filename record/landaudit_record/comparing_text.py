@@ -38,7 +38,8 @@ def _percent(tally: Tally) -> str:
 
 def _example(difference: Difference) -> str:
     call = difference.call
-    return f"line {call.number}: {call_text(call.record)} {place(call)}: landaudit {told(call.answer)}, kernel {call.kernel}"
+    what = f"{call_text(call.record)} {place(call)}"
+    return f"line {call.number}: {what}: landaudit {told(call.answer)}, kernel {call.kernel}"
 
 
 def place(call: Call) -> str:

@@ -97,9 +97,11 @@ class _Apart:
         self._by_pid: dict[int, ByKernel] = {}
 
     def of(self, pid: int) -> ByKernel:
+        """What a process has by the kernel alone."""
         return self._by_pid.get(pid, NOTHING_MORE)
 
     def follow(self, record: Record, answer: Answer) -> None:
+        """Takes up a record: a ruleset or a layer that only the kernel gave, and children."""
         pid = record["pid"]
         by_kernel = self.of(pid)
         kernel_alone = record.get("kernel") == "ok" and answer.verdict != "allowed"

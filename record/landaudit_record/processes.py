@@ -88,7 +88,7 @@ class Processes:
         return self._by_pid[pid]
 
     def follow(self, record: Record, answer: Answer) -> None:
-        """Takes up what a record changes. Only an allowed call changes its process; what it runs, the kernel decided."""
+        """Takes up what a record changes: its process, if it is allowed; the program, if the kernel let it run."""
         pid = record["pid"]
         if record["op"] == "start":
             self._by_pid[pid] = Process()

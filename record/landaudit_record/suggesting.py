@@ -101,7 +101,7 @@ def _port_rules(rules: list[Rule]) -> Iterator[PortRule]:
 
 
 def _look(tree: Tree, abi: int, calls: Iterable[Judged]) -> Round:
-    """What one audit shows. A call has the number that the recording gives it, else that of its own record, negative."""
+    """What one audit shows. A call is known by the number that the recording gives it, else by that of its record."""
     seen = Round()
     known = FS.known(abi) | NET.known(abi)
     ordinal = 0

@@ -10,6 +10,7 @@ from .policies import Layer, Policy
 from .rights import FS, NET
 from .suggesting import Suggestion, needs_refer
 from .wants import Rule
+from .wording import counted
 
 
 def lines(suggestion: Suggestion, policy: Policy) -> Iterator[str]:
@@ -23,14 +24,14 @@ def lines(suggestion: Suggestion, policy: Policy) -> Iterator[str]:
 
 def _of_layer(layer: Layer, rules: list[Rule], policy: Policy) -> Iterator[str]:
     only = "" if len(policy.layers) == 1 else f": paste them beneath the [[layer]] of that number in {policy.path}"
-    yield f"# {_counted(len(rules), 'rule')} for layer {layer.number}{only}"
+    yield f"# {counted(len(rules), 'rule')} for layer {layer.number}{only}"
     if needs_refer(layer, rules):
         handled = _list(FS.ordered(layer.handled_access_fs.rights | {"refer"}))
         yield "# rules may grant refer only where the layer handles it; first change its line to"
         yield f"# handled_access_fs = {handled}"
     for rule in rules:
         yield ""
-        yield f"# {_counted(rule.calls, 'call')}"
+        yield f"# {counted(rule.calls, 'call')}"
         yield from _rule(rule)
     yield ""
 
@@ -49,7 +50,7 @@ def _rule(rule: Rule) -> Iterator[str]:
 def _ending(suggestion: Suggestion) -> Iterator[str]:
     """What stays refused under the rules, or that nothing does."""
     if not suggestion.finished:
-        yield f"# after {suggestion.rounds} audits the policy still refuses calls that more rules would mend: run this again"
+        yield f"# after {suggestion.rounds} audits there is still more to mend: add these rules and run this again"
     elif suggestion.rules:
         yield f"# with these rules no layer of the policy refuses what a rule can mend ({suggestion.rounds} audits)"
     else:
@@ -61,11 +62,7 @@ def _ending(suggestion: Suggestion) -> Iterator[str]:
 def _staying(calls: Counter[str], why: str) -> Iterator[str]:
     if calls:
         by_call = ", ".join(f"{name} {times}" for name, times in calls.most_common())
-        yield f"# {_counted(calls.total(), 'call')} {'is' if calls.total() == 1 else 'are'} {why}: {by_call}"
-
-
-def _counted(number: int, thing: str) -> str:
-    return f"{number} {thing}" if number == 1 else f"{number} {thing}s"
+        yield f"# {counted(calls.total(), 'call')} {'is' if calls.total() == 1 else 'are'} {why}: {by_call}"
 
 
 def _list(words: list[str]) -> str:

@@ -144,8 +144,8 @@ def _fault(record: Record, tree: Tree) -> str:
 
 
 def _many_moot(summary: Summary) -> str:
-    return (f"{summary.moot_path_calls} of {summary.path_calls} calls on paths are moot: the policy was not asked about "
-            "them; does the tree list what the run touched?")
+    return (f"{summary.moot_path_calls} of {summary.path_calls} calls on paths are moot, so the policy was not asked: "
+            "does the tree list what the run touched?")
 
 
 def _warn(summary: Summary, text: str) -> None:

@@ -9,6 +9,7 @@ from dataclasses import dataclass
 from typing import TextIO
 
 from .summary import Refusal, Summary
+from .wording import counted, printable
 
 MOST_ROWS = 50
 MOST_NAMES = 3
@@ -46,12 +47,12 @@ def lines(summary: Summary, title: str, style: Style) -> Iterator[str]:
     yield (f"{summary.records} records: {verdicts['allowed']} allowed, "
            f"{style.red(refused) if verdicts['refused'] else refused}, {verdicts['moot']} moot")
     for text, times in summary.warnings.items():
-        yield style.yellow("warning: ") + _printable(text) + (f" ({times} times)" if times > 1 else "")
+        yield style.yellow("warning: ") + printable(text) + (f" ({counted(times, 'time')})" if times > 1 else "")
     yield from _refusals(summary, style)
     yield from _moot(summary, style)
     if summary.unsaid:
         yield ""
-        yield style.bold(f"not recorded: {summary.unsaid.total()} calls")
+        yield style.bold(f"not recorded: {counted(summary.unsaid.total(), 'call')}")
         yield from _table(("times", "class"), [(str(times), name) for name, times in summary.unsaid.most_common()])
 
 
@@ -60,11 +61,11 @@ def _refusals(summary: Summary, style: Style) -> Iterator[str]:
     if not found:
         return
     yield ""
-    yield style.bold(f"refused, the most frequent first ({len(found)} kinds)")
+    yield style.bold(f"refused, the most frequent first ({counted(len(found), 'kind')})")
     rows = [_refusal_row(refusal, programs) for refusal, programs in found[:MOST_ROWS]]
     yield from _table(("times", "call", "place", "error", "layers", "program"), rows)
     if len(found) > MOST_ROWS:
-        yield f"  and {len(found) - MOST_ROWS} kinds more: --json lists all"
+        yield f"  and {counted(len(found) - MOST_ROWS, 'kind')} more: --json lists all"
 
 
 def _refusal_row(refusal: Refusal, programs: Counter[str]) -> tuple[str, ...]:
@@ -88,14 +89,9 @@ def _names(counted: Counter[str]) -> str:
     return ", ".join(shown) + (f" and {left} more" if left else "")
 
 
-def _printable(text: str) -> str:
-    """A text on one line, with an escape for each character that a terminal would act on."""
-    return text if text.isprintable() else text.encode("unicode_escape").decode()
-
-
 def _table(heads: Sequence[str], rows: Sequence[Sequence[str]]) -> Iterator[str]:
     """Rows under heads: the first column flush right, the last as long as it is."""
-    shown = [[_printable(cell) for cell in row] for row in (heads, *rows)]
+    shown = [[printable(cell) for cell in row] for row in (heads, *rows)]
     widths = [max(map(len, column)) for column in zip(*shown)]
     for row in shown:
         cells = [cell.ljust(width) for cell, width in zip(row, widths)]

@@ -1,13 +1,13 @@
 #!/usr/bin/env python3
 """A random actor: some thousand system calls that Landlock judges, the same ones for the same seed.
 
-It acts in a folder: opens, makes, moves, links and removes objects, cuts files, asks devices,
-runs programs, uses ports of this machine, and forks children that go on acting. With --confine it also restricts
-itself by rulesets of its own, again and again. Calls that fail are part of it.
+It acts in a folder: opens, makes, moves, links and removes objects, cuts files, asks devices, runs programs, uses
+ports of this machine, and forks children that go on acting. With --confine it also restricts itself by rulesets of its
+own, again and again. Calls that fail are part of it.
 
-The skeleton (directories, the files `r`) stays as it is for the whole run, so a rule on one of its objects means the
-same at every call: the kernel ties a rule to an object, a trace ties it to a path. A name elsewhere tells
-the kind of what may stand there, so a path has one kind for the whole run.
+The skeleton (directories, the files `r`, the programs) stays as it is for the whole run, so a rule on one of its
+objects means the same at every call: the kernel ties a rule to an object, a trace ties it to a path. Any other name
+tells the kind of what may stand there, so a path has one kind for the whole run.
 """
 
 from __future__ import annotations
@@ -31,10 +31,11 @@ from landaudit_record.rights import FILE_RIGHTS, FS
 
 SKELETON = ("a", "a/x", "a/x/u", "a/y", "b", "b/x", "b/y", "b/y/v", "c")
 FIXED_FILES = ("r", "a/r", "a/x/r", "b/y/r")
+PROGRAMS = ("a/program", "b/y/program")
+SCRIPTS = ("a/x/script", "c/script")
 POOLS = {
     "dir": ("d0", "d1", "d2", "d3"),
     "file": ("f0", "f1", "f2", "f3", "f4"),
-    "program": ("x0", "x1"),
     "link": ("l0", "l1", "l2"),
     "fifo": ("p0", "p1"),
     "sock": ("s0", "s1"),
@@ -42,7 +43,7 @@ POOLS = {
     "block": ("b0",),
     "missing": ("n0", "n1"),
 }
-WEIGHTED_KINDS = ("file",) * 8 + ("dir",) * 4 + ("link",) * 2 + ("program", "fifo", "sock", "char", "block", "missing")
+WEIGHTED_KINDS = ("file",) * 8 + ("dir",) * 4 + ("link",) * 2 + ("fifo", "sock", "char", "block", "missing")
 NO_DEVICE = os.makedev(242, 7)
 """A device of the range for local use, which no driver has."""
 ZERO = os.makedev(1, 5)
@@ -76,10 +77,12 @@ def fill(root: Path) -> None:
         (root / name).mkdir(parents=True)
     for name in FIXED_FILES + ("a/f0", "a/x/f1", "b/f0", "b/x/f2", "c/f3"):
         (root / name).write_bytes(b"content\n")
+    for name in PROGRAMS:
+        shutil.copy("/bin/true", root / name)
+    for name in SCRIPTS:
+        (root / name).write_text("#!/bin/sh\nexit 0\n")
+        (root / name).chmod(0o755)
     for directory in ("a", "b"):
-        shutil.copy("/bin/true", root / directory / "x0")
-        (root / directory / "x1").write_text("#!/bin/sh\nexit 0\n")
-        (root / directory / "x1").chmod(0o755)
         os.mkfifo(root / directory / "p0")
         os.symlink("../b/f0", root / directory / "l0")
         os.symlink(root / "a" / "x", root / directory / "l1")
@@ -382,8 +385,8 @@ class Actor:
         _libc.mount(b"none", target, b"nosuchfs", ctypes.c_ulong(0), None)
 
     def execute(self) -> None:
-        own = self.path(self.present("program"))
-        program = self.random.choice((own, own, "/bin/true", "/bin/false", self.path(self.name("missing"))))
+        own = self.path(self.random.choice(PROGRAMS + SCRIPTS))
+        program = self.random.choice((own, own, own, "/bin/true", "/bin/false", self.path(self.name("missing"))))
         child = os.fork()
         if child == 0:
             try:

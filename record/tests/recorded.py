@@ -25,6 +25,7 @@ def records(*calls: Record) -> list[Record]:
 
 def write_report(path: Path, trace: Sequence[Record], answers: Sequence[str]) -> Path:
     """A report on a trace: the answers in its order, each in the report's words."""
-    rows = [f"{number} {record['pid']} {record['op']} {answer}" for number, (record, answer) in enumerate(zip(trace, answers, strict=True), 1)]
+    answered = enumerate(zip(trace, answers, strict=True), start=1)
+    rows = [f"{number} {record['pid']} {record['op']} {answer}" for number, (record, answer) in answered]
     path.write_text("\n".join([*rows, f"total {len(rows)} allowed 0 refused 0 moot 0"]) + "\n")
     return path

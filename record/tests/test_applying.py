@@ -61,17 +61,18 @@ class Applying(unittest.TestCase):
         self.assertEqual(self.before(trace), {3: 10})
 
     def test_records_of_other_processes_between_do_not_part_an_exec(self) -> None:
-        trace = [START, {"op": "start", "pid": 20}, {"op": "open", "pid": 10, "call": 5, "path": "/usr/ls", "fd": 9, "mode": "r"},
-                 {"op": "close", "pid": 20, "fd": 3, "call": 6}, RUN]
+        opened = {"op": "open", "pid": 10, "call": 5, "path": "/usr/ls", "fd": 9, "mode": "r"}
+        other = {"op": "close", "pid": 20, "fd": 3, "call": 6}
+        trace = [START, {"op": "start", "pid": 20}, opened, other, RUN]
         self.assertEqual(self.before(trace), {3: 10})
 
     def test_an_exec_that_failed_or_of_the_loader_is_no_program(self) -> None:
-        trace = [START, {**RUN, "kernel": "ENOENT", "call": 6}, {**RUN, "role": "interpreter", "call": 7}, {**RUN, "call": 8}]
-        self.assertEqual(self.before(trace), {4: 10})
+        failed, loader = {**RUN, "kernel": "ENOENT", "call": 6}, {**RUN, "role": "interpreter", "call": 7}
+        self.assertEqual(self.before([START, failed, loader, {**RUN, "call": 8}]), {4: 10})
 
     def test_a_pid_that_is_used_again(self) -> None:
-        trace = [START, {"op": "exit", "pid": 10}, {"op": "start", "pid": 11}, {"op": "fork", "pid": 11, "child": 10}, RUN,
-                 {**RUN, "pid": 11}]
+        ended, fork = {"op": "exit", "pid": 10}, {"op": "fork", "pid": 11, "child": 10}
+        trace = [START, ended, {"op": "start", "pid": 11}, fork, RUN, {**RUN, "pid": 11}]
         self.assertEqual(self.before(trace), {6: 11})
 
     def test_before_each_run_of_a_program(self) -> None:
@@ -101,24 +102,33 @@ class Applying(unittest.TestCase):
         port = PortRule("net_port 1", access("connect_tcp"), (443,))
         path = PathRule("path_beneath 1", access("read_file"), ("/bin/ls", "/none"))
         tried = Policy(Path("P.toml"), (Layer(1, access("read_file"), access("connect_tcp"), (path,), (port,)),))
-        rule = {"layer": 1, "rule": "path_beneath 1"}
+
+        def rule(parent: str) -> Record:
+            return {"layer": 1, "rule": "path_beneath 1", "parent": parent}
+
         self.assertEqual(
             applying.records(tried, fit(tried, 5)[0], TREE, 8),
             [
                 {"op": "nnp", "policy": {}},
                 {"op": "create", "rs": 8, "fs": ["read_file"], "net": ["connect_tcp"], "policy": {"layer": 1}},
-                {"op": "add_path", "rs": 8, "path": "/usr/ls", "fs": ["read_file"], "policy": {**rule, "parent": "/bin/ls"}},
-                {"op": "add_path", "rs": 8, "path": "/none", "fs": ["read_file"], "policy": {**rule, "parent": "/none"}},
-                {"op": "add_port", "rs": 8, "port": 443, "net": ["connect_tcp"],
-                 "policy": {"layer": 1, "rule": "net_port 1", "port": 443}},
+                {"op": "add_path", "rs": 8, "path": "/usr/ls", "fs": ["read_file"], "policy": rule("/bin/ls")},
+                {"op": "add_path", "rs": 8, "path": "/none", "fs": ["read_file"], "policy": rule("/none")},
+                {
+                    "op": "add_port",
+                    "rs": 8,
+                    "port": 443,
+                    "net": ["connect_tcp"],
+                    "policy": {"layer": 1, "rule": "net_port 1", "port": 443},
+                },
                 {"op": "restrict", "rs": 8, "policy": {"layer": 1}},
                 {"op": "close_rs", "rs": 8, "policy": {"layer": 1}},
             ],
         )
 
     def test_a_group_on_a_file(self) -> None:
-        grouped = policy("/usr", "/usr/ls", fs=Access(grouped=FS.groups["all"]), allowed=Access(grouped=FS.groups["read"]))
-        added = [record["fs"] for record in applying.records(grouped, fit(grouped, 5)[0], TREE, 1) if record["op"] == "add_path"]
+        everything, reading = Access(grouped=FS.groups["all"]), Access(grouped=FS.groups["read"])
+        tried = policy("/usr", "/usr/ls", fs=everything, allowed=reading)
+        added = [record["fs"] for record in applying.records(tried, fit(tried, 5)[0], TREE, 1) if "path" in record]
         self.assertEqual(added, [["read_file", "read_dir"], ["read_file"]])
 
     def test_a_parent_that_is_a_loop(self) -> None:

@@ -1,4 +1,4 @@
-"""What calls ask and what layers lack, on the worked examples of the repository, whose reports were worked out by hand."""
+"""What calls ask and what layers lack, on the repository's examples, whose reports were worked out by hand."""
 
 from __future__ import annotations
 
@@ -13,11 +13,12 @@ from landaudit_record.domains import Layer
 from landaudit_record.jsonl import Record
 from landaudit_record.processes import Descriptor, Process
 from landaudit_record.reading import judged
+from landaudit_record.summary import PATH_CALLS
 from landaudit_record.trees import Tree
 
 EXAMPLES = Path(__file__).resolve().parents[2] / "examples"
 # Calls that are asked by the process's domain as it is.
-ASKING = {"open", "truncate", "exec", "mknod", "mkdir", "symlink", "unlink", "rmdir", "rename", "link", "bind", "connect"}
+ASKING = PATH_CALLS | {"bind", "connect"}
 
 
 def examples() -> Iterator[tuple[str, Tree, Path, Path]]:
@@ -78,7 +79,18 @@ class WorkedExamples(unittest.TestCase):
         self.assertGreater(seen, 20)
 
 
-TREE = Tree({"/": "dir", "/a": "dir", "/a/s": "dir", "/a/f": "reg", "/b": "dir", "/b/g": "reg", "/b/sock": "sock", "/tty": "char"})
+TREE = Tree(
+    {
+        "/": "dir",
+        "/a": "dir",
+        "/a/s": "dir",
+        "/a/f": "reg",
+        "/b": "dir",
+        "/b/g": "reg",
+        "/b/sock": "sock",
+        "/tty": "char",
+    }
+)
 
 
 class Asking(unittest.TestCase):
@@ -89,11 +101,14 @@ class Asking(unittest.TestCase):
         return asked(TREE, record, process) or why_moot(TREE, record, process)
 
     def test_requests(self) -> None:
+        make = {"op": "open", "path": "/a/n", "create": True}
         for record, path, rights in (
             ({"op": "open", "path": "/a", "mode": "r"}, "/a", {"read_dir"}),
-            ({"op": "open", "path": "/a/f", "mode": "rw", "trunc": True}, "/a/f", {"read_file", "write_file", "truncate"}),
+            ({"op": "open", "path": "/a/f", "mode": "rw"}, "/a/f", {"read_file", "write_file"}),
+            ({"op": "open", "path": "/a/f", "mode": "r", "trunc": True}, "/a/f", {"read_file", "truncate"}),
             ({"op": "open", "path": "/tty", "mode": "w", "trunc": True}, "/tty", {"write_file"}),
-            ({"op": "open", "path": "/a/n", "mode": "w", "create": True, "trunc": True}, "/a", {"make_reg", "write_file"}),
+            ({**make, "mode": "w"}, "/a", {"make_reg", "write_file"}),
+            ({**make, "mode": "r", "trunc": True}, "/a", {"make_reg", "read_file"}),
             ({"op": "truncate", "path": "/a/f"}, "/a/f", {"truncate"}),
             ({"op": "exec", "path": "/a/f"}, "/a/f", {"execute"}),
             ({"op": "mknod", "path": "/a/n", "kind": "fifo"}, "/a", {"make_fifo"}),
@@ -112,11 +127,12 @@ class Asking(unittest.TestCase):
         self.assertEqual(self.asked(op="connect", port=0), PortRequest(0, frozenset({"connect_tcp"})))
 
     def test_moves(self) -> None:
+        swap = {"op": "rename", "exchange": True}
         for record, on_source, on_directory in (
             ({"op": "rename", "from": "/a/f", "to": "/b/n"}, {"remove_file"}, {"make_reg"}),
             ({"op": "rename", "from": "/a/s", "to": "/b/n"}, {"remove_dir"}, {"make_dir"}),
             ({"op": "rename", "from": "/a/f", "to": "/b/sock"}, {"remove_file"}, {"make_reg", "remove_file"}),
-            ({"op": "rename", "from": "/a/s", "to": "/b/g", "exchange": True}, {"remove_dir", "make_reg"}, {"make_dir", "remove_file"}),
+            ({**swap, "from": "/a/s", "to": "/b/g"}, {"remove_dir", "make_reg"}, {"make_dir", "remove_file"}),
             ({"op": "link", "from": "/a/f", "to": "/b/n"}, set(), {"make_reg"}),
         ):
             with self.subTest(record=record):

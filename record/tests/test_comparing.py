@@ -88,8 +88,8 @@ class Agreement(unittest.TestCase):
         self.assertEqual(tally.calls, 2)
 
     def test_a_forked_child_is_under_its_parents_layers(self) -> None:
-        rows = confined(["read_file"]) + [({"op": "fork", "child": 11}, "allowed"), ({**opened("ok"), "pid": 11}, "allowed")]
-        self.assertEqual(compared(rows).by_op["open"], 1)
+        forked: list[Row] = [({"op": "fork", "child": 11}, "allowed"), ({**opened("ok"), "pid": 11}, "allowed")]
+        self.assertEqual(compared(confined(["read_file"]) + forked).by_op["open"], 1)
 
     def test_the_error_must_be_the_same(self) -> None:
         for kernel in ("ok", "EXDEV", "ENOENT"):
@@ -188,12 +188,14 @@ class NamedClasses(unittest.TestCase):
 
     def test_a_file_that_may_not_be_run(self) -> None:
         group = {"path": "/a/f", "call": 9, "kernel": "EACCES"}
-        rows = confined(["execute"]) + [({"op": "open", "fd": 4, "mode": "r", **group}, "allowed"), ({"op": "exec", **group}, "allowed")]
+        rows = confined(["execute"])
+        rows += [({"op": "open", "fd": 4, "mode": "r", **group}, "allowed"), ({"op": "exec", **group}, "allowed")]
         self.assert_class(Class.MODES, rows, standing={"/a/f": seen(stat.S_IFREG | 0o644)})
         self.assert_class(Class.UNNAMED, rows, standing={"/a/f": seen(stat.S_IFREG | 0o755)})
 
     def test_a_move_between_file_systems(self) -> None:
-        rows = confined(["read_file"]) + [({"op": "rename", "from": "/a/f", "to": "/b/g", "call": 9, "kernel": "EXDEV"}, "allowed")]
+        move = {"op": "rename", "from": "/a/f", "to": "/b/g", "call": 9, "kernel": "EXDEV"}
+        rows = confined(["read_file"]) + [(move, "allowed")]
         directory = stat.S_IFDIR | 0o755
         self.assert_class(Class.MOUNTS, rows, standing={"/a": seen(directory, 1), "/b": seen(directory, 2)})
         self.assert_class(Class.UNNAMED, rows, standing={"/a": seen(directory, 1), "/b": seen(directory, 1)})
@@ -208,7 +210,8 @@ class WrittenOut(unittest.TestCase):
     """The comparison as lines and as data."""
 
     def tally(self) -> Tally:
-        return compared(confined(["read_file"]) + [(opened("ok"), "refused EACCES 1"), ({**opened("ok"), "call": 10}, "allowed")])
+        calls: list[Row] = [(opened("ok"), "refused EACCES 1"), ({**opened("ok"), "call": 10}, "allowed")]
+        return compared(confined(["read_file"]) + calls)
 
     def test_lines(self) -> None:
         self.assertEqual(

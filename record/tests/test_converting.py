@@ -40,13 +40,14 @@ class Forks(KeptLogs):
 
     def test_a_start_has_what_its_process_was_given(self) -> None:
         trace = self.convert("forks")
-        self.assertEqual(bare(trace[0]), {"op": "start", "admin": True})
-        self.assertEqual([bare(record) for record in trace[1:4]], [{"op": "adopt", "fd": fd, "kind": "device"} for fd in range(3)])
+        self.assertEqual(bare(trace[0]), {"op": "start", "nnp": True, "admin": True})
+        adopted = [{"op": "adopt", "fd": fd, "kind": "device"} for fd in range(3)]
+        self.assertEqual([bare(record) for record in trace[1:4]], adopted)
 
 
 class Programs(KeptLogs):
     def test_what_the_kernel_opens_for_a_program(self) -> None:
-        trace = [record for record in self.convert("script") if record["call"] == 1 and record["op"] in ("open", "exec", "close")]
+        trace = [record for record in ops(self.convert("script"), "open", "exec", "close") if record["call"] == 1]
         opened = [(record["op"], record["path"], record.get("role")) for record in trace if record["op"] != "close"]
         script, shell = f"{WORK}/script", "/usr/bin/dash"
         self.assertEqual(
@@ -79,8 +80,8 @@ class Threads(KeptLogs):
 
     def test_the_ruleset_has_numbers_of_its_own(self) -> None:
         trace = self.convert("threads")
-        self.assertEqual([bare(record) for record in ops(trace, "create")], [{"op": "create", "rs": 3, "fs": ["read_file"]}])
-        self.assertEqual([bare(record) for record in ops(trace, "close_rs")], [{"op": "close_rs", "rs": 3}])
+        calls = [bare(record) for record in ops(trace, "create", "close_rs")]
+        self.assertEqual(calls, [{"op": "create", "rs": 3, "fs": ["read_file"]}, {"op": "close_rs", "rs": 3}])
 
     def test_what_the_kernel_answered_stands_beside(self) -> None:
         opens = [record for record in self.convert("threads") if record.get("path") == "/etc/hostname"]
@@ -99,7 +100,8 @@ class Descriptors(KeptLogs):
         trace = self.convert("descriptors")
         runs = [record["call"] for record in ops(trace, "exec") if "role" not in record]
         self.assertEqual(len(runs), 2)
-        closed = [record["fd"] for record in ops(trace, "close") if record["call"] == runs[1] and record["fd"] < 1_000_000]
+        closes = [record for record in ops(trace, "close") if record["call"] == runs[1]]
+        closed = [record["fd"] for record in closes if record["fd"] < 1_000_000]
         log = next(record["fd"] for record in trace if record.get("shown") == f"{WORK}/log")
         null = next(record["fd"] for record in trace if record.get("path") == "/dev/null")
         self.assertEqual(closed, [log + 1, null, 21, 30])
@@ -113,8 +115,8 @@ class Descriptors(KeptLogs):
 
     def test_a_memfd_is_adopted_as_a_file(self) -> None:
         trace = self.convert("descriptors")
-        cut = ops(trace, "adopt", "ftruncate")[-2:]
-        self.assertEqual([bare(record) for record in cut], [{"op": "adopt", "fd": 5, "kind": "reg"}, {"op": "ftruncate", "fd": 5}])
+        cut = [bare(record) for record in ops(trace, "adopt", "ftruncate")[-2:]]
+        self.assertEqual(cut, [{"op": "adopt", "fd": 5, "kind": "reg"}, {"op": "ftruncate", "fd": 5}])
 
     def test_which_commands_the_policy_judges(self) -> None:
         judged = [record["driver"] for record in ops(self.convert("descriptors"), "ioctl")]

@@ -1,4 +1,4 @@
-"""A policy at an older ABI: what it lacks is dropped, as the kernel's document advises (docs/FORMATS.md, "Names of rights")."""
+"""A policy at an older ABI, which knows the rights of docs/FORMATS.md, "Names of rights"; what it lacks is dropped."""
 
 from __future__ import annotations
 
@@ -13,7 +13,9 @@ ALL_FS = Access(grouped=FS.groups["all"])
 ALL_NET = Access(grouped=NET.groups["all"])
 
 
-def policy(fs: Access, net: Access = Access(), paths: tuple[PathRule, ...] = (), ports: tuple[PortRule, ...] = ()) -> Policy:
+def policy(
+    fs: Access, net: Access = Access(), paths: tuple[PathRule, ...] = (), ports: tuple[PortRule, ...] = ()
+) -> Policy:
     """A policy of one layer."""
     return Policy(Path("P.toml"), (Layer(1, fs, net, paths, ports),))
 

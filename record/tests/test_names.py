@@ -27,7 +27,14 @@ class Paths(unittest.TestCase):
         self.links: list[str] = []
 
     def find(self, path: str, follow: bool = True, directory: str = "/w", root: str = "/") -> Found:
-        return self.names.find(root, directory, path, follow, lambda link: None, lambda link, node: self.links.append(link))
+        return self.names.find(root, directory, path, follow, self)
+
+    def magic(self, path: str) -> str | None:
+        """Nothing here is a link of /proc."""
+
+    def passed(self, path: str, node: Node) -> None:
+        """Keeps the links that were followed."""
+        self.links.append(path)
 
     def test_links_are_followed_and_told(self) -> None:
         self.assertEqual(self.find("/far/x.so").path, "/usr/lib/x.so")

@@ -85,15 +85,20 @@ class Faults(unittest.TestCase):
     def test_an_unknown_key_names_a_near_one_and_all(self) -> None:
         self.assert_fault('[[layers]]\nhandled_access_fs = ["all"]\n', "'layers', did you mean 'layer'?")
         self.assert_fault('[[layer]]\nhandled_access = ["all"]\n', "layer 1", "handled_access_fs, handled_access_net")
-        self.assert_fault(READING + RULE + 'allowed_acess = []\nparent = "/"\n', "layer 1, path_beneath 1", "'allowed_access'")
+        misspelt = READING + RULE + 'allowed_acess = []\nparent = "/"\n'
+        self.assert_fault(misspelt, "layer 1, path_beneath 1", "'allowed_access'")
 
     def test_an_unknown_right_names_a_near_one_and_all(self) -> None:
-        self.assert_fault('[[layer]]\nhandled_access_fs = ["raed_file"]\n', "layer 1, handled_access_fs", "did you mean 'read_file'?")
-        self.assert_fault('[[layer]]\nhandled_access_fs = ["bind_tcp"]\n', "layer 1, handled_access_fs", "'bind_tcp'", "ioctl_dev")
-        self.assert_fault('[[layer]]\nhandled_access_net = ["read"]\n', "layer 1, handled_access_net", "all, bind_tcp, connect_tcp")
+        for key, right, words in (
+            ("handled_access_fs", "raed_file", "did you mean 'read_file'?"),
+            ("handled_access_fs", "bind_tcp", "use all, read, write, execute, write_file, read_file"),
+            ("handled_access_net", "read", "use all, bind_tcp, connect_tcp"),
+        ):
+            self.assert_fault(f'[[layer]]\n{key} = ["{right}"]\n', f"layer 1, {key}", f"'{right}'", words)
 
     def test_an_unknown_kind_of_rule(self) -> None:
-        self.assert_fault(READING + "[[layer.path_under]]\n", "layer 1: unknown key 'path_under'", "path_beneath, net_port")
+        under = READING + "[[layer.path_under]]\n"
+        self.assert_fault(under, "layer 1: unknown key 'path_under'", "path_beneath, net_port")
 
     def test_wrong_types(self) -> None:
         self.assert_fault("layer = 1\n", "write each as [[layer]]")
@@ -105,8 +110,11 @@ class Faults(unittest.TestCase):
     def test_what_is_empty(self) -> None:
         self.assert_fault("", "no layer")
         self.assert_fault("[[layer]]\n", "layer 1: handles nothing")
-        self.assert_fault(READING + RULE + 'allowed_access = []\nparent = "/a"\n', "path_beneath 1, allowed_access: is empty")
-        self.assert_fault(READING + RULE + 'allowed_access = ["read"]\nparent = []\n', "path_beneath 1, parent: is empty")
+        for rule, word in (
+            ('allowed_access = []\nparent = "/a"\n', "path_beneath 1, allowed_access: is empty"),
+            ('allowed_access = ["read"]\nparent = []\n', "path_beneath 1, parent: is empty"),
+        ):
+            self.assert_fault(READING + RULE + rule, word)
 
     def test_what_is_missing(self) -> None:
         self.assert_fault(READING + RULE + 'allowed_access = ["read"]\n', "layer 1, path_beneath 1: parent is missing")
@@ -117,23 +125,30 @@ class Faults(unittest.TestCase):
             READING + RULE + 'allowed_access = ["read_file", "read_dir"]\nparent = "/a"\n',
             "layer 1, path_beneath 1, allowed_access", "does not handle read_dir", "handled_access_fs",
         )
-        self.assert_fault(READING + RULE + 'allowed_access = ["write"]\nparent = "/a"\n', "handles none of these", "read_file")
+        writing = READING + RULE + 'allowed_access = ["write"]\nparent = "/a"\n'
+        self.assert_fault(writing, "handles none of these", "read_file")
 
     def test_a_group_stands_for_what_the_layer_handles(self) -> None:
         (layer,) = read(READING + RULE + 'allowed_access = ["read", "execute"]\nparent = "/a"\n').layers
         self.assertEqual(layer.path_beneath[0].allowed_access.grouped, {"read_file", "read_dir", "execute"})
 
     def test_ports(self) -> None:
+        rule = '[[layer]]\nhandled_access_net = ["all"]\n[[layer.net_port]]\nallowed_access = ["all"]\n'
         for port in ("-1", "65536", "true", '"80"', "80.0"):
-            text = f'[[layer]]\nhandled_access_net = ["all"]\n[[layer.net_port]]\nallowed_access = ["all"]\nport = [80, {port}]\n'
             with self.subTest(port=port):
-                self.assert_fault(text, "layer 1, net_port 1, port", "from 0 to 65535")
+                self.assert_fault(rule + f"port = [80, {port}]\n", "layer 1, net_port 1, port", "from 0 to 65535")
 
     def test_parents(self) -> None:
-        for parent in ("usr", "", "/a\\u0000b", "/" + "a" * 4096):
-            with self.subTest(parent=parent[:9]):
-                self.assert_fault(READING + RULE + f'allowed_access = ["read"]\nparent = ["/a", "{parent}"]\n', "path_beneath 1, parent")
-        self.assert_fault(READING + RULE + 'allowed_access = ["read"]\nparent = 3\n', "path_beneath 1, parent", "3 is no path")
+        rule = READING + RULE + 'allowed_access = ["read"]\n'
+        for parent, word in (
+            ("usr", "'usr' is not absolute"),
+            ("", "'' is not absolute"),
+            ("/a\\u0000b", "has a NUL character"),
+            ("/" + "a" * 4096, "longer than 4096 bytes"),
+        ):
+            with self.subTest(word=word):
+                self.assert_fault(rule + f'parent = ["/a", "{parent}"]\n', "path_beneath 1, parent", word)
+        self.assert_fault(rule + "parent = 3\n", "path_beneath 1, parent", "3 is no path")
 
     def test_seventeen_layers(self) -> None:
         self.assertEqual(len(read(READING * 16).layers), 16)

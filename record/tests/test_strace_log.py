@@ -71,7 +71,8 @@ class Lines(unittest.TestCase):
         self.assertEqual((call.tid, call.name, call.line), (8, "execve", 1))
 
     def test_what_is_no_line_of_strace(self) -> None:
-        self.assertEqual(read("hello", "1  <... close resumed>) = 0"), [Unread(1, 0, "hello"), Unread(2, 1, "<... close resumed>) = 0")])
+        second = "<... close resumed>) = 0"
+        self.assertEqual(read("hello", f"1  {second}"), [Unread(1, 0, "hello"), Unread(2, 1, second)])
 
     def test_a_cut_line_is_told(self) -> None:
         (cut,) = read('1  openat(-100 /* AT_FDCWD */</w>, "/etc/pas')

@@ -13,6 +13,7 @@ from landaudit_record import policies, suggestion_text
 from landaudit_record.jsonl import Record
 from landaudit_record.policies import Policy
 from landaudit_record.reading import Judged, judged
+from landaudit_record.rights import FS
 from landaudit_record.suggesting import Suggestion, suggest, with_rules
 from landaudit_record.trees import Tree
 from landaudit_record.wants import Rule
@@ -38,10 +39,10 @@ TREE = Tree(
     }
 )
 DENY = '[[layer]]\nhandled_access_fs = ["all"]\nhandled_access_net = ["all"]\n'
-EVERYTHING = ["execute", "write_file", "read_file", "read_dir", "remove_dir", "remove_file", "make_char", "make_dir", "make_reg",
-              "make_sock", "make_fifo", "make_block", "make_sym", "refer", "truncate", "ioctl_dev"]
+EVERYTHING = list(FS.since)
 
 Call = tuple[Record, str]
+Granted = Sequence[tuple[str, list[str]]]
 NONE: Counter[str] = Counter()
 
 
@@ -52,12 +53,12 @@ def policy(text: str = DENY) -> Policy:
         return policies.read(path)
 
 
-def layer(number: int | None = 1, fs: Sequence[str] = EVERYTHING, rules: Sequence[tuple[str, list[str]]] = ()) -> list[Call]:
+def layer(number: int | None = 1, fs: Sequence[str] = EVERYTHING, granted: Granted = ()) -> list[Call]:
     """The records of one layer, of the policy or (None) of the program itself."""
     origin: Record = {} if number is None else {"policy": {"layer": number}}
     calls: list[Record] = [
         {"op": "create", "rs": 3, "fs": list(fs), "net": ["bind_tcp", "connect_tcp"]},
-        *({"op": "add_path", "rs": 3, "path": path, "fs": rights} for path, rights in rules),
+        *({"op": "add_path", "rs": 3, "path": path, "fs": rights} for path, rights in granted),
         {"op": "restrict", "rs": 3},
         {"op": "close_rs", "rs": 3},
     ]
@@ -83,7 +84,9 @@ def suggested(*rounds: list[Call], to: Policy | None = None, abi: int = 5) -> Su
     return suggest(TREE, to or policy(), abi, audit)
 
 
-def rules(*calls: Call, handled: Sequence[str] = EVERYTHING, granted: Sequence[tuple[str, list[str]]] = ()) -> list[tuple[object, list[str], int]]:
+def rules(
+    *calls: Call, handled: Sequence[str] = EVERYTHING, granted: Granted = ()
+) -> list[tuple[object, list[str], int]]:
     """The rules for refused calls under one layer: the place, the rights by name, the calls that ask."""
     found = suggested([*layer(1, handled, granted), *calls])
     return [(rule.place, sorted(rule.rights), rule.calls) for rule in found.rules.get(1, [])]
@@ -96,7 +99,8 @@ class Paths(unittest.TestCase):
     def test_a_file_lacks_what_no_rule_grants(self) -> None:
         call = (opened("/a/f", "rw", trunc=True), REFUSED)
         self.assertEqual(rules(call), [("/a/f", ["read_file", "truncate", "write_file"], 1)])
-        self.assertEqual(rules(call, granted=[("/a", ["read_file"]), ("/a/f", ["truncate"])]), [("/a/f", ["write_file"], 1)])
+        granted = [("/a", ["read_file"]), ("/a/f", ["truncate"])]
+        self.assertEqual(rules(call, granted=granted), [("/a/f", ["write_file"], 1)])
 
     def test_what_is_not_handled_is_not_lacking(self) -> None:
         self.assertEqual(rules((opened("/a/f", "rw"), REFUSED), handled=["write_file"]), [("/a/f", ["write_file"], 1)])
@@ -154,7 +158,8 @@ class Paths(unittest.TestCase):
 class Descriptors(unittest.TestCase):
     def test_ftruncate_lacks_truncate_on_the_file(self) -> None:
         cut = ({"op": "ftruncate", "fd": 5, "call": 2}, REFUSED)
-        self.assertEqual(rules((opened("/a/f", "w"), "allowed"), cut, granted=[("/a", ["write_file"])]), [("/a/f", ["truncate"], 1)])
+        found = rules((opened("/a/f", "w"), "allowed"), cut, granted=[("/a", ["write_file"])])
+        self.assertEqual(found, [("/a/f", ["truncate"], 1)])
 
     def test_and_on_the_directory_of_a_new_file(self) -> None:
         cut = ({"op": "ftruncate", "fd": 5, "call": 2}, REFUSED)
@@ -163,7 +168,8 @@ class Descriptors(unittest.TestCase):
 
     def test_ioctl_lacks_ioctl_dev_on_the_device(self) -> None:
         ask = ({"op": "ioctl", "fd": 5, "driver": True, "call": 2}, REFUSED)
-        self.assertEqual(rules((opened("/tty"), "allowed"), ask, granted=[("/tty", ["read_file"])]), [("/tty", ["ioctl_dev"], 1)])
+        found = rules((opened("/tty"), "allowed"), ask, granted=[("/tty", ["read_file"])])
+        self.assertEqual(found, [("/tty", ["ioctl_dev"], 1)])
 
 
 class Moves(unittest.TestCase):
@@ -204,7 +210,8 @@ class Layers(unittest.TestCase):
     def test_each_layer_lacks_its_own(self) -> None:
         two = [*layer(1, ["read_file"]), *layer(2, ["read_file", "write_file"], [("/a", ["read_file"])])]
         found = suggested([*two, (opened("/a/f", "rw"), "refused EACCES 1,2")], to=policy(DENY + DENY))
-        self.assertEqual(found.rules, {1: [Rule("/a/f", frozenset({"read_file"}), 1)], 2: [Rule("/a/f", frozenset({"write_file"}), 1)]})
+        reading, writing = (Rule("/a/f", frozenset({right}), 1) for right in ("read_file", "write_file"))
+        self.assertEqual(found.rules, {1: [reading], 2: [writing]})
 
     def test_a_layer_of_the_program_is_not_mended(self) -> None:
         found = suggested([*layer(None, ["read_file"]), (opened("/a/f"), REFUSED)])
@@ -221,8 +228,9 @@ class Layers(unittest.TestCase):
 
 class Rounds(unittest.TestCase):
     def test_what_stood_behind_a_refusal_is_asked_for_too(self) -> None:
-        first = [*layer(), (opened("/a/f", "w"), REFUSED), ({"op": "ftruncate", "fd": 5, "call": 2}, "moot")]
-        second = [*layer(1, rules=[("/a/f", ["write_file"])]), (opened("/a/f", "w"), "allowed"), ({"op": "ftruncate", "fd": 5, "call": 2}, REFUSED)]
+        cut = {"op": "ftruncate", "fd": 5, "call": 2}
+        first = [*layer(), (opened("/a/f", "w"), REFUSED), (cut, "moot")]
+        second = [*layer(granted=[("/a/f", ["write_file"])]), (opened("/a/f", "w"), "allowed"), (cut, REFUSED)]
         found = suggested(first, second)
         self.assertEqual(found.rules, {1: [Rule("/a/f", frozenset({"write_file", "truncate"}), 2)]})
         self.assertEqual((found.rounds, found.finished), (3, True))

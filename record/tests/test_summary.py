@@ -22,7 +22,6 @@ from landaudit_record.trees import Tree
 from .recorded import PID, records, write_lines, write_report
 
 TREE = Tree({"/": "dir", "/a": "dir", "/a/f": "reg", "/a/made": "reg", "/b": "dir", "/bin": "reg"})
-RULE = {"layer": 1, "rule": "path_beneath 1"}
 NNP = ({"op": "nnp"}, "allowed")
 LAYER = [
     ({"op": "create", "rs": 3, "fs": ["read_file"], "policy": {"layer": 1}}, "allowed"),
@@ -31,6 +30,9 @@ LAYER = [
 OWN = [({"op": "create", "rs": 4, "fs": ["read_file"]}, "allowed"), ({"op": "restrict", "rs": 4}, "allowed")]
 RUN = ({"op": "exec", "path": "/bin", "kernel": "ok"}, "allowed")
 READ = {"op": "open", "path": "/a/f", "fd": 5, "mode": "r", "kernel": "ok"}
+
+REFUSED = "refused EACCES 1"
+NOT_OPEN = "the descriptor is not open"
 
 Call = tuple[Record, str]
 
@@ -47,6 +49,12 @@ def summed(calls: Sequence[Call], abi: int = 5, unsaid: Sequence[Record] | None 
         return summary.summarize(TREE, found, abi, folder / "unsaid.jsonl")
 
 
+def rule(path: str, *rights: str, parent: str | None = None) -> Record:
+    """A rule of the policy, on a parent that may lead to the path by a link."""
+    origin = {"layer": 1, "rule": "path_beneath 1", "parent": parent or path}
+    return {"op": "add_path", "rs": 3, "path": path, "fs": list(rights), "policy": origin}
+
+
 def text(found: Summary, coloured: bool = False) -> str:
     return "\n".join(summary_text.lines(found, "rec", Style(coloured)))
 
@@ -54,7 +62,7 @@ def text(found: Summary, coloured: bool = False) -> str:
 class Refusals(unittest.TestCase):
     def test_like_refusals_are_one_row_and_the_most_frequent_comes_first(self) -> None:
         write = {**READ, "mode": "w"}
-        found = summed([NNP, *LAYER, RUN, (write, "refused EACCES 1"), (READ, "refused EACCES 1"), (READ, "refused EACCES 1")])
+        found = summed([NNP, *LAYER, RUN, (write, REFUSED), (READ, REFUSED), (READ, REFUSED)])
         rows = [(row["times"], row["call"], row["place"], row["error"]) for row in summary.as_data(found)["refusals"]]
         self.assertEqual(rows, [(2, "open r", "/a/f", "EACCES"), (1, "open w", "/a/f", "EACCES")])
 
@@ -67,8 +75,8 @@ class Refusals(unittest.TestCase):
 
     def test_a_child_runs_its_parents_program_until_its_own(self) -> None:
         fork = ({"op": "fork", "child": 11}, "allowed")
-        child = [({**READ, "pid": 11}, "refused EACCES 1"), ({**RUN[0], "pid": 11, "path": "/a/f"}, "allowed"),
-                 ({**READ, "pid": 11, "path": "/bin"}, "refused EACCES 1")]
+        child = [({**READ, "pid": 11}, REFUSED), ({**RUN[0], "pid": 11, "path": "/a/f"}, "allowed"),
+                 ({**READ, "pid": 11, "path": "/bin"}, REFUSED)]
         found = summed([NNP, *LAYER, RUN, fork, *child])
         programs = {row["place"]: row["programs"] for row in summary.as_data(found)["refusals"]}
         self.assertEqual(programs, {"/a/f": {"/bin": 1}, "/bin": {"/a/f": 1}})
@@ -76,25 +84,26 @@ class Refusals(unittest.TestCase):
     def test_the_loader_and_a_failed_exec_are_no_program(self) -> None:
         loader = ({"op": "exec", "path": "/a/f", "role": "interpreter", "kernel": "ok"}, "allowed")
         failed = ({"op": "exec", "path": "/a/f", "kernel": "EACCES"}, "allowed")
-        found = summed([NNP, *LAYER, RUN, loader, failed, (READ, "refused EACCES 1")])
+        found = summed([NNP, *LAYER, RUN, loader, failed, (READ, REFUSED)])
         self.assertEqual(summary.as_data(found)["refusals"][0]["programs"], {"/bin": 1})
 
     def test_a_made_up_name_is_shown_as_the_real_one(self) -> None:
         made = {"op": "rename", "from": "/a/f", "to": "/b/~new~", "shown_to": "/b/f", "kernel": "ok"}
         opened = {**READ, "path": "/a/~new~", "shown": "/a/n", "create": True, "mode": "w"}
-        found = summed([NNP, *LAYER, (made, "refused EXDEV 1"), (opened, "refused EACCES 1")])
+        found = summed([NNP, *LAYER, (made, "refused EXDEV 1"), (opened, REFUSED)])
         rows = [(row["call"], row["place"]) for row in summary.as_data(found)["refusals"]]
         self.assertEqual(rows, [("rename", "/a/f -> /b/f"), ("open w create", "/a/n")])
 
     def test_a_call_on_a_descriptor_names_its_file(self) -> None:
         opened = ({**READ, "mode": "w"}, "allowed")
-        found = summed([NNP, *LAYER, opened, ({"op": "dup", "fd": 5, "to": 6}, "allowed"), ({"op": "ftruncate", "fd": 6}, "refused EACCES 1")])
+        dup = ({"op": "dup", "fd": 5, "to": 6}, "allowed")
+        found = summed([NNP, *LAYER, opened, dup, ({"op": "ftruncate", "fd": 6}, REFUSED)])
         self.assertEqual(summary.as_data(found)["refusals"][0]["place"], "/a/f")
 
     def test_ports_exchanges_and_kinds(self) -> None:
         exchange = {"op": "rename", "from": "/a/f", "to": "/bin", "exchange": True}
-        found = summed([NNP, *LAYER, ({"op": "bind", "port": 80}, "refused EACCES 1"), (exchange, "refused EACCES 1"),
-                        ({"op": "mknod", "path": "/a/n", "kind": "fifo"}, "refused EACCES 1")])
+        found = summed([NNP, *LAYER, ({"op": "bind", "port": 80}, REFUSED), (exchange, REFUSED),
+                        ({"op": "mknod", "path": "/a/n", "kind": "fifo"}, REFUSED)])
         rows = [(row["call"], row["place"]) for row in summary.as_data(found)["refusals"]]
         self.assertEqual(rows, [("bind", "port 80"), ("exchange", "/a/f -> /bin"), ("mknod fifo", "/a/n")])
 
@@ -105,19 +114,21 @@ class Moots(unittest.TestCase):
 
     def test_reasons_name_where_they_show(self) -> None:
         self.assertEqual(self.reasons(({**READ, "path": "/none/f"}, "moot")), {"no such object": {"/none": 1}})
-        self.assertEqual(self.reasons(({"op": "close", "fd": 9}, "moot")), {"the descriptor is not open": {"descriptor 9": 1}})
+        self.assertEqual(self.reasons(({"op": "close", "fd": 9}, "moot")), {NOT_OPEN: {"descriptor 9": 1}})
         self.assertEqual(self.reasons(({"op": "mkdir", "path": "/a"}, "moot")), {"the name is taken": {"/a": 1}})
 
     def test_a_number_stays_closed_when_its_opening_was_refused(self) -> None:
         close = ({"op": "close", "fd": 5}, "moot")
-        why = "the descriptor is not open, its opening was refused or moot"
-        self.assertEqual(self.reasons((READ, "refused EACCES 1"), close), {why: {"descriptor 5": 1}})
-        again = [(READ, "refused EACCES 1"), ({"op": "adopt", "fd": 5, "kind": "other"}, "allowed"), ({"op": "close", "fd": 5}, "allowed"), close]
-        self.assertEqual(self.reasons(*again), {"the descriptor is not open": {"descriptor 5": 1}})
+        why = f"{NOT_OPEN}, its opening was refused or moot"
+        self.assertEqual(self.reasons((READ, REFUSED), close), {why: {"descriptor 5": 1}})
+        adopt = ({"op": "adopt", "fd": 5, "kind": "other"}, "allowed")
+        again = [(READ, REFUSED), adopt, ({"op": "close", "fd": 5}, "allowed"), close]
+        self.assertEqual(self.reasons(*again), {NOT_OPEN: {"descriptor 5": 1}})
 
     def test_what_failed_by_itself_says_so(self) -> None:
         missing = {**READ, "path": "/a/~new~", "shown": "/a/none", "kernel": "ENOENT"}
-        self.assertEqual(self.reasons((missing, "moot")), {"the call failed in the recording too: ENOENT": {"/a/none": 1}})
+        why = "the call failed in the recording too: ENOENT"
+        self.assertEqual(self.reasons((missing, "moot")), {why: {"/a/none": 1}})
 
 
 class Warnings(unittest.TestCase):
@@ -125,21 +136,20 @@ class Warnings(unittest.TestCase):
         return list(summed([NNP, LAYER[0], *calls], abi).warnings)
 
     def test_a_rule_whose_parent_is_not_listed(self) -> None:
-        rule = {"op": "add_path", "rs": 3, "path": "/none", "fs": ["read_file"], "policy": {**RULE, "parent": "/bin/none"}}
-        (said,) = self.warnings((rule, "moot"))
-        self.assertIn("policy: layer 1, path_beneath 1, parent /bin/none is moot, no such object in the tree: /none", said)
+        (said,) = self.warnings((rule("/none", "read_file", parent="/bin/none"), "moot"))
+        self.assertIn("policy: layer 1, path_beneath 1, parent /bin/none is moot, no such object", said)
+        self.assertIn("in the tree: /none", said)
 
     def test_a_rule_that_is_refused(self) -> None:
-        rule = {"op": "add_path", "rs": 3, "path": "/a/f", "fs": ["read_file", "read_dir"], "policy": {**RULE, "parent": "/a/f"}}
-        (said,) = self.warnings((rule, "refused EINVAL -"))
+        (said,) = self.warnings((rule("/a/f", "read_file", "read_dir"), "refused EINVAL -"))
         self.assertIn("path_beneath 1, parent /a/f is refused with EINVAL: read_dir are rights on directories", said)
 
     def test_a_rule_on_what_the_run_makes(self) -> None:
-        rule = {"op": "add_path", "rs": 3, "path": "/a/made", "fs": ["read_file"], "policy": {**RULE, "parent": "/a/made"}}
+        added = (rule("/a/made", "read_file"), "allowed")
         make = {**READ, "path": "/a/~new~", "shown": "/a/made", "create": True}
-        (said,) = self.warnings((rule, "allowed"), (make, "allowed"))
+        (said,) = self.warnings(added, (make, "allowed"))
         self.assertIn("path_beneath 1, parent /a/made: the run makes /a/made itself", said)
-        self.assertEqual(self.warnings((rule, "allowed"), ({**make, "kernel": "EACCES"}, "allowed")), [])
+        self.assertEqual(self.warnings(added, ({**make, "kernel": "EACCES"}, "allowed")), [])
 
     def test_a_ruleset_of_the_program_that_an_older_abi_refuses(self) -> None:
         (said,) = self.warnings(({"op": "create", "rs": 4, "fs": ["refer"]}, "refused EINVAL -"), abi=1)
@@ -165,7 +175,7 @@ class Warnings(unittest.TestCase):
 
 class Text(unittest.TestCase):
     def setUp(self) -> None:
-        self.found = summed([NNP, *LAYER, RUN, (READ, "refused EACCES 1"), ({"op": "close", "fd": 9}, "moot")],
+        self.found = summed([NNP, *LAYER, RUN, (READ, REFUSED), ({"op": "close", "fd": 9}, "moot")],
                             unsaid=[{"class": "splice"}, {"class": "splice"}, {"class": "scopes"}])
 
     def test_totals(self) -> None:
@@ -181,12 +191,12 @@ class Text(unittest.TestCase):
         self.assertEqual(summary.as_data(self.found)["unsaid"], {"splice": 2, "scopes": 1})
 
     def test_a_path_cannot_speak_to_the_terminal(self) -> None:
-        found = summed([NNP, *LAYER, ({**READ, "path": "/a/\x1b[2J\n"}, "refused EACCES 1")])
+        found = summed([NNP, *LAYER, ({**READ, "path": "/a/\x1b[2J\n"}, REFUSED)])
         self.assertNotIn("\x1b", text(found))
         self.assertIn(r"/a/\x1b[2J\n", text(found))
 
     def test_many_kinds_are_cut(self) -> None:
-        many = [({"op": "bind", "port": port}, "refused EACCES 1") for port in range(60)]
+        many = [({"op": "bind", "port": port}, REFUSED) for port in range(60)]
         self.assertIn("and 10 kinds more", text(summed([NNP, *LAYER, *many])))
 
     def test_colours_on_a_terminal_alone(self) -> None:
@@ -203,11 +213,11 @@ class Text(unittest.TestCase):
 
 class Data(unittest.TestCase):
     def test_the_keys_stay(self) -> None:
-        data = summary.as_data(summed([NNP, *LAYER, (READ, "refused EACCES 1"), ({"op": "close", "fd": 9}, "moot")]))
+        data = summary.as_data(summed([NNP, *LAYER, (READ, REFUSED), ({"op": "close", "fd": 9}, "moot")]))
         self.assertEqual(
             sorted(data),
-            ["abi", "allowed", "moot", "moot_because", "moot_path_calls", "path_calls", "records", "refusals", "refused",
-             "unsaid", "warnings"],
+            ["abi", "allowed", "moot", "moot_because", "moot_path_calls", "path_calls", "records", "refusals"]
+            + ["refused", "unsaid", "warnings"],
         )
         self.assertEqual((data["records"], data["allowed"], data["refused"], data["moot"]), (6, 4, 1, 1))
         self.assertEqual(sorted(data["refusals"][0]), ["call", "error", "layers", "place", "programs", "times"])

@@ -1,4 +1,4 @@
-"""The subcommands policy, audit and suggest, as they are called, with a landaudit that gives reports written by hand."""
+"""The subcommands policy, audit and suggest as they are called, with a landaudit whose reports are written by hand."""
 
 from __future__ import annotations
 
@@ -137,9 +137,13 @@ class Trying(unittest.TestCase):
 
     def test_a_policy_with_a_fault(self) -> None:
         self.policy.write_text('[[layer]]\nhandled_access_fs = ["wirte"]\n')
-        for words in (["policy", self.policy, self.recording], ["audit", self.recording, "--policy", self.policy],
-                      ["suggest", self.recording, "--policy", self.policy]):
-            status, out, errors = self.called(*words, "--abi", "3", *([] if words[0] == "policy" else ["--landaudit", self.landaudit]))
+        landaudit = ["--landaudit", self.landaudit]
+        for words in (
+            ["policy", self.policy, self.recording],
+            ["audit", self.recording, "--policy", self.policy, *landaudit],
+            ["suggest", self.recording, "--policy", self.policy, *landaudit],
+        ):
+            status, out, errors = self.called(*words)
             self.assertEqual((status, out), (3, ""))
             self.assertIn("layer 1, handled_access_fs: unknown right for files 'wirte', did you mean 'write'?", errors)
 

@@ -4,6 +4,7 @@ from __future__ import annotations
 
 import argparse
 import json
+import shlex
 import sys
 from pathlib import Path
 
@@ -11,6 +12,7 @@ from .. import applying, finished, fitting, landaudit, policies, summary_text, t
 from ..finished import Finished
 from ..options import add_abi, add_landaudit, add_program, note
 from ..reading import judged
+from ..rights import NEWEST_ABI
 from ..summary import Summary, as_data, summarize
 from ..trees import Tree
 
@@ -62,5 +64,12 @@ def _print(summary: Summary, arguments: argparse.Namespace) -> None:
     title = f"{arguments.recording}{under} at ABI {arguments.abi}"
     for line in summary_text.lines(summary, title, summary_text.Style.of(sys.stdout)):
         print(line)
-    if arguments.policy and any(layer.policy for refusal in summary.refusals for layer in refusal.layers):
-        print(f"\nrules for these: landaudit-record suggest {arguments.recording} --policy {arguments.policy}")
+    if any(layer.policy for refusal in summary.refusals for layer in refusal.layers):
+        print(f"\nrules for these: {shlex.join(_suggesting(arguments))}")
+
+
+def _suggesting(arguments: argparse.Namespace) -> list[str]:
+    """The command that suggests rules for what this audit found."""
+    words = ["landaudit-record", "suggest", arguments.recording, "--policy", arguments.policy]
+    words += ["--program", arguments.program] if arguments.program else []
+    return words + (["--abi", str(arguments.abi)] if arguments.abi != NEWEST_ABI else [])

@@ -36,7 +36,7 @@ def add_arguments(parser: argparse.ArgumentParser) -> None:
         "its 'create' is EINVAL, and no layer comes of it",
     )
     parser.add_argument("--json", action="store_true", help="print the same as data")
-    parser.add_argument("--differences", metavar="FILE", type=Path, help="write each difference, one JSON object a line")
+    parser.add_argument("--differences", metavar="FILE", type=Path, help="write each difference, as JSON Lines")
     add_landaudit(parser)
 
 

@@ -17,7 +17,7 @@ EXAMPLE = "landaudit-record policy policy.toml rec --out tried.jsonl"
 
 def add_arguments(parser: argparse.ArgumentParser) -> None:
     """Names the words of the subcommand."""
-    parser.add_argument("policy", metavar="POLICY.toml", help="the policy: layers with what they handle and their rules")
+    parser.add_argument("policy", metavar="POLICY.toml", help="the policy: layers, what they handle, and their rules")
     parser.add_argument("trace", metavar="TRACE", help="a recording's folder, or its trace.jsonl")
     parser.add_argument("--out", metavar="FILE", help="where the trace goes (standard output if it is left out)")
     parser.add_argument("--tree", metavar="TREE", help="the tree (tree.jsonl beside the trace if it is left out)")

@@ -112,11 +112,11 @@ def _loader(path: str) -> str | None:
 class Disk:
     """The disk as a recording sees it: each answer is kept, and a kept answer is never asked again."""
 
-    def __init__(self, since: float, kept: dict[str, Seen] | None = None, loaders: dict[str, str] | None = None) -> None:
+    def __init__(self, since: float, kept: dict[str, Seen] | None = None, by: dict[str, str] | None = None) -> None:
         self._since = since
         self._live = kept is None
         self._seen: dict[str, Seen | None] = dict(kept or {})
-        self._interpreters: dict[str, str | None] = dict(loaders or {})
+        self._interpreters: dict[str, str | None] = dict(by or {})
 
     def look(self, path: str) -> Seen | None:
         """The object at a path after the run."""

@@ -6,8 +6,8 @@ touch is as the listing before the run says, else as the disk says after it.
 
 from __future__ import annotations
 
-from collections.abc import Callable
 from dataclasses import dataclass, field
+from typing import Protocol
 
 from .disk import Disk, Seen
 
@@ -54,6 +54,16 @@ def join(names: list[str]) -> str:
 def split(path: str) -> list[str]:
     """The names of a path."""
     return [name for name in path.split("/") if name and name != "."]
+
+
+class Links(Protocol):
+    """What a walk asks and tells of links."""
+
+    def magic(self, path: str) -> str | None:
+        """Where a link of /proc leads for the caller; None for any other path."""
+
+    def passed(self, path: str, node: Node) -> None:
+        """A symbolic link was followed."""
 
 
 class Names:
@@ -130,55 +140,72 @@ class Names:
         self.put(one, second)
         self.put(other, first)
 
-    def find(
-        self,
-        root: str,
-        directory: str,
-        path: str,
-        follow: bool,
-        magic: Callable[[str], str | None],
-        link: Callable[[str, Node], None],
-    ) -> Found:
+    def find(self, root: str, directory: str, path: str, follow: bool, links: Links) -> Found:
         """Resolves a path as the kernel does (path_resolution(7)).
 
-        `root` and `directory` are real paths; `follow` says whether a link at the end is followed;
-        `magic` gives where a link of /proc leads for the caller, None for any other path; `link` is
-        told of each symbolic link on the way.
+        `root` and `directory` are real paths; `follow` says whether a link at the end is followed.
         """
-        top = split(root)
-        here = list(top) if path.startswith("/") else split(directory)
-        left = split(path)[::-1]
-        ends_in_slash = path.endswith("/")
-        links = 0
-        node = self.at(join(here))
-        while left:
-            name = left.pop()
+        return _Walk(self, root, directory, path, follow, links).found()
+
+
+class _Walk:
+    """The resolution of one path."""
+
+    def __init__(self, names: Names, root: str, directory: str, path: str, follow: bool, links: Links) -> None:
+        self._names = names
+        self._links = links
+        self._top = split(root)
+        self._here = list(self._top) if path.startswith("/") else split(directory)
+        self._left = split(path)[::-1]
+        self._follows_last = follow or path.endswith("/")
+        self._followed = 0
+        self._node = names.at(join(self._here))
+
+    def found(self) -> Found:
+        """Where the path leads."""
+        while self._left:
+            name = self._left.pop()
             if name == "..":
-                if len(here) > len(top):
-                    here.pop()
-                node = self.at(join(here))
-                continue
-            if node is None or node.kind != "dir":
-                return Found(here + [name] + left[::-1], None, len(here))
-            leads = magic(join(here + [name]))
-            if leads is not None and (left or follow or ends_in_slash):
-                here = [] if leads.startswith("/") else here
-                left.extend(split(leads)[::-1])
-                node = self.at(join(here))
-                continue
-            child = self.child(node, name)
-            if child is not None and child.kind == "sym" and (left or follow or ends_in_slash):
-                link(join(here + [name]), child)
-                links += 1
-                if links > MOST_LINKS or child.target is None:
-                    return Found(here + [name] + left[::-1], None, len(here))
-                if child.target.startswith("/"):
-                    here = list(top)
-                    node = self.at(join(here))
-                left.extend(split(child.target)[::-1])
-                continue
-            here.append(name)
-            node = child
-            if child is None:
-                return Found(here + left[::-1], None, len(here) - 1)
-        return Found(here, node, None if node is not None else max(len(here) - 1, 0))
+                self._go_to(self._here[: max(len(self._here) - 1, len(self._top))])
+            elif self._node is None or self._node.kind != "dir":
+                return self._broken(name, len(self._here))
+            elif not self._follow(name):
+                child = self._names.child(self._node, name)
+                if child is None or self._is_loop(child):
+                    return self._broken(name, len(self._here))
+                self._here.append(name)
+                self._node = child
+        return Found(self._here, self._node, None if self._node is not None else max(len(self._here) - 1, 0))
+
+    def _go_to(self, names: list[str]) -> None:
+        self._here = list(names)
+        self._node = self._names.at(join(self._here))
+
+    def _follow(self, name: str) -> bool:
+        """Follows a name that is a link, where links are followed here."""
+        if self._node is None or not (self._left or self._follows_last):
+            return False
+        path = join([*self._here, name])
+        target = self._links.magic(path)
+        if target is not None:
+            self._turn_to(target, [])
+            return True
+        child = self._names.child(self._node, name)
+        if child is None or child.kind != "sym" or child.target is None or self._followed == MOST_LINKS:
+            return False
+        self._links.passed(path, child)
+        self._followed += 1
+        self._turn_to(child.target, self._top)
+        return True
+
+    def _turn_to(self, target: str, top: list[str]) -> None:
+        self._left.extend(split(target)[::-1])
+        if target.startswith("/"):
+            self._go_to(top)
+
+    def _is_loop(self, child: Node) -> bool:
+        """Whether a name is still a link where it should have been followed: the links have no end."""
+        return child.kind == "sym" and bool(self._left or self._follows_last)
+
+    def _broken(self, name: str, count: int) -> Found:
+        return Found([*self._here, name, *self._left[::-1]], None, count)

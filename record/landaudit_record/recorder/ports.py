@@ -10,7 +10,7 @@ from ..rights import NET
 
 
 class Ports:
-    """The rights for ports that each layer handles, and the rules on ports, each in the policy's order, over and over."""
+    """The rights for ports that each layer handles, and the rules on ports, in the policy's order, over and over."""
 
     def __init__(self, policy: Policy | None = None) -> None:
         layers = policy.layers if policy is not None else ()

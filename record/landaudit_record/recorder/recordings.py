@@ -88,7 +88,8 @@ def watch(folder: Path, directories: list[str]) -> tuple[list[str], list[str]]:
         else:
             listed.update(found)
             watched.append(directory)
-    jsonl.write(folder / BEFORE, ({"path": path, "kind": seen.kind, "target": seen.target} for path, seen in listed.items()))
+    lines = ({"path": path, "kind": seen.kind, "target": seen.target} for path, seen in listed.items())
+    jsonl.write(folder / BEFORE, lines)
     return watched, too_large
 
 

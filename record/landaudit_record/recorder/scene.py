@@ -91,14 +91,7 @@ class Scene:
         if base is not None and base.number == AT_FDCWD and base.path is not None:
             thread.place.directory = base.path
         directory = base.path if base is not None and base.path is not None else thread.place.directory
-        return self.names.find(
-            thread.place.root,
-            directory,
-            path,
-            follow,
-            lambda link: self._magic(thread, link),
-            lambda link, node: self._list_link(link, node),
-        )
+        return self.names.find(thread.place.root, directory, path, follow, ThreadLinks(self, thread))
 
     def list_links(self, thread: Thread, base: Descriptor | None, path: str) -> None:
         """Lists the symbolic links by which a path leads on, once for each directory and path."""
@@ -107,30 +100,6 @@ class Scene:
         if walk not in self._walked:
             self._walked.add(walk)
             self.find(thread, base, path, True)
-
-    def _list_link(self, path: str, node: Node) -> None:
-        self.tree.place(checked_path(path), node.kind, node.target)
-
-    def _magic(self, thread: Thread, path: str) -> str | None:
-        """Where a link of /proc leads."""
-        if not path.startswith("/proc/"):
-            return None
-        if path == "/proc/self":
-            return f"/proc/{thread.process.pid}"
-        if path == "/proc/thread-self":
-            return f"/proc/{thread.process.pid}/task/{thread.tid}"
-        link = _OF_PROCESS.fullmatch(path)
-        process = self.processes.get(int(link[1])) if link else None
-        if link is None or process is None:
-            return None
-        if link[2] == "exe":
-            return process.program or None
-        if link[3] is None:
-            return thread.place.root if link[2] == "root" else thread.place.directory
-        handle = process.table.get(int(link[3]))
-        if handle is not None and handle.path is None:
-            raise CannotSay(NO_PATH)
-        return handle.path if handle is not None else None
 
     def written(self, found: Found) -> Spot:
         """What a resolved path names, as the trace writes it."""
@@ -255,3 +224,41 @@ class Scene:
             self.names.put(f"/proc/{thread.process.pid}", None)
             if thread.process.in_trace:
                 self.recording.write("exit", thread.process.pid, call=line)
+
+
+@dataclass(frozen=True)
+class ThreadLinks:
+    """Links as a thread meets them."""
+
+    scene: Scene
+    thread: Thread
+
+    def passed(self, path: str, node: Node) -> None:
+        """Lists a symbolic link that was followed."""
+        self.scene.tree.place(checked_path(path), node.kind, node.target)
+
+    def magic(self, path: str) -> str | None:
+        """Where a link of /proc leads (proc(5))."""
+        if not path.startswith("/proc/"):
+            return None
+        own = f"/proc/{self.thread.process.pid}"
+        if path == "/proc/self":
+            return own
+        if path == "/proc/thread-self":
+            return f"{own}/task/{self.thread.tid}"
+        link = _OF_PROCESS.fullmatch(path)
+        process = self.scene.processes.get(int(link[1])) if link else None
+        return self._of_process(process, link[2], link[3]) if link and process else None
+
+    def _of_process(self, process: Process, name: str, number: str | None) -> str | None:
+        match name:
+            case "exe":
+                return process.program or None
+            case "cwd":
+                return self.thread.place.directory
+            case "root":
+                return self.thread.place.root
+        handle = process.table.get(int(number or 0))
+        if handle is not None and handle.path is None:
+            raise CannotSay(NO_PATH)
+        return handle.path if handle is not None else None

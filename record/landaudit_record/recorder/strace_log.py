@@ -26,8 +26,9 @@ _RESULT = re.compile(r"\)\s*= (-?\d+|0x[0-9a-f]+|\?)(.*)", re.DOTALL)
 _ERROR = re.compile(r" (E[A-Z0-9]+) ")
 _SUPERSEDED = re.compile(r"superseded by execve in pid (\d+)")
 _PIECE = re.compile(r'"(?:[^"\\]|\\.)*"|/\*.*?\*/|<(?:[^<>]|<[^<>]*>)*>|[()\[\]{},]')
-_FORK = re.compile(r"(\d+) +(?:(?:clone|clone3|fork|vfork)\(.*|<\.\.\. (?:clone|clone3|fork|vfork) resumed>.*)\)\s*= (\d+)$")
-_FORK_BEGINS = re.compile(r"(\d+) +(?:clone|clone3|fork|vfork)\(.*<unfinished \.\.\.>$")
+_FORKS = r"(?:clone3?|v?fork)"
+_FORK = re.compile(rf"(\d+) +(?:{_FORKS}\(.*|<\.\.\. {_FORKS} resumed>.*)\)\s*= (\d+)$")
+_FORK_BEGINS = re.compile(rf"(\d+) +{_FORKS}\(.*<unfinished \.\.\.>$")
 _FLAGS = re.compile(r"flags=([^,}]+)")
 
 

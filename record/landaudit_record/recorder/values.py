@@ -19,7 +19,7 @@ _DEVICE = re.compile(r"<(char|block) \d+:\d+>$")
 
 @dataclass(frozen=True, slots=True)
 class Descriptor:
-    """A descriptor's number, and what strace says stands behind it: a path or a name as `pipe:[1]`, the kind of a device."""
+    """A descriptor's number, and what strace says of it: a path, or a name as `pipe:[1]`, and the kind of a device."""
 
     number: int
     behind: str | None

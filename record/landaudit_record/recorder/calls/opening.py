@@ -46,12 +46,14 @@ def _opened(scene: Scene, thread: Thread, call: Call, base: int | None, path: in
     if call.ok:
         result = scene.descriptor(f"{call.value}{call.note}")
         scene.put(thread, call, result.number, Handle(result.path, close_on_exec=bool(flags & O_CLOEXEC)))
-        succeeded(scene, thread, call, result, flags, lambda: _links_on_the_way(scene, thread, call, base, path, result))
+        if result.path is not None and not flags & O_PATH:
+            _list_links(scene, thread, call, base, path, result.path)
+        succeeded(scene, thread, call, result, flags)
     elif not flags & O_PATH:
         _failed(scene, thread, call, base, path, flags)
 
 
-def succeeded(scene: Scene, thread: Thread, call: Call, result: Descriptor, flags: int, walk=lambda: None) -> None:
+def succeeded(scene: Scene, thread: Thread, call: Call, result: Descriptor, flags: int) -> None:
     """A descriptor that is open now: a record, or what is needed to adopt it where Landlock was not asked."""
     handle = thread.process.table[result.number]
     if result.path is None or flags & O_PATH:
@@ -60,7 +62,6 @@ def succeeded(scene: Scene, thread: Thread, call: Call, result: Descriptor, flag
     if flags & ACCESS_MODE == ACCESS_MODE:
         handle.adopted = "device" if result.device else "other"
         raise CannotSay("an open for ioctl alone (access mode 3)")
-    walk()
     spot, made = _opened_spot(scene, result, flags)
     _say_open(scene, thread, call, spot, result.number, flags, made)
     handle.in_trace = True
@@ -94,10 +95,10 @@ def _kind_after(scene: Scene, path: str) -> str:
     return seen.kind if seen is not None and seen.kind != "sym" else "reg"
 
 
-def _links_on_the_way(scene: Scene, thread: Thread, call: Call, base: int | None, path: int, result: Descriptor) -> None:
-    """Lists the symbolic links by which a path led to the file, if it led there by any."""
+def _list_links(scene: Scene, thread: Thread, call: Call, base: int | None, path: int, opened: str) -> None:
+    """Lists the symbolic links by which a path led to the file that was opened, if it led there by any."""
     text = values.text(call.arguments[path])
-    if text is not None and text != result.path:
+    if text is not None and text != opened:
         scene.list_links(thread, arguments.descriptor_at(scene, call, base), text)
 
 
@@ -119,7 +120,7 @@ def _failed(scene: Scene, thread: Thread, call: Call, base: int | None, path: in
 def _after_failure(scene: Scene, call: Call, spot: Spot, flags: int) -> Spot:
     """What an open that failed was about, after what the kernel answered."""
     if flags & O_TMPFILE == O_TMPFILE:
-        there = spot.node is not None and call.error != "ENOENT"
+        there = spot.node is not None and call.error not in ("ENOENT", "ENOTDIR")
         return _without_name(scene, join([*split(spot.real), UNNAMED])) if there else scene.as_missing(spot)
     if call.error == "ENOTDIR" and flags & O_DIRECTORY:
         return scene.as_missing(spot)

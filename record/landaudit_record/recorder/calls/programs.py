@@ -34,7 +34,8 @@ def _run(scene: Scene, thread: Thread, call: Call, spot: Spot) -> None:
         raise CannotSay("EACCES of what is no file that may be run")
     made_up = [_run_one(scene, thread, call, spot, None)]
     if spot.node is not None:
-        made_up += [_run_one(scene, thread, call, one, "interpreter") for one in _interpreters(scene, thread, call, spot)]
+        interpreters = _interpreters(scene, thread, call, spot)
+        made_up += [_run_one(scene, thread, call, one, "interpreter") for one in interpreters]
     for number in made_up:
         if number is not None:
             scene.note(thread, call, "close", fd=number)

@@ -1,0 +1,13 @@
+"""Words for a person: counted things, and texts that stand on one line."""
+
+from __future__ import annotations
+
+
+def counted(number: int, thing: str) -> str:
+    """A number of things, as `1 call` or `2 calls`."""
+    return f"{number} {thing}" if number == 1 else f"{number} {thing}s"
+
+
+def printable(text: str) -> str:
+    """A text on one line, with an escape for each character that a terminal would act on."""
+    return text if text.isprintable() else text.encode("unicode_escape").decode()

@@ -1,0 +1,3 @@
+#include "config.h"
+int part(void);
+int main(void) { return part(); }

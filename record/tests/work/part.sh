@@ -1,0 +1,4 @@
+part=1
+export part
+/bin/true
+./run-nothing 2> /dev/null
