@@ -22,14 +22,16 @@ from .processes import program_run
 from .trees import LinkLoop, Tree
 
 MOST_PROGRAMS_SHOWN = 8
+MOST_RECORDS = 1_000_000
 
 
 @dataclass(frozen=True)
 class Plan:
-    """Where a policy goes: the process before each line, and a ruleset's number that the trace never uses."""
+    """Where a policy goes: the process before each of the trace's lines, and a ruleset's number that it never uses."""
 
     before: dict[int, int]
     rs: int
+    lines: int
 
 
 @dataclass
@@ -72,6 +74,7 @@ def plan(trace: Path, tree: Tree, program: str | None) -> Plan:
     named = None if program is None else _paths_of(program, tree)
     seen = _Seen()
     before: dict[int, int] = {}
+    line = 0
     for line, record in jsonl.numbered(trace):
         pid = _number(trace, line, record, "pid")
         if "rs" in record:
@@ -87,7 +90,7 @@ def plan(trace: Path, tree: Tree, program: str | None) -> Plan:
         seen.starting.discard(pid)
     if not before:
         raise Problem(_nowhere(trace, program, sorted(seen.programs)))
-    return Plan(before, seen.highest_rs + 1)
+    return Plan(before, seen.highest_rs + 1, line)
 
 
 def _number(trace: Path, line: int, record: Record, member: str) -> int:
@@ -153,6 +156,10 @@ def _of_layer(policy: Policy, layer: FittedLayer, tree: Tree, rs: int) -> Iterat
 
 def write(trace: Path, places: Plan, inserted: list[Record], out: BinaryIO) -> None:
     """Writes a trace with records put in by a plan; the trace's own lines stay as they are."""
+    total = places.lines + len(places.before) * len(inserted)
+    if total > MOST_RECORDS:
+        raise Problem(f"with the policy put in {len(places.before)} times {trace} has {total:,} records, and landaudit "
+                      f"reads {MOST_RECORDS:,}: name another program by --program, or record less")
     with open(trace, "rb") as lines:
         for number, line in enumerate(lines, start=1):
             pid = places.before.get(number)

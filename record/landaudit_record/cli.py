@@ -39,9 +39,17 @@ def parser() -> argparse.ArgumentParser:
     return top
 
 
+def parse(words: Sequence[str]) -> argparse.Namespace:
+    """The arguments of a subcommand; what stands behind the first `--` is a command of its own, in `behind`."""
+    end = words.index("--") if "--" in words else len(words)
+    arguments = parser().parse_args(words[:end])
+    arguments.behind = list(words[end + 1 :])
+    return arguments
+
+
 def main(words: Sequence[str] | None = None) -> int:
     """Runs one subcommand and gives the status of the program."""
-    arguments = parser().parse_args(words)
+    arguments = parse(sys.argv[1:] if words is None else words)
     try:
         return arguments.run(arguments)
     except Problem as problem:

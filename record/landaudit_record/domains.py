@@ -53,9 +53,11 @@ class Ruleset:
     on_ports: dict[int, Rights] = field(default_factory=dict)
 
     def add_path(self, path: str, rights: Rights) -> None:
+        """One rule more on a path; the rules on one path grant together."""
         self.on_paths[path] = self.on_paths.get(path, NONE) | rights
 
     def add_port(self, port: int, rights: Rights) -> None:
+        """One rule more on a port; the rules on one port grant together."""
         self.on_ports[port] = self.on_ports.get(port, NONE) | rights
 
     def layer(self) -> Layer:

@@ -16,14 +16,17 @@ class Finished:
 
     @property
     def tree(self) -> Path:
+        """The objects that the run met."""
         return self.folder / "tree.jsonl"
 
     @property
     def trace(self) -> Path:
+        """The calls, as they were recorded."""
         return self.folder / "trace.jsonl"
 
     @property
     def unsaid(self) -> Path:
+        """What the recording could not say."""
         return self.folder / "unsaid.jsonl"
 
     @property
@@ -33,6 +36,7 @@ class Finished:
 
     @property
     def report(self) -> Path:
+        """landaudit's answers of the last audit."""
         return self.folder / "report.txt"
 
 

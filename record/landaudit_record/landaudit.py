@@ -12,7 +12,6 @@ from pathlib import Path
 from .problems import UNREADABLE, WANTING, Problem
 
 BUILT = Path(__file__).resolve().parents[2] / "crates" / "landaudit" / "out" / "landaudit"
-NEWEST_ABI = 5
 
 
 @dataclass(frozen=True)

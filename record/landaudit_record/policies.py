@@ -46,6 +46,7 @@ class Access:
 
     @property
     def rights(self) -> Rights:
+        """All of them."""
         return self.outright | self.grouped
 
 
@@ -97,6 +98,7 @@ class _Place:
         return _Place(self.path, (*self.steps, step))
 
     def fault(self, text: str) -> NoReturn:
+        """Says what is wrong here."""
         where = ", ".join(self.steps)
         raise Problem(f"{self.path}: {where}: {text}" if where else f"{self.path}: {text}")
 

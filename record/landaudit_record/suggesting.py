@@ -52,7 +52,8 @@ def suggest(tree: Tree, policy: Policy, abi: int, audit: Callable[[Policy], Iter
     `audit` answers the recording under a policy. Under the rules of one round
     the next may show refusals that stood behind those which they mend.
     """
-    found, rules = Round(), {}
+    found = Round()
+    rules: dict[int, list[Rule]] = {}
     lacked: dict[int, Wants] = defaultdict(dict)
     made: set[str] = set()
     for rounds in range(1, MOST_ROUNDS + 1):

@@ -61,6 +61,7 @@ class Summary:
 
     @property
     def records(self) -> int:
+        """How many records were answered."""
         return sum(self.verdicts.values())
 
     def by_frequency(self) -> list[tuple[Refusal, Counter[str]]]:

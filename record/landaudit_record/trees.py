@@ -43,9 +43,11 @@ class Tree:
     targets: dict[str, str] = field(default_factory=dict)
 
     def kind(self, path: str) -> str | None:
+        """The kind of what is there, None if nothing is."""
         return self.kinds.get(path)
 
     def is_dir(self, path: str) -> bool:
+        """Whether a directory is there."""
         return self.kinds.get(path) == "dir"
 
     def is_gap(self, path: str) -> bool:

@@ -5,6 +5,7 @@ from __future__ import annotations
 import re
 from collections import Counter, defaultdict
 from dataclasses import dataclass
+from typing import TypeVar
 
 from .rights import Rights
 from .trees import ROOT, Tree, directory_of, upwards
@@ -12,8 +13,13 @@ from .trees import ROOT, Tree, directory_of, upwards
 SEVERAL = 2
 _OF_A_PROCESS = re.compile(r"/proc/[0-9]+")
 
-# What is lacking on a path or a port: each right with the calls that ask for it, by their numbers.
-Wants = dict[str | int, dict[str, set[int]]]
+# Rights, each with the calls that ask for it, by their numbers.
+Lacking = dict[str, set[int]]
+# What is lacking on each path, or on each path and port.
+OnPaths = dict[str, Lacking]
+Wants = dict[str | int, Lacking]
+
+Place = TypeVar("Place", str, str | int)
 
 
 @dataclass(frozen=True)
@@ -25,7 +31,7 @@ class Rule:
     calls: int
 
 
-def unite(wants: Wants, more: Wants) -> None:
+def unite(wants: dict[Place, Lacking], more: dict[Place, Lacking]) -> None:
     """Adds to what is lacking what more calls lack."""
     for place, rights in more.items():
         here = wants.setdefault(place, {})
@@ -36,37 +42,37 @@ def unite(wants: Wants, more: Wants) -> None:
 def rules(tree: Tree, wants: Wants, made: set[str]) -> list[Rule]:
     """The rules that grant what is lacking, those first for which most calls ask.
 
-    A rule stands on what is there before the run: for an object that is made in
-    it, on the directory over that. What several files of one directory lack is
-    granted on the directory, but for the root.
+    A rule stands on what can be opened before the run: for an object that is
+    made in it, and for a symbolic link, on the directory over that. What several
+    files of one directory lack is granted on the directory, but for the root.
     """
-    found = _path_rules(_together(tree, _lasting(wants, made))) + _port_rules(wants)
+    found = _path_rules(_together(tree, _lasting(tree, wants, made))) + _port_rules(wants)
     return sorted(found, key=lambda rule: -rule.calls)
 
 
-def _lasting(wants: Wants, made: set[str]) -> Wants:
-    """What is lacking on paths, each of them there before the run."""
-    lasting: Wants = {}
+def _lasting(tree: Tree, wants: Wants, made: set[str]) -> OnPaths:
+    """What is lacking on paths, each of which can have a rule before the run."""
+    lasting: OnPaths = {}
     for place, rights in wants.items():
         if isinstance(place, str):
-            unite(lasting, {_there_before(place, made): rights})
+            unite(lasting, {_there_before(tree, place, made): rights})
     return lasting
 
 
-def _there_before(path: str, made: set[str]) -> str:
-    """A path, or the directory over the uppermost of its components that the run or a process made."""
+def _there_before(tree: Tree, path: str, made: set[str]) -> str:
+    """A path, or the directory over the uppermost of its components that the run made, a process has, or is a link."""
     before = path
     for over in upwards(path):
-        if over in made or _OF_A_PROCESS.fullmatch(over):
+        if over in made or _OF_A_PROCESS.fullmatch(over) or tree.kind(over) == "sym":
             before = directory_of(over)
     return before
 
 
-def _together(tree: Tree, wants: Wants) -> Wants:
+def _together(tree: Tree, wants: OnPaths) -> OnPaths:
     """What several files of a directory lack, on the directory; all else as it is."""
     files = {path: directory_of(path) for path in wants if not tree.is_dir(path) and directory_of(path) != ROOT}
     alike = Counter((directory, right) for path, directory in files.items() for right in wants[path])
-    together: Wants = {}
+    together: OnPaths = {}
     for path, rights in wants.items():
         for right, calls in rights.items():
             several = path in files and alike[files[path], right] >= SEVERAL
@@ -74,9 +80,9 @@ def _together(tree: Tree, wants: Wants) -> Wants:
     return together
 
 
-def _path_rules(wants: Wants) -> list[Rule]:
+def _path_rules(wants: OnPaths) -> list[Rule]:
     """One rule a path. What a rule on a directory over a path grants is not granted again."""
-    granted: Wants = {}
+    granted: OnPaths = {}
     for path in sorted(wants):
         for right, calls in wants[path].items():
             place = next((over for over in upwards(path) if right in granted.get(over, {})), path)

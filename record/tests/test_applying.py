@@ -98,6 +98,16 @@ class Applying(unittest.TestCase):
         path = write_lines(Path(self.folder.name, "trace.jsonl"), [START, {"op": "create", "pid": 10, "rs": 7}, RUN])
         self.assertEqual(applying.plan(path, TREE, None).rs, 8)
 
+    def test_more_records_than_landaudit_reads(self) -> None:
+        path = write_lines(Path(self.folder.name, "trace.jsonl"), [START, RUN])
+        places = applying.Plan(before={2: 10}, rs=1, lines=999_999)
+        out = io.BytesIO()
+        with self.assertRaisesRegex(Problem, "has 1,000,001 records"):
+            applying.write(path, places, [{"op": "nnp"}] * 2, out)
+        self.assertEqual(out.getvalue(), b"")
+        applying.write(path, places, [{"op": "nnp"}], out)
+        self.assertEqual(out.getvalue().count(b"\n"), 3)
+
     def test_the_records_of_a_policy(self) -> None:
         port = PortRule("net_port 1", access("connect_tcp"), (443,))
         path = PathRule("path_beneath 1", access("read_file"), ("/bin/ls", "/none"))

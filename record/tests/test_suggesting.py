@@ -31,6 +31,7 @@ TREE = Tree(
         "/a/h": "reg",
         "/a/s": "dir",
         "/a/s/t": "reg",
+        "/a/link": "sym",
         "/b": "dir",
         "/proc": "dir",
         "/proc/7": "dir",
@@ -185,6 +186,11 @@ class Moves(unittest.TestCase):
     def test_what_would_be_gained_is_granted_on_the_object(self) -> None:
         granted = [("/a", ["remove_file", "refer"]), ("/b", ["make_reg", "refer", "execute"])]
         self.assertEqual(rules((self.MOVE, "refused EXDEV 1"), granted=granted), [("/a/f", ["execute"], 1)])
+
+    def test_for_a_symbolic_link_on_its_directory(self) -> None:
+        granted = [("/a", ["remove_file", "refer"]), ("/b", ["make_sym", "refer", "execute"])]
+        move = {**self.MOVE, "from": "/a/link"}
+        self.assertEqual(rules((move, "refused EXDEV 1"), granted=granted), [("/a", ["execute"], 1)])
 
     def test_refer_is_unknown_to_abi_1(self) -> None:
         found = suggested([*layer(1, ["read_file"]), (self.MOVE, "refused EXDEV 1")], abi=1)

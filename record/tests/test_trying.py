@@ -5,7 +5,6 @@ from __future__ import annotations
 import json
 import tempfile
 import unittest
-from collections.abc import Sequence
 from contextlib import redirect_stderr, redirect_stdout
 from io import BytesIO, StringIO, TextIOWrapper
 from pathlib import Path
@@ -114,6 +113,13 @@ class Trying(unittest.TestCase):
         self.assertIn("open w  /a     EACCES  policy's 1  /bin", out)
         tried = (self.recording / "tried.jsonl").read_text().splitlines()
         self.assertEqual([json.loads(line)["op"] for line in tried], OPS)
+
+    def test_audit_names_the_command_that_suggests_rules(self) -> None:
+        _, out, _ = self.audited("audit", self.recording, "--policy", self.policy, "--program", "bin")
+        command = f"landaudit-record suggest {self.recording} --policy {self.policy} --program bin --abi 3"
+        self.assertEqual(out.splitlines()[-1], f"rules for these: {command}")
+        _, out, _ = self.audited("audit", self.recording)
+        self.assertNotIn("rules for these", out)
 
     def test_audit_as_data(self) -> None:
         status, out, _ = self.audited("audit", self.recording, "--policy", self.policy, "--json")

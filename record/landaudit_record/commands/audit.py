@@ -24,7 +24,11 @@ EXAMPLE = "landaudit-record audit rec --policy policy.toml --abi 4"
 def add_arguments(parser: argparse.ArgumentParser) -> None:
     """Names the words of the subcommand."""
     parser.add_argument("recording", metavar="OUT", help="a recording's folder")
-    parser.add_argument("--policy", metavar="POLICY.toml", help="a policy to try on the recording, in OUT/tried.jsonl")
+    parser.add_argument(
+        "--policy",
+        metavar="POLICY.toml",
+        help="a policy to try on the recording, in OUT/tried.jsonl (how to write one: landaudit-record policy --help)",
+    )
     add_program(parser)
     add_abi(parser)
     parser.add_argument("--json", action="store_true", help="print the summary as data")

@@ -11,12 +11,23 @@ from ..options import add_abi, add_program, note
 from ..problems import USAGE, Problem
 
 NAME = "policy"
-HELP = "write a trace in which each program starts under a policy"
+HELP = "write a trace in which the recorded program starts under a policy"
 EXAMPLE = "landaudit-record policy policy.toml rec --out tried.jsonl"
+POLICIES = """
+A policy is TOML: each [[layer]] has handled_access_fs, handled_access_net, and
+rules, [[layer.path_beneath]] with allowed_access and parent (one or several)
+and [[layer.net_port]] with allowed_access and port (one or several).
+
+Rights have Landlock's names, as read_file, or groups stand for them: all, read,
+write, execute. In a rule a group means those of its rights that the layer
+handles and, on a parent that is a file, that apply to files. A right that a
+rule names must be handled by its layer. What the ABI does not know is dropped,
+as the kernel's document advises, with a note if it was named."""
 
 
 def add_arguments(parser: argparse.ArgumentParser) -> None:
     """Names the words of the subcommand."""
+    parser.description = f"{HELP}\n{POLICIES}"
     parser.add_argument("policy", metavar="POLICY.toml", help="the policy: layers, what they handle, and their rules")
     parser.add_argument("trace", metavar="TRACE", help="a recording's folder, or its trace.jsonl")
     parser.add_argument("--out", metavar="FILE", help="where the trace goes (standard output if it is left out)")

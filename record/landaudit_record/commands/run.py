@@ -29,12 +29,13 @@ def add_arguments(parser: argparse.ArgumentParser) -> None:
         " (the working directory is listed by itself; may be given several times)",
     )
     convert.add_port_rules(parser)
-    parser.add_argument("words", metavar="COMMAND", nargs="+", help="the command and its arguments, behind --")
 
 
 def run(arguments: argparse.Namespace) -> int:
     """Records the command; the status is the command's."""
-    command = arguments.words
+    command = arguments.behind
+    if not command:
+        raise Problem("give a command behind '--', as 'landaudit-record run rec -- ls'", USAGE)
     if shutil.which(command[0]) is None:
         raise Problem(f"{command[0]} is not found, or is no program", WANTING)
     strace = tracing.version()

@@ -1,0 +1,61 @@
+"""Suggested rules on a running kernel: with them a program does its work under the policy, without them it can't."""
+
+from __future__ import annotations
+
+import subprocess
+import sys
+import tempfile
+import unittest
+from pathlib import Path
+
+from .live_actor import HERE, RECORDER, wanting
+
+DENY = """[[layer]]
+handled_access_fs = ["all"]
+handled_access_net = ["all"]
+"""
+SHELL = "mkdir d && sort -o d/out in && mv d/out out && ln out also && rm -r d && cat also"
+
+
+@unittest.skipIf(wanting() is not None, wanting() or "")
+class LiveSuggesting(unittest.TestCase):
+    def setUp(self) -> None:
+        made = tempfile.TemporaryDirectory()
+        self.addCleanup(made.cleanup)
+        self.folder = Path(made.name).resolve()
+        self.work = self.folder / "work"
+        self.work.mkdir()
+        (self.work / "in").write_text("b\na\n")
+        self.policy = self.folder / "P.toml"
+        self.policy.write_text(DENY)
+
+    def recorder(self, *words: str | Path) -> subprocess.CompletedProcess[str]:
+        return self.run_in_work([sys.executable, RECORDER, *words])
+
+    def confined(self) -> subprocess.CompletedProcess[str]:
+        """The program under the policy, on a work folder as it was before."""
+        for name in ("out", "also"):
+            (self.work / name).unlink(missing_ok=True)
+        return self.run_in_work([sys.executable, HERE / "sandboxer.py", self.policy, "--", "sh", "-c", SHELL])
+
+    def run_in_work(self, words: list[str | Path]) -> subprocess.CompletedProcess[str]:
+        return subprocess.run(words, cwd=self.work, capture_output=True, text=True, check=False)
+
+    def test_a_program_works_under_the_rules_that_are_suggested_for_it(self) -> None:
+        recording = self.folder / "rec"
+        recorded = self.recorder("run", recording, "--", "sh", "-c", SHELL)
+        self.assertEqual((recorded.returncode, recorded.stdout), (0, "a\nb\n"), recorded.stderr)
+        self.assertNotEqual(self.confined().returncode, 0)
+
+        suggested = self.recorder("suggest", recording, "--policy", self.policy)
+        self.assertEqual(suggested.returncode, 0, suggested.stderr)
+        self.policy.write_text(DENY + suggested.stdout)
+        audited = self.recorder("audit", recording, "--policy", self.policy)
+        self.assertEqual(audited.returncode, 0, audited.stdout)
+
+        confined = self.confined()
+        self.assertEqual((confined.returncode, confined.stdout), (0, "a\nb\n"), confined.stderr)
+
+
+if __name__ == "__main__":
+    unittest.main()

@@ -1,0 +1,105 @@
+"""The command line, and the faults that end a run before anything is done."""
+
+from __future__ import annotations
+
+import contextlib
+import errno
+import io
+import os
+import shutil
+import tempfile
+import unittest
+from pathlib import Path
+from unittest import mock
+
+from landaudit_record import cli
+from landaudit_record.recorder import tracing
+from landaudit_record.recorder.writing import Recording
+
+from .kept_logs import LOGS
+
+
+def said(*words: str) -> tuple[int, str]:
+    """The status of a command line, and what it writes to standard error."""
+    error = io.StringIO()
+    with contextlib.redirect_stderr(error), contextlib.redirect_stdout(io.StringIO()):
+        try:
+            status = cli.main(words)
+        except SystemExit as end:
+            status = int(end.code or 0)
+    return status, error.getvalue()
+
+
+class CommandLine(unittest.TestCase):
+    def test_the_command_behind_the_first_dashes_keeps_its_own(self) -> None:
+        arguments = cli.parse(["run", "rec", "--watch", "/w", "--", "sh", "-c", "x", "--", "y"])
+        self.assertEqual(arguments.behind, ["sh", "-c", "x", "--", "y"])
+        self.assertEqual((str(arguments.out), arguments.watch), ("rec", ["/w"]))
+
+    def test_each_subcommand_has_help_with_an_example(self) -> None:
+        for command in ("run", "convert", "policy", "audit", "compare", "suggest"):
+            with self.subTest(command), contextlib.redirect_stdout(io.StringIO()) as out:
+                with self.assertRaises(SystemExit) as end:
+                    cli.main([command, "--help"])
+                self.assertFalse(end.exception.code)
+                example = out.getvalue().partition("example:\n")[2]
+                self.assertIn(f"  landaudit-record {command} ", example)
+
+    def test_wrong_words_are_status_2(self) -> None:
+        for words in ([], ["nosuch"], ["audit"], ["audit", "rec", "--abi", "6"]):
+            with self.subTest(words):
+                self.assertEqual(said(*words)[0], 2)
+
+    def test_a_run_without_a_command(self) -> None:
+        status, error = said("run", "rec")
+        self.assertEqual(status, 2)
+        self.assertIn("give a command behind '--'", error)
+
+    def test_a_command_that_is_not_found(self) -> None:
+        self.assertEqual(
+            said("run", "rec", "--", "no-such-command"),
+            (4, "landaudit-record: no-such-command is not found, or is no program\n"),
+        )
+
+    def test_strace_missing(self) -> None:
+        with mock.patch.object(tracing.shutil, "which", lambda name: None if name == "strace" else f"/bin/{name}"):
+            status, error = said("run", "rec", "--", "true")
+        self.assertEqual(
+            (status, error), (4, "landaudit-record: strace is not installed: install Debian's package strace\n")
+        )
+
+    def test_tracing_that_is_not_permitted(self) -> None:
+        refused = mock.Mock(returncode=1, stderr="strace: ptrace(PTRACE_TRACEME, ...): Operation not permitted\n")
+        with (
+            mock.patch.object(tracing, "version", lambda: "6.1"),
+            mock.patch.object(tracing.subprocess, "run", lambda *words, **options: refused),
+        ):
+            status, error = said("run", "rec", "--", "true")
+        self.assertEqual(status, 4)
+        self.assertIn("strace may not trace programs here: strace: ptrace(PTRACE_TRACEME", error)
+
+    def test_a_folder_that_is_there_already(self) -> None:
+        with (
+            tempfile.TemporaryDirectory() as folder,
+            mock.patch.object(tracing, "version", lambda: "6.1"),
+            mock.patch.object(tracing, "may_trace", lambda: None),
+        ):
+            status, error = said("run", folder, "--", "true")
+        self.assertEqual(status, 2)
+        self.assertIn("is there already: name a new folder", error)
+
+    def test_what_is_no_recording(self) -> None:
+        with tempfile.TemporaryDirectory() as folder:
+            status, error = said("convert", folder)
+        self.assertEqual(status, 3)
+        self.assertEqual(len(error.splitlines()), 1)
+
+    def test_a_full_disk_is_one_line(self) -> None:
+        full = OSError(errno.ENOSPC, os.strerror(errno.ENOSPC))
+        with tempfile.TemporaryDirectory() as folder, mock.patch.object(Recording, "write", side_effect=full):
+            recording = shutil.copytree(LOGS / "forks", Path(folder) / "forks")
+            self.assertEqual(said("convert", str(recording)), (4, "landaudit-record: No space left on device\n"))
+
+
+if __name__ == "__main__":
+    unittest.main()
