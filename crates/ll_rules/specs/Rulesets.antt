@@ -1,6 +1,6 @@
 -- What creating a ruleset and adding rules to it answers.
 -- Source: landlock_create_ruleset(2), landlock_add_rule(2), "ERRORS"; where two errors meet, docs/DECISIONS.md says which comes first.
-use Rattle.std.specs.Prelude.{ℕ, Bool, not, ◌&&◌, ◌||◌, nat_le, nat_lt, List, Option, Some, None, if◌then◌else◌}
+use Rattle.std.specs.Prelude.{ℕ, Bool, not, ◌&&◌, ◌||◌, nat_le, nat_lt, List, Option, Some, None, option_map, if◌then◌else◌}
 use Rattle.ll_rights.specs.declared.abi.Abi.{Abi}
 use Rattle.ll_rights.specs.declared.fs.Fs.{Fs}
 use Rattle.ll_rights.specs.declared.net.Net.{Net}
@@ -33,6 +33,18 @@ create_fault abi handled_files handled_network =
     else (if not (knows_all abi handled_files handled_network) then Some Inval
     else (if files.is_empty handled_files && network.is_empty handled_network then Some NoMsg else None))
 
+-- ---- rules
+
+-- Why a rule isn't added where there is memory for it: the call fails, or there is nothing to answer.
+pub data RuleRefusal : Type 0 where
+  fails : Errno → RuleRefusal
+  moot : RuleRefusal
+
+-- the fault that tells a refusal; want of memory tells none
+abbrev pub fault_of : RuleRefusal → RuleFault
+fault_of (fails error) = faults.Errno error
+fault_of moot = faults.Moot
+
 -- ---- rules for files
 
 -- the node that a place names is of the tree
@@ -46,16 +58,20 @@ abbrev pub are_file_rights : Fs → Bool
 are_file_rights wanted = files.every_right (λ right. not (files.has wanted right) || files.is_file_right right)
 
 -- a rule needs an object to stand on, and one that isn't a directory has file rights alone
-abbrev pub place_fault : List Entry → Place → Fs → Option RuleFault
-place_fault tree (Node node) wanted = if not (is_dir (kind_at tree node)) && not (are_file_rights wanted) then Some (faults.Errno Inval) else None
-place_fault tree (Gap node) wanted = Some faults.Moot
-place_fault tree Nowhere wanted = Some faults.Moot
+abbrev pub place_refusal : List Entry → Place → Fs → Option RuleRefusal
+place_refusal tree (Node node) wanted = if not (is_dir (kind_at tree node)) && not (are_file_rights wanted) then Some (fails Inval) else None
+place_refusal tree (Gap node) wanted = Some moot
+place_refusal tree Nowhere wanted = Some moot
 
--- why a rule for files isn't added
+-- why a rule for files is refused
+abbrev pub add_path_refusal : {P : Type 0} → List Entry → RulesOn P → Place → Fs → Option RuleRefusal
+add_path_refusal tree rules place wanted =
+    if files.is_empty wanted then Some (fails NoMsg)
+    else (if not (files.is_within wanted rules.handled_files) then Some (fails Inval) else place_refusal tree place wanted)
+
+-- the fault of a rule for files, where there is memory for it
 abbrev pub add_path_fault : {P : Type 0} → List Entry → RulesOn P → Place → Fs → Option RuleFault
-add_path_fault tree rules place wanted =
-    if files.is_empty wanted then Some (faults.Errno NoMsg)
-    else (if not (files.is_within wanted rules.handled_files) then Some (faults.Errno Inval) else place_fault tree place wanted)
+add_path_fault tree rules place wanted = option_map fault_of (add_path_refusal tree rules place wanted)
 
 -- one rule more, on the path of the node that a place names
 abbrev pub with_rule_at : List Entry → RulesOn Path → Place → Fs → RulesOn Path
@@ -65,10 +81,14 @@ with_rule_at tree rules Nowhere granted = rules
 
 -- ---- rules for ports
 
--- why a rule for a port isn't added; a port has 16 bits
+-- why a rule for a port is refused; a port has 16 bits
+abbrev pub add_port_refusal : {P : Type 0} → Abi → RulesOn P → ℕ → Net → Option RuleRefusal
+add_port_refusal abi rules port wanted =
+    if not (has_ports abi) then Some (fails Inval)
+    else (if network.is_empty wanted then Some (fails NoMsg)
+    else (if not (network.is_within wanted rules.handled_network) then Some (fails Inval)
+    else (if nat_lt 65535 port then Some (fails Inval) else None)))
+
+-- the fault of a rule for a port, where there is memory for it
 abbrev pub add_port_fault : {P : Type 0} → Abi → RulesOn P → ℕ → Net → Option RuleFault
-add_port_fault abi rules port wanted =
-    if not (has_ports abi) then Some (faults.Errno Inval)
-    else (if network.is_empty wanted then Some (faults.Errno NoMsg)
-    else (if not (network.is_within wanted rules.handled_network) then Some (faults.Errno Inval)
-    else (if nat_lt 65535 port then Some (faults.Errno Inval) else None)))
+add_port_fault abi rules port wanted = option_map fault_of (add_port_refusal abi rules port wanted)

@@ -7,7 +7,8 @@ ghost use Rattle.ll_tree.specs.Paths.{front};
 ghost use Rattle.ll_tree.specs.Trees.{IsNode, IsTree, path_at, depth_at, kind_at, is_dir};
 ghost use Rattle.ll_rules.specs.Layers.{in_tree, AreInTree, granted_on_node};
 ghost use Rattle.ll_rules.specs.Checks.{domain_of, all_in_tree, IsDomainOf};
-ghost use Rattle.ll_rules.specs.Moves.{IsTargetIn, source_of, destination_of as destination_path, kind_there, asked_of_source as asked_there, asked_of_destination as asked_here, other_gains as other_object_gains, holds_back as holding_back, move_verdict};
+ghost use Rattle.ll_rules.specs.declared.errno.Errno.TheVariants.{Acces, XDev};
+ghost use Rattle.ll_rules.specs.Moves.{IsTargetIn, source_of, destination_of as destination_path, kind_there, asked_of_source as asked_there, asked_of_destination as asked_here, other_gains as other_object_gains, holds_back as holding_back, refused_by, move_verdict};
 ghost use Rattle.ll_rules.specs.Lanes.{lane, layer_in, AreLacking};
 
 use crate::climb::{ask_on, climb, handled_in};
@@ -348,6 +349,19 @@ fn held_back(
     either(kept, either(own, other))
 }
 
+/// What is answered to a move that some layers deny and some hold back.
+fn verdict_of(denied: LayerSet, held_back: LayerSet) -> Verdict
+    ensures { result ≡ refused_by Acces denied (refused_by XDev held_back Verdict.Passed) }
+{
+    if !denied.is_empty() {
+        return Verdict::Refused(Errno::Acces, denied);
+    }
+    if !held_back.is_empty() {
+        return Verdict::Refused(Errno::XDev, held_back);
+    }
+    Verdict::Passed
+}
+
 /// What a domain answers to a rename or a link (landlock(7), "Filesystem actions"). `EACCES` with the layers
 /// that deny what it asks of the two directories, if there are any. Else it passes within one directory.
 /// Between two, `EXDEV` with the layers that don't grant moving files from or to one of them, or under which
@@ -391,15 +405,9 @@ pub fn check_move_counted(
         &mut look_ups,
     );
     let denied = filled(denied(lacking, from, to));
-    if !denied.is_empty() {
-        return (Verdict::Refused(Errno::Acces, denied), look_ups);
-    }
     if to.directory == from.directory {
-        return (Verdict::Passed, look_ups);
+        return (verdict_of(denied, LayerSet::new()), look_ups);
     }
     let held_back = filled(held_back(tree, layers, ids, attempt, lacking, &mut look_ups));
-    if !held_back.is_empty() {
-        return (Verdict::Refused(Errno::XDev, held_back), look_ups);
-    }
-    (Verdict::Passed, look_ups)
+    (verdict_of(denied, held_back), look_ups)
 }
