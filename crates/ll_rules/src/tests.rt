@@ -547,3 +547,112 @@ fn look_ups_of_a_move(rt: HostRuntime) -> Result<(), Fail> {
     assert!(rt; look_ups >= 4 && look_ups <= 6);
     Ok(())
 }
+
+#[test]
+fn marks_are_shared(rt: HostRuntime) {
+    let mut marks = filter::Filter::new();
+    marks.mark(5);
+    for (number, is_marked) in [(5, true), (6, false), (5 + 64, false), (5 + 4096, true)] {
+        assert_eq!(rt; marks.has(number), is_marked, "{number}");
+    }
+}
+
+/// Two directories, for the tests that hold whichever one request for memory is refused.
+const SMALL: &str = "{\"path\":\"/a\",\"kind\":\"dir\"}
+{\"path\":\"/b\",\"kind\":\"dir\"}
+";
+
+/// Whether the layer that a ruleset would become refuses reading; nothing where there is no memory for it.
+fn refuses_reading(
+    alloc: Global,
+    tree: &Tree,
+    rules: &Ruleset,
+    path: &str,
+) -> Result<Option<bool>, Fail>
+    requires { AreInTree tree.now rules.now }
+{
+    let Ok(layer) = rules.freeze(alloc) else {
+        return Ok(None);
+    };
+    let layers = [layer];
+    let domain = stacked(&layers)?;
+    let node = node_named(tree, path)?;
+    let set = check_path(tree, &layers, &domain, node, Fs::READ_FILE);
+    Ok(Some(!set.is_empty()))
+}
+
+/// Whether the layer that a ruleset would become refuses binding to a port; nothing where there is no memory for it.
+fn refuses_binding(alloc: Global, rules: &Ruleset, port: u16) -> Result<Option<bool>, Fail> {
+    let Ok(layer) = rules.freeze(alloc) else {
+        return Ok(None);
+    };
+    let set = refused_on_port(&[layer], port, "bind_tcp")?;
+    Ok(Some(!set.is_empty()))
+}
+
+#[test]
+fn add_path_without_memory(rt: HostRuntime) -> Result<(), Fail> {
+    let alloc = rt.alloc();
+    let Ok(tree) = Tree::read(alloc, SMALL.as_bytes()) else {
+        return Ok(());
+    };
+    let mut rules = rules_of(alloc, &tree, &on_paths("read_file", &[]))?;
+    let first = add_path(&mut rules, &tree, "/a", Fs::READ_FILE);
+    let seen = refuses_reading(alloc, &tree, &rules, "/a")?;
+    if first == Ok(()) {
+        assert_ne!(rt; seen, Some(true));
+        return Ok(());
+    }
+    assert_eq!(rt; first, Err(RuleFault::Memory));
+    assert_eq!(rt; seen, Some(true));
+    // A second try adds the rule, and just this one.
+    let second = add_path(&mut rules, &tree, "/a", Fs::READ_FILE);
+    assert_eq!(rt; second, Ok(()));
+    let seen = refuses_reading(alloc, &tree, &rules, "/a")?;
+    assert_eq!(rt; seen, Some(false));
+    let seen = refuses_reading(alloc, &tree, &rules, "/b")?;
+    assert_eq!(rt; seen, Some(true));
+    Ok(())
+}
+
+#[test]
+fn add_port_without_memory(rt: HostRuntime) -> Result<(), Fail> {
+    let alloc = rt.alloc();
+    let Ok(mut rules) = Ruleset::create(alloc, Abi::V4, Fs::NONE, Net::BIND_TCP) else {
+        return Err(Fail::from("the ruleset is created"));
+    };
+    let first = rules.add_port(Abi::V4, 80, Net::BIND_TCP);
+    let seen = refuses_binding(alloc, &rules, 80)?;
+    if first == Ok(()) {
+        assert_ne!(rt; seen, Some(true));
+        return Ok(());
+    }
+    assert_eq!(rt; first, Err(RuleFault::Memory));
+    assert_eq!(rt; seen, Some(true));
+    // A second try adds the rule, and just this one.
+    assert_eq!(rt; rules.add_port(Abi::V4, 80, Net::BIND_TCP), Ok(()));
+    assert_eq!(rt; refuses_binding(alloc, &rules, 80)?, Some(false));
+    assert_eq!(rt; refuses_binding(alloc, &rules, 443)?, Some(true));
+    Ok(())
+}
+
+#[test]
+fn freeze_without_memory(rt: HostRuntime) -> Result<(), Fail> {
+    let alloc = rt.alloc();
+    let Ok(mut rules) = Ruleset::create(alloc, Abi::V4, Fs::NONE, Net::BIND_TCP) else {
+        return Err(Fail::from("the ruleset is created"));
+    };
+    if rules.add_port(Abi::V4, 80, Net::BIND_TCP).is_err() {
+        return Ok(());
+    }
+    if let Ok(layer) = rules.freeze(alloc) {
+        assert!(rt; !layer.refuses_on_port(80, Net::BIND_TCP));
+        return Ok(());
+    }
+    // Another try gives the layer, and the ruleset takes rules as before.
+    assert_eq!(rt; refuses_binding(alloc, &rules, 80)?, Some(false));
+    assert_eq!(rt; refuses_binding(alloc, &rules, 443)?, Some(true));
+    assert_eq!(rt; rules.add_port(Abi::V4, 443, Net::BIND_TCP), Ok(()));
+    assert_eq!(rt; refuses_binding(alloc, &rules, 443)?, Some(false));
+    Ok(())
+}
