@@ -1,5 +1,5 @@
 -- Bytes that are text have the value that is read from them, and others have none.
-use Rattle.std.proofs.Common.{◌≡◌, ℕ, suc, ◌+◌, ◌<◌, ◌≤◌, List, [], ◌∷◌, length, drop, get_or, Bool, true, false, Option, Some, None, Result, Ok, cond, refl, sym, ap, ◌∙◌, add-one}
+use Rattle.std.proofs.Common.{◌≡◌, ℕ, suc, ◌+◌, ◌<◌, ◌≤◌, List, [], ◌∷◌, length, drop, get_or, Bool, true, false, Option, Some, None, Ok, Err, cond, refl, sym, ap, ◌∙◌, add-one}
 use Rattle.std.specs.Prelude.{IsUtf8}
 use Rattle.std.specs.Str.{is_utf8}
 use Rattle.std.proofs.lemmas.Str.{is_utf8-from_IsUtf8, IsUtf8-from_is_utf8}
@@ -10,8 +10,6 @@ use Rattle.serde_json.specs.Read.{read}
 use Rattle.serde_json.specs.View.{view, items_view}
 use Rattle.serde_json.specs.declared.value.Value.{Value}
 use Rattle.ll_tree.specs.declared.fault.Cause.{Cause}
-use Rattle.ll_tree.specs.declared.fault.Cause.TheVariants.{Json, Field, BadPath, NoParent, Twice, TooMany, UnknownProcess, Memory}
-use Rattle.ll_tree.specs.Fault.{◌>>=◌, Fails}
 use Rattle.ll_tree.specs.Members.{value_of, text_in, fold_texts}
 
 pub value_of_text : (line : List ℕ) (value : Data) → IsUtf8 line → read line ≡ Some value → value_of line ≡ Some value
@@ -24,17 +22,6 @@ if_text line false r e unread = refl
 pub value_of_other : (line : List ℕ) → (IsUtf8 line → read line ≡ None) → value_of line ≡ None
 value_of_other line unread = if_text line (is_utf8 line) (read line) refl unread
 
--- a fault stays one, whatever would be read next
-pub fails_on : {A B : Type 0} (cause : Cause) (first : Result A Cause) (next : A → Result B Cause) → Fails cause first → Fails cause (first >>= next)
-fails_on Memory first next fails = tt
-fails_on Json first next fails = rw fails refl
-fails_on Field first next fails = rw fails refl
-fails_on BadPath first next fails = rw fails refl
-fails_on NoParent first next fails = rw fails refl
-fails_on Twice first next fails = rw fails refl
-fails_on TooMany first next fails = rw fails refl
-fails_on UnknownProcess first next fails = rw fails refl
-
 -- a loop over the texts of a list: what is put together so far, and what is left
 pub fold_texts_next : {Whole : Type 0} (add : Whole → List ℕ → Whole) (whole : Whole) (values : List Value) (i : ℕ) (value : Value) (text : List ℕ) → i < length values → value ≡ get_or values i value
     → text_in (view value) ≡ Ok text → fold_texts add whole (items_view (drop i values)) ≡ fold_texts add (add whole text) (items_view (drop (i + 1) values))
@@ -44,11 +31,11 @@ fold_texts_next add whole values i value text lt is reads =
     rw (cut, add-one, reads) refl
 
 pub fold_texts_fault : {Whole : Type 0} (add : Whole → List ℕ → Whole) (whole : Whole) (values : List Value) (i : ℕ) (value : Value) (cause : Cause) → i < length values → value ≡ get_or values i value
-    → Fails cause (text_in (view value)) → Fails cause (fold_texts add whole (items_view (drop i values)))
+    → text_in (view value) ≡ Err cause → fold_texts add whole (items_view (drop i values)) ≡ Err cause
 unfolding fold_texts
 fold_texts_fault add whole values i value cause lt is fails =
     let cut : drop i values ≡ value ∷ drop (suc i) values = drop-cons values i value lt ∙ ap (λ v. v ∷ drop (suc i) values) (sym is) in
-    rw cut (fails_on cause (text_in (view value)) _ fails)
+    rw (cut, fails) refl
 
 pub fold_texts_end : {Whole : Type 0} (add : Whole → List ℕ → Whole) (whole : Whole) (values : List Value) (i : ℕ) → length values ≤ i → fold_texts add whole (items_view (drop i values)) ≡ Ok whole
 unfolding fold_texts

@@ -161,6 +161,19 @@ bad_from_reading format bytes fault reads =
 pub good_or_bad : {Entry : Type 0} (format : Format Entry) (bytes : List ℕ) (entries : List Entry) (fault : ReadFault) → IsGood format bytes entries → IsBad format bytes fault → ⊥
 good_or_bad format bytes entries fault good bad = let e = sym (reading-good format bytes entries good) ∙ reading-bad format bytes fault bad in cc
 
+-- every file is one of the two
+by_reading : {Entry : Type 0} (format : Format Entry) (bytes : List ℕ) (read : Result (List Entry) ReadFault) → reading format bytes ≡ read
+    → ((entries : List Entry) × IsGood format bytes entries) ⊎ ((fault : ReadFault) × IsBad format bytes fault)
+by_reading format bytes (Ok entries) is = inl (entries, good_from_reading format bytes entries is)
+by_reading format bytes (Err fault) is = inr (fault, bad_from_reading format bytes fault is)
+
+pub good_or_else_bad : {Entry : Type 0} (format : Format Entry) (bytes : List ℕ) → ((entries : List Entry) × IsGood format bytes entries) ⊎ ((fault : ReadFault) × IsBad format bytes fault)
+good_or_else_bad format bytes = by_reading format bytes (reading format bytes) refl
+
+-- no file has two first faults
+pub one_fault : {Entry : Type 0} (format : Format Entry) (bytes : List ℕ) (fault other : ReadFault) → IsBad format bytes fault → IsBad format bytes other → fault ≡ other
+one_fault format bytes fault other first second = let same = sym (reading-bad format bytes fault first) ∙ reading-bad format bytes other second in cc
+
 -- a loop over the lines: what is read so far and the lines that are left
 pub read_lines_next : {Entry : Type 0} (format : Format Entry) (earlier entries : List Entry) (line : Line) (others : List Line) → with_line format earlier line ≡ Ok entries
     → read_lines format earlier (line ∷ others) ≡ read_lines format entries others

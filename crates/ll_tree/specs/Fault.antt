@@ -15,7 +15,12 @@ abbrev pub Fails : {Y : Type 0} → Cause → Result Y Cause → Type 0
 Fails Memory read = Unit {0}
 Fails cause read = read ≡ Err cause
 
--- what a reader answered, seen by view, is what is read, unless memory ran out
+-- what a reader that takes no memory answered, seen by view, is what is read
+abbrev pub Reads : {X Y : Type 0} → (X → Y) → Result X Cause → Result Y Cause → Type 0
+Reads view (Ok x) read = read ≡ Ok (view x)
+Reads view (Err cause) read = read ≡ Err cause
+
+-- what a reader that takes memory answered, seen by view, is what is read, unless memory ran out
 abbrev pub Gives : {X Y : Type 0} → (X → Y) → Result X Cause → Result Y Cause → Type 0
 Gives view (Ok x) read = read ≡ Ok (view x)
 Gives view (Err cause) read = Fails cause read

@@ -1,6 +1,6 @@
 //! What holds of the definitions: of every tree file, and of a small one.
 
-ghost use Rattle.std.specs.Prelude.{◌≡◌, ℕ, List, [], ◌∷◌, ◌++◌, codes, Some, None};
+ghost use Rattle.std.specs.Prelude.{◌≡◌, ◌⊎◌, ℕ, List, [], ◌∷◌, ◌++◌, codes, Some, None};
 ghost use Rattle.ll_tree.specs.declared.fault.ReadFault.{ReadFault as Fault};
 ghost use Rattle.ll_tree.specs.Paths.{path_of};
 ghost use Rattle.ll_tree.specs.Reading.{IsBad};
@@ -13,6 +13,8 @@ use crate::place::Place;
 
 /// A tree file is one tree, or has one first fault, and never both.
 pub fn a_tree_file_reads_in_one_way()
+    ensures either { (bytes : List ℕ) → ((tree : List Entry) × IsTreeOf bytes tree)
+        ⊎ ((fault : Fault) × IsBad tree_format bytes fault) }
     ensures not_both { (bytes : List ℕ) (tree : List Entry) (fault : Fault)
         → IsTreeOf bytes tree → IsBad tree_format bytes fault → ⊥ }
     ensures one_tree { (bytes : List ℕ) (tree other : List Entry)

@@ -2,7 +2,7 @@
 
 ghost use Rattle.std.specs.Prelude.{};
 ghost use Rattle.serde_json.specs.View.{view, items_view};
-ghost use Rattle.ll_tree.specs.Fault.{Gives};
+ghost use Rattle.ll_tree.specs.Fault.{Gives, Reads};
 ghost use Rattle.ll_tree.specs.Members.{value_at, text_at, number_at, truth_at, flag_at, items_at, text_in};
 
 use crate::fault::Cause;
@@ -24,7 +24,7 @@ pub fn value_of(alloc: Global, line: &[u8]) -> Result<Value, Cause>
 /// The text of a member.
 #[tactic(auto, unfolding(crate::specs::Members::text_at))]
 pub fn text_of<'v>(value: &'v Value, name: &str) -> Result<&'v str, Cause>
-    ensures { Gives (λ text. text.now) result (text_at name.now (view value.now)) }
+    ensures { Reads (λ text. text.now) result (text_at name.now (view value.now)) }
 {
     value.get(name).and_then(Value::as_str).ok_or(Cause::Field)
 }
@@ -32,7 +32,7 @@ pub fn text_of<'v>(value: &'v Value, name: &str) -> Result<&'v str, Cause>
 /// The number of a member.
 #[tactic(auto, unfolding(crate::specs::Members::number_at))]
 pub fn number_of(value: &Value, name: &str) -> Result<u64, Cause>
-    ensures { Gives (λ number. number) result (number_at name.now (view value.now)) }
+    ensures { Reads (λ number. number) result (number_at name.now (view value.now)) }
 {
     value.get(name).and_then(Value::as_u64).ok_or(Cause::Field)
 }
@@ -40,7 +40,7 @@ pub fn number_of(value: &Value, name: &str) -> Result<u64, Cause>
 /// A member that is true or false.
 #[tactic(auto, unfolding(crate::specs::Members::truth_at))]
 pub fn truth_of(value: &Value, name: &str) -> Result<bool, Cause>
-    ensures { Gives (λ truth. truth) result (truth_at name.now (view value.now)) }
+    ensures { Reads (λ truth. truth) result (truth_at name.now (view value.now)) }
 {
     value.get(name).and_then(Value::as_bool).ok_or(Cause::Field)
 }
@@ -48,7 +48,7 @@ pub fn truth_of(value: &Value, name: &str) -> Result<bool, Cause>
 /// A member that is true or false, and false where it is absent.
 #[tactic(auto, unfolding(crate::specs::Members::flag_at))]
 pub fn flag_of(value: &Value, name: &str) -> Result<bool, Cause>
-    ensures { Gives (λ flag. flag) result (flag_at name.now (view value.now)) }
+    ensures { Reads (λ flag. flag) result (flag_at name.now (view value.now)) }
 {
     match value.get(name) {
         None => Ok(false),
@@ -59,7 +59,7 @@ pub fn flag_of(value: &Value, name: &str) -> Result<bool, Cause>
 /// The values of a member that is a list, and none where it is absent.
 #[tactic(auto, unfolding(crate::specs::Members::items_at))]
 pub fn items_of<'v>(value: &'v Value, name: &str) -> Result<&'v [Value], Cause>
-    ensures { Gives (λ items. items_view items.now) result (items_at name.now (view value.now)) }
+    ensures { Reads (λ items. items_view items.now) result (items_at name.now (view value.now)) }
 {
     match value.get(name) {
         None => Ok(&[]),
@@ -73,7 +73,7 @@ pub fn items_of<'v>(value: &'v Value, name: &str) -> Result<&'v [Value], Cause>
 /// The text that a value of a list is.
 #[tactic(auto, unfolding(crate::specs::Members::text_in))]
 pub fn text_in_list(value: &Value) -> Result<&str, Cause>
-    ensures { Gives (λ text. text.now) result (text_in (view value.now)) }
+    ensures { Reads (λ text. text.now) result (text_in (view value.now)) }
 {
     value.as_str().ok_or(Cause::Field)
 }

@@ -2,7 +2,7 @@
 
 ghost use Rattle.std.specs.Prelude.{◌≡◌, IsTrue, IfOk, is_some};
 ghost use Rattle.serde_json.specs.View.{view};
-ghost use Rattle.ll_tree.specs.Fault.{Gives};
+ghost use Rattle.ll_tree.specs.Fault.{Reads};
 ghost use Rattle.ll_tree.specs.Paths.{path_of};
 ghost use Rattle.ll_tree.specs.Trees.{named};
 ghost use Rattle.ll_tree.specs.TreeReading.{kind_named, entry_in};
@@ -33,7 +33,7 @@ fn kind_of(name: &str) -> Option<Kind>
 /// The path and the kind of the object that a value describes.
 #[tactic(auto, unfolding(crate::specs::TreeReading::entry_in))]
 pub(crate) fn object_of(value: &Value) -> Result<(&str, Kind), Cause>
-    ensures entry { Gives (λ object. named object.0.now object.1) result (entry_in (view value.now)) }
+    ensures entry { Reads (λ object. named object.0.now object.1) result (entry_in (view value.now)) }
     ensures shape { IfOk result (λ object. IsTrue (is_some (path_of object.0.now))) }
 {
     let text = text_of(value, "path")?;

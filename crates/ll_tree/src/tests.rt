@@ -18,6 +18,9 @@ const LISTED: &str = "{\"path\":\"/a\",\"kind\":\"dir\"}
 {\"path\":\"/dev/tty\",\"kind\":\"char\"}
 ";
 
+/// The paths of the worked tree by the numbers of their nodes.
+const NUMBERED: [&str; 8] = ["/", "/a", "/b", "/a/s", "/dev", "/a/f", "/b/g", "/dev/tty"];
+
 /// The fault of a file, or None if it reads.
 fn fault_of(alloc: Global, bytes: &[u8]) -> Option<(u64, Cause)> {
     match Tree::read(alloc, bytes) {
@@ -94,8 +97,7 @@ fn places(rt: HostRuntime) -> Result<(), Fail> {
     ] {
         assert_eq!(rt; tree.resolve(text), Place::Nowhere, "{text}");
     }
-    let numbers = ["/", "/a", "/b", "/a/s", "/dev", "/a/f", "/b/g", "/dev/tty"];
-    for (number, path) in numbers.iter().enumerate() {
+    for (number, path) in NUMBERED.iter().enumerate() {
         assert_eq!(rt; node_named(&tree, path)?.index() as usize, number, "{path}");
     }
     Ok(())
@@ -240,5 +242,30 @@ fn nested_members(rt: HostRuntime) -> Result<(), Fail> {
         file.push_str("}")?;
         assert_eq!(rt; fault_of(rt.alloc(), file.as_bytes()), fault, "{depth}");
     }
+    Ok(())
+}
+
+/// Whichever one request for memory is refused, reading answers the worked tree, or `Memory` for a line of
+/// the file, and the same bytes read again once there is memory: one refusal falls into one of the three
+/// readings at most. `rt try --test --fail-alloc N` refuses the Nth request.
+#[test]
+fn refused_memory(rt: HostRuntime) -> Result<(), Fail> {
+    let mut refused = 0;
+    for _ in 0..3 {
+        match Tree::read(rt.alloc(), LISTED.as_bytes()) {
+            Ok(tree) => {
+                assert_eq!(rt; tree.nodes(), 8);
+                for (number, path) in NUMBERED.iter().enumerate() {
+                    assert_eq!(rt; node_named(&tree, path)?.index() as usize, number, "{path}");
+                }
+            }
+            Err(fault) => {
+                assert_eq!(rt; fault.cause, Cause::Memory);
+                assert!(rt; (1..=7).contains(&fault.line), "line {}", fault.line);
+                refused = u32::saturating_add(refused, 1);
+            }
+        }
+    }
+    assert!(rt; refused <= 1, "{refused} refusals");
     Ok(())
 }
