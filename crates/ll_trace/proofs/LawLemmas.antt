@@ -1,10 +1,10 @@
 -- Laws of reading traces.
-use Rattle.std.proofs.Common.{◌≡◌, ℕ, ◌||◌, Bool, true, false, List, [], ◌∷◌, map, reverse, Option, Some, None, Result, Ok, Err, cond, refl, sym, ap, ◌∙◌}
+use Rattle.std.proofs.Common.{◌≡◌, ℕ, ◌||◌, Bool, true, false, List, [], ◌∷◌, map, reverse, Option, Some, None, Result, Ok, Err, ◌⊎◌, inl, inr, cond, refl, sym, ap, ◌∙◌}
 use Rattle.ll_tree.specs.declared.fault.Cause.{Cause}
 use Rattle.ll_tree.specs.declared.fault.Cause.TheVariants.{Twice, TooMany, UnknownProcess}
 use Rattle.ll_tree.specs.declared.fault.ReadFault.{ReadFault}
 use Rattle.ll_tree.specs.Reading.{first_fault, entries_of, IsGood, IsBad}
-use Rattle.ll_tree.proofs.ReadingLemmas.{good_or_bad, reading-good}
+use Rattle.ll_tree.proofs.ReadingLemmas.{good_or_bad, good_or_else_bad, one_fault, reading-good}
 use Rattle.ll_trace.specs.declared.record.Record.{Record}
 use Rattle.ll_trace.specs.Entries.{Entry, entry_at, is_start_of, is_end_of, is_live, is_live_pid, is_unknown, is_twice, is_too_many, misplacement, started_pid, trace_file}
 use Rattle.ll_trace.specs.Records.{entry_of, records_after, IsTrace}
@@ -61,3 +61,19 @@ pub one_trace : (bytes : List ℕ) (a b : List Record) → IsTrace bytes a → I
 one_trace bytes a b first second =
     let same : map entry_of a ≡ map entry_of b = (let e : ◌≡◌ {A = Result (List Entry) ReadFault} (Ok (map entry_of a)) (Ok (map entry_of b)) = sym (reading-good trace_file bytes (map entry_of a) first.reads) ∙ reading-good trace_file bytes (map entry_of b) second.reads in cc) in
     first.processes ∙ (ap (records_after []) same ∙ sym second.processes)
+
+-- the records of entries were read from just these
+entries_kept : (past entries : List Entry) → map entry_of (records_after past entries) ≡ entries
+entries_kept past [] = refl
+entries_kept past (entry ∷ entries) = ap (λ others. entry ∷ others) (entries_kept (entry ∷ past) entries)
+
+trace_of_entries : (bytes : List ℕ) (entries : List Entry) → IsGood trace_file bytes entries → IsTrace bytes (records_after [] entries)
+trace_of_entries bytes entries good =
+    let kept : map entry_of (records_after [] entries) ≡ entries = entries_kept [] entries in
+    record { reads = rw kept good; processes = ap (records_after []) (sym kept) }
+
+pub trace_or_else_bad : (bytes : List ℕ) → ((records : List Record) × IsTrace bytes records) ⊎ ((fault : ReadFault) × IsBad trace_file bytes fault)
+trace_or_else_bad bytes = elim (good_or_else_bad trace_file bytes) [ inl good ↦ inl (records_after [] good.0, trace_of_entries bytes good.0 good.1) | inr bad ↦ inr bad ]
+
+pub one_first_fault : (bytes : List ℕ) (fault other : ReadFault) → IsBad trace_file bytes fault → IsBad trace_file bytes other → fault ≡ other
+one_first_fault bytes fault other first second = one_fault trace_file bytes fault other first second

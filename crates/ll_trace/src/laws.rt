@@ -1,6 +1,6 @@
 //! What holds of traces by their definitions.
 
-ghost use Rattle.std.specs.Prelude.{◌≡◌, ◌<◌, ℕ, suc, List, length, take, true, Some, Ok};
+ghost use Rattle.std.specs.Prelude.{◌≡◌, ◌⊎◌, ◌<◌, ℕ, suc, List, length, take, true, Some, Ok};
 ghost use Rattle.std.specs.List.{list_any, slice_get};
 ghost use Rattle.serde_json.specs.Data.{Items};
 ghost use Rattle.ll_rights.specs.declared.fs.Fs.{Fs};
@@ -18,12 +18,18 @@ ghost use Rattle.ll_trace.specs.Records.{AreRecords, IsTrace};
 ghost use Rattle.ll_trace.specs.Processes.{parents, parent_of, forked_by, started_by};
 ghost use Rattle.ll_trace.specs.SingleUse.{IsStrictTrace};
 
-/// A file reads as one trace and has no fault, or has a fault and reads as none.
+/// A file reads as one trace and has no fault, or has one first fault, with its line and its cause, and reads
+/// as none.
 #[tactic(auto, using(crate::proofs::LawLemmas::trace_or_bad, crate::proofs::LawLemmas::one_trace))]
 pub fn files_read_as_one_trace()
+    ensures either { (bytes : List ℕ) → ((records : List Record) × IsTrace bytes records)
+        ⊎ ((fault : ReadFault) × IsBad trace_file bytes fault) }
     ensures not_both { (bytes : List ℕ) (records : List Record) (fault : ReadFault)
         → IsTrace bytes records → IsBad trace_file bytes fault → ⊥ }
-    ensures one { (bytes : List ℕ) (a b : List Record) → IsTrace bytes a → IsTrace bytes b → a ≡ b }
+    ensures one_trace { (bytes : List ℕ) (a b : List Record)
+        → IsTrace bytes a → IsTrace bytes b → a ≡ b }
+    ensures one_fault { (bytes : List ℕ) (a b : ReadFault)
+        → IsBad trace_file bytes a → IsBad trace_file bytes b → a ≡ b }
 {}
 
 /// A file that reads as a trace under the rule that a pid is never used again reads as the same

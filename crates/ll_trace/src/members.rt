@@ -3,7 +3,7 @@
 ghost use Rattle.serde_json.specs.View.{view, items_view};
 ghost use Rattle.ll_rights.specs.Rights as files;
 ghost use Rattle.ll_rights.specs.NetRights as network;
-ghost use Rattle.ll_tree.specs.Fault.{Gives};
+ghost use Rattle.ll_tree.specs.Fault.{Reads};
 ghost use Rattle.ll_tree.specs.Members.{fold_texts};
 ghost use Rattle.ll_trace.specs.Members.{with_fs, fs_at, with_net, net_at, mode_at, sort_at, made_kind_at, port_at};
 
@@ -16,7 +16,7 @@ use serde_json::Value;
 /// The rights for files of the member `fs`.
 #[tactic(auto, unfolding(crate::specs::Members::fs_at))]
 pub fn fs_of(value: &Value) -> Result<Fs, Cause>
-    ensures { Gives (λ set. set) result (fs_at (view value.now)) }
+    ensures { Reads (λ set. set) result (fs_at (view value.now)) }
 {
     let names = items_of(value, "fs")?;
     fs_in_list(names)
@@ -24,7 +24,7 @@ pub fn fs_of(value: &Value) -> Result<Fs, Cause>
 
 #[tactic(auto, using(ll_tree::proofs::MembersLemmas::fold_texts_fault, ll_tree::proofs::MembersLemmas::fold_texts_end))]
 fn fs_in_list(names: &[Value]) -> Result<Fs, Cause>
-    ensures { Gives (λ set. set) result
+    ensures { Reads (λ set. set) result
         (fold_texts with_fs files.no_right (items_view names.now)) }
 {
     let mut set = Fs::NONE;
@@ -37,7 +37,7 @@ fn fs_in_list(names: &[Value]) -> Result<Fs, Cause>
 /// The rights for the network of the member `net`.
 #[tactic(auto, unfolding(crate::specs::Members::net_at))]
 pub fn net_of(value: &Value) -> Result<Net, Cause>
-    ensures { Gives (λ set. set) result (net_at (view value.now)) }
+    ensures { Reads (λ set. set) result (net_at (view value.now)) }
 {
     let names = items_of(value, "net")?;
     net_in_list(names)
@@ -45,7 +45,7 @@ pub fn net_of(value: &Value) -> Result<Net, Cause>
 
 #[tactic(auto, using(ll_tree::proofs::MembersLemmas::fold_texts_fault, ll_tree::proofs::MembersLemmas::fold_texts_end))]
 fn net_in_list(names: &[Value]) -> Result<Net, Cause>
-    ensures { Gives (λ set. set) result
+    ensures { Reads (λ set. set) result
         (fold_texts with_net network.no_right (items_view names.now)) }
 {
     let mut set = Net::NONE;
@@ -57,7 +57,7 @@ fn net_in_list(names: &[Value]) -> Result<Net, Cause>
 
 #[tactic(auto, unfolding(crate::specs::Members::mode_at))]
 pub fn mode_of(value: &Value) -> Result<Mode, Cause>
-    ensures { Gives (λ mode. mode) result (mode_at (view value.now)) }
+    ensures { Reads (λ mode. mode) result (mode_at (view value.now)) }
 {
     match text_of(value, "mode")? {
         "r" => Ok(Mode::Read),
@@ -70,7 +70,7 @@ pub fn mode_of(value: &Value) -> Result<Mode, Cause>
 /// What an adopted descriptor refers to.
 #[tactic(auto, unfolding(crate::specs::Members::sort_at))]
 pub fn sort_of(value: &Value) -> Result<Sort, Cause>
-    ensures { Gives (λ sort. sort) result (sort_at (view value.now)) }
+    ensures { Reads (λ sort. sort) result (sort_at (view value.now)) }
 {
     match text_of(value, "kind")? {
         "reg" => Ok(Sort::Regular),
@@ -83,7 +83,7 @@ pub fn sort_of(value: &Value) -> Result<Sort, Cause>
 /// The kind of what mknod(2) makes.
 #[tactic(auto, unfolding(crate::specs::Members::made_kind_at))]
 pub fn made_kind_of(value: &Value) -> Result<Kind, Cause>
-    ensures { Gives (λ kind. kind) result (made_kind_at (view value.now)) }
+    ensures { Reads (λ kind. kind) result (made_kind_at (view value.now)) }
 {
     match text_of(value, "kind")? {
         "reg" => Ok(Kind::Reg),
@@ -98,7 +98,7 @@ pub fn made_kind_of(value: &Value) -> Result<Kind, Cause>
 /// The TCP port of the member `port`.
 #[tactic(auto, unfolding(crate::specs::Members::port_at))]
 pub fn port_of(value: &Value) -> Result<u16, Cause>
-    ensures { Gives (λ port. port) result (port_at (view value.now)) }
+    ensures { Reads (λ port. port) result (port_at (view value.now)) }
 {
     let port = number_of(value, "port")?;
     u16::try_from(port).ok().ok_or(Cause::Field)

@@ -147,7 +147,7 @@ pub enum Op {
     Connect {
         port: u16,
     },
-    /// ioctl(2); `driver` says whether the device's driver would answer the command.
+    /// ioctl(2); `driver` says whether the command is one that the policy judges.
     Ioctl {
         fd: u64,
         driver: bool,

@@ -1,7 +1,7 @@
 //! The operation of a record's line, by its name.
 
 ghost use Rattle.serde_json.specs.View.{view};
-ghost use Rattle.ll_tree.specs.Fault.{Gives};
+ghost use Rattle.ll_tree.specs.Fault.{Gives, Reads};
 ghost use Rattle.ll_trace.specs.Operations.{start_at, fork_at, create_at, add_path_at, add_port_at, close_rs_at, restrict_at, open_at, adopt_at, dup_at, close_at, ftruncate_at, truncate_at, exec_at, mknod_at, mkdir_at, symlink_at, unlink_at, rmdir_at, rename_at, link_at, bind_at, connect_at, ioctl_at, operation_named, operation_at};
 
 use crate::members::{fs_of, made_kind_of, mode_of, net_of, port_of, sort_of};
@@ -59,7 +59,7 @@ fn operation_by_name(alloc: Global, name: &str, value: &Value) -> Result<Op, Cau
 
 #[tactic(auto, unfolding(crate::specs::Operations::start_at))]
 fn start_of(value: &Value) -> Result<Op, Cause>
-    ensures { Gives (λ op. op) result (start_at (view value.now)) }
+    ensures { Reads (λ op. op) result (start_at (view value.now)) }
 {
     let nnp = flag_of(value, "nnp")?;
     let admin = flag_of(value, "admin")?;
@@ -68,7 +68,7 @@ fn start_of(value: &Value) -> Result<Op, Cause>
 
 #[tactic(auto, unfolding(crate::specs::Operations::fork_at))]
 fn fork_of(value: &Value) -> Result<Op, Cause>
-    ensures { Gives (λ op. op) result (fork_at (view value.now)) }
+    ensures { Reads (λ op. op) result (fork_at (view value.now)) }
 {
     let child = number_of(value, "child")?;
     Ok(Op::Fork { child })
@@ -76,7 +76,7 @@ fn fork_of(value: &Value) -> Result<Op, Cause>
 
 #[tactic(auto, unfolding(crate::specs::Operations::create_at))]
 fn create_of(value: &Value) -> Result<Op, Cause>
-    ensures { Gives (λ op. op) result (create_at (view value.now)) }
+    ensures { Reads (λ op. op) result (create_at (view value.now)) }
 {
     let rs = number_of(value, "rs")?;
     let fs = fs_of(value)?;
@@ -97,7 +97,7 @@ fn add_path_of(alloc: Global, value: &Value) -> Result<Op, Cause>
 
 #[tactic(auto, unfolding(crate::specs::Operations::add_port_at))]
 fn add_port_of(value: &Value) -> Result<Op, Cause>
-    ensures { Gives (λ op. op) result (add_port_at (view value.now)) }
+    ensures { Reads (λ op. op) result (add_port_at (view value.now)) }
 {
     let rs = number_of(value, "rs")?;
     let port = number_of(value, "port")?;
@@ -107,7 +107,7 @@ fn add_port_of(value: &Value) -> Result<Op, Cause>
 
 #[tactic(auto, unfolding(crate::specs::Operations::close_rs_at))]
 fn close_rs_of(value: &Value) -> Result<Op, Cause>
-    ensures { Gives (λ op. op) result (close_rs_at (view value.now)) }
+    ensures { Reads (λ op. op) result (close_rs_at (view value.now)) }
 {
     let rs = number_of(value, "rs")?;
     Ok(Op::CloseRs { rs })
@@ -115,7 +115,7 @@ fn close_rs_of(value: &Value) -> Result<Op, Cause>
 
 #[tactic(auto, unfolding(crate::specs::Operations::restrict_at))]
 fn restrict_of(value: &Value) -> Result<Op, Cause>
-    ensures { Gives (λ op. op) result (restrict_at (view value.now)) }
+    ensures { Reads (λ op. op) result (restrict_at (view value.now)) }
 {
     let rs = number_of(value, "rs")?;
     Ok(Op::Restrict { rs })
@@ -142,7 +142,7 @@ fn open_of(alloc: Global, value: &Value) -> Result<Op, Cause>
 
 #[tactic(auto, unfolding(crate::specs::Operations::adopt_at))]
 fn adopt_of(value: &Value) -> Result<Op, Cause>
-    ensures { Gives (λ op. op) result (adopt_at (view value.now)) }
+    ensures { Reads (λ op. op) result (adopt_at (view value.now)) }
 {
     let fd = number_of(value, "fd")?;
     let kind = sort_of(value)?;
@@ -151,7 +151,7 @@ fn adopt_of(value: &Value) -> Result<Op, Cause>
 
 #[tactic(auto, unfolding(crate::specs::Operations::dup_at))]
 fn dup_of(value: &Value) -> Result<Op, Cause>
-    ensures { Gives (λ op. op) result (dup_at (view value.now)) }
+    ensures { Reads (λ op. op) result (dup_at (view value.now)) }
 {
     let fd = number_of(value, "fd")?;
     let to = number_of(value, "to")?;
@@ -160,7 +160,7 @@ fn dup_of(value: &Value) -> Result<Op, Cause>
 
 #[tactic(auto, unfolding(crate::specs::Operations::close_at))]
 fn close_of(value: &Value) -> Result<Op, Cause>
-    ensures { Gives (λ op. op) result (close_at (view value.now)) }
+    ensures { Reads (λ op. op) result (close_at (view value.now)) }
 {
     let fd = number_of(value, "fd")?;
     Ok(Op::Close { fd })
@@ -168,7 +168,7 @@ fn close_of(value: &Value) -> Result<Op, Cause>
 
 #[tactic(auto, unfolding(crate::specs::Operations::ftruncate_at))]
 fn ftruncate_of(value: &Value) -> Result<Op, Cause>
-    ensures { Gives (λ op. op) result (ftruncate_at (view value.now)) }
+    ensures { Reads (λ op. op) result (ftruncate_at (view value.now)) }
 {
     let fd = number_of(value, "fd")?;
     Ok(Op::Ftruncate { fd })
@@ -263,7 +263,7 @@ fn link_of(alloc: Global, value: &Value) -> Result<Op, Cause>
 
 #[tactic(auto, unfolding(crate::specs::Operations::bind_at))]
 fn bind_of(value: &Value) -> Result<Op, Cause>
-    ensures { Gives (λ op. op) result (bind_at (view value.now)) }
+    ensures { Reads (λ op. op) result (bind_at (view value.now)) }
 {
     let port = port_of(value)?;
     Ok(Op::Bind { port })
@@ -271,7 +271,7 @@ fn bind_of(value: &Value) -> Result<Op, Cause>
 
 #[tactic(auto, unfolding(crate::specs::Operations::connect_at))]
 fn connect_of(value: &Value) -> Result<Op, Cause>
-    ensures { Gives (λ op. op) result (connect_at (view value.now)) }
+    ensures { Reads (λ op. op) result (connect_at (view value.now)) }
 {
     let port = port_of(value)?;
     Ok(Op::Connect { port })
@@ -279,7 +279,7 @@ fn connect_of(value: &Value) -> Result<Op, Cause>
 
 #[tactic(auto, unfolding(crate::specs::Operations::ioctl_at))]
 fn ioctl_of(value: &Value) -> Result<Op, Cause>
-    ensures { Gives (λ op. op) result (ioctl_at (view value.now)) }
+    ensures { Reads (λ op. op) result (ioctl_at (view value.now)) }
 {
     let fd = number_of(value, "fd")?;
     let driver = truth_of(value, "driver")?;

@@ -260,3 +260,29 @@ fn limits(rt: HostRuntime) -> Result<(), Fail> {
     );
     Ok(())
 }
+
+/// Whichever one request for memory is refused, reading answers the trace, or `Memory` for a line of the file,
+/// and the same bytes read again once there is memory: one refusal falls into one of the three readings at
+/// most. `rt try --test --fail-alloc N` refuses the Nth request.
+#[test]
+fn refused_memory(rt: HostRuntime) {
+    files_read_as_one_trace();
+    let mut refused = 0;
+    for _ in 0..3 {
+        match Trace::read(rt.alloc(), EVERY.as_bytes()) {
+            Ok(trace) => {
+                assert_eq!(rt; trace.records().len(), 27);
+                assert_eq!(rt; trace.processes(), 2);
+                for (place, record) in trace.records().iter().enumerate() {
+                    assert!(rt; is_expected(place, &record.op), "at {place}");
+                }
+            }
+            Err(fault) => {
+                assert_eq!(rt; fault.cause, Cause::Memory);
+                assert!(rt; (1..=27).contains(&fault.line), "line {}", fault.line);
+                refused = u32::saturating_add(refused, 1);
+            }
+        }
+    }
+    assert!(rt; refused <= 1, "{refused} refusals");
+}
