@@ -1,7 +1,7 @@
 -- What restricting itself answers a process, and the layer that its domain gets.
-use Rattle.std.proofs.Common.{◌≡◌, ◌<◌, true, false, List, [], ◌∷◌, ◌++◌, length, Option, Some, None, refl, sym, ◌∙◌}
-use Rattle.std.specs.Prelude.{◌≢◌}
-use Rattle.std.proofs.lemmas.Bool.{ne_eqb, eq-eqb}
+use Rattle.std.proofs.Common.{◌≡◌, ◌≢◌, ℕ, ◌<◌, ◌≤◌, inl, inr, leb, true, false, List, [], ◌∷◌, ◌++◌, length, Option, Some, None, refl, sym, ◌∙◌, arith}
+use Rattle.std.proofs.lemmas.Bool.{le-leb}
+use Rattle.std.proofs.lemmas.Bool.Decides.{leb_tells}
 use Rattle.std.proofs.lemmas.List.{map-append, length-map}
 use Rattle.std.proofs.lemmas.List.Elements.{All-push, AllZip-push, length_all_zip}
 use Rattle.ll_rules.specs.declared.errno.Errno.TheVariants.{Perm, BadFd, TooBig}
@@ -28,17 +28,20 @@ unfolding restrict_answer IsFrozen
 restrict_unheld at s None may frozen = rw may refl
 restrict_unheld at s (Some rules) may frozen = absurd frozen
 
--- one that may, and has sixteen layers
-pub restrict_full : (at : Situation) (id : LayerId) (s : State) (rules : Option Layer) → may_restrict s ≡ true → length s.domain ≡ 16 → IsFrozen at (Some id) rules → fails TooBig ≡ restrict_answer s rules
+-- one that may, and has sixteen layers or more
+pub restrict_full : (at : Situation) (id : LayerId) (s : State) (rules : Option Layer) → may_restrict s ≡ true → 16 ≤ length s.domain → IsFrozen at (Some id) rules → fails TooBig ≡ restrict_answer s rules
 unfolding restrict_answer IsFrozen
 restrict_full at id s None may full frozen = absurd frozen
-restrict_full at id s (Some rules) may full frozen = rw (may, eq-eqb (length s.domain) 16 full) refl
+restrict_full at id s (Some rules) may full frozen = rw (may, le-leb 16 (length s.domain) full) refl
 
--- one that may, and has another number of layers
-pub restrict_allowed : (at : Situation) (id : LayerId) (s : State) (rules : Option Layer) → may_restrict s ≡ true → length s.domain ≢ 16 → IsFrozen at (Some id) rules → Allowed ≡ restrict_answer s rules
+has_room : (layers : ℕ) → layers ≤ 16 → layers ≢ 16 → leb 16 layers ≡ false
+has_room layers most other = elim (leb_tells 16 layers) [ inl full ↦ absurd (other (let more : 16 ≤ layers = full.1 in omega (arith, most, more))) | inr room ↦ room.0 ]
+
+-- one that may, and has fewer
+pub restrict_allowed : (at : Situation) (id : LayerId) (s : State) (rules : Option Layer) → may_restrict s ≡ true → length s.domain ≤ 16 → length s.domain ≢ 16 → IsFrozen at (Some id) rules → Allowed ≡ restrict_answer s rules
 unfolding restrict_answer IsFrozen
-restrict_allowed at id s None may room frozen = absurd frozen
-restrict_allowed at id s (Some rules) may room frozen = rw (may, ne_eqb (length s.domain) 16 room) refl
+restrict_allowed at id s None may most other frozen = absurd frozen
+restrict_allowed at id s (Some rules) may most other frozen = rw (may, has_room (length s.domain) most other) refl
 
 -- a state has as many layers as what is kept of its process
 pub length-domain : (at : Situation) (own : OwnState) (s : State) → Agrees at.tree at.layers own s → length own.domain ≡ length s.domain

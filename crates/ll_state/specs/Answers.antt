@@ -1,6 +1,6 @@
 -- What Landlock answers to a call: a function of the call, the state of its own process and the rulesets.
 -- Source: landlock_create_ruleset(2), landlock_add_rule(2), landlock_restrict_self(2), "ERRORS"; landlock(7); the kernel's userspace document on Landlock.
-use Rattle.std.specs.Prelude.{ℕ, List, [], ◌∷◌, length, Bool, ◌||◌, ◌==◌, if◌then◌else◌, Option, Some, None, slice_get}
+use Rattle.std.specs.Prelude.{ℕ, List, [], ◌∷◌, length, Bool, ◌||◌, nat_le, if◌then◌else◌, Option, Some, None, slice_get}
 use Rattle.ll_rights.specs.declared.abi.Abi.{Abi}
 use Rattle.ll_rights.specs.declared.fs.Fs.{Fs}
 use Rattle.ll_rights.specs.declared.net.Net.{Net}
@@ -98,7 +98,7 @@ may_restrict s = s.no_new_privs || s.admin
 -- by a ruleset that it holds, up to sixteen layers
 unfoldable pub restrict_answer : State → Option Layer → Answer
 restrict_answer s None = if may_restrict s then fails BadFd else fails Perm
-restrict_answer s (Some rules) = if may_restrict s then (if length s.domain == 16 then fails TooBig else Allowed) else fails Perm
+restrict_answer s (Some rules) = if may_restrict s then (if nat_le 16 (length s.domain) then fails TooBig else Allowed) else fails Perm
 
 -- ---- descriptors
 
@@ -117,7 +117,7 @@ unfoldable pub ftruncate_answer : Option Descriptor → Answer
 ftruncate_answer None = Moot
 ftruncate_answer (Some held) = truncate_kept held.sort held.kept
 
--- a descriptor of a device keeps the layers that refused ioctl_dev when it was opened; they refuse the driver's commands alone
+-- a descriptor of a device keeps the layers that refused ioctl_dev when it was opened; they refuse the commands that the policy judges, which driver says, and no other
 abbrev pub ioctl_kept : Sort → List ℕ → Bool → Answer
 ioctl_kept Device kept driver = if driver then refused_by Acces kept else Allowed
 ioctl_kept Regular kept driver = Allowed

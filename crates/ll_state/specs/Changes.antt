@@ -73,7 +73,7 @@ change tree rulesets (calls.Dup fd to) s = with_descriptor s to (s.descriptors f
 change tree rulesets (calls.Close fd) s = with_descriptor s fd None
 change tree rulesets op s = s
 
--- a call that may change its process's state
+-- a call that leaves the state of its process and the rulesets as they are
 unfoldable pub is_still : Op → Bool
 is_still calls.Nnp = false
 is_still (calls.Create rs fs net) = false

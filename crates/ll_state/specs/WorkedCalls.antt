@@ -88,7 +88,7 @@ truncating =
     ∷ moot 0 (calls.Ftruncate 8)
     ∷ []
 
--- commands of a device's driver
+-- commands of a device: those that the policy judges, and others
 abbrev pub driver_commands : List (Record × Answer)
 driver_commands =
     begins

@@ -8,6 +8,7 @@ mod moves;
 mod note;
 mod own_state;
 mod requests;
+mod unchanging;
 
 pub use answer::Answer;
 pub use descriptor::Descriptor;
@@ -18,6 +19,7 @@ pub use laws::{
 pub use note::Note;
 pub use own_state::OwnState;
 pub use requests::Request;
+pub use unchanging::only_allowed_records_change_the_world;
 
 #[cfg(test)]
 mod tests;

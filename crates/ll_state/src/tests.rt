@@ -1,6 +1,6 @@
 //! Calls that take memory, which no clause promises to be there.
 
-use crate::{Answer, Note, OwnState};
+use crate::{Answer, Note, OwnState, only_allowed_records_change_the_world};
 use ll_rules::Layer;
 use ll_trace::{Op, Sort};
 use ll_tree::Tree;
@@ -8,6 +8,7 @@ use std::test::*;
 
 #[test]
 fn a_process_adopts_a_descriptor_and_forks(rt: HostRuntime) -> Result<(), Fail> {
+    only_allowed_records_change_the_world();
     let tree = Tree::read(rt.alloc(), b"")?;
     let layers: [Layer; 0] = [];
     let adopts = Op::Adopt {

@@ -106,7 +106,8 @@ impl OwnState {
         }
     }
 
-    /// ioctl(2): the layers that refused `ioctl_dev` when the device was opened refuse the commands of its driver.
+    /// ioctl(2): the layers that refused `ioctl_dev` when the device was opened refuse the commands that the
+    /// policy judges; `driver` says whether this is one.
     #[tactic(auto, unfolding(crate::specs::Agreement::answered, crate::specs::Agreement::left, crate::specs::Worlds::state_after, crate::specs::Answers::answer, crate::specs::Changes::change, crate::specs::Answers::ioctl_answer))]
     pub(crate) fn ioctl(&self, fd: u64, driver: bool) -> Answer
         ghost at: { Situation }

@@ -55,6 +55,7 @@ impl OwnState {
         let Some(layer) = layer else {
             return fails(Errno::BadFd);
         };
+        prove!(self.domain.layers().len() <= 16);
         match self.domain.push(layer) {
             Ok(()) => Answer::Allowed,
             Err(Full) => fails(Errno::TooBig),

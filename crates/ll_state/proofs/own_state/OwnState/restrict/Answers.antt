@@ -1,5 +1,5 @@
 -- The four answers, and the layer that an allowed call adds.
-use Rattle.std.proofs.Common.{◌≡◌, length, Option, refl, sym, ◌∙◌, subst}
+use Rattle.std.proofs.Common.{◌≡◌, ◌≤◌, length, Option, refl, sym, ◌∙◌, subst, arith}
 use Rattle.std.specs.Prelude.{◌≢◌}
 use Rattle.std.proofs.lemmas.Bool.{false≢true}
 use Rattle.ll_rules.specs.declared.domain.LayerId.{LayerId}
@@ -17,8 +17,10 @@ returns-in_default-clause-answer g c = λ rules frozen.
 
 pub returns-in-Ok-clause-answer : goal.returns-in-Ok-clause-answer
 returns-in-Ok-clause-answer g c = λ rules frozen.
-    let room : length g.at.state.domain ≢ 16 = λ full. false≢true (c.in-Ok.ensures.full.1 (length-domain g.at c.args.self.now g.at.state c.requires ∙ full)) in
-    restrict_allowed g.at c.in-Some.layer g.at.state rules (sym c.may_restrict.ensures ∙ c.if-not-may_restrict.false) room (subst (λ (layer : Option LayerId). IsFrozen g.at layer rules) c.in-Some.is frozen)
+    let same = length-domain g.at c.args.self.now g.at.state c.requires in
+    let most : length g.at.state.domain ≤ 16 = subst (λ n. n ≤ 16) same c.layers.ensures.at_most_sixteen in
+    let other : length g.at.state.domain ≢ 16 = λ full. false≢true (c.in-Ok.ensures.full.1 (same ∙ full)) in
+    restrict_allowed g.at c.in-Some.layer g.at.state rules (sym c.may_restrict.ensures ∙ c.if-not-may_restrict.false) most other (subst (λ (layer : Option LayerId). IsFrozen g.at layer rules) c.in-Some.is frozen)
 
 pub returns-in-Ok-clause-after : goal.returns-in-Ok-clause-after
 returns-in-Ok-clause-after g c = λ rules frozen.
@@ -27,4 +29,4 @@ returns-in-Ok-clause-after g c = λ rules frozen.
 pub returns-in-Err-clause-answer : goal.returns-in-Err-clause-answer
 returns-in-Err-clause-answer g c = λ rules frozen.
     let full : length g.at.state.domain ≡ 16 = sym (length-domain g.at c.args.self.now g.at.state c.requires) ∙ c.in-Err.ensures.full.0 refl in
-    c.fails-in-Err.ensures ∙ restrict_full g.at c.in-Some.layer g.at.state rules (sym c.may_restrict.ensures ∙ c.if-not-may_restrict.false) full (subst (λ (layer : Option LayerId). IsFrozen g.at layer rules) c.in-Some.is frozen)
+    c.fails-in-Err.ensures ∙ restrict_full g.at c.in-Some.layer g.at.state rules (sym c.may_restrict.ensures ∙ c.if-not-may_restrict.false) (omega (arith, full)) (subst (λ (layer : Option LayerId). IsFrozen g.at layer rules) c.in-Some.is frozen)
