@@ -14,8 +14,9 @@ example:
 landaudit:
 	cd crates/landaudit && rt run -- --help
 
-# Proves everything and runs every test; then refuses the built program each of its requests for memory.
+# Proves everything and runs every test; then refuses the built program each of its requests for memory,
+# and drives it through limits and faults of the system around it.
 test:
 	rt ci
-	@log=$$(mktemp); bench/refuse-memory $$(ls crates/landaudit/out/landaudit) > $$log 2>&1; status=$$?; \
-	test $$status -eq 0 || cat $$log >&2; rm -f $$log; exit $$status
+	@log=$$(mktemp); { bench/refuse-memory $$(ls crates/landaudit/out/landaudit) && bench/drive; } \
+	> $$log 2>&1; status=$$?; test $$status -eq 0 || cat $$log >&2; rm -f $$log; exit $$status
