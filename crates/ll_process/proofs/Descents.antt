@@ -14,6 +14,7 @@ use Rattle.ll_process.specs.Processes.{children, kids, numbers, process_count}
 use Rattle.ll_process.specs.Cases.{Matter, answers_in}
 use Rattle.ll_process.specs.Jobs.{processes_of, AllOf, HandedOut, Accounts, SharesOut}
 use Rattle.ll_process.specs.Weights.{weight, weight_of}
+use Rattle.ll_process.proofs.Counting.{counted}
 
 -- all processes of a list are processes of the case
 abbrev pub AllThere : Matter → List ProcessId → Type 0
@@ -121,10 +122,9 @@ descended_more of first next processes answers answers_after kept_before kept ke
 
 pub shares_out : (of : Matter) (first : ProcessId) (processes : List ProcessId) (answers : List (ℕ × Answer)) (kept_before kept : List ℕ) (todo : List Job)
     → Descended of first processes answers kept_before kept todo → todo ≡ [] → SharesOut of.records first.0 (numbers processes) kept_before kept
-shares_out of first processes answers kept_before kept todo all none = record {
-  grows = all.accounts.grows;
-  shared = λ weight. omega (arith, all.accounts.shared weight, ap (λ (xs : List Job). sum_by weight (processes_of xs)) none);
-}
+shares_out of first processes answers kept_before kept todo all none =
+    counted of.records first.0 (numbers processes) kept_before kept
+    (λ weight. omega (arith, all.accounts.shared weight, ap (λ (xs : List Job). sum_by weight (processes_of xs)) none))
 
 -- taking a job from what is still to do
 pub weighs_less : (of : Matter) (job : Job) (todo rest todo_after : List Job) → todo ≡ rest ++ job ∷ [] → job.case.now ≡ of

@@ -10,6 +10,8 @@ pub mod OwnSteps
 pub mod ChildJobs
 pub mod Walked
 pub mod HandingOut
+pub mod Counting
+pub mod KeptMore
 pub mod WalkSteps
 pub mod Descents
 pub mod Roots

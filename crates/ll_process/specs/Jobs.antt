@@ -1,10 +1,10 @@
 -- What was judged, what a hand kept and what is still to do, by processes.
 -- Source: the kernel's userspace document on Landlock, "Inheritance": each child begins with what its parent has.
-use Rattle.std.specs.Prelude.{◌≡◌, ℕ, ◌+◌, ◌≤◌, [], ◌∷◌, ◌++◌, List, map, sum_by, ◌⊎◌, All}
+use Rattle.std.specs.Prelude.{◌≡◌, ℕ, ◌+◌, ◌<◌, ◌≤◌, [], ◌∷◌, ◌++◌, List, map, sum_by, ◌⊎◌, All}
 use Rattle.ll_trace.specs.declared.record.Record.{Record}
 use Rattle.ll_process.specs.declared.job.Job.{Job}
 use Rattle.ll_process.specs.Cases.{Matter}
-use Rattle.ll_process.specs.Processes.{kids}
+use Rattle.ll_process.specs.Processes.{kids, process_count, times}
 
 -- the processes of jobs
 abbrev pub processes_of : List Job → List ℕ
@@ -20,8 +20,8 @@ HandsOn job kept_before kept_after todo_before todo_after =
     ((kept_after ≡ kept_before ++ job.process.0 ∷ []) × (todo_after ≡ todo_before))
     ⊎ ((kept_after ≡ kept_before) × (todo_after ≡ todo_before ++ job ∷ []))
 
--- Children were handed out: each was kept or is still to do. "Each as often" is said by weights: whatever number is
--- given to each process, both sides add up to the same.
+-- Children were handed out: each was kept or is still to do. While a process is judged "each as often" is said by
+-- weights: whatever number is given to each process, both sides add up to the same.
 pub record HandedOut (children kept_before kept_after todo_before todo_after : List ℕ) : Type 0 where
   pub grows : (weight : ℕ → ℕ) → sum_by weight kept_before ≤ sum_by weight kept_after
   pub shared : (weight : ℕ → ℕ) → sum_by weight kept_after + sum_by weight todo_after ≡ sum_by weight kept_before + sum_by weight todo_before + sum_by weight children
@@ -35,5 +35,10 @@ pub record Accounts (records : List Record) (first : ℕ) (judged kept_before ke
 -- The processes judged, together with those newly kept, are the first process together with the children of all that
 -- were judged, each as often.
 pub record SharesOut (records : List Record) (first : ℕ) (judged kept_before kept_after : List ℕ) : Type 0 where
-  pub grows : (weight : ℕ → ℕ) → sum_by weight kept_before ≤ sum_by weight kept_after
-  pub shared : (weight : ℕ → ℕ) → sum_by weight judged + sum_by weight kept_after ≡ sum_by weight (first ∷ kids records judged) + sum_by weight kept_before
+  pub shared : (process : ℕ) → times process judged + times process kept_after ≡ times process (first ∷ kids records judged) + times process kept_before
+
+-- What was kept stays, and what is kept besides are processes of the trace.
+pub record KeepsMore (records : List Record) (kept_before kept_after : List ℕ) : Type 0 where
+  pub newly : List ℕ
+  pub grown : kept_after ≡ kept_before ++ newly
+  pub there : All (λ process. process < process_count records) newly

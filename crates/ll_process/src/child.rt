@@ -4,7 +4,7 @@ ghost use Rattle.std.specs.Prelude.{◌≡◌, IfOk, IfSome, OnOk};
 ghost use Rattle.std.specs.Option.{option_map};
 ghost use Rattle.ll_process.specs.Processes.{forked_at};
 ghost use Rattle.ll_process.specs.Own.{IsOwn, Leaves};
-ghost use Rattle.ll_process.specs.Jobs.{HandsOn};
+ghost use Rattle.ll_process.specs.Jobs.{HandsOn, KeepsMore};
 
 use crate::case::Case;
 use crate::hand::Hand;
@@ -47,6 +47,7 @@ pub(crate) fn offer<'c, H: Hand<'c>>(
     requires suits { H.suits hand.old job.case.now }
     ensures hands_on { OnOk result
         (HandsOn job.entry (H.kept hand.old) (H.kept hand.new) todo.old.items todo.new.items) }
+    ensures keeps { KeepsMore job.entry.case.now.records (H.kept hand.old) (H.kept hand.new) }
     ensures suits { H.suits hand.new job.entry.case.now }
     ensures stays { (before : H) → H.stays before hand.old → H.stays before hand.new }
 {

@@ -3,7 +3,7 @@
 ghost use Rattle.std.specs.Prelude.{◌≡◌, ◌<◌, ◌+◌, ◌++◌, ◌∷◌, [], Some, OnOk, IfOk, slice_get};
 ghost use Rattle.ll_process.specs.Processes.{process_count, numbers, children};
 ghost use Rattle.ll_process.specs.Cases.{answers_in};
-ghost use Rattle.ll_process.specs.Jobs.{processes_of, AllOf, HandedOut, SharesOut};
+ghost use Rattle.ll_process.specs.Jobs.{processes_of, AllOf, HandedOut, KeepsMore, SharesOut};
 ghost use Rattle.ll_process.specs.Weights.{weight, weight_of};
 
 use crate::adding::append;
@@ -37,6 +37,7 @@ fn judge_own<'c, H: Hand<'c>>(
         < weight_of (process_count job.entry.case.now.records) (processes_of todo.old.items)
         + weight (process_count job.entry.case.now.records) job.entry.process.0) }
     ensures of_case { OnOk result (AllOf job.entry.case.now todo.new.items) }
+    ensures keeps { KeepsMore job.entry.case.now.records (H.kept hand.old) (H.kept hand.new) }
     ensures suits { H.suits hand.new job.entry.case.now }
     ensures stays { (before : H) → H.stays before hand.old → H.stays before hand.new }
 {
@@ -70,6 +71,8 @@ pub fn judge<'c, H: Hand<'c>>(
     ensures shares_out { IfOk result (λ piece.
         SharesOut job.entry.case.now.records job.entry.process.0 (numbers piece.processes.items)
         (H.kept hand.old) (H.kept hand.new)) }
+    // Also where memory runs out.
+    ensures keeps { KeepsMore job.entry.case.now.records (H.kept hand.old) (H.kept hand.new) }
     ensures suits { H.suits hand.new job.entry.case.now }
     ensures stays { (before : H) → H.stays before hand.old → H.stays before hand.new }
 {

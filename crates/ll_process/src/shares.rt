@@ -1,5 +1,5 @@
 //! What holds of processes that are shared out.
-ghost use Rattle.std.specs.Prelude.{◌≡◌, ℕ, ◌+◌, ◌<◌, List, sum_by};
+ghost use Rattle.std.specs.Prelude.{◌≡◌, ℕ, ◌+◌, ◌<◌, List};
 ghost use Rattle.ll_trace.specs.declared.record.Record.{Record};
 ghost use Rattle.ll_process.specs.Processes.{IsNumbered, process_count, times, roots, kids};
 
@@ -7,6 +7,6 @@ ghost use Rattle.ll_process.specs.Processes.{IsNumbered, process_count, times, r
 /// often, are all processes of the trace, each once.
 pub fn each_process_once()
     ensures { (records : List Record) (processes : List ℕ) → IsNumbered records
-        → ((weight : ℕ → ℕ) → sum_by weight processes ≡ sum_by weight (roots records) + sum_by weight (kids records processes))
+        → ((process : ℕ) → times process processes ≡ times process (roots records) + times process (kids records processes))
         → (process : ℕ) → process < process_count records → times process processes ≡ 1 }
 {}

@@ -1,5 +1,5 @@
 use Rattle.ll_process.specs.Processes.{process_count}
-use Rattle.ll_process.specs.Jobs.{processes_of}
+use Rattle.ll_process.specs.Jobs.{KeepsMore, processes_of}
 use Rattle.ll_process.specs.Weights.{weight_of}
 use Rattle.ll_process.proofs.Descents.{Descended}
 use Rattle.ll_process.proofs.descend.judge.Given as goal
@@ -7,6 +7,7 @@ use Rattle.ll_process.proofs.descend.judge.Given as goal
 abbrev pub invariant-loop-next : goal.invariant-loop-next
 invariant-loop-next g l = record {
   descended : Descended l.case l.fn.job.process l.processes.items l.answers.items (g.H.Hand.kept l.fn.hand) (g.H.Hand.kept l.hand) l.todo.items;
+  keeps : KeepsMore l.case.records (g.H.Hand.kept l.fn.hand) (g.H.Hand.kept l.hand);
   suits : g.H.Hand.suits l.hand l.case;
   stays : (before : _) → g.H.Hand.stays before l.fn.hand → g.H.Hand.stays before l.hand;
 }

@@ -3,7 +3,9 @@ use Rattle.std.proofs.Common.{◌≡◌, ◌++◌, ℕ, ap, sym, ◌∙◌, subs
 use Rattle.std.specs.Prelude.{IfSome}
 use Rattle.std.specs.Option.{option_map}
 use Rattle.ll_process.specs.declared.job.Job.{Job}
-use Rattle.ll_process.specs.Jobs.{HandedOut, processes_of}
+use Rattle.ll_process.specs.Cases.{Matter}
+use Rattle.ll_process.specs.Jobs.{HandedOut, KeepsMore, processes_of}
+use Rattle.ll_process.proofs.KeptMore.{keeps_on, keeps_same}
 use Rattle.ll_process.proofs.WalkSteps.{walked_none, walked_more, place_now, own_now, HandedAt, handed_no_child, handed_child, answers_all, children_all, less_to_do}
 use Rattle.ll_process.proofs.descend.judge_own.Goals as goal
 use Rattle.ll_process.proofs.descend.judge_own.Goals.{in-Some+in_ok-offer, in_default}
@@ -12,6 +14,7 @@ pub loop-index-init : goal.loop-index-init
 loop-index-init g c = record {
   walked = walked_none c.args.job.case.now c.args.job.process.0 c.args.job.own c.args.answers.now.items (g.H.Hand.kept c.args.hand.now) c.args.todo.now.items
       c.own_records-index-items.ensures.case c.args.job.there c.args.job.begins c.requires.of_case;
+  keeps = keeps_same c.args.job.case.now.records (g.H.Hand.kept c.args.hand.now) (g.H.Hand.kept c.args.hand.now) refl;
   suits = c.requires.suits;
   stays = λ before same. same;
 }
@@ -63,6 +66,14 @@ loop-index-preserved g c =
           c.in_ok-answer.ensures.answer c.in_ok-answer.ensures.leaves
           (rw c.if-is_err.ensures.negation at c.push.ensures.items)
           handed;
+      keeps = elim c.match-branch-3.branch [
+        | in-Some+in_ok-offer w ↦
+            subst (λ hand. KeepsMore c.args.job.case.now.records (g.H.Hand.kept c.args.hand.now) (g.H.Hand.kept hand)) (sym w.hand-is)
+            (keeps_on c.args.job.case.now.records (g.H.Hand.kept c.args.hand.now) (g.H.Hand.kept c.loop-index.hand) (g.H.Hand.kept w.offer.new.hand) c.loop-index.invariant.keeps
+            (subst (λ (m : Matter). KeepsMore m.records (g.H.Hand.kept c.loop-index.hand) (g.H.Hand.kept w.offer.new.hand))
+            (subst (λ (o : Option Job). IfSome o (λ (j : Job). j.case.now ≡ c.args.job.case.now)) w.in-Some.is c.in_ok-child.ensures.of_case) w.in_ok-offer.ensures.keeps))
+        | in_default w ↦ subst (λ hand. KeepsMore c.args.job.case.now.records (g.H.Hand.kept c.args.hand.now) (g.H.Hand.kept hand)) (sym w.hand-is) c.loop-index.invariant.keeps
+      ];
       suits = elim c.match-branch-3.branch [
         | in-Some+in_ok-offer w ↦
             subst (λ hand. g.H.Hand.suits hand c.args.job.case.now) (sym w.hand-is)
@@ -101,3 +112,9 @@ returns-clause-less g c =
     (children_all c.args.job.case.now c.args.job.process.0 c.loop-index.index-index
     (subst (λ (xs : List ℕ). length xs ≤ c.loop-index.index-index) c.own_records-index-items.ensures.places c.loop-index-test.false))
     c.loop-index.invariant.walked.handed)
+
+pub returns-in_err-offer-clause-keeps : goal.returns-in_err-offer-clause-keeps
+returns-in_err-offer-clause-keeps g c =
+    keeps_on c.args.job.case.now.records (g.H.Hand.kept c.args.hand.now) (g.H.Hand.kept c.loop-index.hand) (g.H.Hand.kept c.offer.new.hand) c.loop-index.invariant.keeps
+    (subst (λ (m : Matter). KeepsMore m.records (g.H.Hand.kept c.loop-index.hand) (g.H.Hand.kept c.offer.new.hand))
+    (subst (λ (o : Option Job). IfSome o (λ (j : Job). j.case.now ≡ c.args.job.case.now)) c.in-Some.is c.in_ok-child.ensures.of_case) c.in_err-offer.ensures.keeps)
