@@ -11,6 +11,7 @@ use Rattle.ll_process.specs.declared.piece.Piece.{Piece}
 use Rattle.ll_process.specs.Processes.{kids, numbers}
 use Rattle.ll_process.specs.Cases.{Matter}
 use Rattle.ll_process.specs.Jobs.{SharesOut, processes_of, AllOf as AllJobsOf}
+use Rattle.ll_process.proofs.Counting.{weighed}
 use Rattle.ll_pool.specs.declared.known.Known.{Known}
 use Rattle.ll_pool.specs.Gathered.{AllOf, processes_in}
 use Rattle.ll_pool.specs.Rule.{known, after_giving, after_taking}
@@ -56,7 +57,7 @@ seen_judged of p before after pieces pieces_after piece is its shares =
           rw (processes_in-push pieces piece, kids-append of.records (processes_in pieces) (numbers piece.processes.items))
           (omega (
             arith,
-            shares.shared weight,
+            weighed of.records p (numbers piece.processes.items) before after shares weight,
             sum_by-append weight (processes_in pieces) (numbers piece.processes.items),
             sum_by-append weight (kids of.records (processes_in pieces)) (kids of.records (numbers piece.processes.items)),
             sum_by-cons weight p (kids of.records (numbers piece.processes.items)),

@@ -11,6 +11,7 @@ use Rattle.ll_process.specs.declared.piece.Piece.{Piece}
 use Rattle.ll_process.specs.Processes.{children, kids, roots, numbers}
 use Rattle.ll_process.specs.Cases.{Matter}
 use Rattle.ll_process.specs.Jobs.{processes_of, AllOf as AllJobsOf, SharesOut}
+use Rattle.ll_process.proofs.Counting.{weighed}
 use Rattle.ll_pool.specs.Gathered.{AllOf, processes_in}
 
 pub record AreShared (of : Matter) (jobs : List Job) (pieces : List Piece) : Type 0 where
@@ -59,7 +60,7 @@ shared_more of before jobs job pieces piece popped same shares so_far =
           (omega (
             arith,
             total,
-            here.shared weight,
+            weighed of.records job.process.0 (numbers piece.processes.items) [] [] here weight,
             ap (λ (xs : List ℕ). sum_by weight xs) left,
             sum_by-append weight (processes_of jobs) (job.process.0 ∷ []),
             sum_by-append weight (processes_in pieces) (numbers piece.processes.items),
