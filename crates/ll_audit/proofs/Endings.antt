@@ -1,5 +1,5 @@
--- What the program's status and its output say, from what a run came to and how that was written.
-use Rattle.std.proofs.Common.{◌≡◌, ◌∙◌, ℕ, List, Option, Some, None, refl, sym, ap, subst, ◌<◌, Bool, true, false, cond, eqb, inl, inr, arith}
+-- What the program's status and its outputs say, from what a run came to and how that was written.
+use Rattle.std.proofs.Common.{◌≡◌, ◌∙◌, ℕ, List, Option, Some, None, refl, sym, ap, subst, ◌<◌, ◌≤◌, Bool, true, false, cond, eqb, inl, inr, arith}
 use Rattle.std.specs.Prelude.{◌⊎◌}
 use Rattle.std.specs.Io.KnownBytes.{Appends}
 use Rattle.std.proofs.lemmas.Option.{none-some, same_Some}
@@ -7,30 +7,28 @@ use Rattle.clap.specs.Words.{IsAmong, Text}
 use Rattle.clap.specs.declared.error.kind.ErrorKind.TheVariants.{DisplayHelp}
 use Rattle.ll_audit.specs.declared.lines.Failure.{Failure}
 use Rattle.ll_audit.specs.declared.lines.Failure.TheVariants as failure
+use Rattle.ll_audit.specs.declared.outcome.Ending.{Ending}
 use Rattle.ll_audit.specs.declared.outcome.Outcome.{Outcome}
 use Rattle.ll_audit.specs.declared.outcome.Outcome.TheVariants as outcome
 use Rattle.ll_audit.specs.declared.report.Report.{Report}
 use Rattle.ll_audit.specs.Command.{Request, faults, request_of}
 use Rattle.ll_audit.specs.FaultLines.{failure_status}
 use Rattle.ll_audit.specs.Files.{Files}
-use Rattle.ll_audit.specs.Fronts.{HasFailure, HasFileFault, HasReport, IsFailureOf, IsOutcomeOf, Reports, WritesNothing, WritesReport}
+use Rattle.ll_audit.specs.Fronts.{EndsWithoutRun, HasFailure, HasReport, HasWrongWords, IsFailureOf, IsOutcomeOf, Reports, StaysQuiet, TellsWhy, WritesNothing, WritesReport}
 use Rattle.ll_audit.specs.Outcomes.{EndsWith, report_status}
 use Rattle.ll_audit.proofs.CommandLine.{request_of-fault}
 
 -- a failure's status is 3 or 4
-failing : (of : Failure) (status : ℕ) → status ≡ failure_status of → (status ≡ 0) ⊎ (status ≡ 1) → ⊥
-failing (failure.Tree fault) status is (inl low) = omega (arith, is, low)
-failing (failure.Tree fault) status is (inr low) = omega (arith, is, low)
-failing (failure.Trace fault) status is (inl low) = omega (arith, is, low)
-failing (failure.Trace fault) status is (inr low) = omega (arith, is, low)
-failing (failure.Unread name) status is (inl low) = omega (arith, is, low)
-failing (failure.Unread name) status is (inr low) = omega (arith, is, low)
-failing (failure.Memory) status is (inl low) = omega (arith, is, low)
-failing (failure.Memory) status is (inr low) = omega (arith, is, low)
-failing (failure.NoThread) status is (inl low) = omega (arith, is, low)
-failing (failure.NoThread) status is (inr low) = omega (arith, is, low)
-failing (failure.Unwritten) status is (inl low) = omega (arith, is, low)
-failing (failure.Unwritten) status is (inr low) = omega (arith, is, low)
+status_of-high : (of : Failure) → (failure_status of ≡ 3) ⊎ (failure_status of ≡ 4)
+status_of-high (failure.Tree fault) = inl refl
+status_of-high (failure.Trace fault) = inl refl
+status_of-high (failure.Unread name) = inl refl
+status_of-high failure.Memory = inr refl
+status_of-high failure.NoThread = inr refl
+status_of-high failure.Unwritten = inr refl
+
+failing : (of : Failure) (status : ℕ) → status ≡ failure_status of → (status ≡ 3) ⊎ (status ≡ 4)
+failing of status is = subst (λ (n : ℕ). (n ≡ 3) ⊎ (n ≡ 4)) (sym is) (status_of-high of)
 
 abbrev zero_or_one : Bool → ℕ
 zero_or_one b = cond b 0 1
@@ -40,60 +38,106 @@ by_test true = inl refl
 by_test false = inr refl
 
 -- a report's status is 0 or 1
-report_status-low : (refused : ℕ) → (report_status refused ≡ 0) ⊎ (report_status refused ≡ 1)
-report_status-low refused = by_test (eqb refused 0)
+reporting : (refused status : ℕ) → status ≡ report_status refused → (status ≡ 0) ⊎ (status ≡ 1)
+reporting refused status is = subst (λ (n : ℕ). (n ≡ 0) ⊎ (n ≡ 1)) (sym is) (by_test (eqb refused 0))
 
-not_four : (status : ℕ) → status ≡ 4 → (status ≡ 0) ⊎ (status ≡ 1) → ⊥
-not_four status four (inl low) = omega (arith, four, low)
-not_four status four (inr low) = omega (arith, four, low)
+-- statuses that are not one another
+low_high : (status : ℕ) → (status ≡ 0) ⊎ (status ≡ 1) → (status ≡ 3) ⊎ (status ≡ 4) → ⊥
+low_high status (inl a) (inl b) = omega (arith, a, b)
+low_high status (inl a) (inr b) = omega (arith, a, b)
+low_high status (inr a) (inl b) = omega (arith, a, b)
+low_high status (inr a) (inr b) = omega (arith, a, b)
 
-not_wrong : (status : ℕ) → status ≡ 4 → (status ≡ 2) ⊎ (status ≡ 3) → ⊥
-not_wrong status four (inl two) = omega (arith, four, two)
-not_wrong status four (inr three) = omega (arith, four, three)
+low_wrong : (status : ℕ) → (status ≡ 0) ⊎ (status ≡ 1) → (status ≡ 2) ⊎ (status ≡ 3) → ⊥
+low_wrong status (inl a) (inl b) = omega (arith, a, b)
+low_wrong status (inl a) (inr b) = omega (arith, a, b)
+low_wrong status (inr a) (inl b) = omega (arith, a, b)
+low_wrong status (inr a) (inr b) = omega (arith, a, b)
 
-low_or_three : (low : ℕ) → (low ≡ 0) ⊎ (low ≡ 1) → (status : ℕ) → status ≡ low → (status ≡ 2) ⊎ (status ≡ 3) → ⊥
-low_or_three low (inl zero) status is (inl two) = omega (arith, zero, is, two)
-low_or_three low (inl zero) status is (inr three) = omega (arith, zero, is, three)
-low_or_three low (inr one) status is (inl two) = omega (arith, one, is, two)
-low_or_three low (inr one) status is (inr three) = omega (arith, one, is, three)
+low_two : (status : ℕ) → (status ≡ 0) ⊎ (status ≡ 1) → status ≡ 2 → ⊥
+low_two status (inl a) b = omega (arith, a, b)
+low_two status (inr a) b = omega (arith, a, b)
 
-module _ {Output Errors : Type 0} (contents : Output → Option (List ℕ)) (words : List Text) (files : Option Files) (before after status : ℕ) (old new : Output) (errors_old errors_new : Errors) where
-  pub writes_report : (of : Outcome) → IsOutcomeOf words files before after of → EndsWith contents of status old new errors_old errors_new
-      → WritesReport words files status (contents old) (contents new)
-  writes_report (outcome.Report report) has (inl four) low request asked = absurd (not_four status four low)
+two_high : (status : ℕ) → status ≡ 2 → (status ≡ 3) ⊎ (status ≡ 4) → ⊥
+two_high status a (inl b) = omega (arith, a, b)
+two_high status a (inr b) = omega (arith, a, b)
+
+low_bounded : (status : ℕ) → (status ≡ 0) ⊎ (status ≡ 1) → status ≤ 4
+low_bounded status (inl a) = omega (arith, a)
+low_bounded status (inr a) = omega (arith, a)
+
+high_bounded : (status : ℕ) → (status ≡ 3) ⊎ (status ≡ 4) → status ≤ 4
+high_bounded status (inl a) = omega (arith, a)
+high_bounded status (inr a) = omega (arith, a)
+
+four_wrong : (status : ℕ) → status ≡ 4 → (status ≡ 2) ⊎ (status ≡ 3) → ⊥
+four_wrong status a (inl b) = omega (arith, a, b)
+four_wrong status a (inr b) = omega (arith, a, b)
+
+module _ {Output Errors : Type 0} (contents : Output → Option (List ℕ)) (lines : Errors → Option (List ℕ)) (ending : Ending) (old new : Output) (errors_old errors_new : Errors) where
+  pub bounded : (of : Outcome) → EndsWith contents lines of ending old new errors_old errors_new → ending.status ≤ 4
+  bounded (outcome.Report report) (inl why) = high_bounded ending.status (inr why.0)
+  bounded (outcome.Report report) (inr written) = low_bounded ending.status (reporting report.refused ending.status written.0)
+  bounded (outcome.Help error) (inl why) = high_bounded ending.status (inr why.0)
+  bounded (outcome.Help error) (inr written) = omega (arith, written.0)
+  bounded (outcome.Usage error) ends = omega (arith, ends.0)
+  bounded (outcome.Failure of) ends = high_bounded ending.status (failing of ending.status ends.0.0)
+
+  pub stays_quiet : (of : Outcome) → EndsWith contents lines of ending old new errors_old errors_new → StaysQuiet ending.status errors_old errors_new
+  stays_quiet (outcome.Report report) (inl why) low = absurd (low_high ending.status low (inr why.0))
+  stays_quiet (outcome.Report report) (inr written) low = written.2
+  stays_quiet (outcome.Help error) (inl why) low = absurd (low_high ending.status low (inr why.0))
+  stays_quiet (outcome.Help error) (inr written) low = written.1
+  stays_quiet (outcome.Usage error) ends low = absurd (low_two ending.status low ends.0)
+  stays_quiet (outcome.Failure of) ends low = absurd (low_high ending.status low (failing of ending.status ends.0.0))
+
+module _ {Output Errors : Type 0} (contents : Output → Option (List ℕ)) (lines : Errors → Option (List ℕ)) (words : List Text) (files : Option Files) (before after : ℕ) (ending : Ending) (old new : Output) (errors_old errors_new : Errors) where
+  pub writes_report : (of : Outcome) → IsOutcomeOf words files before after of → EndsWith contents lines of ending old new errors_old errors_new
+      → WritesReport words files ending.status (contents old) (contents new)
+  writes_report (outcome.Report report) has (inl why) low request asked = absurd (low_high ending.status low (inr why.0))
   writes_report (outcome.Report report) has (inr written) low request asked =
       let same : has.request ≡ request = same_Some has.request request (sym has.asked ∙ asked) in
       (report, subst (λ (r : Request). Reports files r report) same has.reports, written.1, written.0)
   writes_report (outcome.Help error) help ends low request asked = absurd (none-some request (sym (request_of-fault words DisplayHelp help) ∙ asked))
-  writes_report (outcome.Usage error) none ends low request asked = absurd (none-some request (sym none ∙ asked))
-  writes_report (outcome.Failure of) has ends low request asked = absurd (failing of status ends.0 low)
+  writes_report (outcome.Usage error) wrong ends low request asked = absurd (low_two ending.status low ends.0)
+  writes_report (outcome.Failure of) has ends low request asked = absurd (low_high ending.status low (failing of ending.status ends.0.0))
 
-  by_failure : (of : Failure) → HasFailure words files before after of → status ≡ failure_status of → HasFileFault words files before after status
-  by_failure (failure.Tree fault) (inl memory) is three = absurd (cc)
-  by_failure (failure.Tree fault) (inr (request, asked, bad)) is three = inr (request, asked, inl bad)
-  by_failure (failure.Trace fault) (inl memory) is three = absurd (cc)
-  by_failure (failure.Trace fault) (inr (request, asked, bad)) is three = inr (request, asked, inr bad)
-  by_failure (failure.Unread name) (inl memory) is three = absurd (cc)
-  by_failure (failure.Unread name) (inr (request, asked, more)) is three = inl more
-  by_failure failure.Memory has is three = absurd (omega (arith, is, three))
-  by_failure failure.NoThread has is three = absurd (omega (arith, is, three))
-  by_failure failure.Unwritten has is three = absurd (omega (arith, is, three))
+  pub wrong_words : (of : Outcome) → IsOutcomeOf words files before after of → EndsWith contents lines of ending old new errors_old errors_new
+      → HasWrongWords words ending.status
+  wrong_words (outcome.Report report) has (inl why) two = absurd (two_high ending.status two (inr why.0))
+  wrong_words (outcome.Report report) has (inr written) two = absurd (low_two ending.status (reporting report.refused ending.status written.0) two)
+  wrong_words (outcome.Help error) help (inl why) two = absurd (two_high ending.status two (inr why.0))
+  wrong_words (outcome.Help error) help (inr written) two = absurd (low_two ending.status (inl written.0) two)
+  wrong_words (outcome.Usage error) wrong ends two = wrong
+  wrong_words (outcome.Failure of) has ends two = absurd (two_high ending.status two (failing of ending.status ends.0.0))
 
-  pub file_fault : (of : Outcome) → IsOutcomeOf words files before after of → EndsWith contents of status old new errors_old errors_new
-      → HasFileFault words files before after status
-  file_fault (outcome.Report report) has (inl four) three = absurd (omega (arith, four, three))
-  file_fault (outcome.Report report) has (inr written) three = absurd (low_or_three (report_status report.refused) (report_status-low report.refused) status written.0 (inr three))
-  file_fault (outcome.Help error) help (inl four) three = absurd (omega (arith, four, three))
-  file_fault (outcome.Help error) help (inr written) three = absurd (omega (arith, written.0, three))
-  file_fault (outcome.Usage error) none ends three = absurd (omega (arith, ends.0, three))
-  file_fault (outcome.Failure of) has ends three = by_failure of has ends.0 three
+  no_run_failing : (of : Failure) → HasFailure words files before after of → ending.status ≡ failure_status of → request_of words ≡ None → ending.status ≡ 4
+  no_run_failing of (inl memory) is none = is ∙ ap (λ (f : Failure). failure_status f) memory
+  no_run_failing of (inr (request, asked, fails)) is none = absurd (none-some request (sym none ∙ asked))
 
-  pub writes_nothing : (of : Outcome) → IsOutcomeOf words files before after of → EndsWith contents of status old new errors_old errors_new
-      → WritesNothing words files status old new
-  writes_nothing (outcome.Report report) has (inl four) = (λ wrong. absurd (not_wrong status four wrong), λ _. inr (inr (report, has)))
+  pub ends_without_run : (of : Outcome) → IsOutcomeOf words files before after of → EndsWith contents lines of ending old new errors_old errors_new
+      → EndsWithoutRun words ending.status
+  ends_without_run (outcome.Report report) has ends none = absurd (none-some has.request (sym none ∙ has.asked))
+  ends_without_run (outcome.Help error) help (inl why) none = inr (inr why.0)
+  ends_without_run (outcome.Help error) help (inr written) none = inr (inl (written.0, help))
+  ends_without_run (outcome.Usage error) wrong ends none = inl ends.0
+  ends_without_run (outcome.Failure of) has ends none = inr (inr (no_run_failing of has ends.0.0 none))
+
+  pub writes_nothing : (of : Outcome) → IsOutcomeOf words files before after of → EndsWith contents lines of ending old new errors_old errors_new
+      → WritesNothing words files ending.status old new
+  writes_nothing (outcome.Report report) has (inl why) = (λ wrong. absurd (four_wrong ending.status why.0 wrong), λ _. inr (inr (report, has)))
   writes_nothing (outcome.Report report) has (inr written) =
-      (λ wrong. absurd (low_or_three (report_status report.refused) (report_status-low report.refused) status written.0 wrong), λ _. inr (inr (report, has)))
-  writes_nothing (outcome.Help error) help (inl four) = (λ wrong. absurd (not_wrong status four wrong), λ _. inr (inl help))
-  writes_nothing (outcome.Help error) help (inr written) = (λ wrong. absurd (low_or_three 0 (inl refl) status written.0 wrong), λ _. inr (inl help))
-  writes_nothing (outcome.Usage error) none ends = (λ _. ends.1, λ _. inl ends.1)
+      (λ wrong. absurd (low_wrong ending.status (reporting report.refused ending.status written.0) wrong), λ _. inr (inr (report, has)))
+  writes_nothing (outcome.Help error) help (inl why) = (λ wrong. absurd (four_wrong ending.status why.0 wrong), λ _. inr (inl help))
+  writes_nothing (outcome.Help error) help (inr written) = (λ wrong. absurd (low_wrong ending.status (inl written.0) wrong), λ _. inr (inl help))
+  writes_nothing (outcome.Usage error) wrong ends = (λ _. ends.1, λ _. inl ends.1)
   writes_nothing (outcome.Failure of) has ends = (λ _. ends.1, λ _. inl ends.1)
+
+  pub tells_why : (of : Outcome) → IsOutcomeOf words files before after of → EndsWith contents lines of ending old new errors_old errors_new
+      → TellsWhy words files before after ending (lines errors_old) (lines errors_new)
+  tells_why (outcome.Report report) has (inl why) high = (failure.Unwritten, inr (refl, inr (report, has)), why)
+  tells_why (outcome.Report report) has (inr written) high = absurd (low_high ending.status (reporting report.refused ending.status written.0) high)
+  tells_why (outcome.Help error) help (inl why) high = (failure.Unwritten, inr (refl, inl help), why)
+  tells_why (outcome.Help error) help (inr written) high = absurd (low_high ending.status (inl written.0) high)
+  tells_why (outcome.Usage error) wrong ends high = absurd (two_high ending.status ends.0 high)
+  tells_why (outcome.Failure of) has ends high = (of, inl has, ends.0)

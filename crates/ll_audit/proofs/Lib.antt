@@ -4,3 +4,4 @@ pub mod LayerText
 pub mod LinesLeft
 pub mod Endings
 pub mod Wants
+pub mod OneReport

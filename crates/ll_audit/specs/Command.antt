@@ -96,9 +96,9 @@ request_if (kind ∷ kinds) rows = None
 unfoldable pub request_of : List Text → Option Request
 request_of words = request_if (faults words) (matches_of command words)
 
--- a run, as it was asked for
-abbrev pub request_by : Run → Request
-request_by run = record { abi = run.abi; workers = run.workers; grain = run.grain; tree = run.tree.now; trace = run.trace.now }
+-- the words ask for no run, and not for help alone
+abbrev pub AreWrong : List Text → Type 0
+AreWrong words = (request_of words ≡ None) × (faults words ≢ DisplayHelp ∷ [])
 
 -- an error of this kind answers the words: one of their faults, or that they lack an argument
 abbrev pub IsRefusal : List Text → ErrorKind → Type 0
@@ -106,9 +106,13 @@ IsRefusal words kind =
     IsAmong kind (faults words)
     ⊎ ((kind ≡ MissingRequiredArgument) × (faults words ≡ []) × (request_of words ≡ None))
 
+-- a run, as it was asked for
+abbrev pub request_by : Run → Request
+request_by run = record { abi = run.abi; workers = run.workers; grain = run.grain; tree = run.tree.now; trace = run.trace.now }
+
 -- what a plan says of the words that it was made from
 abbrev pub IsPlanFor : List Text → Plan → Type 0
 IsPlanFor words (plan.Run run) = (request_of words ≡ Some (request_by run)) × IsCrew run.workers
 IsPlanFor words (plan.Help error) = IsAmong DisplayHelp (faults words)
-IsPlanFor words (plan.Usage error) = (request_of words ≡ None) × (faults words ≢ DisplayHelp ∷ [])
+IsPlanFor words (plan.Usage error) = AreWrong words
 IsPlanFor words plan.Memory = ⊤

@@ -10,13 +10,14 @@ use Rattle.ll_tree.specs.declared.fault.ReadFault.{ReadFault}
 use Rattle.ll_trace.specs.Entries.{trace_file}
 use Rattle.ll_audit.specs.declared.lines.Failure.{Failure}
 use Rattle.ll_audit.specs.declared.lines.Failure.TheVariants as failure
+use Rattle.ll_audit.specs.declared.outcome.Ending.{Ending}
 use Rattle.ll_audit.specs.declared.outcome.Outcome.{Outcome}
 use Rattle.ll_audit.specs.declared.outcome.Outcome.TheVariants as outcome
 use Rattle.ll_audit.specs.declared.report.Report.{Report}
-use Rattle.ll_audit.specs.Audits.{IsReport}
-use Rattle.ll_audit.specs.Command.{Request, faults, request_of}
+use Rattle.ll_audit.specs.Audits.{IsReport, ReadsAsTrace, ReadsAsTree}
+use Rattle.ll_audit.specs.Command.{AreWrong, Request, faults, request_of}
 use Rattle.ll_audit.specs.Files.{Files, bytes_of}
-use Rattle.ll_audit.specs.Outcomes.{report_status}
+use Rattle.ll_audit.specs.Outcomes.{Complains, report_status}
 
 -- these are the bytes of the file of a name, where the files are known
 abbrev pub AreBytesOf : Option Files → Text → List ℕ → Type 0
@@ -36,20 +37,30 @@ pub record HasReport (words : List Text) (files : Option Files) (report : Report
   pub asked : request_of words ≡ Some request
   pub reports : Reports files request report
 
--- the file of a name reads as bad
-pub record IsBadFile {Entry : Type 0} (format : Format Entry) (files : Option Files) (name : Text) : Type 0 where
+-- the file of a name reads as bad, with this fault
+pub record IsBadFile {Entry : Type 0} (format : Format Entry) (files : Option Files) (name : Text) (fault : ReadFault) : Type 0 where
   pub bytes : List ℕ
   pub file : AreBytesOf files name bytes
-  pub fault : ReadFault
   pub is_bad : IsBad format bytes fault
+
+-- the file of a name reads: as a tree, or as a trace
+abbrev pub HasTree : Option Files → Text → Type 0
+HasTree files name = (bytes : List ℕ) × AreBytesOf files name bytes × ReadsAsTree bytes
+
+abbrev pub HasTrace : Option Files → Text → Type 0
+HasTrace files name = (bytes : List ℕ) × AreBytesOf files name bytes × ReadsAsTrace bytes
 
 -- What a failure says of the files that a request names, where the count of failures to read one was `before` and is
 -- `after`.
 abbrev pub IsFailureOf : Option Files → Request → ℕ → ℕ → Failure → Type 0
-IsFailureOf files request before after (failure.Tree fault) = IsBadFile tree_format files request.tree
-IsFailureOf files request before after (failure.Trace fault) = IsBadFile trace_file files request.trace
-IsFailureOf files request before after (failure.Unread name) = before < after
-IsFailureOf files request before after _ = ⊤
+IsFailureOf files request before after (failure.Tree fault) = IsBadFile tree_format files request.tree fault
+IsFailureOf files request before after (failure.Trace fault) =
+    HasTree files request.tree × IsBadFile trace_file files request.trace fault
+IsFailureOf files request before after (failure.Unread name) =
+    ((name.now ≡ request.tree) ⊎ (name.now ≡ request.trace)) × (before < after)
+IsFailureOf files request before after failure.Memory = ⊤
+IsFailureOf files request before after failure.NoThread = HasTree files request.tree × HasTrace files request.trace
+IsFailureOf files request before after failure.Unwritten = ⊥
 
 -- no memory is left, or the words ask for a run that fails in this way
 abbrev pub HasFailure : List Text → Option Files → ℕ → ℕ → Failure → Type 0
@@ -61,8 +72,12 @@ HasFailure words files before after of =
 abbrev pub IsOutcomeOf : List Text → Option Files → ℕ → ℕ → Outcome → Type 0
 IsOutcomeOf words files before after (outcome.Report report) = HasReport words files report
 IsOutcomeOf words files before after (outcome.Help error) = IsAmong DisplayHelp (faults words)
-IsOutcomeOf words files before after (outcome.Usage error) = request_of words ≡ None
+IsOutcomeOf words files before after (outcome.Usage error) = AreWrong words
 IsOutcomeOf words files before after (outcome.Failure of) = HasFailure words files before after of
+
+-- there is help or a report to be written
+abbrev pub HasOutput : List Text → Option Files → Type 0
+HasOutput words files = IsAmong DisplayHelp (faults words) ⊎ ((report : Report) × HasReport words files report)
 
 -- With status 0 or 1 words that ask for a run have its report appended to what the output held, and the status is 1
 -- exactly where some record is refused.
@@ -71,21 +86,33 @@ WritesReport words files status old new =
     (status ≡ 0) ⊎ (status ≡ 1) → (request : Request) → request_of words ≡ Some request →
     (report : Report) × Reports files request report × Appends old new report.bytes.items × (status ≡ report_status report.refused)
 
--- Words that ask for no run never have status 1, and have status 0 only where they ask for help.
-abbrev pub GivesHelp : List Text → ℕ → Type 0
-GivesHelp words status =
-    request_of words ≡ None → ((status ≡ 1) → ⊥) × ((status ≡ 0) → IsAmong DisplayHelp (faults words))
+-- With status 2 the words are wrong.
+abbrev pub HasWrongWords : List Text → ℕ → Type 0
+HasWrongWords words status = status ≡ 2 → AreWrong words
 
--- With status 3 a file was not read, or one of the two that the words name reads as bad.
-abbrev pub HasFileFault : List Text → Option Files → ℕ → ℕ → ℕ → Type 0
-HasFileFault words files before after status =
-    status ≡ 3 → (before < after)
-    ⊎ ((request : Request) × (request_of words ≡ Some request)
-    × (IsBadFile tree_format files request.tree ⊎ IsBadFile trace_file files request.trace))
+-- Words that ask for no run end with status 2, or with 0 where they ask for help, or with 4.
+abbrev pub EndsWithoutRun : List Text → ℕ → Type 0
+EndsWithoutRun words status =
+    request_of words ≡ None →
+    (status ≡ 2) ⊎ ((status ≡ 0) × IsAmong DisplayHelp (faults words)) ⊎ (status ≡ 4)
 
 -- With status 2 or 3 nothing is written to the output. Nor is it with status 4, unless there was a report or help to be
 -- written and writing failed.
 abbrev pub WritesNothing : {Output : Type 0} → List Text → Option Files → ℕ → Output → Output → Type 0
 WritesNothing words files status old new =
-    ((status ≡ 2) ⊎ (status ≡ 3) → new ≡ old)
-    × ((status ≡ 4) → (new ≡ old) ⊎ IsAmong DisplayHelp (faults words) ⊎ ((report : Report) × HasReport words files report))
+    ((status ≡ 2) ⊎ (status ≡ 3) → new ≡ old) × ((status ≡ 4) → (new ≡ old) ⊎ HasOutput words files)
+
+-- With status 0 or 1 nothing is written to the error output.
+abbrev pub StaysQuiet : {Errors : Type 0} → ℕ → Errors → Errors → Type 0
+StaysQuiet status old new = (status ≡ 0) ⊎ (status ≡ 1) → new ≡ old
+
+-- why a run ends with status 3 or 4: it fails, or the help or the report that there is can't be written
+abbrev pub IsWhy : List Text → Option Files → ℕ → ℕ → Failure → Type 0
+IsWhy words files before after of =
+    HasFailure words files before after of ⊎ ((of ≡ failure.Unwritten) × HasOutput words files)
+
+-- With status 3 or 4 there is a reason of that status, and its line is appended to the error output, if it could be told.
+abbrev pub TellsWhy : List Text → Option Files → ℕ → ℕ → Ending → Option (List ℕ) → Option (List ℕ) → Type 0
+TellsWhy words files before after ending old new =
+    (ending.status ≡ 3) ⊎ (ending.status ≡ 4) →
+    (of : Failure) × IsWhy words files before after of × Complains of ending old new

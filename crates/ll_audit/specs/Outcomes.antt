@@ -1,25 +1,33 @@
--- How a run ends: its status, and what it writes to standard output.
--- Source: docs/FORMATS.md, "Statuses".
+-- How a run ends: its status, what it writes to standard output, and the line on standard error.
+-- Source: docs/FORMATS.md, "Statuses" and "Faults of a run".
 use Rattle.std.specs.Prelude.{◌≡◌, ◌==◌, ◌⊎◌, ℕ, List, Option, if◌then◌else◌}
+use Rattle.std.specs.Bool.{OnTrue}
 use Rattle.std.specs.Io.KnownBytes.{Appends}
 use Rattle.ll_audit.specs.declared.outcome.Outcome.{Outcome}
 use Rattle.ll_audit.specs.declared.outcome.Outcome.TheVariants as outcome
-use Rattle.ll_audit.specs.FaultLines.{failure_status}
+use Rattle.ll_audit.specs.declared.lines.Failure.{Failure}
+use Rattle.ll_audit.specs.declared.lines.Failure.TheVariants.{Unwritten}
+use Rattle.ll_audit.specs.declared.outcome.Ending.{Ending}
+use Rattle.ll_audit.specs.FaultLines.{failure_line, failure_status}
 
 -- the status with a report: 0 where no record is refused, else 1
 abbrev pub report_status : ℕ → ℕ
 report_status refused = if refused == 0 then 0 else 1
 
--- An outcome ends with this status, and turns what the output and the error output were into what they are. Where the
--- output can't be written the status is 4.
-abbrev pub EndsWith : {Output Errors : Type 0} → (Output → Option (List ℕ)) → Outcome → ℕ → Output → Output → Errors → Errors
-    → Type 0
-EndsWith contents (outcome.Report report) status old new errors_old errors_new =
-    (status ≡ 4)
-    ⊎ ((status ≡ report_status report.refused) × Appends (contents old) (contents new) report.bytes.items
+-- A failure has its status, and its line was appended to the lines on standard error, if it could be told.
+abbrev pub Complains : Failure → Ending → Option (List ℕ) → Option (List ℕ) → Type 0
+Complains of ending lines_old lines_new =
+    (ending.status ≡ failure_status of) × OnTrue ending.told (Appends lines_old lines_new (failure_line of))
+
+-- An outcome ends in this way, and turns what the output and the error output were into what they are.
+abbrev pub EndsWith : {Output Errors : Type 0} → (Output → Option (List ℕ)) → (Errors → Option (List ℕ)) → Outcome → Ending
+    → Output → Output → Errors → Errors → Type 0
+EndsWith contents lines (outcome.Report report) ending old new errors_old errors_new =
+    Complains Unwritten ending (lines errors_old) (lines errors_new)
+    ⊎ ((ending.status ≡ report_status report.refused) × Appends (contents old) (contents new) report.bytes.items
     × (errors_new ≡ errors_old))
-EndsWith contents (outcome.Help error) status old new errors_old errors_new =
-    (status ≡ 4) ⊎ ((status ≡ 0) × (errors_new ≡ errors_old))
-EndsWith contents (outcome.Usage error) status old new errors_old errors_new = (status ≡ 2) × (new ≡ old)
-EndsWith contents (outcome.Failure failure) status old new errors_old errors_new =
-    (status ≡ failure_status failure) × (new ≡ old)
+EndsWith contents lines (outcome.Help error) ending old new errors_old errors_new =
+    Complains Unwritten ending (lines errors_old) (lines errors_new) ⊎ ((ending.status ≡ 0) × (errors_new ≡ errors_old))
+EndsWith contents lines (outcome.Usage error) ending old new errors_old errors_new = (ending.status ≡ 2) × (new ≡ old)
+EndsWith contents lines (outcome.Failure of) ending old new errors_old errors_new =
+    Complains of ending (lines errors_old) (lines errors_new) × (new ≡ old)

@@ -1,13 +1,16 @@
 //! What holds by the definitions alone.
 
-ghost use Rattle.std.specs.Prelude.{◌≡◌, ◌∷◌, [], Some, None, codes};
+ghost use Rattle.std.specs.Prelude.{◌≡◌, ◌∷◌, ℕ, List, [], Some, None, codes};
 ghost use Rattle.clap.specs.declared.error.kind.ErrorKind.TheVariants as kind;
+ghost use Rattle.ll_rights.specs.declared.abi.Abi.{Abi as Version};
 ghost use Rattle.ll_rights.specs.declared.abi.Abi.TheVariants.{V4, V5};
 ghost use Rattle.ll_tree.specs.WorkedTree.{worked_tree};
 ghost use Rattle.ll_state.specs.Worlds.{judged};
+ghost use Rattle.ll_audit.specs.Audits.{IsReport};
 ghost use Rattle.ll_audit.specs.Command.{faults, request_of};
 ghost use Rattle.ll_audit.specs.Lines.{lines_of};
 ghost use Rattle.ll_audit.specs.Report.{report_text};
+ghost use Rattle.ll_audit.specs.declared.report.Report.{Report as Made};
 
 /// What some command lines ask for, and what is wrong with others.
 #[tactic(auto, unfolding(clap::proofs::OnLiterals::clap_on_literals, crate::specs::Command::command, crate::specs::Command::faults, crate::specs::Command::request_in, crate::specs::Command::request_of))]
@@ -28,6 +31,15 @@ pub fn command_lines()
     ensures help { faults (codes "landaudit" ∷ codes "--help" ∷ []) ≡ kind.DisplayHelp ∷ [] }
     ensures help_last { faults (codes "landaudit" ∷ codes "--abi" ∷ codes "4" ∷ codes "t" ∷ codes "r" ∷ codes "--help" ∷ [])
         ≡ kind.DisplayHelp ∷ [] }
+{}
+
+/// Two reports on the same bytes under the same version are the same bytes, whatever workers judged
+/// and wherever the work was cut, and tell of as many refusals.
+pub fn the_same_bytes_have_one_report()
+    ensures bytes { (abi : Version) (tree trace : List ℕ) (report other : Made)
+        → IsReport abi tree trace report → IsReport abi tree trace other → report.bytes.items ≡ other.bytes.items }
+    ensures refused { (abi : Version) (tree trace : List ℕ) (report other : Made)
+        → IsReport abi tree trace report → IsReport abi tree trace other → report.refused ≡ other.refused }
 {}
 
 /// The report on an empty trace.

@@ -1,9 +1,8 @@
 //! What a run comes to, and how it ends.
 
-ghost use Rattle.std.specs.Prelude.{◌≡◌, OnOk};
+ghost use Rattle.std.specs.Prelude.{OnOk};
 ghost use Rattle.std.specs.Io.KnownBytes.{Appends};
-ghost use Rattle.ll_audit.specs.FaultLines.{failure_status};
-ghost use Rattle.ll_audit.specs.Outcomes.{EndsWith};
+ghost use Rattle.ll_audit.specs.Outcomes.{Complains, EndsWith};
 
 use crate::lines::Failure;
 use crate::report::Report;
@@ -24,24 +23,39 @@ pub(crate) enum Outcome<'a> {
     Failure(Failure<'a>),
 }
 
+/// How a run ended.
+#[derive(Clone, Copy, Debug, PartialEq, Eq)]
+pub struct Ending {
+    /// The program's status.
+    pub status: u8,
+    /// Whether all that there was to say on the error output could be written.
+    pub told: bool,
+}
+
 impl Outcome<'_> {
     /// Writes the report or the help to `out`, or what is wrong to `err`, and gives the status.
-    pub(crate) fn write_to<O: Write, E: Write>(&self, out: &mut O, err: &mut E) -> u8
-        ensures { EndsWith O.contents self.now result out.old out.new err.old err.new }
+    pub(crate) fn write_to<O: Write, E: Write>(&self, out: &mut O, err: &mut E) -> Ending
+        ensures { EndsWith O.contents E.contents self.now result out.old out.new err.old err.new }
     {
         match self {
             Outcome::Report(report) => match write_whole(out, report.bytes.as_slice()) {
-                Ok(()) => report.status(),
+                Ok(()) => Ending {
+                    status: report.status(),
+                    told: true,
+                },
                 Err(_) => complain(&Failure::Unwritten, err),
             },
             Outcome::Help(text) => match write_help(out, text) {
-                Ok(()) => 0,
+                Ok(()) => Ending {
+                    status: 0,
+                    told: true,
+                },
                 Err(_) => complain(&Failure::Unwritten, err),
             },
-            Outcome::Usage(error) => {
-                let _ = write!(err, "{error}");
-                2
-            }
+            Outcome::Usage(error) => Ending {
+                status: 2,
+                told: write!(err, "{error}").is_ok(),
+            },
             Outcome::Failure(failure) => complain(failure, err),
         }
     }
@@ -61,9 +75,12 @@ fn write_help<O: Write>(out: &mut O, text: &Error) -> io::Result<()> {
 }
 
 /// Writes the line of a failure, if that can be done, and gives the status.
-fn complain<E: Write>(failure: &Failure<'_>, err: &mut E) -> u8
-    ensures { result ≡ failure_status failure.now }
+fn complain<E: Write>(failure: &Failure<'_>, err: &mut E) -> Ending
+    ensures { Complains failure.now result (E.contents err.old) (E.contents err.new) }
 {
-    let _ = failure.write_to(err);
-    failure.status()
+    let told = failure.write_to(err).is_ok();
+    Ending {
+        status: failure.status(),
+        told,
+    }
 }

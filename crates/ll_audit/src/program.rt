@@ -1,9 +1,9 @@
 //! The program as a whole, whatever its files and its outputs are.
 
-ghost use Rattle.std.specs.Prelude.{◌≡◌, ◌+◌, ◌^◌, ◌<◌, IfOk, IfErr, map, string_bytes};
+ghost use Rattle.std.specs.Prelude.{◌≡◌, ◌+◌, ◌^◌, ◌<◌, ◌≤◌, IfOk, IfErr, map, string_bytes};
 ghost use Rattle.ll_audit.specs.Audits.{IsCrew};
 ghost use Rattle.ll_audit.specs.Command.{request_by};
-ghost use Rattle.ll_audit.specs.Fronts.{GivesHelp, HasFileFault, IsFailureOf, IsOutcomeOf, Reports, WritesNothing, WritesReport};
+ghost use Rattle.ll_audit.specs.Fronts.{EndsWithoutRun, HasWrongWords, IsFailureOf, IsOutcomeOf, Reports, StaysQuiet, TellsWhy, WritesNothing, WritesReport};
 
 use crate::auditing::audit;
 use crate::command::{Plan, Run, plan_of};
@@ -11,7 +11,7 @@ use crate::cut::Cut;
 use crate::fault::Fault;
 use crate::inputs::inputs_of;
 use crate::lines::Failure;
-use crate::outcome::Outcome;
+use crate::outcome::{Ending, Outcome};
 use crate::report::Report;
 use crate::source::Source;
 use ll_pool::Gate;
@@ -24,7 +24,7 @@ use std::thread::Threads;
 /// its status: 0 with a report that has no refused record, or with help; 1 with a report that has
 /// one; 2 where the words are wrong; 3 where a file can't be read or doesn't read; 4 where memory or
 /// a thread is wanting, or the output can't be written. The report and the help go to `out`, and what
-/// is wrong to `err`. If that can't be written the status stays.
+/// is wrong to `err`. If that can't be written the status stays, and the ending says so.
 pub fn front<R: Threads + Wait + Sync, S: Source, O: Write, E: Write, G: Gate + Sync>(
     rt: &R,
     alloc: Global,
@@ -33,15 +33,18 @@ pub fn front<R: Threads + Wait + Sync, S: Source, O: Write, E: Write, G: Gate + 
     out: &mut O,
     err: &mut E,
     gate: &G,
-) -> u8
+) -> Ending
     requires { S.failed source.old + 2 < 2 ^ 64 }
-    ensures report { WritesReport (map string_bytes words.now) (S.files source.old) result
+    ensures bounded { result.status ≤ 4 }
+    ensures report { WritesReport (map string_bytes words.now) (S.files source.old) result.status
         (O.contents out.old) (O.contents out.new) }
-    ensures help { GivesHelp (map string_bytes words.now) result }
-    ensures file_fault { HasFileFault (map string_bytes words.now) (S.files source.old)
-        (S.failed source.old) (S.failed source.new) result }
-    ensures nothing { WritesNothing (map string_bytes words.now) (S.files source.old) result
+    ensures wrong_words { HasWrongWords (map string_bytes words.now) result.status }
+    ensures no_run { EndsWithoutRun (map string_bytes words.now) result.status }
+    ensures nothing { WritesNothing (map string_bytes words.now) (S.files source.old) result.status
         out.old out.new }
+    ensures quiet { StaysQuiet result.status err.old err.new }
+    ensures why { TellsWhy (map string_bytes words.now) (S.files source.old)
+        (S.failed source.old) (S.failed source.new) result (E.contents err.old) (E.contents err.new) }
 {
     outcome_of(rt, alloc, words, source, gate).write_to(out, err)
 }

@@ -89,7 +89,8 @@ fn words_of_no_run(rt: HostRuntime) -> Result<(), Fail> {
         let outcome = outcome_of(plan_of(rt.alloc(), words.as_slice())).ok_or("a run")?;
         let mut out = Vec::new(rt.alloc());
         let mut err = Vec::new(rt.alloc());
-        assert_eq!(rt; outcome.write_to(&mut out, &mut err), status);
+        let ending = outcome.write_to(&mut out, &mut err);
+        assert_eq!(rt; ending, Ending { status, told: true });
         assert_eq!(rt; out.is_empty(), status == 2);
         assert_eq!(rt; err.is_empty(), status == 0);
     }
@@ -124,11 +125,19 @@ fn lines_of_failures(rt: HostRuntime) -> Result<(), Fail> {
         let outcome = Outcome::Failure(failure);
         let mut out = Vec::new(rt.alloc());
         let mut err = Vec::new(rt.alloc());
-        assert_eq!(rt; outcome.write_to(&mut out, &mut err), status);
+        let ending = outcome.write_to(&mut out, &mut err);
+        assert_eq!(rt; ending, Ending { status, told: true });
         assert!(rt; out.is_empty());
         assert_eq!(rt; err.as_slice(), line.as_bytes());
         let mut broken = Failing { calls_left: 0 };
-        assert_eq!(rt; outcome.write_to(&mut out, &mut broken), status);
+        let ending = outcome.write_to(&mut out, &mut broken);
+        assert_eq!(rt;
+            ending,
+            Ending {
+                status,
+                told: false
+            }
+        );
     }
     Ok(())
 }
@@ -140,13 +149,15 @@ fn reports_are_written_or_not(rt: HostRuntime) -> Result<(), Fail> {
         let outcome = Outcome::Report(Report { bytes, refused });
         let mut out = Vec::new(rt.alloc());
         let mut err = Vec::new(rt.alloc());
-        assert_eq!(rt; u64::from(outcome.write_to(&mut out, &mut err)), refused);
+        let ending = outcome.write_to(&mut out, &mut err);
+        assert_eq!(rt; u64::from(ending.status), refused);
+        assert!(rt; ending.told);
         assert_eq!(rt; out.as_slice(), b"text\n".as_slice());
         assert!(rt; err.is_empty());
         for calls_left in 0..2 {
             let mut broken = Failing { calls_left };
             err.clear();
-            assert_eq!(rt; outcome.write_to(&mut broken, &mut err), 4);
+            assert_eq!(rt; outcome.write_to(&mut broken, &mut err).status, 4);
             assert_eq!(rt; err.as_slice(), b"landaudit: cannot write\n".as_slice());
         }
     }

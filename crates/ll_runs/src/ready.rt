@@ -122,7 +122,7 @@ pub(crate) fn run<R: Threads + Wait + AllocGlobal + Sync>(
     let mut source = MemorySource::new(files);
     let mut out = Vec::new(rt.alloc());
     let mut err = Vec::new(rt.alloc());
-    let status = front(
+    let ending = front(
         rt,
         rt.alloc(),
         &words,
@@ -131,6 +131,7 @@ pub(crate) fn run<R: Threads + Wait + AllocGlobal + Sync>(
         &mut err,
         &Idle,
     );
+    let status = ending.status;
     Ok(Ended { status, out, err })
 }
 

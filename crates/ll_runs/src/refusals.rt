@@ -2,7 +2,7 @@
 
 use crate::failing::FailingSource;
 use crate::ready::{REPORT, TRACE, TREE, owned};
-use ll_audit::{Idle, MemorySource, SourceFault, front};
+use ll_audit::{Ending, Idle, MemorySource, SourceFault, front};
 use std::io;
 use std::io::{ErrorKind, Write};
 use std::sync::Wait;
@@ -54,7 +54,7 @@ fn sources_that_fail(rt: HostRuntime) -> Result<(), Fail> {
     for (good_calls, fault, want, line) in cases {
         let mut source = FailingSource::new(files.as_slice(), good_calls, fault);
         let (mut out, mut err) = (Vec::new(rt.alloc()), Vec::new(rt.alloc()));
-        let status = front(
+        let ending = front(
             &rt,
             rt.alloc(),
             &words,
@@ -63,7 +63,8 @@ fn sources_that_fail(rt: HostRuntime) -> Result<(), Fail> {
             &mut err,
             &Idle,
         );
-        assert_eq!(rt; status, want);
+        let told = true;
+        assert_eq!(rt; ending, Ending { status: want, told });
         assert_eq!(rt; err.as_slice(), line.as_bytes());
         assert!(rt; out.is_empty());
     }
@@ -75,7 +76,7 @@ fn run_into<R: Threads + Wait + AllocGlobal + Sync>(
     rt: &R,
     good_calls: u64,
     err: &mut impl Write,
-) -> Result<(u8, Vec<u8>), Fail> {
+) -> Result<(Ending, Vec<u8>), Fail> {
     let words = owned(rt.alloc(), WORDS.as_slice())?;
     let files = [("t", TREE.as_bytes()), ("r", TRACE.as_bytes())];
     let mut source = MemorySource::new(files.as_slice());
@@ -83,8 +84,8 @@ fn run_into<R: Threads + Wait + AllocGlobal + Sync>(
         good_calls,
         bytes: Vec::new(rt.alloc()),
     };
-    let status = front(rt, rt.alloc(), &words, &mut source, &mut out, err, &Idle);
-    Ok((status, out.bytes))
+    let ending = front(rt, rt.alloc(), &words, &mut source, &mut out, err, &Idle);
+    Ok((ending, out.bytes))
 }
 
 #[test]
@@ -92,14 +93,15 @@ fn outputs_that_fail_at_each_call(rt: HostRuntime) -> Result<(), Fail> {
     let calls = REPORT.len().div_ceil(16) as u64 + 1;
     for good_calls in 0..calls {
         let mut err = Vec::new(rt.alloc());
-        let (status, out) = run_into(&rt, good_calls, &mut err)?;
-        assert_eq!(rt; status, 4);
+        let (ending, out) = run_into(&rt, good_calls, &mut err)?;
+        assert_eq!(rt; ending.status, 4);
+        assert!(rt; ending.told);
         assert_eq!(rt; err.as_slice(), b"landaudit: cannot write\n".as_slice());
         assert!(rt; REPORT.as_bytes().starts_with(out.as_slice()));
     }
     let mut err = Vec::new(rt.alloc());
-    let (status, out) = run_into(&rt, calls, &mut err)?;
-    assert_eq!(rt; status, 1);
+    let (ending, out) = run_into(&rt, calls, &mut err)?;
+    assert_eq!(rt; ending.status, 1);
     assert_eq!(rt; out.as_slice(), REPORT.as_bytes());
     assert!(rt; err.is_empty());
     Ok(())
@@ -111,8 +113,9 @@ fn a_status_stays_where_nothing_can_be_said(rt: HostRuntime) -> Result<(), Fail>
         good_calls: 0,
         bytes: Vec::new(rt.alloc()),
     };
-    let (status, _) = run_into(&rt, 0, &mut mute)?;
-    assert_eq!(rt; status, 4);
+    let (ending, _) = run_into(&rt, 0, &mut mute)?;
+    assert_eq!(rt; ending.status, 4);
+    assert!(rt; !ending.told);
     let cases: [(&[&str], &[u8], u8); 3] = [
         (WORDS.as_slice(), b"[]", 3),
         (["landaudit", "--abi", "4", "x", "r"].as_slice(), b"", 3),
@@ -123,7 +126,7 @@ fn a_status_stays_where_nothing_can_be_said(rt: HostRuntime) -> Result<(), Fail>
         let files = [("t", tree), ("r", TRACE.as_bytes())];
         let mut source = MemorySource::new(files.as_slice());
         let mut out = Vec::new(rt.alloc());
-        let status = front(
+        let ending = front(
             &rt,
             rt.alloc(),
             &words,
@@ -132,7 +135,8 @@ fn a_status_stays_where_nothing_can_be_said(rt: HostRuntime) -> Result<(), Fail>
             &mut mute,
             &Idle,
         );
-        assert_eq!(rt; status, want);
+        let told = false;
+        assert_eq!(rt; ending, Ending { status: want, told });
         assert!(rt; out.is_empty());
     }
     Ok(())
