@@ -17,6 +17,7 @@ use Rattle.ll_process.specs.Weights.{weight, weight_of}
 use Rattle.ll_process.specs.Cases.{Matter}
 use Rattle.ll_process.specs.Jobs.{processes_of, AllOf as AllJobsOf, SharesOut}
 use Rattle.ll_process.proofs.Weighing.{weight_of-children}
+use Rattle.ll_process.proofs.Counting.{weighed}
 use Rattle.ll_process.proofs.EachOnce.{each_once}
 use Rattle.ll_pool.specs.Gathered.{AllOf, processes_in}
 
@@ -97,7 +98,7 @@ judged_more of before rest after job pieces piece taken same all shares so_far =
           (omega (
             arith,
             so_far.shared weight,
-            here.shared weight,
+            weighed of.records job.process.0 (numbers piece.processes.items) (processes_of rest) (processes_of after) here weight,
             held_weighs weight before rest job taken,
             sum_by-append weight (processes_in pieces) (numbers piece.processes.items),
             sum_by-append weight (kids of.records (processes_in pieces)) (kids of.records (numbers piece.processes.items)),
@@ -140,7 +141,7 @@ weighs_less of before rest after job piece numbered taken all first shares =
     let here = subst (λ (case : Matter). SharesOut case.records job.process.0 (numbers piece.processes.items) (processes_of rest) (processes_of after)) (taken_out of before rest job taken all).its_case shares in
     omega (
       arith,
-      here.shared (weight n),
+      weighed of.records job.process.0 (numbers piece.processes.items) (processes_of rest) (processes_of after) here (weight n),
       held_weighs (weight n) before rest job taken,
       kids_weigh of.records n (numbers piece.processes.items) numbered (omega arith),
       some_stands piece.processes.items job.process first,

@@ -8,7 +8,7 @@ ghost use Rattle.ll_process.specs.declared.job.Job.{Job as OneJob};
 use ll_process::{Hand, Job};
 use ll_trace::ProcessId;
 
-/// Which jobs a keeper keeps.
+/// Which jobs a caller wants.
 #[derive(Clone, Copy, Debug, PartialEq, Eq)]
 pub enum Wanted {
     /// None.
@@ -20,7 +20,7 @@ pub enum Wanted {
 }
 
 impl Wanted {
-    /// Whether the job of a process is kept.
+    /// Whether the job of a process is wanted.
     pub fn includes(self, process: ProcessId) -> bool
         ensures { result ≡ is_wanted self process.0 }
     {
@@ -36,9 +36,9 @@ impl Wanted {
 /// there is no memory for.
 #[derive(Drop)]
 pub struct Keeper<'c> {
-    /// The jobs that it keeps.
+    /// Which jobs its caller wants. It keeps no others.
     pub wanted: Wanted,
-    /// The jobs that it holds.
+    /// The jobs that it keeps, and those that its caller gave it.
     pub jobs: Vec<Job<'c>>,
 }
 
