@@ -28,7 +28,7 @@ fn main(rt: HostRuntime) -> ExitCode {
     };
     let mut source = FileSource::new(&rt);
     let (mut out, mut err) = (rt.stdout(), rt.stderr());
-    let ending = front(
+    let status = front(
         &rt,
         rt.alloc(),
         &words,
@@ -37,5 +37,5 @@ fn main(rt: HostRuntime) -> ExitCode {
         &mut err,
         &Idle,
     );
-    ExitCode::from(ending.status)
+    ExitCode::from(status)
 }

@@ -14,8 +14,8 @@ use Rattle.ll_audit.specs.declared.report.Report.{Report}
 use Rattle.ll_audit.specs.Command.{Request, faults, request_of}
 use Rattle.ll_audit.specs.FaultLines.{failure_status}
 use Rattle.ll_audit.specs.Files.{Files}
-use Rattle.ll_audit.specs.Fronts.{EndsWithoutRun, HasFailure, HasReport, HasWrongWords, IsFailureOf, IsOutcomeOf, Reports, StaysQuiet, TellsWhy, WritesNothing, WritesReport}
-use Rattle.ll_audit.specs.Outcomes.{EndsWith, report_status}
+use Rattle.ll_audit.specs.Fronts.{EndsWithoutRun, HasFailure, HasReason, HasReport, HasWrongWords, IsFailureOf, IsOutcomeOf, IsWhy, Reports, StaysQuiet, TellsWhy, WritesNothing, WritesReport}
+use Rattle.ll_audit.specs.Outcomes.{Complains, EndsWith, report_status}
 use Rattle.ll_audit.proofs.CommandLine.{request_of-fault}
 
 -- a failure's status is 3 or 4
@@ -141,3 +141,12 @@ module _ {Output Errors : Type 0} (contents : Output → Option (List ℕ)) (lin
   tells_why (outcome.Help error) help (inr written) high = absurd (low_high ending.status (inl written.0) high)
   tells_why (outcome.Usage error) wrong ends high = absurd (two_high ending.status ends.0 high)
   tells_why (outcome.Failure of) has ends high = (of, inl has, ends.0)
+
+-- what is told has a reason
+module _ (words : List Text) (files : Option Files) (before after : ℕ) (ending : Ending) (old new : Option (List ℕ)) where
+  reason_of : (of : Failure) × IsWhy words files before after of × Complains of ending old new
+      → (of : Failure) × IsWhy words files before after of × (ending.status ≡ failure_status of)
+  reason_of (of, why, complains) = (of, why, complains.0)
+
+  pub has_reason : TellsWhy words files before after ending old new → HasReason words files before after ending.status
+  has_reason tells high = reason_of (tells high)

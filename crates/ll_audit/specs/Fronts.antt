@@ -16,6 +16,7 @@ use Rattle.ll_audit.specs.declared.outcome.Outcome.TheVariants as outcome
 use Rattle.ll_audit.specs.declared.report.Report.{Report}
 use Rattle.ll_audit.specs.Audits.{IsReport, ReadsAsTrace, ReadsAsTree}
 use Rattle.ll_audit.specs.Command.{AreWrong, Request, faults, request_of}
+use Rattle.ll_audit.specs.FaultLines.{failure_status}
 use Rattle.ll_audit.specs.Files.{Files, bytes_of}
 use Rattle.ll_audit.specs.Outcomes.{Complains, report_status}
 
@@ -116,3 +117,9 @@ abbrev pub TellsWhy : List Text → Option Files → ℕ → ℕ → Ending → 
 TellsWhy words files before after ending old new =
     (ending.status ≡ 3) ⊎ (ending.status ≡ 4) →
     (of : Failure) × IsWhy words files before after of × Complains of ending old new
+
+-- With status 3 or 4 there is a reason of that status.
+abbrev pub HasReason : List Text → Option Files → ℕ → ℕ → ℕ → Type 0
+HasReason words files before after status =
+    (status ≡ 3) ⊎ (status ≡ 4) →
+    (of : Failure) × IsWhy words files before after of × (status ≡ failure_status of)

@@ -23,6 +23,6 @@ pub use fault::Fault;
 pub use idle::Idle;
 pub use laws::{command_lines, empty_report, the_same_bytes_have_one_report};
 pub use outcome::Ending;
-pub use program::front;
+pub use program::{front, front_ending};
 pub use report::Report;
 pub use source::{MemorySource, Source, SourceFault};

@@ -3,7 +3,7 @@
 ghost use Rattle.std.specs.Prelude.{◌≡◌, ◌+◌, ◌^◌, ◌<◌, ◌≤◌, IfOk, IfErr, map, string_bytes};
 ghost use Rattle.ll_audit.specs.Audits.{IsCrew};
 ghost use Rattle.ll_audit.specs.Command.{request_by};
-ghost use Rattle.ll_audit.specs.Fronts.{EndsWithoutRun, HasWrongWords, IsFailureOf, IsOutcomeOf, Reports, StaysQuiet, TellsWhy, WritesNothing, WritesReport};
+ghost use Rattle.ll_audit.specs.Fronts.{EndsWithoutRun, HasReason, HasWrongWords, IsFailureOf, IsOutcomeOf, Reports, StaysQuiet, TellsWhy, WritesNothing, WritesReport};
 
 use crate::auditing::audit;
 use crate::command::{Plan, Run, plan_of};
@@ -24,8 +24,34 @@ use std::thread::Threads;
 /// its status: 0 with a report that has no refused record, or with help; 1 with a report that has
 /// one; 2 where the words are wrong; 3 where a file can't be read or doesn't read; 4 where memory or
 /// a thread is wanting, or the output can't be written. The report and the help go to `out`, and what
-/// is wrong to `err`. If that can't be written the status stays, and the ending says so.
+/// is wrong to `err`. If that can't be written the status stays.
 pub fn front<R: Threads + Wait + Sync, S: Source, O: Write, E: Write, G: Gate + Sync>(
+    rt: &R,
+    alloc: Global,
+    words: &[String],
+    source: &mut S,
+    out: &mut O,
+    err: &mut E,
+    gate: &G,
+) -> u8
+    requires { S.failed source.old + 2 < 2 ^ 64 }
+    ensures bounded { result ≤ 4 }
+    ensures report { WritesReport (map string_bytes words.now) (S.files source.old) result
+        (O.contents out.old) (O.contents out.new) }
+    ensures wrong_words { HasWrongWords (map string_bytes words.now) result }
+    ensures no_run { EndsWithoutRun (map string_bytes words.now) result }
+    ensures nothing { WritesNothing (map string_bytes words.now) (S.files source.old) result
+        out.old out.new }
+    ensures quiet { StaysQuiet result err.old err.new }
+    ensures why { HasReason (map string_bytes words.now) (S.files source.old)
+        (S.failed source.old) (S.failed source.new) result }
+{
+    front_ending(rt, alloc, words, source, out, err, gate).status
+}
+
+/// Runs the program as `front` does, and says beside its status whether what is wrong could be told:
+/// then the error output has the line of just that failure more.
+pub fn front_ending<R: Threads + Wait + Sync, S: Source, O: Write, E: Write, G: Gate + Sync>(
     rt: &R,
     alloc: Global,
     words: &[String],

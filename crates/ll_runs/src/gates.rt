@@ -106,7 +106,7 @@ fn two_workers_meet_in_the_program(rt: HostRuntime) -> Result<(), Fail> {
     let mut source = MemorySource::new(files.as_slice());
     let (mut out, mut err) = (Vec::new(rt.alloc()), Vec::new(rt.alloc()));
     let gate = Meeting::from(1);
-    let ending = front(
+    let status = front(
         &rt,
         rt.alloc(),
         &words,
@@ -115,7 +115,7 @@ fn two_workers_meet_in_the_program(rt: HostRuntime) -> Result<(), Fail> {
         &mut err,
         &gate,
     );
-    assert_eq!(rt; ending.status, 0);
+    assert_eq!(rt; status, 0);
     assert_eq!(rt; out.as_slice(), SIBLINGS_REPORT.as_bytes());
     assert_eq!(rt; gate.begun.load(Ordering::SeqCst), 2);
     assert_eq!(rt; gate.in_vain.load(Ordering::SeqCst), 0);

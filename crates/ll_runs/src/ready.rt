@@ -122,7 +122,7 @@ pub(crate) fn run<R: Threads + Wait + AllocGlobal + Sync>(
     let mut source = MemorySource::new(files);
     let mut out = Vec::new(rt.alloc());
     let mut err = Vec::new(rt.alloc());
-    let ending = front(
+    let status = front(
         rt,
         rt.alloc(),
         &words,
@@ -131,7 +131,6 @@ pub(crate) fn run<R: Threads + Wait + AllocGlobal + Sync>(
         &mut err,
         &Idle,
     );
-    let status = ending.status;
     Ok(Ended { status, out, err })
 }
 

@@ -2,7 +2,7 @@
 
 use crate::failing::FailingSource;
 use crate::ready::{REPORT, TRACE, TREE, owned};
-use ll_audit::{Ending, Idle, MemorySource, SourceFault, front};
+use ll_audit::{Ending, Idle, MemorySource, SourceFault, front_ending};
 use std::io;
 use std::io::{ErrorKind, Write};
 use std::sync::Wait;
@@ -54,7 +54,7 @@ fn sources_that_fail(rt: HostRuntime) -> Result<(), Fail> {
     for (good_calls, fault, want, line) in cases {
         let mut source = FailingSource::new(files.as_slice(), good_calls, fault);
         let (mut out, mut err) = (Vec::new(rt.alloc()), Vec::new(rt.alloc()));
-        let ending = front(
+        let ending = front_ending(
             &rt,
             rt.alloc(),
             &words,
@@ -84,7 +84,7 @@ fn run_into<R: Threads + Wait + AllocGlobal + Sync>(
         good_calls,
         bytes: Vec::new(rt.alloc()),
     };
-    let ending = front(rt, rt.alloc(), &words, &mut source, &mut out, err, &Idle);
+    let ending = front_ending(rt, rt.alloc(), &words, &mut source, &mut out, err, &Idle);
     Ok((ending, out.bytes))
 }
 
@@ -126,7 +126,7 @@ fn a_status_stays_where_nothing_can_be_said(rt: HostRuntime) -> Result<(), Fail>
         let files = [("t", tree), ("r", TRACE.as_bytes())];
         let mut source = MemorySource::new(files.as_slice());
         let mut out = Vec::new(rt.alloc());
-        let ending = front(
+        let ending = front_ending(
             &rt,
             rt.alloc(),
             &words,
