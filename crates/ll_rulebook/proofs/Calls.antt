@@ -4,8 +4,8 @@ use Rattle.std.proofs.Math.ListN.{set}
 use Rattle.std.specs.List.{slice_get}
 use Rattle.std.proofs.lemmas.List.{set-get_or}
 use Rattle.std.proofs.lemmas.Option.{get_or_from_slice_get}
-use Rattle.std.specs.Option.{is_some, MatchOption, unwrap_or}
-use Rattle.std.specs.Result.{result_err, IfOk, IsOkUnless}
+use Rattle.std.specs.Option.{is_some, MatchOption, option_map, unwrap_or}
+use Rattle.std.specs.Result.{IfOk, IsOkUnless}
 use Rattle.ll_rules.specs.declared.errno.NoMemory.{NoMemory}
 use Rattle.ll_rights.specs.declared.abi.Abi.{Abi}
 use Rattle.ll_rights.specs.declared.fs.Fs.{Fs}
@@ -17,12 +17,12 @@ use Rattle.ll_rules.specs.declared.errno.RuleFault.{RuleFault}
 use Rattle.ll_rules.specs.declared.errno.RuleFault.TheVariants as faults
 use Rattle.ll_rules.specs.declared.domain.LayerId.{LayerId}
 use Rattle.ll_rules.specs.Layers.{RulesOn, in_tree, AreInTree, with_port_rule}
-use Rattle.ll_rules.specs.Rulesets.{create_fault, add_path_fault, add_port_fault, with_rule_at}
+use Rattle.ll_rules.specs.Rulesets.{create_fault, RuleRefusal, with_error, without_object, fault_of, add_path_refusal, add_port_refusal, with_rule_at}
 use Rattle.ll_trace.specs.declared.op.Op.TheVariants as calls
 use Rattle.ll_state.specs.declared.answer.Answer.TheVariants.{Allowed, Moot}
 use Rattle.ll_state.specs.declared.note.Note.{Note}
 use Rattle.ll_state.specs.declared.note.Note.TheVariants.{Answered, Frozen, Open}
-use Rattle.ll_state.specs.Answers.{answer, create_answer, add_path_answer, add_port_answer, fails, of_rule_fault}
+use Rattle.ll_state.specs.Answers.{answer, create_answer, add_path_answer, add_port_answer, fails, of_rule_refusal}
 use Rattle.ll_state.specs.Changes.{change, rules}
 use Rattle.ll_state.specs.Notes.{is_on_rulesets, enforced}
 use Rattle.ll_state.specs.Worlds.{World, state_of}
@@ -45,10 +45,9 @@ alike_same pass = record { rulesets = refl; tables = refl }
 failure : (error : Errno) → fails error ≡ Allowed → ⊥
 failure error is = cc
 
-rule_failure : (fault : RuleFault) → of_rule_fault (Some fault) ≡ Allowed → ⊥
-rule_failure (faults.Errno error) is = cc
-rule_failure faults.Moot is = cc
-rule_failure faults.Memory is = cc
+rule_failure : (refusal : RuleRefusal) → of_rule_refusal (Some refusal) ≡ Allowed → ⊥
+rule_failure (with_error error) is = cc
+rule_failure without_object is = cc
 
 moot : Moot ≡ Allowed → ⊥
 moot is = cc
@@ -123,11 +122,33 @@ module _ (tree : List Entry) (abi : Abi) (process rs : ℕ) (old : Pass) (found 
 
 -- ---- rules that are added
 
--- the fault is what the outcome tells, where there was memory
-fault_is : (fault : Option RuleFault) (outcome : Result (Unit {0}) RuleFault) → MatchOption fault (IsOkUnless outcome faults.Memory) (λ f. outcome ≡ Err f) → (outcome ≡ Err faults.Memory → ⊥) → fault ≡ result_err outcome
-fault_is None (Ok done) is remembered = refl
-fault_is None (Err other) is remembered = absurd (remembered (ap (λ (f : RuleFault). Err f) is))
-fault_is (Some fault) outcome is remembered = sym (ap (λ (r : Result (Unit {0}) RuleFault). result_err r) is)
+-- a call that adds a rule, and fails with a fault
+abbrev failing : RuleFault → Result (Unit {0}) RuleFault
+failing fault = Err fault
+
+-- nothing refuses a rule that was added
+not_refused : (refusal : Option RuleRefusal) (done : Unit {0}) → MatchOption (option_map fault_of refusal) (IsOkUnless (Ok done) faults.Memory) (λ f. Ok done ≡ failing f) → refusal ≡ None
+not_refused None done is = refl
+not_refused (Some refusal) done is = absurd (cc)
+
+-- one refusal tells one fault
+same_fault : (one other : RuleRefusal) → fault_of one ≡ fault_of other → one ≡ other
+same_fault (with_error error) (with_error other) is = cc
+same_fault (with_error error) without_object is = absurd (cc)
+same_fault without_object (with_error other) is = absurd (cc)
+same_fault without_object without_object is = refl
+
+no_memory : (refusal : RuleRefusal) → fault_of refusal ≡ faults.Memory → ⊥
+no_memory (with_error error) is = cc
+no_memory without_object is = cc
+
+same_failure : (one other : RuleFault) → failing one ≡ failing other → one ≡ other
+same_failure one other is = cc
+
+-- the refusal is the one whose fault the outcome tells
+refused_so : (refusal : Option RuleRefusal) (told : RuleRefusal) → MatchOption (option_map fault_of refusal) (IsOkUnless (failing (fault_of told)) faults.Memory) (λ f. failing (fault_of told) ≡ failing f) → refusal ≡ Some told
+refused_so None told is = absurd (no_memory told is)
+refused_so (Some refusal) told is = ap (λ (r : RuleRefusal). Some r) (sym (same_fault told refusal (same_failure (fault_of told) (fault_of refusal) is)))
 
 -- writing what stands there changes nothing
 set_same : {X : Type 0} → (xs : List X) (i : ℕ) (x : X) → slice_get xs i ≡ Some x → set xs i x ≡ xs
@@ -140,57 +161,81 @@ module _ (tree : List Entry) (abi : Abi) (process rs : ℕ) (old new : Pass) (at
   tables_same = ap (λ (t : Tables). t.held.items) tables
 
   path_answer : (path : List ℕ) (fs : Fs) (before : RulesOn ℕ) → slice_get old.store.rulesets at ≡ Some before → (world : World) → Agrees tree old world →
-      answer tree abi world.rulesets (calls.AddPath rs path fs) (state_of world process) ≡ of_rule_fault (add_path_fault tree before (place tree path) fs)
+      answer tree abi world.rulesets (calls.AddPath rs path fs) (state_of world process) ≡ of_rule_refusal (add_path_refusal tree before (place tree path) fs)
   unfolding answer add_path_answer
   path_answer path fs before was world agrees =
       let it : (state_of world process).held rs ≡ Some at = held_in tree abi process rs old (Some at) found_is sound there world agrees in
       let other = other_of tree old.store.rulesets world.rulesets at before agrees.rulesets was in
       rw (it, other.stands, ← other.same.same_files) refl
 
-  pub settles_path_rule : (path : List ℕ) (fs : Fs) (outcome : Result (Unit {0}) RuleFault) → (outcome ≡ Err faults.Memory → ⊥) →
-      Replaces old.store.rulesets new.store.rulesets at (AddsPathRule tree (place tree path) fs outcome) →
-      Settles tree abi process (calls.AddPath rs path fs) old new (Answered (of_rule_fault (result_err outcome)))
+  added_path : (path : List ℕ) (fs : Fs) (done : Unit {0}) → Replaces old.store.rulesets new.store.rulesets at (AddsPathRule tree (place tree path) fs (Ok done)) →
+      Settles tree abi process (calls.AddPath rs path fs) old new (Answered Allowed)
   unfolding is_on_rulesets rules change
-  settles_path_rule path fs (Ok done) remembered replaces =
+  added_path path fs done replaces =
       settles_added tree abi process rs old new (calls.AddPath rs path fs) (λ other. with_rule_at tree other (place tree path) fs) at replaces.before replaces.after
       sound there refl (λ rulesets s. refl) (λ rulesets s. refl) (sym found_is) replaces.was replaces.is_now layers tables_same
       (λ other same. SameRules-trans (in_tree tree replaces.after) (with_rule_at tree (in_tree tree replaces.before) (place tree path) fs) (with_rule_at tree other (place tree path) fs) replaces.becomes.ok (same_with_rule_at tree (in_tree tree replaces.before) other (place tree path) fs same))
       replaces.becomes.stays_in_tree
       (λ world agrees. path_answer path fs replaces.before replaces.was world agrees
-      ∙ ap (λ (f : Option RuleFault). of_rule_fault f) (fault_is (add_path_fault tree replaces.before (place tree path) fs) (Ok done) replaces.becomes.fault remembered))
-  settles_path_rule path fs (Err fault) remembered replaces =
-      settles_refused tree abi process (calls.AddPath rs path fs) old new (of_rule_fault (Some fault)) sound there
+      ∙ ap (λ (r : Option RuleRefusal). of_rule_refusal r) (not_refused (add_path_refusal tree replaces.before (place tree path) fs) done replaces.becomes.fault))
+
+  refused_path : (path : List ℕ) (fs : Fs) (told : RuleRefusal) → Replaces old.store.rulesets new.store.rulesets at (AddsPathRule tree (place tree path) fs (Err (fault_of told))) →
+      Settles tree abi process (calls.AddPath rs path fs) old new (Answered (of_rule_refusal (Some told)))
+  unfolding is_on_rulesets rules change
+  refused_path path fs told replaces =
+      settles_refused tree abi process (calls.AddPath rs path fs) old new (of_rule_refusal (Some told)) sound there
       (record { rulesets = replaces.is_now ∙ rw replaces.becomes.err (set_same old.store.rulesets at replaces.before replaces.was); tables = tables_same })
-      layers refl (rule_failure fault)
+      layers refl (rule_failure told)
       (λ world agrees. sym (path_answer path fs replaces.before replaces.was world agrees
-      ∙ ap (λ (f : Option RuleFault). of_rule_fault f) (fault_is (add_path_fault tree replaces.before (place tree path) fs) (Err fault) replaces.becomes.fault remembered)))
+      ∙ ap (λ (r : Option RuleRefusal). of_rule_refusal r) (refused_so (add_path_refusal tree replaces.before (place tree path) fs) told replaces.becomes.fault)))
+
+  pub settles_path_rule : (path : List ℕ) (fs : Fs) (outcome : Result (Unit {0}) RuleFault) (note : Note) → IsAnswerTo outcome note →
+      Replaces old.store.rulesets new.store.rulesets at (AddsPathRule tree (place tree path) fs outcome) → Settles tree abi process (calls.AddPath rs path fs) old new note
+  settles_path_rule path fs (Ok done) note is replaces = subst (λ (n : Note). Settles tree abi process (calls.AddPath rs path fs) old new n) (sym is) (added_path path fs done replaces)
+  settles_path_rule path fs (Err (faults.Errno error)) note is replaces =
+      subst (λ (n : Note). Settles tree abi process (calls.AddPath rs path fs) old new n) (sym is) (refused_path path fs (with_error error) replaces)
+  settles_path_rule path fs (Err faults.Moot) note is replaces =
+      subst (λ (n : Note). Settles tree abi process (calls.AddPath rs path fs) old new n) (sym is) (refused_path path fs without_object replaces)
+  settles_path_rule path fs (Err faults.Memory) note is replaces = absurd is
 
   port_answer : (port : ℕ) (net : Net) (before : RulesOn ℕ) → slice_get old.store.rulesets at ≡ Some before → (world : World) → Agrees tree old world →
-      answer tree abi world.rulesets (calls.AddPort rs port net) (state_of world process) ≡ of_rule_fault (add_port_fault abi before port net)
+      answer tree abi world.rulesets (calls.AddPort rs port net) (state_of world process) ≡ of_rule_refusal (add_port_refusal abi before port net)
   unfolding answer add_port_answer
   port_answer port net before was world agrees =
       let it : (state_of world process).held rs ≡ Some at = held_in tree abi process rs old (Some at) found_is sound there world agrees in
       let other = other_of tree old.store.rulesets world.rulesets at before agrees.rulesets was in
       rw (it, other.stands, ← other.same.same_network) refl
 
-  pub settles_port_rule : (port : ℕ) (net : Net) (outcome : Result (Unit {0}) RuleFault) → (outcome ≡ Err faults.Memory → ⊥) →
-      Replaces old.store.rulesets new.store.rulesets at (AddsPortRule abi port net outcome) →
-      Settles tree abi process (calls.AddPort rs port net) old new (Answered (of_rule_fault (result_err outcome)))
+  added_port : (port : ℕ) (net : Net) (done : Unit {0}) → Replaces old.store.rulesets new.store.rulesets at (AddsPortRule abi port net (Ok done)) →
+      Settles tree abi process (calls.AddPort rs port net) old new (Answered Allowed)
   unfolding is_on_rulesets rules change
-  settles_port_rule port net (Ok done) remembered replaces =
+  added_port port net done replaces =
       settles_added tree abi process rs old new (calls.AddPort rs port net) (λ other. with_port_rule other port net) at replaces.before replaces.after
       sound there refl (λ rulesets s. refl) (λ rulesets s. refl) (sym found_is) replaces.was replaces.is_now layers tables_same
       (λ other same. SameRules-trans (in_tree tree replaces.after) (with_port_rule (in_tree tree replaces.before) port net) (with_port_rule other port net)
       (SameRules-from_port tree replaces.before replaces.after port net replaces.becomes.ok) (SameRules-with_port_rule (in_tree tree replaces.before) other port net same))
       (rw replaces.becomes.ok.kept_rules (all_there (AreInTree tree) old.store.rulesets at replaces.before sound.rulesets_in_tree replaces.was))
       (λ world agrees. port_answer port net replaces.before replaces.was world agrees
-      ∙ ap (λ (f : Option RuleFault). of_rule_fault f) (fault_is (add_port_fault abi replaces.before port net) (Ok done) replaces.becomes.fault remembered))
-  settles_port_rule port net (Err fault) remembered replaces =
-      settles_refused tree abi process (calls.AddPort rs port net) old new (of_rule_fault (Some fault)) sound there
+      ∙ ap (λ (r : Option RuleRefusal). of_rule_refusal r) (not_refused (add_port_refusal abi replaces.before port net) done replaces.becomes.fault))
+
+  refused_port : (port : ℕ) (net : Net) (told : RuleRefusal) → Replaces old.store.rulesets new.store.rulesets at (AddsPortRule abi port net (Err (fault_of told))) →
+      Settles tree abi process (calls.AddPort rs port net) old new (Answered (of_rule_refusal (Some told)))
+  unfolding is_on_rulesets rules change
+  refused_port port net told replaces =
+      settles_refused tree abi process (calls.AddPort rs port net) old new (of_rule_refusal (Some told)) sound there
       (record { rulesets = replaces.is_now ∙ rw replaces.becomes.err (set_same old.store.rulesets at replaces.before replaces.was); tables = tables_same })
-      layers refl (rule_failure fault)
+      layers refl (rule_failure told)
       (λ world agrees. sym (port_answer port net replaces.before replaces.was world agrees
-      ∙ ap (λ (f : Option RuleFault). of_rule_fault f) (fault_is (add_port_fault abi replaces.before port net) (Err fault) replaces.becomes.fault remembered)))
+      ∙ ap (λ (r : Option RuleRefusal). of_rule_refusal r) (refused_so (add_port_refusal abi replaces.before port net) told replaces.becomes.fault)))
+
+  pub settles_port_rule : (port : ℕ) (net : Net) (outcome : Result (Unit {0}) RuleFault) (note : Note) → IsAnswerTo outcome note →
+      Replaces old.store.rulesets new.store.rulesets at (AddsPortRule abi port net outcome) → Settles tree abi process (calls.AddPort rs port net) old new note
+  settles_port_rule port net (Ok done) note is replaces = subst (λ (n : Note). Settles tree abi process (calls.AddPort rs port net) old new n) (sym is) (added_port port net done replaces)
+  settles_port_rule port net (Err (faults.Errno error)) note is replaces =
+      subst (λ (n : Note). Settles tree abi process (calls.AddPort rs port net) old new n) (sym is) (refused_port port net (with_error error) replaces)
+  settles_port_rule port net (Err faults.Moot) note is replaces =
+      subst (λ (n : Note). Settles tree abi process (calls.AddPort rs port net) old new n) (sym is) (refused_port port net without_object replaces)
+  settles_port_rule port net (Err faults.Memory) note is replaces = absurd is
 
 -- ---- what the code tells of an option or an outcome
 
@@ -202,10 +247,10 @@ pub some_of : (found : Option ℕ) (fallback : ℕ) → is_some found ≡ true �
 some_of None fallback is = absurd (cc)
 some_of (Some at) fallback is = refl
 
--- a note that answers an outcome settles what the answer to this outcome settles
+-- what holds of every note that answers an outcome holds of the one that is there
 pub settles_note : (P : Note → Type 0) (outcome : Result (Unit {0}) RuleFault) (result : Result Note NoMemory) → IfOk result (λ note. IsAnswerTo outcome note) →
-    ((outcome ≡ Err faults.Memory → ⊥) → P (Answered (of_rule_fault (result_err outcome)))) → IfOk result P
-settles_note P outcome (Ok note) is holds = subst P (sym is.answers) (holds is.remembered)
+    ((note : Note) → IsAnswerTo outcome note → P note) → IfOk result P
+settles_note P outcome (Ok note) is holds = holds note is
 settles_note P outcome (Err memory) is holds = tt
 
 pub if_ok_so : (P Q : Note → Type 0) (result : Result Note NoMemory) → IfOk result P → ((note : Note) → P note → Q note) → IfOk result Q

@@ -1,17 +1,17 @@
 -- The rulesets of a trace and the layers that they were frozen to, and what becomes of both.
 -- Source: the kernel's userspace document on Landlock, "Defining and enforcing a security policy".
-use Rattle.std.specs.Prelude.{◌≡◌, ℕ, ◌≤◌, List, ◌++◌, length, Result, Err, Some, OnOk, OnErr, MatchOption, IsOkUnless, slice_get, slice_set}
-use Rattle.std.specs.Result.{result_err}
+use Rattle.std.specs.Prelude.{◌≡◌, ℕ, ◌≤◌, List, ◌++◌, length, Some, Result, Ok, Err, OnOk, OnErr, MatchOption, IsOkUnless, slice_get, slice_set}
 use Rattle.ll_rights.specs.declared.abi.Abi.{Abi}
 use Rattle.ll_rights.specs.declared.fs.Fs.{Fs}
 use Rattle.ll_rights.specs.declared.net.Net.{Net}
 use Rattle.ll_tree.specs.declared.place.Place.{Place}
 use Rattle.ll_tree.specs.Trees.{Entry}
 use Rattle.ll_rules.specs.declared.errno.RuleFault.{RuleFault}
-use Rattle.ll_rules.specs.declared.errno.RuleFault.TheVariants.{Memory}
+use Rattle.ll_rules.specs.declared.errno.RuleFault.TheVariants as faults
+use Rattle.ll_state.specs.declared.answer.Answer.TheVariants.{Allowed, Moot}
 use Rattle.ll_state.specs.declared.note.Note.{Note}
 use Rattle.ll_state.specs.declared.note.Note.TheVariants.{Answered}
-use Rattle.ll_state.specs.Answers.{of_rule_fault}
+use Rattle.ll_state.specs.Answers.{fails}
 use Rattle.ll_rules.specs.Layers.{RulesOn, SameRules, in_tree, AreInTree, GrantsOnPort}
 use Rattle.ll_rules.specs.Rulesets.{add_path_fault, add_port_fault, with_rule_at}
 
@@ -30,14 +30,14 @@ pub record Replaces {X : Type 0} (old new : List X) (place : ℕ) (Becomes : X �
 
 -- one rule for files more, if it is added
 pub record AddsPathRule (tree : List Entry) (at : Place) (files : Fs) (result : Result (Unit {0}) RuleFault) (before after : RulesOn ℕ) : Type 0 where
-  pub fault : MatchOption (add_path_fault tree before at files) (IsOkUnless result Memory) (λ fault. result ≡ Err fault)
+  pub fault : MatchOption (add_path_fault tree before at files) (IsOkUnless result faults.Memory) (λ fault. result ≡ Err fault)
   pub ok : OnOk result (SameRules (in_tree tree after) (with_rule_at tree (in_tree tree before) at files))
   pub err : OnErr result (after ≡ before)
   pub stays_in_tree : AreInTree tree after
 
 -- one rule for a port more, if it is added
 pub record AddsPortRule (abi : Abi) (port : ℕ) (network : Net) (result : Result (Unit {0}) RuleFault) (before after : RulesOn ℕ) : Type 0 where
-  pub fault : MatchOption (add_port_fault abi before port network) (IsOkUnless result Memory) (λ fault. result ≡ Err fault)
+  pub fault : MatchOption (add_port_fault abi before port network) (IsOkUnless result faults.Memory) (λ fault. result ≡ Err fault)
   pub ok : OnOk result (GrantsOnPort before after port network)
   pub err : OnErr result (after ≡ before)
 
@@ -47,7 +47,9 @@ pub record Extends (old new : List (RulesOn ℕ)) : Type 0 where
   pub is_more : new ≡ old ++ more
   pub one : length more ≤ 1
 
--- the answer to a call that adds a rule, unless there is no memory for it
-pub record IsAnswerTo (outcome : Result (Unit {0}) RuleFault) (note : Note) : Type 0 where
-  pub answers : note ≡ Answered (of_rule_fault (result_err outcome))
-  pub remembered : outcome ≡ Err Memory → ⊥
+-- the answer to a call that adds a rule with this outcome, which is not want of memory
+abbrev pub IsAnswerTo : Result (Unit {0}) RuleFault → Note → Type 0
+IsAnswerTo (Ok done) note = note ≡ Answered Allowed
+IsAnswerTo (Err (faults.Errno error)) note = note ≡ Answered (fails error)
+IsAnswerTo (Err faults.Moot) note = note ≡ Answered Moot
+IsAnswerTo (Err faults.Memory) note = ⊥

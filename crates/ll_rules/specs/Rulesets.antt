@@ -35,15 +35,15 @@ create_fault abi handled_files handled_network =
 
 -- ---- rules
 
--- Why a rule isn't added where there is memory for it: the call fails, or there is nothing to answer.
+-- Why a rule isn't added where there is memory for it: the call fails, or there is no object for it to stand on.
 pub data RuleRefusal : Type 0 where
-  fails : Errno → RuleRefusal
-  moot : RuleRefusal
+  with_error : Errno → RuleRefusal
+  without_object : RuleRefusal
 
 -- the fault that tells a refusal; want of memory tells none
 abbrev pub fault_of : RuleRefusal → RuleFault
-fault_of (fails error) = faults.Errno error
-fault_of moot = faults.Moot
+fault_of (with_error error) = faults.Errno error
+fault_of without_object = faults.Moot
 
 -- ---- rules for files
 
@@ -59,15 +59,15 @@ are_file_rights wanted = files.every_right (λ right. not (files.has wanted righ
 
 -- a rule needs an object to stand on, and one that isn't a directory has file rights alone
 abbrev pub place_refusal : List Entry → Place → Fs → Option RuleRefusal
-place_refusal tree (Node node) wanted = if not (is_dir (kind_at tree node)) && not (are_file_rights wanted) then Some (fails Inval) else None
-place_refusal tree (Gap node) wanted = Some moot
-place_refusal tree Nowhere wanted = Some moot
+place_refusal tree (Node node) wanted = if not (is_dir (kind_at tree node)) && not (are_file_rights wanted) then Some (with_error Inval) else None
+place_refusal tree (Gap node) wanted = Some without_object
+place_refusal tree Nowhere wanted = Some without_object
 
 -- why a rule for files is refused
 abbrev pub add_path_refusal : {P : Type 0} → List Entry → RulesOn P → Place → Fs → Option RuleRefusal
 add_path_refusal tree rules place wanted =
-    if files.is_empty wanted then Some (fails NoMsg)
-    else (if not (files.is_within wanted rules.handled_files) then Some (fails Inval) else place_refusal tree place wanted)
+    if files.is_empty wanted then Some (with_error NoMsg)
+    else (if not (files.is_within wanted rules.handled_files) then Some (with_error Inval) else place_refusal tree place wanted)
 
 -- the fault of a rule for files, where there is memory for it
 abbrev pub add_path_fault : {P : Type 0} → List Entry → RulesOn P → Place → Fs → Option RuleFault
@@ -84,10 +84,10 @@ with_rule_at tree rules Nowhere granted = rules
 -- why a rule for a port is refused; a port has 16 bits
 abbrev pub add_port_refusal : {P : Type 0} → Abi → RulesOn P → ℕ → Net → Option RuleRefusal
 add_port_refusal abi rules port wanted =
-    if not (has_ports abi) then Some (fails Inval)
-    else (if network.is_empty wanted then Some (fails NoMsg)
-    else (if not (network.is_within wanted rules.handled_network) then Some (fails Inval)
-    else (if nat_lt 65535 port then Some (fails Inval) else None)))
+    if not (has_ports abi) then Some (with_error Inval)
+    else (if network.is_empty wanted then Some (with_error NoMsg)
+    else (if not (network.is_within wanted rules.handled_network) then Some (with_error Inval)
+    else (if nat_lt 65535 port then Some (with_error Inval) else None)))
 
 -- the fault of a rule for a port, where there is memory for it
 abbrev pub add_port_fault : {P : Type 0} → Abi → RulesOn P → ℕ → Net → Option RuleFault

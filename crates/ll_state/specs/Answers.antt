@@ -8,12 +8,10 @@ use Rattle.ll_rights.specs.NetRights as network
 use Rattle.ll_tree.specs.Trees.{Entry, path_at, place}
 use Rattle.ll_rules.specs.declared.errno.Errno.{Errno}
 use Rattle.ll_rules.specs.declared.errno.Errno.TheVariants.{Perm, BadFd, Acces, TooBig}
-use Rattle.ll_rules.specs.declared.errno.RuleFault.{RuleFault}
-use Rattle.ll_rules.specs.declared.errno.RuleFault.TheVariants as faults
 use Rattle.ll_rules.specs.declared.moves.Move.{Move}
 use Rattle.ll_rules.specs.declared.moves.Verdict.{Verdict}
 use Rattle.ll_rules.specs.declared.moves.Verdict.TheVariants as verdicts
-use Rattle.ll_rules.specs.Rulesets.{create_fault, add_path_fault, add_port_fault}
+use Rattle.ll_rules.specs.Rulesets.{create_fault, RuleRefusal, with_error, without_object, add_path_refusal, add_port_refusal}
 use Rattle.ll_rules.specs.Checks.{refusing, refusing_port, refusing_mount}
 use Rattle.ll_rules.specs.Moves.{move_verdict}
 use Rattle.ll_trace.specs.declared.op.Op.{Op}
@@ -43,11 +41,10 @@ unless None = Allowed
 unless (Some error) = fails error
 
 -- adding a rule
-abbrev pub of_rule_fault : Option RuleFault → Answer
-of_rule_fault None = Allowed
-of_rule_fault (Some (faults.Errno error)) = fails error
-of_rule_fault (Some faults.Moot) = Moot
-of_rule_fault (Some faults.Memory) = Moot
+abbrev pub of_rule_refusal : Option RuleRefusal → Answer
+of_rule_refusal None = Allowed
+of_rule_refusal (Some (with_error error)) = fails error
+of_rule_refusal (Some without_object) = Moot
 
 -- a request, which the domain refuses by the layers that lack something of it
 abbrev pub of_request : List Entry → List Layer → Option Request → Answer
@@ -75,11 +72,11 @@ create_answer abi fs net (Some place) = Moot
 
 unfoldable pub add_path_answer : List Entry → List ℕ → Fs → Option Layer → Answer
 add_path_answer tree path fs None = fails BadFd
-add_path_answer tree path fs (Some rules) = of_rule_fault (add_path_fault tree rules (place tree path) fs)
+add_path_answer tree path fs (Some rules) = of_rule_refusal (add_path_refusal tree rules (place tree path) fs)
 
 unfoldable pub add_port_answer : Abi → ℕ → Net → Option Layer → Answer
 add_port_answer abi port net None = fails BadFd
-add_port_answer abi port net (Some rules) = of_rule_fault (add_port_fault abi rules port net)
+add_port_answer abi port net (Some rules) = of_rule_refusal (add_port_refusal abi rules port net)
 
 -- what is there may be given up
 abbrev pub if_there : {A : Type 0} → Option A → Answer

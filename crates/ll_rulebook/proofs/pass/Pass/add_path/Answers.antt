@@ -16,7 +16,7 @@ pub returns : goal.returns
 returns c =
     settles_note (λ note. (abi : Abi) → Settles c.args.tree.now abi c.args.process (calls.AddPath c.args.rs c.args.path.now c.args.fs) c.args.self.now (record { store = c.add_path.new.self; tables = c.args.self.now.tables }) note)
     c.add_path.result c.added.result c.added.ensures
-    (λ remembered abi. settles_path_rule c.args.tree.now abi c.args.process c.args.rs c.args.self.now (record { store = c.add_path.new.self; tables = c.args.self.now.tables }) c.in-Some.place c.in-Some.ensures
-    c.requires.sound c.requires.there c.add_path.ensures.layers refl c.args.path.now c.args.fs c.add_path.result remembered
+    (λ note is abi. settles_path_rule c.args.tree.now abi c.args.process c.args.rs c.args.self.now (record { store = c.add_path.new.self; tables = c.args.self.now.tables }) c.in-Some.place c.in-Some.ensures
+    c.requires.sound c.requires.there c.add_path.ensures.layers refl c.args.path.now c.args.fs c.add_path.result note is
     (subst (λ (at : Place). Replaces c.args.self.now.store.rulesets c.add_path.new.self.rulesets c.in-Some.place (AddsPathRule c.args.tree.now at c.args.fs c.add_path.result))
     (c.resolve-at.ensures.place ∙ ap (λ (text : List ℕ). place c.args.tree.now text) c.as_str.ensures) c.add_path.ensures.rulesets))

@@ -13,5 +13,5 @@ pub returns : goal.returns
 returns c =
     settles_note (λ note. (tree : List Entry) → IsSound tree c.args.self.now → Settles tree c.args.abi c.args.process (calls.AddPort c.args.rs c.args.port c.args.net) c.args.self.now (record { store = c.add_port.new.self; tables = c.args.self.now.tables }) note)
     c.add_port.result c.added.result c.added.ensures
-    (λ remembered tree sound. settles_port_rule tree c.args.abi c.args.process c.args.rs c.args.self.now (record { store = c.add_port.new.self; tables = c.args.self.now.tables }) c.in-Some.place c.in-Some.ensures
-    sound c.requires.there c.add_port.ensures.layers refl c.args.port c.args.net c.add_port.result remembered c.add_port.ensures.rulesets)
+    (λ note is tree sound. settles_port_rule tree c.args.abi c.args.process c.args.rs c.args.self.now (record { store = c.add_port.new.self; tables = c.args.self.now.tables }) c.in-Some.place c.in-Some.ensures
+    sound c.requires.there c.add_port.ensures.layers refl c.args.port c.args.net c.add_port.result note is c.add_port.ensures.rulesets)
