@@ -8,4 +8,4 @@ mod moves;
 mod tests;
 
 pub use layer::{PlainLayer, Refusing, refusing};
-pub use moves::answer;
+pub use moves::{Attempt, Call, answer};

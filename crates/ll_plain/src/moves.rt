@@ -1,22 +1,76 @@
-//! What plain layers answer to moves.
+//! What plain layers answer to moves, by a table of what each call asks.
 
-ghost use Rattle.std.specs.Prelude.{◌≤◌, length, IfSome};
+ghost use Rattle.std.specs.Prelude.{◌≤◌, length};
 ghost use Rattle.ll_tree.specs.Trees.{IsNode};
-ghost use Rattle.ll_rules.specs.Moves.{IsTargetIn};
 
 use crate::layer::{PlainLayer, Refusing};
 use ll_rights::{Fs, Kind};
-use ll_rules::{Errno, How, Move, Target};
+use ll_rules::Errno;
 use ll_tree::{NodeId, Tree};
 
-/// The two directories of a move, what it asks of them, and what is there already.
+/// A call that moves an object.
+#[derive(Clone, Copy, Debug, PartialEq, Eq)]
+pub enum Call {
+    /// A rename to a name that is missing in a directory.
+    RenameToMissing,
+    /// A rename onto an object.
+    RenameOnto,
+    /// An exchange with an object.
+    Exchange,
+    /// A link under a name that is missing in a directory.
+    Link,
+}
+
+/// A right that a call asks: to make or to remove what is moved, or what is there already.
 #[derive(Clone, Copy)]
-struct Parts {
-    source: NodeId,
-    destination: NodeId,
-    asked_of_source: Fs,
-    asked_of_destination: Fs,
-    there: Option<NodeId>,
+enum Asks {
+    MakeMoved,
+    RemoveMoved,
+    MakeThere,
+    RemoveThere,
+}
+
+/// A row of the table: what a call asks on the directory of the object, and on that of the new name.
+#[derive(Clone, Copy)]
+struct Row {
+    call: Call,
+    on_source: &'static [Asks],
+    on_destination: &'static [Asks],
+}
+
+/// The table of docs/SEMANTICS.md, "Moving and linking".
+const TABLE: &[Row] = &[
+    Row {
+        call: Call::RenameToMissing,
+        on_source: &[Asks::RemoveMoved],
+        on_destination: &[Asks::MakeMoved],
+    },
+    Row {
+        call: Call::RenameOnto,
+        on_source: &[Asks::RemoveMoved],
+        on_destination: &[Asks::MakeMoved, Asks::RemoveThere],
+    },
+    Row {
+        call: Call::Exchange,
+        on_source: &[Asks::RemoveMoved, Asks::MakeThere],
+        on_destination: &[Asks::MakeMoved, Asks::RemoveThere],
+    },
+    Row {
+        call: Call::Link,
+        on_source: &[],
+        on_destination: &[Asks::MakeMoved],
+    },
+];
+
+/// A move: the call, the object, and the directory of the new name or the object that is there.
+#[derive(Clone, Copy)]
+pub struct Attempt {
+    /// Which call it is.
+    pub call: Call,
+    /// The object.
+    pub moved: NodeId,
+    /// For a rename onto an object and an exchange that object, else the directory of the new name.
+    pub at: NodeId,
 }
 
 /// The directory that an object stands in; the root stands in itself.
@@ -30,105 +84,107 @@ fn directory_of(tree: &Tree, object: NodeId) -> NodeId
     }
 }
 
-/// What a move asks of the directory that the object stands in.
-fn asked_of_source(how: How, moved: Kind, there: Option<Kind>) -> Fs {
-    match (how, there) {
-        (How::Link, _) => Fs::NONE,
-        (How::Exchange, Some(there)) => moved.remove_right().union(there.make_right()),
-        _ => moved.remove_right(),
-    }
-}
-
-/// What a move asks of the directory that it goes to.
-fn asked_of_destination(moved: Kind, there: Option<Kind>) -> Fs {
-    match there {
-        Some(there) => moved.make_right().union(there.remove_right()),
-        None => moved.make_right(),
-    }
-}
-
-/// The parts of a move.
-fn parts_of(tree: &Tree, attempt: &Move) -> Parts
-    requires moved { IsNode tree.now attempt.now.moved }
-    requires target { IsTargetIn tree.now attempt.now.target }
-    ensures source { IsNode tree.now result.source }
-    ensures destination { IsNode tree.now result.destination }
-    ensures there { IfSome result.there (IsNode tree.now) }
+/// The directory of the object.
+pub(crate) fn source_of(tree: &Tree, attempt: &Attempt) -> NodeId
+    requires { IsNode tree.now attempt.now.moved }
+    ensures { IsNode tree.now result }
 {
-    let moved = tree.kind(attempt.moved);
-    let source = directory_of(tree, attempt.moved);
-    match attempt.target {
-        Target::New(directory) => Parts {
-            source,
-            destination: directory,
-            asked_of_source: asked_of_source(attempt.how, moved, None),
-            asked_of_destination: asked_of_destination(moved, None),
-            there: None,
-        },
-        Target::Over(there) => {
-            let kind = Some(tree.kind(there));
-            Parts {
-                source,
-                destination: directory_of(tree, there),
-                asked_of_source: asked_of_source(attempt.how, moved, kind),
-                asked_of_destination: asked_of_destination(moved, kind),
-                there: Some(there),
-            }
-        }
+    directory_of(tree, attempt.moved)
+}
+
+/// The directory of the new name.
+pub(crate) fn destination_of(tree: &Tree, attempt: &Attempt) -> NodeId
+    requires { IsNode tree.now attempt.now.at }
+    ensures { IsNode tree.now result }
+{
+    match attempt.call {
+        Call::RenameToMissing | Call::Link => attempt.at,
+        Call::RenameOnto | Call::Exchange => directory_of(tree, attempt.at),
     }
+}
+
+/// The rights that are asked of a directory, where objects of these kinds are moved and there.
+fn rights_of(asks: &[Asks], moved: Kind, there: Kind) -> Fs {
+    let mut rights = Fs::NONE;
+    for ask in asks {
+        let right = match ask {
+            Asks::MakeMoved => moved.make_right(),
+            Asks::RemoveMoved => moved.remove_right(),
+            Asks::MakeThere => there.make_right(),
+            Asks::RemoveThere => there.remove_right(),
+        };
+        rights = rights.union(right);
+    }
+    rights
 }
 
 /// Whether a layer denies what a move asks of the two directories.
-fn denies(tree: &Tree, layer: &PlainLayer, parts: &Parts) -> bool
-    requires source { IsNode tree.now parts.now.source }
-    requires destination { IsNode tree.now parts.now.destination }
+fn denies(tree: &Tree, layer: &PlainLayer, attempt: &Attempt) -> bool
+    requires moved { IsNode tree.now attempt.now.moved }
+    requires at { IsNode tree.now attempt.now.at }
 {
-    layer.refuses(tree, parts.source, parts.asked_of_source)
-        || layer.refuses(tree, parts.destination, parts.asked_of_destination)
+    let moved = tree.kind(attempt.moved);
+    let there = tree.kind(attempt.at);
+    let source = source_of(tree, attempt);
+    let destination = destination_of(tree, attempt);
+    for row in TABLE {
+        if row.call == attempt.call {
+            if layer.refuses(tree, source, rights_of(row.on_source, moved, there)) {
+                return true;
+            }
+            if layer.refuses(
+                tree,
+                destination,
+                rights_of(row.on_destination, moved, there),
+            ) {
+                return true;
+            }
+        }
+    }
+    false
 }
 
 /// Whether a layer keeps a move from leaving the directory.
-fn holds_back(tree: &Tree, layer: &PlainLayer, attempt: &Move, parts: &Parts) -> bool
+fn holds_back(tree: &Tree, layer: &PlainLayer, attempt: &Attempt) -> bool
     requires moved { IsNode tree.now attempt.now.moved }
-    requires source { IsNode tree.now parts.now.source }
-    requires destination { IsNode tree.now parts.now.destination }
-    requires there { IfSome parts.now.there (IsNode tree.now) }
+    requires at { IsNode tree.now attempt.now.at }
 {
-    if layer.refuses(tree, parts.source, Fs::REFER) {
+    let source = source_of(tree, attempt);
+    let destination = destination_of(tree, attempt);
+    if layer.refuses(tree, source, Fs::REFER) {
         return true;
     }
-    if layer.refuses(tree, parts.destination, Fs::REFER) {
+    if layer.refuses(tree, destination, Fs::REFER) {
         return true;
     }
-    if layer.gains(tree, attempt.moved, parts.destination) {
+    if layer.gains(tree, attempt.moved, destination) {
         return true;
     }
-    match (attempt.how, parts.there) {
-        (How::Exchange, Some(there)) => layer.gains(tree, there, parts.source),
-        _ => false,
+    if attempt.call == Call::Exchange {
+        return layer.gains(tree, attempt.at, source);
     }
+    false
 }
 
 /// Which of at most sixteen layers refuse a rename or a link, and with which error; nothing where it passes.
-pub fn answer(tree: &Tree, layers: &[PlainLayer], attempt: &Move) -> Option<(Errno, Refusing)>
+pub fn answer(tree: &Tree, layers: &[PlainLayer], attempt: &Attempt) -> Option<(Errno, Refusing)>
     requires moved { IsNode tree.now attempt.now.moved }
-    requires target { IsTargetIn tree.now attempt.now.target }
+    requires at { IsNode tree.now attempt.now.at }
     requires few { length layers.now ≤ 16 }
 {
-    let parts = parts_of(tree, attempt);
     let mut denied = [false; 16];
     for (place, layer) in layers.iter().enumerate() {
-        denied[place] = denies(tree, layer, &parts);
+        denied[place] = denies(tree, layer, attempt);
     }
     if denied.contains(&true) {
         return Some((Errno::Acces, denied));
     }
-    if parts.destination == parts.source {
+    if source_of(tree, attempt) == destination_of(tree, attempt) {
         return None;
     }
     let mut held_back = [false; 16];
     for (place, layer) in layers.iter().enumerate() {
-        held_back[place] = holds_back(tree, layer, attempt, &parts);
+        held_back[place] = holds_back(tree, layer, attempt);
     }
     if held_back.contains(&true) {
         return Some((Errno::XDev, held_back));

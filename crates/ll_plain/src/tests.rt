@@ -4,33 +4,91 @@ ghost use Rattle.std.specs.Prelude.{◌≤◌, All, IfOk, length};
 ghost use Rattle.ll_tree.specs.Trees.{IsNode};
 ghost use Rattle.ll_rules.specs.Layers.{AreInTree};
 ghost use Rattle.ll_rules.specs.Checks.{IsDomainOf};
+ghost use Rattle.ll_rules.specs.Moves.{IsTargetIn};
 
 use super::*;
+use crate::moves::{destination_of, source_of};
 use bitflags::Flags;
 use ll_rights::{Abi, Fs, Net};
 use ll_rules::{
-    Domain, How, Layer, LayerId, LayerSet, Move, Ruleset, Target, Verdict, check_move,
+    Domain, Errno, How, Layer, LayerId, LayerSet, Move, Ruleset, Target, Verdict, check_move,
     check_move_counted, check_path, check_path_counted,
 };
 use ll_tree::{NodeId, Place, Tree};
 use std::alloc::Global;
 use std::test::*;
 
-/// Directories three deep, with objects of several kinds.
-const LISTED: &str = "{\"path\":\"/a\",\"kind\":\"dir\"}
-{\"path\":\"/b\",\"kind\":\"dir\"}
-{\"path\":\"/a/s\",\"kind\":\"dir\"}
-{\"path\":\"/a/s/t\",\"kind\":\"dir\"}
-{\"path\":\"/a/f\",\"kind\":\"reg\"}
-{\"path\":\"/a/s/l\",\"kind\":\"sym\"}
-{\"path\":\"/a/s/t/f\",\"kind\":\"reg\"}
-{\"path\":\"/b/g\",\"kind\":\"reg\"}
-{\"path\":\"/b/tty\",\"kind\":\"char\"}
-";
+/// How many numbers of nodes the filter of a layer tells apart: those that differ by a multiple share a mark.
+const MARKS: u32 = 4096;
 
-const PATHS: &[&str] = &[
-    "/", "/a", "/b", "/a/s", "/a/s/t", "/a/f", "/a/s/l", "/a/s/t/f", "/b/g", "/b/tty",
-];
+/// How many rules of a layer are within reach of one look; the others stand in its map alone.
+const RECENT: u32 = 64;
+
+/// How many rules a layer gets.
+const RULES: u32 = 2 * RECENT;
+
+/// How many objects are asked about in one domain.
+const ASKED: u32 = 60;
+
+/// How deep the chain of directories goes.
+const DEEPEST: u32 = 12;
+
+/// Kinds of objects that aren't directories.
+const KINDS: [&str; 5] = ["reg", "sym", "char", "fifo", "sock"];
+
+/// A list of a tree, with the paths of its nodes after the root, in their order.
+#[derive(Drop)]
+struct Listing {
+    lines: String,
+    paths: Vec<String>,
+    directories: Vec<String>,
+}
+
+impl Listing {
+    fn add(&mut self, alloc: Global, path: &str, kind: &str) -> Result<(), Fail> {
+        let line = format!(in alloc; "{{\"path\":\"{path}\",\"kind\":\"{kind}\"}}\n")?;
+        self.lines.push_str(&line)?;
+        self.paths.push(String::from_str(alloc, path)?)?;
+        if kind == "dir" {
+            self.directories.push(String::from_str(alloc, path)?)?;
+        }
+        Ok(())
+    }
+
+    /// A directory with objects of all kinds.
+    fn add_objects(&mut self, alloc: Global, directory: &str) -> Result<(), Fail> {
+        self.add(alloc, directory, "dir")?;
+        for number in 0..70u32 {
+            let path = format!(in alloc; "{directory}/f{number}")?;
+            self.add(alloc, &path, KINDS[(number % 5) as usize])?;
+        }
+        Ok(())
+    }
+}
+
+/// More nodes than a filter has marks: a chain of directories, and 64 directories of 70 objects, four each in one
+/// of sixteen.
+fn listed_nodes(alloc: Global) -> Result<Listing, Fail> {
+    let mut listing = Listing {
+        lines: String::new(alloc),
+        paths: Vec::new(alloc),
+        directories: Vec::new(alloc),
+    };
+    let mut chain = String::new(alloc);
+    for _ in 0..DEEPEST {
+        chain.push_str("/c")?;
+        listing.add(alloc, &chain, "dir")?;
+    }
+    for number in 0..16u32 {
+        let above = format!(in alloc; "/d{number}")?;
+        listing.add(alloc, &above, "dir")?;
+        for place in 0..4u32 {
+            let directory = format!(in alloc; "{above}/e{place}")?;
+            listing.add_objects(alloc, &directory)?;
+        }
+    }
+    Ok(listing)
+}
 
 /// Numbers that look like chance, the same in every run (Numerical Recipes, "Portable Random Number
 /// Generators").
@@ -45,6 +103,24 @@ impl Numbers {
         self.last >> 16
     }
 
+    /// One of some paths.
+    fn path<'a>(&mut self, paths: &'a [String]) -> Result<&'a str, Fail> {
+        let place = self.next() as usize;
+        match paths.get(place % paths.len().max(1)) {
+            Some(path) => Ok(path.as_str()),
+            None => Err(Fail::from("there is a path")),
+        }
+    }
+
+    /// By turns a directory or any object.
+    fn object<'a>(&mut self, listing: &'a Listing, turn: u32) -> Result<&'a str, Fail> {
+        if turn % 2 == 0 {
+            self.path(&listing.directories)
+        } else {
+            self.path(&listing.paths)
+        }
+    }
+
     /// A set of named rights, of about half of them or of few.
     fn rights(&mut self) -> Fs {
         let sparse = self.next() % 2 == 0;
@@ -53,8 +129,8 @@ impl Numbers {
     }
 }
 
-fn listed_tree(alloc: Global) -> Result<Tree, Fail> {
-    match Tree::read(alloc, LISTED.as_bytes()) {
+fn listed_tree(alloc: Global, listing: &Listing) -> Result<Tree, Fail> {
+    match Tree::read(alloc, listing.lines.as_bytes()) {
         Ok(tree) => Ok(tree),
         Err(_) => Err(Fail::from("the tree reads")),
     }
@@ -69,9 +145,14 @@ fn node_named(tree: &Tree, path: &str) -> Result<NodeId, Fail>
     }
 }
 
-/// One layer in both forms, with the same rules by chance.
+/// One layer in both forms, with the same rules by chance: half of them on directories.
 #[tactic(auto, using(ll_rules::proofs::Adding::of_tree))]
-fn layer_of(alloc: Global, tree: &Tree, numbers: &mut Numbers) -> Result<(Layer, PlainLayer), Fail>
+fn layer_of(
+    alloc: Global,
+    tree: &Tree,
+    listing: &Listing,
+    numbers: &mut Numbers,
+) -> Result<(Layer, PlainLayer), Fail>
     ensures { IfOk result (λ both. AreInTree tree.now both.0) }
 {
     let handled = numbers.rights();
@@ -79,10 +160,11 @@ fn layer_of(alloc: Global, tree: &Tree, numbers: &mut Numbers) -> Result<(Layer,
         return Err(Fail::from("the ruleset is created"));
     };
     let mut plain = PlainLayer::new(alloc, handled);
-    for path in PATHS {
+    for number in 0..RULES {
+        let path = numbers.object(listing, number)?;
         let granted = numbers.rights().intersection(handled);
         let place = tree.resolve(path);
-        if numbers.next() % 3 == 0 && rules.add_path(tree, place, granted).is_ok() {
+        if rules.add_path(tree, place, granted).is_ok() {
             let node = node_named(tree, path)?;
             plain.grant(node, granted)?;
         }
@@ -101,14 +183,20 @@ struct Both {
 }
 
 /// So many layers, at most sixteen.
-fn layers_of(alloc: Global, tree: &Tree, count: u32, numbers: &mut Numbers) -> Result<Both, Fail>
+fn layers_of(
+    alloc: Global,
+    tree: &Tree,
+    listing: &Listing,
+    count: u32,
+    numbers: &mut Numbers,
+) -> Result<Both, Fail>
     ensures rules { IfOk result (λ both. All (AreInTree tree.now) both.lanes.items) }
     ensures few { IfOk result (λ both. length both.plain.items ≤ 16) }
 {
     let mut lanes = Vec::new(alloc);
     let mut plain = Vec::new(alloc);
     for number in 0..count.min(16) {
-        let (layer, plain_layer) = layer_of(alloc, tree, numbers)?;
+        let (layer, plain_layer) = layer_of(alloc, tree, listing, numbers)?;
         lanes.push(layer)?;
         plain.push(plain_layer)?;
     }
@@ -139,7 +227,13 @@ fn places_of(set: LayerSet) -> Refusing {
     places
 }
 
-/// Whether both forms refuse the same on a path, whatever is wanted, and the count is within its bound.
+/// How many layers refuse.
+fn count_of(places: &Refusing) -> u64 {
+    places.iter().filter(|refuses| **refuses).count() as u64
+}
+
+/// Whether both forms refuse the same on a path, whatever is wanted. Each layer is asked at most once on each node
+/// up to the root, and one that refuses was asked on all of them.
 fn paths_agree(
     tree: &Tree,
     both: &Both,
@@ -154,10 +248,58 @@ fn paths_agree(
     let node = node_named(tree, path)?;
     let set = check_path(tree, &both.lanes, domain, node, wanted);
     let (counted, look_ups) = check_path_counted(tree, &both.lanes, domain, node, wanted);
-    let most = u64::from(tree.depth(node)) + 1;
-    let is_within = look_ups <= most * domain.layers().len() as u64;
     let plain = refusing(tree, &both.plain, node, wanted);
-    Ok(places_of(set) == plain && counted == set && is_within)
+    let nodes = u64::from(tree.depth(node)) + 1;
+    let most = nodes * domain.layers().len() as u64;
+    let least = nodes.saturating_mul(count_of(&plain));
+    Ok(places_of(set) == plain && counted == set && look_ups <= most && look_ups >= least)
+}
+
+/// The same move as the product has it.
+fn move_of(tree: &Tree, attempt: &Attempt) -> Move
+    requires moved { IsNode tree.now attempt.now.moved }
+    requires at { IsNode tree.now attempt.now.at }
+    ensures moved { IsNode tree.now result.moved }
+    ensures target { IsTargetIn tree.now result.target }
+{
+    let (target, how) = match attempt.call {
+        Call::RenameToMissing => (Target::New(attempt.at), How::Rename),
+        Call::RenameOnto => (Target::Over(attempt.at), How::Rename),
+        Call::Exchange => (Target::Over(attempt.at), How::Exchange),
+        Call::Link => (Target::New(attempt.at), How::Link),
+    };
+    Move {
+        moved: attempt.moved,
+        target,
+        how,
+    }
+}
+
+/// How many layers deny a move.
+fn denying(verdict: Verdict) -> u64 {
+    match verdict {
+        Verdict::Passed => 0,
+        Verdict::Refused(error, set) => {
+            if error == Errno::Acces {
+                count_of(&places_of(set))
+            } else {
+                0
+            }
+        }
+    }
+}
+
+/// Whether a count of look-ups fits an answer. Each layer is asked at most once on each node from either directory
+/// up to the root, and at most twice more; one that denies was asked on all nodes up from one of the two.
+fn count_fits(tree: &Tree, layers: u64, attempt: &Attempt, verdict: Verdict, look_ups: u64) -> bool
+    requires moved { IsNode tree.now attempt.now.moved }
+    requires at { IsNode tree.now attempt.now.at }
+{
+    let from = u64::from(tree.depth(source_of(tree, attempt))) + 1;
+    let to = u64::from(tree.depth(destination_of(tree, attempt))) + 1;
+    let most = layers.saturating_mul(from + to + 2);
+    let least = from.min(to).saturating_mul(denying(verdict));
+    look_ups <= most && look_ups >= least
 }
 
 /// Whether both forms answer a move alike.
@@ -165,43 +307,46 @@ fn moves_agree(
     tree: &Tree,
     both: &Both,
     domain: &Domain,
+    call: Call,
     from: &str,
     to: &str,
-    how: How,
 ) -> Result<bool, Fail>
     requires rules { All (AreInTree tree.now) both.now.lanes.items }
     requires domain { IsDomainOf both.now.lanes.items domain.now }
     requires few { length both.now.plain.items ≤ 16 }
 {
-    let there = node_named(tree, to)?;
-    let target = if how == How::Link {
-        Target::New(there)
-    } else {
-        Target::Over(there)
-    };
-    let attempt = Move {
+    let attempt = Attempt {
+        call,
         moved: node_named(tree, from)?,
-        target,
-        how,
+        at: node_named(tree, to)?,
     };
-    let verdict = check_move(tree, &both.lanes, domain, &attempt);
-    let (counted, _) = check_move_counted(tree, &both.lanes, domain, &attempt);
+    let asked = move_of(tree, &attempt);
+    let verdict = check_move(tree, &both.lanes, domain, &asked);
+    let (counted, look_ups) = check_move_counted(tree, &both.lanes, domain, &asked);
     let lanes = match verdict {
         Verdict::Passed => None,
         Verdict::Refused(error, set) => Some((error, places_of(set))),
     };
-    Ok(lanes == answer(tree, &both.plain, &attempt) && counted == verdict)
+    let plain = answer(tree, &both.plain, &attempt);
+    let layers = domain.layers().len() as u64;
+    Ok(
+        lanes == plain
+            && counted == verdict
+            && count_fits(tree, layers, &attempt, verdict, look_ups),
+    )
 }
 
 #[test]
 fn paths_by_lanes_and_by_plain_layers(rt: HostRuntime) -> Result<(), Fail> {
     let alloc = rt.alloc();
-    let tree = listed_tree(alloc)?;
+    let listing = listed_nodes(alloc)?;
+    let tree = listed_tree(alloc, &listing)?;
     let mut numbers = Numbers { last: 1 };
-    for round in 0..170u32 {
-        let both = layers_of(alloc, &tree, round % 17, &mut numbers)?;
+    for round in 0..34u32 {
+        let both = layers_of(alloc, &tree, &listing, round % 17, &mut numbers)?;
         let domain = stacked(&both.lanes)?;
-        for path in PATHS {
+        for turn in 0..ASKED {
+            let path = numbers.object(&listing, turn)?;
             let wanted = numbers.rights();
             assert!(rt;
                 paths_agree(&tree, &both, &domain, path, wanted)?,
@@ -212,22 +357,85 @@ fn paths_by_lanes_and_by_plain_layers(rt: HostRuntime) -> Result<(), Fail> {
     Ok(())
 }
 
+/// The layer whose rules grant reading on some objects, and which handles reading alone.
+#[tactic(auto, using(ll_rules::proofs::Adding::of_tree))]
+fn reading_layer(alloc: Global, tree: &Tree, paths: &[String]) -> Result<Layer, Fail>
+    ensures { IfOk result (AreInTree tree.now) }
+{
+    let Ok(mut rules) = Ruleset::create(alloc, Abi::V5, Fs::READ_FILE, Net::NONE) else {
+        return Err(Fail::from("the ruleset is created"));
+    };
+    for path in paths {
+        let place = tree.resolve(path);
+        if rules.add_path(tree, place, Fs::READ_FILE).is_err() {
+            return Err(Fail::from("the rule is added"));
+        }
+    }
+    match rules.freeze(alloc) {
+        Ok(layer) => Ok(layer),
+        Err(_) => Err(Fail::from("there is memory for a layer")),
+    }
+}
+
+/// Whether the layers refuse reading an object.
+fn refuses_reading(tree: &Tree, layers: &[Layer], path: &str) -> Result<bool, Fail>
+    requires { All (AreInTree tree.now) layers.now }
+{
+    let domain = stacked(layers)?;
+    let node = node_named(tree, path)?;
+    Ok(!check_path(tree, layers, &domain, node, Fs::READ_FILE).is_empty())
+}
+
+#[test]
+fn nodes_that_share_a_mark(rt: HostRuntime) -> Result<(), Fail> {
+    let alloc = rt.alloc();
+    let listing = listed_nodes(alloc)?;
+    let tree = listed_tree(alloc, &listing)?;
+    // These have rules: the chain, and objects of the first directories after it.
+    let Some(granted) = listing.paths.get(..RULES as usize) else {
+        return Err(Fail::from("there are so many nodes"));
+    };
+    let mut layers = Vec::new(alloc);
+    layers.push(reading_layer(alloc, &tree, granted)?)?;
+    for (place, path) in granted.iter().enumerate() {
+        let Some(other) = listing.paths.get(place + MARKS as usize) else {
+            return Err(Fail::from("there are more nodes than marks"));
+        };
+        let number = node_named(&tree, path)?.index();
+        assert_eq!(rt;
+            node_named(&tree, other)?.index() % MARKS,
+            number % MARKS,
+            "{path}"
+        );
+        assert!(rt; !refuses_reading(&tree, &layers, path)?, "{path}");
+        assert!(rt; refuses_reading(&tree, &layers, other)?, "{other}");
+    }
+    Ok(())
+}
+
 #[test]
 fn moves_by_lanes_and_by_plain_layers(rt: HostRuntime) -> Result<(), Fail> {
     let alloc = rt.alloc();
-    let tree = listed_tree(alloc)?;
+    let listing = listed_nodes(alloc)?;
+    let tree = listed_tree(alloc, &listing)?;
     let mut numbers = Numbers { last: 2 };
-    for round in 0..170u32 {
-        let both = layers_of(alloc, &tree, round % 17, &mut numbers)?;
+    for round in 0..34u32 {
+        let both = layers_of(alloc, &tree, &listing, round % 17, &mut numbers)?;
         let domain = stacked(&both.lanes)?;
-        for from in PATHS {
-            for to in PATHS {
-                for how in [How::Rename, How::Exchange, How::Link] {
-                    assert!(rt;
-                        moves_agree(&tree, &both, &domain, from, to, how)?,
-                        "round {round}, {from} to {to}, {how:?}"
-                    );
-                }
+        for turn in 0..ASKED {
+            let from = numbers.object(&listing, turn)?;
+            let directory = numbers.path(&listing.directories)?;
+            let object = numbers.object(&listing, turn / 2)?;
+            for (call, to) in [
+                (Call::RenameToMissing, directory),
+                (Call::RenameOnto, object),
+                (Call::Exchange, object),
+                (Call::Link, directory),
+            ] {
+                assert!(rt;
+                    moves_agree(&tree, &both, &domain, call, from, to)?,
+                    "round {round}, {call:?} of {from} at {to}"
+                );
             }
         }
     }

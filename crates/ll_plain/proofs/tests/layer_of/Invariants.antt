@@ -1,5 +1,5 @@
 use Rattle.ll_rules.specs.Layers.{AreInTree}
 use Rattle.ll_plain.proofs.tests.layer_of.Given as goal
 
-abbrev pub invariant-loop-path : goal.invariant-loop-path
-invariant-loop-path l = AreInTree l.tree l.rules
+abbrev pub invariant-loop-number : goal.invariant-loop-number
+invariant-loop-number l = AreInTree l.tree l.rules
