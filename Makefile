@@ -1,9 +1,11 @@
 # Two commands for a newcomer: `make example` and `make test`.
 
+RECORDER_TESTS := python3 -m unittest discover -s record/tests -t record
+
 EXAMPLE := examples/first-path
 RUN := --abi 4 $(CURDIR)/$(EXAMPLE)/tree.jsonl $(CURDIR)/$(EXAMPLE)/trace.jsonl
 
-.PHONY: example landaudit test
+.PHONY: example landaudit test live
 
 # Builds landaudit without its proofs and audits the example, which refuses a call: status 1.
 example:
@@ -14,9 +16,14 @@ example:
 landaudit:
 	cd crates/landaudit && rt run -- --help
 
-# Proves everything and runs every test; then refuses the built program each of its requests for memory,
-# and drives it through limits and faults of the system around it.
+# Tests the recorder, proves everything and runs every test; then refuses the built program each of its
+# requests for memory, and drives it through limits and faults of the system around it.
 test:
+	$(RECORDER_TESTS)
 	rt ci
 	@log=$$(mktemp); { bench/refuse-memory $$(ls crates/landaudit/out/landaudit) && bench/drive; } \
 	> $$log 2>&1; status=$$?; test $$status -eq 0 || cat $$log >&2; rm -f $$log; exit $$status
+
+# What needs strace and a kernel with Landlock, and is no part of the gate; says what it skips and why.
+live:
+	$(RECORDER_TESTS) -p 'live_*.py' --verbose

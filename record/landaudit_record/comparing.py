@@ -98,12 +98,12 @@ class Classes:
             (Class.NEWER, self._newer),
             (Class.UNNAMED, lambda call: call.by_kernel.layer),
             (Class.LEFT_OUT, _left_out),
+            (Class.MOUNTS, self._mounts),
             (Class.BEFORE_THE_TREE, self._before_the_tree),
             (Class.WHITEOUTS, self._whiteout),
             (Class.PORTS_AND_MOVES, _ports_and_moves),
             (Class.RUNNING_READS, _running_reads),
             (Class.IOCTL, _ioctl),
-            (Class.MOUNTS, self._mounts),
             (Class.MODES, self._modes),
             (Class.NOT_LISTED, lambda call: call.partly_moot),
         )

@@ -27,7 +27,7 @@ from dataclasses import dataclass, field
 from pathlib import Path
 
 import landlock_calls as landlock
-from landaudit_record.rights import FILE_RIGHTS, FS
+from landaudit_record.rights import FILE_RIGHTS, FS, NEWEST_ABI, OLDEST_ABI
 
 SKELETON = ("a", "a/x", "a/x/u", "a/y", "b", "b/x", "b/y", "b/y/v", "c")
 FIXED_FILES = ("r", "a/r", "a/x/r", "b/y/r")
@@ -49,7 +49,7 @@ NO_DEVICE = os.makedev(242, 7)
 ZERO = os.makedev(1, 5)
 PORTS = (0, 20081, 20082, 20083, 20443)
 DESCRIPTORS_KEPT = 12
-FORBIDDEN = 0.005
+FORBIDDEN = 0.001
 """How often a call is one that the tree forbids, and that the kernel asks Landlock about all the same."""
 FORK_DEPTH = 3
 RENAME_NOREPLACE, RENAME_EXCHANGE = 1, 2
@@ -92,11 +92,11 @@ def fill(root: Path) -> None:
 
 @dataclass
 class Actor:
-    """One process that acts: its random numbers, the folder, and the descriptors that it holds."""
+    """One process that acts: its random numbers, the folder, the rights it may confine itself by, what it holds."""
 
     random: random.Random
     root: Path
-    confine: bool
+    rights: list[str]
     depth: int = 0
     descriptors: list[int] = field(default_factory=list)
     directories: list[int] = field(default_factory=list)
@@ -143,11 +143,12 @@ class Actor:
             (1, self.mount),
             (2, self.fork),
         ]
-        if self.confine:
+        if self.rights:
             actions += [(2, self.fork_confined), (2, self.ruleset_alone)]
         return actions
 
     def forbidden(self) -> bool:
+        """Whether it is time for a call that the tree forbids."""
         return self.random.random() < FORBIDDEN
 
     # Names
@@ -235,27 +236,45 @@ class Actor:
             os.close(self.descriptors.pop(self.random.randrange(DESCRIPTORS_KEPT)))
 
     def open(self) -> None:
+        """Opens any path, or makes a file."""
         flags = self.flags()
         path = self.path(self.name("file")) if flags & os.O_CREAT else self.any_path()
-        self.keep(os.open(path, flags, 0o666))
+        self.keep(self.opened(path, flags))
+
+    def opened(self, path: str, flags: int, directory: int | None = None) -> int:
+        """The descriptor of an open.
+
+        One that is refused may have made the file all the same: Landlock looks at the reading and writing of a file
+        when it is there. A second open shows in a recording whether it is.
+        """
+        try:
+            return os.open(path, flags, 0o666, dir_fd=directory)
+        except PermissionError:
+            if flags & os.O_CREAT:
+                os.close(os.open(path, os.O_RDONLY | os.O_NONBLOCK | flags & os.O_NOFOLLOW, dir_fd=directory))
+            raise
 
     def open_temporary(self) -> None:
+        """Opens a file without a name."""
         mode = self.random.choice((os.O_WRONLY, os.O_RDWR))
         self.keep(os.open(self.path(self.directory()), mode | os.O_TMPFILE, 0o600))
 
     def open_in_directory(self) -> None:
+        """Opens a name under a directory that is open."""
         if not self.directories or self.random.random() < 0.3:
             flags = os.O_RDONLY | self.random.choice((os.O_DIRECTORY, os.O_PATH | os.O_DIRECTORY))
             self.directories.append(os.open(self.path(self.random.choice(SKELETON)), flags))
             if len(self.directories) > 4:
                 os.close(self.directories.pop(0))
         name = self.random.choice(POOLS["file"] + ("r", "l0", "../r"))
-        self.keep(os.open(name, self.flags(), 0o666, dir_fd=self.random.choice(self.directories)))
+        self.keep(self.opened(name, self.flags(), self.random.choice(self.directories)))
 
     def list_directory(self) -> None:
+        """Lists a directory."""
         os.listdir(self.path(self.directory()))
 
     def open_terminal(self) -> None:
+        """Opens both ends of a new terminal."""
         master = os.open("/dev/ptmx", os.O_RDWR | os.O_NOCTTY)
         self.keep(master)
         fcntl.ioctl(master, UNLOCK_TERMINAL, bytes(4))
@@ -263,6 +282,7 @@ class Actor:
         self.keep(os.open(f"/dev/pts/{number}", os.O_RDWR | os.O_NOCTTY))
 
     def use_pipe(self) -> None:
+        """Opens both ends of a pipe."""
         for end in os.pipe():
             self.keep(end)
 
@@ -273,6 +293,7 @@ class Actor:
         return self.random.choice(self.descriptors) if self.descriptors else 77
 
     def duplicate(self) -> None:
+        """Gives a descriptor another number, by dup(2), dup2(2) or fcntl(2)."""
         form = self.random.randrange(4)
         if form == 0:
             self.keep(os.dup(self.descriptor()))
@@ -284,21 +305,26 @@ class Actor:
             self.keep(fcntl.fcntl(self.descriptor(), fcntl.F_DUPFD, 3))
 
     def close(self) -> None:
+        """Closes one descriptor."""
         if self.descriptors:
             os.close(self.descriptors.pop(self.random.randrange(len(self.descriptors))))
 
     def truncate_open(self) -> None:
+        """Cuts what is open."""
         os.ftruncate(self.descriptor(), self.random.randrange(100))
 
     def control(self) -> None:
+        """Asks what is open something."""
         fcntl.ioctl(self.descriptor(), self.random.choice(REQUESTS), bytes(64))
 
     # Objects
 
     def make_directory(self) -> None:
+        """Makes a directory."""
         os.mkdir(self.path(self.absent("dir")))
 
     def make_node(self) -> None:
+        """Makes a file, a pipe, a socket or a device."""
         kind, mode, device = self.random.choice(
             (
                 ("file", stat.S_IFREG, 0),
@@ -311,13 +337,16 @@ class Actor:
         os.mknod(self.path(self.absent(kind)), mode | 0o600, device)
 
     def make_link(self) -> None:
-        target = self.random.choice(("f0", "../r", "../../b/f0", "d0", "l1", os.fspath(self.root / "b" / "y")))
+        """Makes a symbolic link, to something or nothing."""
+        target = self.random.choice(("f0", "../r", "../../b/f0", ".", "l1", os.fspath(self.root / "b" / "y")))
         os.symlink(target, self.path(self.absent("link")))
 
     def unlink(self) -> None:
+        """Removes what is no directory."""
         os.unlink(self.path(self.random.choice(SKELETON) if self.forbidden() else self.present(self.kind_to_unlink())))
 
     def remove_directory(self) -> None:
+        """Removes a directory, empty or not."""
         form = self.random.random()
         name = self.present("file" if self.forbidden() else "dir") if form < 0.85 else self.random.choice(SKELETON)
         os.rmdir(self.path(name))
@@ -341,6 +370,7 @@ class Actor:
         return source, target
 
     def rename(self) -> None:
+        """Moves one object."""
         source, target = self.move_pair()
         if source != target or self.forbidden():
             os.rename(self.path(source), self.path(target))
@@ -355,18 +385,22 @@ class Actor:
             _libc.renameat2(AT_FDCWD, source, AT_FDCWD, target, ctypes.c_uint(flags))
 
     def link(self) -> None:
+        """Gives an object a second name."""
         kind = "dir" if self.forbidden() else self.random.choice(("file", "file", "file", "fifo", "link"))
         os.link(self.path(self.present(kind)), self.path(self.absent(kind)), follow_symlinks=False)
 
     def truncate(self) -> None:
+        """Cuts what stands at a path."""
         os.truncate(self.any_path(), self.random.randrange(100))
 
     # The process
 
     def change_directory(self) -> None:
+        """Goes to another working directory."""
         os.chdir(self.path(self.random.choice(SKELETON)))
 
     def use_port(self) -> None:
+        """Binds a socket to a port, or calls one where nobody answers."""
         family, here = self.random.choice(((socket.AF_INET, "127.0.0.1"), (socket.AF_INET6, "::1")))
         kind = self.random.choice((socket.SOCK_STREAM, socket.SOCK_STREAM, socket.SOCK_DGRAM))
         with socket.socket(family, kind) as end:
@@ -375,6 +409,7 @@ class Actor:
             use((here, self.random.choice(PORTS)))
 
     def bind_unix(self) -> None:
+        """Makes a socket by binding to its name."""
         with socket.socket(socket.AF_UNIX) as end:
             os.chdir(self.root / self.random.choice(SKELETON))
             end.bind(self.random.choice(POOLS["sock"]))
@@ -385,6 +420,7 @@ class Actor:
         _libc.mount(b"none", target, b"nosuchfs", ctypes.c_ulong(0), None)
 
     def execute(self) -> None:
+        """Runs a program in a child, and waits for it."""
         own = self.path(self.random.choice(PROGRAMS + SCRIPTS))
         program = self.random.choice((own, own, own, "/bin/true", "/bin/false", self.path(self.name("missing"))))
         child = os.fork()
@@ -418,12 +454,13 @@ class Actor:
 
     # Confinement
 
-    def subset(self, rights: tuple[str, ...], chance: float) -> list[str]:
+    def subset(self, rights: list[str], chance: float) -> list[str]:
+        """Each of some rights with a chance."""
         return [right for right in rights if self.random.random() < chance]
 
     def ruleset(self, strict: float) -> int:
         """A ruleset that handles random rights, with rules on random objects of the skeleton."""
-        handled = self.subset(tuple(FS.since), strict)
+        handled = self.subset(self.rights, strict)
         ruleset = landlock.create_ruleset(handled)
         for _ in range(self.random.randrange(1, 7)):
             self.add_rule(ruleset, handled)
@@ -432,9 +469,9 @@ class Actor:
     def add_rule(self, ruleset: int, handled: list[str]) -> None:
         """One more rule, of rights that the ruleset handles but for a mistake now and then."""
         place = self.random.choice(SKELETON + FIXED_FILES + ("", "", "/", "/dev", "/usr"))
-        allowed = self.subset(tuple(handled), 0.7)
+        allowed = self.subset(handled, 0.7)
         if self.random.random() < 0.05:
-            allowed = self.subset(tuple(FS.since), 0.3)
+            allowed = self.subset(self.rights, 0.3)
         elif place in FIXED_FILES and self.random.random() < 0.8:
             allowed = [right for right in allowed if right in FILE_RIGHTS]
         parent = os.open(self.root / place, os.O_PATH | os.O_CLOEXEC)
@@ -473,6 +510,7 @@ class Actor:
         self.in_child(Actor.act_confined)
 
     def act_confined(self) -> None:
+        """Comes under some layers more, and goes on acting."""
         layers = 17 if self.random.random() < 0.05 else self.random.randrange(1, 4)
         for _ in range(layers):
             try:
@@ -483,16 +521,19 @@ class Actor:
 
 
 def main() -> int:
+    """Fills the folder where it must, and acts."""
     parser = argparse.ArgumentParser(description=__doc__, formatter_class=argparse.RawDescriptionHelpFormatter)
     parser.add_argument("seed", type=int, metavar="SEED")
     parser.add_argument("root", type=Path, metavar="DIR", help="the folder; it is filled if it is not there")
     parser.add_argument("count", type=int, metavar="COUNT", help="how many things the first process does")
     parser.add_argument("--confine", action="store_true", help="also restrict itself by random rulesets")
+    parser.add_argument("--abi", type=int, choices=range(OLDEST_ABI, NEWEST_ABI + 1), default=NEWEST_ABI)
     arguments = parser.parse_args()
     root = arguments.root.absolute()
     if not root.exists():
         fill(root)
-    Actor(random.Random(arguments.seed), root, arguments.confine).act(arguments.count)
+    rights = FS.ordered(FS.known(arguments.abi)) if arguments.confine else []
+    Actor(random.Random(arguments.seed), root, rights).act(arguments.count)
     return 0
 
 

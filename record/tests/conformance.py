@@ -56,10 +56,11 @@ class Run:
 
     @property
     def name(self) -> str:
+        """Program and policy, as --only takes them."""
         return f"{self.program}/{self.policy.stem if self.policy else OWN_LAYERS.replace(' ', '-')}"
 
 
-def runs() -> Iterator[Run]:
+def runs(abi: int) -> Iterator[Run]:
     """Each program under each policy, those that confine themselves without one too, then the actors.
 
     Every second actor is under a policy beside the layers that it makes itself.
@@ -72,8 +73,9 @@ def runs() -> Iterator[Run]:
         chosen = [None] if program.get("own_layers") else []
         yield from (Run(program["name"], command, policy) for policy in chosen + policies)
     for seed in range(1, ACTORS + 1):
-        words = (PYTHON, str(HERE / "actor.py"), str(seed), str(ACTED_IN), str(ACTOR_COUNT), "--confine")
-        yield Run(f"actor-{seed}", words, ACTORS_POLICY if seed % 2 == 0 else None, acts=True)
+        words = (PYTHON, str(HERE / "actor.py"), str(seed), str(ACTED_IN), str(ACTOR_COUNT))
+        policy = ACTORS_POLICY if seed % 2 == 0 else None
+        yield Run(f"actor-{seed}", (*words, "--confine", f"--abi={abi}"), policy, acts=True)
 
 
 @contextmanager
@@ -156,6 +158,7 @@ def table(chosen: Sequence[Run], arguments: argparse.Namespace) -> int:
 
 
 def main() -> int:
+    """Makes the recordings that the words name."""
     parser = argparse.ArgumentParser(description=__doc__, formatter_class=argparse.RawDescriptionHelpFormatter)
     parser.add_argument("out", metavar="OUTDIR", type=Path, help="where the recordings go")
     parser.add_argument("--only", metavar="NAME", help="a program, or a program and a policy, as sort/read-only")
@@ -163,7 +166,7 @@ def main() -> int:
     parser.add_argument("--keep", action="store_true", help="keep the recordings in which all agrees too")
     parser.add_argument("--again", action="store_true", help="convert and compare the recordings that are in OUTDIR")
     arguments = parser.parse_args()
-    chosen = [run for run in runs() if arguments.only in (None, run.program, run.name)]
+    chosen = [run for run in runs(arguments.abi) if arguments.only in (None, run.program, run.name)]
     if not chosen:
         parser.error(f"no run is named {arguments.only}")
     arguments.out = arguments.out.absolute()

@@ -20,7 +20,7 @@ from ..rights import NEWEST_ABI, OLDEST_ABI
 
 NAME = "compare"
 HELP = "compare landaudit's answers with what the kernel did to a program that was under a layer"
-EXAMPLE = """landaudit-record run rec -- setpriv --landlock-access fs:write -- touch /tmp/f
+EXAMPLE = """landaudit-record run rec -- record/tests/sandboxer.py policy.toml -- sort /etc/passwd
   landaudit-record compare rec"""
 
 

@@ -15,6 +15,9 @@ PR_SET_NO_NEW_PRIVS = 38
 RULE_PATH_BENEATH = 1
 RULE_NET_PORT = 2
 
+#: The sizes of landlock_ruleset_attr: with rights for files (ABI 1), for ports (ABI 4), with scopes (ABI 6).
+SIZES = (8, 16, 24)
+
 NOT_DECODED = " (strace before 6.7 does not decode it: see --port-rules)"
 
 
@@ -48,6 +51,8 @@ def _member(argument: str, name: str) -> int:
 def _create_ruleset(scene: Scene, thread: Thread, call: Call) -> None:
     if arguments.number_at(call, 2) or call.error in ("EFAULT", "EOPNOTSUPP", "ENOSYS"):
         return
+    if arguments.number_at(call, 1) not in SIZES or not call.arguments[0].startswith("{"):
+        raise CannotSay("a ruleset whose structure has no size that is known")
     files, ports, scoped = _handled(scene, thread, call)
     can_be_said = bool(files or ports) or not call.ok
     number = thread.process.made_up()

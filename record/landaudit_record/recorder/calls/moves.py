@@ -38,7 +38,7 @@ def _renamed(scene: Scene, thread: Thread, call: Call, start: Argument, end: Arg
     moved = arguments.spot_at(scene, thread, call, *start, False)
     target = arguments.spot_at(scene, thread, call, *end, False)
     moved = _source(scene, call, moved, target)
-    if call.ok and exchange:
+    if exchange and call.error != "ENOENT":
         target = arguments.object_at(scene, call, target, "reg")
     elif call.ok and flags & RENAME_NOREPLACE and target.node is not None:
         target = scene.absent(target.real)

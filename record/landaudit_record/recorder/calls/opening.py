@@ -110,9 +110,10 @@ def _failed(scene: Scene, thread: Thread, call: Call, base: int | None, path: in
     if call.error == "EEXIST":
         raise CannotSay("EEXIST before Landlock is asked")
     spot = _after_failure(scene, call, spot, flags)
-    made = spot.node is None and bool(flags & O_CREAT)
+    made = spot.node is None and bool(flags & O_CREAT) and call.error != "ELOOP"
+    create = made or (call.error == "EISDIR" and bool(flags & O_CREAT))
     number = thread.process.made_up()
-    _say_open(scene, thread, call, spot, number, flags, made)
+    _say_open(scene, thread, call, spot, number, flags, create)
     if spot.node is not None or made:
         scene.note(thread, call, "close", fd=number)
 
@@ -129,7 +130,7 @@ def _after_failure(scene: Scene, call: Call, spot: Spot, flags: int) -> Spot:
     return arguments.object_at(scene, call, spot, "dir" if flags & O_DIRECTORY else "reg")
 
 
-def _say_open(scene: Scene, thread: Thread, call: Call, spot: Spot, number: int, flags: int, made: bool) -> None:
+def _say_open(scene: Scene, thread: Thread, call: Call, spot: Spot, number: int, flags: int, create: bool) -> None:
     scene.say(
         thread,
         call,
@@ -137,7 +138,7 @@ def _say_open(scene: Scene, thread: Thread, call: Call, spot: Spot, number: int,
         path=spot.path,
         fd=number,
         mode=MODES[flags & ACCESS_MODE],
-        create=made,
+        create=create,
         trunc=bool(flags & O_TRUNC),
         **arguments.shown(spot),
     )
