@@ -65,8 +65,16 @@ def _create_ruleset(scene: Scene, thread: Thread, call: Call) -> None:
         scene.say(thread, call, "create", rs=number, fs=files, net=ports)
 
 
-def _add_rule(scene: Scene, thread: Thread, call: Call) -> None:
+def _ruleset(scene: Scene, thread: Thread, call: Call, flags: int) -> int:
+    """The number of the ruleset that a call is about, of a call without flags; one that names none has its own."""
+    if arguments.number_at(call, flags):
+        raise CannotSay("a call of Landlock's with flags")
     number = scene.descriptor(call.arguments[0]).number
+    return number if number >= 0 else thread.process.made_up()
+
+
+def _add_rule(scene: Scene, thread: Thread, call: Call) -> None:
+    number = _ruleset(scene, thread, call, 3)
     kind = arguments.number_at(call, 1)
     if call.error == "EFAULT":
         return
@@ -103,7 +111,7 @@ def _add_port(scene: Scene, thread: Thread, call: Call, number: int) -> None:
 
 
 def _restrict_self(scene: Scene, thread: Thread, call: Call) -> None:
-    number = scene.descriptor(call.arguments[0]).number
+    number = _ruleset(scene, thread, call, 1)
     restricted = thread.process.restricted
     if call.ok and thread.layers < len(restricted):
         if restricted[thread.layers] != number:

@@ -21,6 +21,8 @@ O_PATH = 0o10000000
 O_TMPFILE = 0o20000000 | O_DIRECTORY
 MODES = ("r", "w", "rw")
 ACCESS_MODE = 0o3
+#: The errors by which the `resolve` flags of openat2(2) end a call before Landlock is asked.
+RESOLVE_ERRORS = frozenset({"EAGAIN", "ELOOP", "EXDEV"})
 #: The name of a file that O_TMPFILE would have made, had it been allowed.
 UNNAMED = f"tmpfile{ABSENT}"
 
@@ -34,7 +36,9 @@ def _openat(scene: Scene, thread: Thread, call: Call) -> None:
 
 
 def _openat2(scene: Scene, thread: Thread, call: Call) -> None:
-    flags = values.member(call.arguments[2], "flags")
+    flags, resolve = (values.member(call.arguments[2], name) for name in ("flags", "resolve"))
+    if call.error in RESOLVE_ERRORS and resolve is not None and values.number(resolve):
+        raise CannotSay("a path that openat2 may not resolve so")
     _opened(scene, thread, call, 0, 1, values.number(flags) if flags else 0)
 
 
@@ -139,7 +143,7 @@ def _say_open(scene: Scene, thread: Thread, call: Call, spot: Spot, number: int,
         fd=number,
         mode=MODES[flags & ACCESS_MODE],
         create=create,
-        trunc=bool(flags & O_TRUNC),
+        trunc=bool(flags & O_TRUNC) and flags & O_TMPFILE != O_TMPFILE,
         **arguments.shown(spot),
     )
 

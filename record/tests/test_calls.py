@@ -1,0 +1,167 @@
+"""What single calls become: by lines of strace written here, over a small listed disk.
+
+The expected records follow from docs/FORMATS.md, "Writing a recorder", and from what a running kernel
+was seen to answer.
+"""
+
+from __future__ import annotations
+
+import tempfile
+import unittest
+from pathlib import Path
+from typing import Any
+
+from landaudit_record import jsonl
+from landaudit_record.recorder import converting, recordings
+from landaudit_record.recorder.ports import Ports
+
+from .kept_logs import bare
+
+CWD = "-100 /* AT_FDCWD */</w>"
+DISK: list[jsonl.Record] = [
+    {"path": "/w", "kind": "dir"},
+    {"path": "/w/d", "kind": "dir"},
+    {"path": "/w/e", "kind": "dir"},
+    {"path": "/w/f", "kind": "reg"},
+    {"path": "/w/p", "kind": "reg", "runs": True},
+    {"path": "/w/text", "kind": "reg"},
+    {"path": "/w/to-d", "kind": "sym", "target": "d"},
+    {"path": "/w/loop", "kind": "sym", "target": "loop"},
+]
+
+
+class Calls(unittest.TestCase):
+    def setUp(self) -> None:
+        folder = tempfile.TemporaryDirectory()
+        self.addCleanup(folder.cleanup)
+        self.out = Path(folder.name)
+
+    def convert(self, *calls: str) -> list[jsonl.Record]:
+        """The records that calls become, without those of the start and of the first program."""
+        about = recordings.About(["p"], "/w", 0.0, False, True, {})
+        about.write(self.out)
+        jsonl.write(self.out / recordings.OBJECTS, DISK)
+        lines = ['10  execve("/w/p", ["p"], 0x1 /* 2 vars */) = 0', *(f"10  {call}" for call in calls)]
+        (self.out / "strace.txt").write_text("".join(line + "\n" for line in lines), encoding="ascii")
+        converting.convert(self.out, Ports())
+        return [record for _, record in jsonl.numbered(self.out / "trace.jsonl") if record["call"] > 1]
+
+    def one(self, *calls: str) -> dict[str, Any]:
+        """The first record that calls become, as landaudit reads it."""
+        return bare(self.convert(*calls)[0])
+
+    def unsaid(self) -> list[str]:
+        return [line["class"] for _, line in jsonl.numbered(self.out / "unsaid.jsonl")]
+
+    def tree(self) -> dict[str, str]:
+        return {line["path"]: line["kind"] for _, line in jsonl.numbered(self.out / "tree.jsonl")}
+
+    def test_a_file_without_a_name_asks_no_make_reg_and_no_truncate(self) -> None:
+        opened = self.one(
+            f'openat({CWD}, "d", 0x410202 /* O_RDWR|O_TRUNC|O_TMPFILE */, 0600) = 3</w/d/#7>(deleted)',
+        )
+        self.assertEqual(opened, {"op": "open", "path": "/w/d/#7", "fd": 3, "mode": "rw"})
+        self.assertEqual(self.tree()["/w/d/#7"], "reg")
+
+    def test_a_file_without_a_name_that_is_refused(self) -> None:
+        refused = self.one(f'openat({CWD}, "d", 0x410002 /* O_RDWR|O_TMPFILE */, 0600) = -1 EACCES (Permission denied)')
+        self.assertEqual((refused["path"], refused.get("create")), ("/w/d/tmpfile~new~", None))
+        self.assertEqual(self.tree()["/w/d/tmpfile~new~"], "reg")
+
+    def test_a_file_without_a_name_where_no_directory_is(self) -> None:
+        missing = self.one(f'openat({CWD}, "f", 0x410002 /* O_RDWR|O_TMPFILE */, 0600) = -1 ENOTDIR (Not a directory)')
+        self.assertEqual((missing["path"], missing.get("create")), ("/w/f~new~", None))
+
+    def test_a_directory_that_is_asked_for_and_is_none_is_not_judged(self) -> None:
+        missing = self.one(f'openat({CWD}, "f", 0x10000 /* O_RDONLY|O_DIRECTORY */) = -1 ENOTDIR (Not a directory)')
+        self.assertEqual(missing["path"], "/w/f~new~")
+
+    def test_creating_a_directory_by_open_is_moot(self) -> None:
+        moot = self.one(f'openat({CWD}, "to-d", 0x40 /* O_RDONLY|O_CREAT */, 0600) = -1 EISDIR (Is a directory)')
+        self.assertEqual((moot["path"], moot["create"]), ("/w/d", True))
+
+    def test_a_loop_of_links_makes_nothing(self) -> None:
+        looped = self.one(f'openat({CWD}, "loop", 0x40 /* O_RDONLY|O_CREAT */, 0600) = -1 ELOOP (Too many levels)')
+        self.assertEqual((looped["path"], looped.get("create")), ("/w/loop~new~", None))
+
+    def test_a_refused_creation_that_made_the_file_is_seen_by_a_later_call(self) -> None:
+        refused, _, later, _ = self.convert(
+            f'openat({CWD}, "n", 0x42 /* O_RDWR|O_CREAT */, 0600) = -1 EACCES (Permission denied)',
+            f'openat({CWD}, "n", 0 /* O_RDONLY */) = -1 EACCES (Permission denied)',
+        )
+        self.assertEqual((refused["path"], refused["create"]), ("/w/n~new~", True))
+        self.assertEqual((later["path"], self.tree()["/w/n"]), ("/w/n", "reg"))
+
+    def test_an_exchange_that_is_refused_says_that_both_are_there(self) -> None:
+        exchange = self.one(
+            f'renameat2({CWD}, "f", {CWD}, "d/g", 0x2 /* RENAME_EXCHANGE */) = -1 EXDEV (Invalid cross-device link)'
+        )
+        self.assertEqual(exchange, {"op": "rename", "from": "/w/f", "to": "/w/d/g", "exchange": True})
+
+    def test_a_path_that_was_one_kind_and_then_another(self) -> None:
+        trace = self.convert(
+            f'unlinkat({CWD}, "f", 0) = 0',
+            f'mkdirat({CWD}, "f", 0700) = 0',
+            f'openat({CWD}, "f/x", 0x41 /* O_WRONLY|O_CREAT */, 0600) = 3</w/f/x>',
+        )
+        self.assertEqual([record["path"] for record in trace], ["/w/f", "/w/f~new~", "/w/f~dir~/x~new~"])
+
+    def test_running_what_may_not_be_run_is_no_question_to_landlock(self) -> None:
+        self.assertEqual(self.convert('execve("/w/text", ["text"], 0x1) = -1 EACCES (Permission denied)'), [])
+        self.assertEqual(self.unsaid(), ["EACCES of what is no file that may be run"])
+
+    def test_calls_of_landlocks_with_flags_are_left_out(self) -> None:
+        rule = "{allowed_access=0x4 /* LANDLOCK_ACCESS_FS_READ_FILE */, parent_fd=3</w>}"
+        beneath = "0x1 /* LANDLOCK_RULE_PATH_BENEATH */"
+        trace = self.convert(
+            "landlock_create_ruleset(NULL, 0, 0x1 /* LANDLOCK_CREATE_RULESET_VERSION */) = 7",
+            f"landlock_add_rule(4, {beneath}, {rule}, 0xffffffff) = -1 EINVAL (Invalid argument)",
+            "landlock_restrict_self(4, 0x80000000) = -1 EINVAL (Invalid argument)",
+        )
+        self.assertEqual(trace, [])
+        self.assertEqual(self.unsaid(), ["a call of Landlock's with flags"] * 2)
+
+    def test_a_ruleset_that_no_number_names(self) -> None:
+        restrict = self.one("landlock_restrict_self(-1, 0) = -1 EBADF (Bad file descriptor)")
+        self.assertEqual(restrict["op"], "restrict")
+        self.assertGreater(restrict["rs"], 1_000_000)
+
+    def test_structures_of_no_known_size_are_left_out(self) -> None:
+        self.assertEqual(self.convert("landlock_create_ruleset(0x7ffe, 0, 0) = -1 EINVAL (Invalid argument)"), [])
+        self.assertEqual(self.unsaid(), ["a ruleset whose structure has no size that is known"])
+
+    def test_what_openat2_may_not_resolve_is_left_out(self) -> None:
+        how = "{flags=0x2 /* O_RDWR */, resolve=0x8 /* RESOLVE_BENEATH */}"
+        trace = self.convert(f'openat2({CWD}, "/etc/passwd", {how}, 24) = -1 EXDEV (Invalid cross-device link)')
+        self.assertEqual(trace, [])
+        self.assertEqual(self.unsaid(), ["a path that openat2 may not resolve so"])
+
+    def test_names_and_paths_that_a_trace_cannot_hold(self) -> None:
+        long = "/".join(["name"] * 900)
+        trace = self.convert(
+            rf'openat({CWD}, "\377", 0 /* O_RDONLY */) = -1 ENOENT (No such file or directory)',
+            f'mkdirat({CWD}, "{long}", 0700) = -1 ENOENT (No such file or directory)',
+        )
+        self.assertEqual(trace, [])
+        self.assertEqual(self.unsaid(), ["a name that is not UTF-8", "a path of more than 4096 bytes"])
+
+    def test_what_only_looks_at_a_file_is_adopted_where_it_is_needed(self) -> None:
+        trace = self.convert(
+            f'openat({CWD}, "f", 0x200000 /* O_RDONLY|O_PATH */) = 3</w/f>',
+            "close(3</w/f>) = 0",
+            "pipe2([3<pipe:[7]>, 4<pipe:[7]>], 0) = 0",
+            "dup2(3<pipe:[7]>, 9) = 9<pipe:[7]>",
+        )
+        self.assertEqual(trace, [])
+
+    def test_umount_and_its_like_are_mounts(self) -> None:
+        trace = self.convert(
+            'umount2("/mnt", 0) = -1 EPERM (Operation not permitted)',
+            'pivot_root("/a", "/b") = -1 EPERM (Operation not permitted)',
+            'move_mount(3, "", 4, "", 0x4) = -1 EPERM (Operation not permitted)',
+        )
+        self.assertEqual([record["op"] for record in trace], ["mount"] * 3)
+
+
+if __name__ == "__main__":
+    unittest.main()
