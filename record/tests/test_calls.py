@@ -154,6 +154,16 @@ class Calls(unittest.TestCase):
         )
         self.assertEqual(trace, [])
 
+    def test_a_number_that_is_used_again_ends_what_had_it(self) -> None:
+        trace = self.convert("fork() = 11", "fork() = 11")
+        self.assertEqual(
+            [(record["op"], record["pid"]) for record in trace], [("fork", 10), ("exit", 11), ("fork", 10)]
+        )
+
+    def test_a_process_that_a_signal_ends_exits(self) -> None:
+        trace = self.convert("fork() = 11", "--- SIGTERM {si_signo=SIGTERM} ---", "+++ killed by SIGTERM +++")
+        self.assertEqual([(record["op"], record["pid"]) for record in trace], [("fork", 10), ("exit", 10)])
+
     def test_umount_and_its_like_are_mounts(self) -> None:
         trace = self.convert(
             'umount2("/mnt", 0) = -1 EPERM (Operation not permitted)',

@@ -179,8 +179,12 @@ class Scene:
     # Processes
 
     def begin(self, birth: Birth, tid: int, call: Call) -> None:
-        """A thread that a fork makes, or a process with a copy of what its maker has."""
+        """A thread that a fork makes, or a process with a copy of what its maker has.
+
+        A number that is used again says that its last thread has ended, if nothing else did.
+        """
         self.begun.add(birth.line)
+        self.end(tid, call.line)
         maker = self.threads.get(birth.maker)
         if maker is None:
             return

@@ -17,6 +17,10 @@ OLDEST = (6, 1)
 #: With its filter (--seccomp-bpf, which makes recording quicker) strace sets no_new_privs on the command.
 SETS_NO_NEW_PRIVS = True
 
+#: Signals that end no process by themselves (signal(7)); all others are kept, since strace tells of a process that
+#: a signal ends only where it keeps the signal.
+HARMLESS_SIGNALS = ("SIGCHLD", "SIGCONT", "SIGURG", "SIGWINCH")
+
 #: The calls that a conversion reads; `?` before a name that an older strace may not know.
 CALLS = """
 execve execveat clone clone3 fork vfork unshare chdir fchdir chroot
@@ -55,7 +59,7 @@ def command_line(log: Path, command: list[str]) -> list[str]:
         "--quiet=attach,personality",
         "--const-print-style=verbose",
         "--decode-fds=path,dev",
-        "--signal=none",
+        f"--signal=!{','.join(HARMLESS_SIGNALS)}",
         "--string-limit=4096",
         "--abbrev=execve,execveat",
         f"--trace={','.join(CALLS)}",
