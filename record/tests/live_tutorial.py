@@ -33,16 +33,18 @@ class Step:
 def steps(document: Path) -> list[Step]:
     """The commands of a document that stand behind `$` in indented blocks."""
     found: list[Step] = []
+    block: Step | None = None
     for line in document.read_text(encoding="utf-8").splitlines():
         if line.startswith("    $ "):
-            found.append(Step(line[6:]))
-        elif line.startswith("    (status ") and found:
-            found[-1].status = int(line.strip("() ").split()[1])
-        elif line.startswith("    ") and found:
-            found[-1].shown.append(line.strip())
-        elif line and found and not line.startswith(" "):
-            found.append(Step(":"))
-    return [step for step in found if step.command != ":" or step.shown]
+            block = Step(line[6:])
+            found.append(block)
+        elif line and not line.startswith("    "):
+            block = None
+        elif block is not None and line.startswith("    (status "):
+            block.status = int(line.strip("() ").split()[1])
+        elif block is not None and line:
+            block.shown.append(line.strip())
+    return found
 
 
 def alike(text: str) -> str:
