@@ -16,12 +16,13 @@ example:
 landaudit:
 	cd crates/landaudit && rt run -- --help
 
-# Tests the recorder, proves everything and runs every test; then refuses the built program each of its
-# requests for memory, and drives it through limits and faults of the system around it.
+# Tests the recorder, proves everything and runs every test; then refuses the built program, and the tests made
+# for it, each of their requests for memory, and drives the program through faults of the system around it.
 test:
 	$(RECORDER_TESTS)
 	rt ci
-	@log=$$(mktemp); { bench/refuse-memory $$(ls crates/landaudit/out/landaudit) && bench/drive; } \
+	@log=$$(mktemp); \
+	{ bench/refuse-memory $$(ls crates/landaudit/out/landaudit) && bench/refuse-tests && bench/drive; } \
 	> $$log 2>&1; status=$$?; test $$status -eq 0 || cat $$log >&2; rm -f $$log; exit $$status
 
 # What needs strace and a kernel with Landlock, and is no part of the gate; says what it skips and why.
