@@ -1,25 +1,69 @@
-# Two commands for a newcomer: `make example` and `make test`.
+# `make example` and `make test` are for newcomers, `make landaudit` and `make install` for users; all are in README.md.
 
-RECORDER_TESTS := python3 -m unittest discover -s record/tests -t record
+UNIT_TESTS = python3 -m unittest discover -s $(1)/tests -t $(1)
 
-EXAMPLE := examples/first-path
-RUN := --abi 4 $(CURDIR)/$(EXAMPLE)/tree.jsonl $(CURDIR)/$(EXAMPLE)/trace.jsonl
+# The proved program.
+PROGRAM := crates/landaudit/out/landaudit
 
-.PHONY: example landaudit test live
+# What `make example` audits: `make example TREE=.. TRACE=.. ABI=..` takes your own files.
+TREE := examples/first-path/tree.jsonl
+TRACE := examples/first-path/trace.jsonl
+ABI := 4
 
-# Builds landaudit without its proofs and audits the example, which refuses a call: status 1.
+# Where `make install` puts what it installs, beneath DESTDIR if that is set.
+PREFIX := /usr/local
+ROOT := $(DESTDIR)$(PREFIX)
+INSTALLED := bin/landaudit bin/landaudit-record \
+	share/man/man1/landaudit.1 share/man/man1/landaudit-record.1 share/man/man5/landaudit.5 \
+	share/bash-completion/completions/landaudit share/bash-completion/completions/landaudit-record \
+	share/zsh/site-functions/_landaudit share/zsh/site-functions/_landaudit-record \
+	share/fish/vendor_completions.d/landaudit.fish share/fish/vendor_completions.d/landaudit-record.fish
+
+.PHONY: example landaudit install uninstall test live
+
+# Builds landaudit without its proofs, and runs it; a refused call (status 1) is an answer as good as another.
 example:
-	@log=$$(mktemp); cd crates/landaudit; rt try -- $(RUN) 2> $$log; status=$$?; \
-	test $$status -eq 1 || cat $$log >&2; rm -f $$log; test $$status -eq 1
+	@tree=$$(realpath '$(TREE)') && trace=$$(realpath '$(TRACE)') || exit; \
+	echo 'building landaudit without its proofs, to audit $(TRACE): a minute or two' >&2; \
+	log=$$(mktemp); cd crates/landaudit; rt try -- --abi '$(ABI)' "$$tree" "$$trace" 2> $$log; status=$$?; \
+	test $$status -lt 2 || grep '^landaudit: ' $$log >&2 || cat $$log >&2; rm -f $$log; test $$status -lt 2
 
 # Proves landaudit and builds it, at crates/landaudit/out/landaudit.
 landaudit:
-	cd crates/landaudit && rt run -- --help
+	@echo 'proving each crate after those that it stands on, and building landaudit: 20 minutes or more'
+	@cd crates/landaudit && ../../packaging/progress rt run -- --help
+	@echo '$(PROGRAM) is there; sudo make install puts it into $(PREFIX)'
 
-# Tests the recorder, proves everything and runs every test; then refuses the built program, and the tests made
-# for it, each of their requests for memory, and drives the program through faults of the system around it.
+# landaudit-record and its modules stay together in share/landaudit; it finds landaudit beside it in bin.
+install:
+	$(if $(wildcard $(PROGRAM)),,$(error landaudit is not built: run 'make landaudit' first))
+	@rm -rf '$(ROOT)/share/landaudit'
+	@for file in landaudit-record $$(cd record && find landaudit_record -name '*.py'); do \
+	install -D -m 644 record/$$file '$(ROOT)'/share/landaudit/$$file || exit 1; done
+	@chmod 755 '$(ROOT)/share/landaudit/landaudit-record'
+	@cd '$(ROOT)' && mkdir -p $(sort $(dir $(INSTALLED)))
+	@ln -sf ../share/landaudit/landaudit-record '$(ROOT)/bin/landaudit-record'
+	@install -m 755 $(PROGRAM) '$(ROOT)/bin/landaudit'
+	@install -m 644 man/landaudit.1 man/landaudit-record.1 '$(ROOT)/share/man/man1'
+	@install -m 644 man/landaudit.5 '$(ROOT)/share/man/man5'
+	@for command in landaudit landaudit-record; do \
+	install -m 644 completions/$$command.bash '$(ROOT)'/share/bash-completion/completions/$$command || exit 1; done
+	@install -m 644 completions/_landaudit completions/_landaudit-record '$(ROOT)/share/zsh/site-functions'
+	@install -m 644 completions/landaudit.fish completions/landaudit-record.fish \
+	'$(ROOT)/share/fish/vendor_completions.d'
+	@echo 'landaudit and landaudit-record are in $(ROOT)/bin'
+
+uninstall:
+	@rm -f $(foreach file,$(INSTALLED),'$(ROOT)/$(file)')
+	@rm -rf '$(ROOT)/share/landaudit'
+	@echo 'landaudit and landaudit-record are gone from $(ROOT)'
+
+# Tests the recorder and the packaging, proves everything and runs every test; then refuses the built program, and
+# the tests made for it, each of their requests for memory, and drives the program through faults of the system
+# around it.
 test:
-	$(RECORDER_TESTS)
+	$(call UNIT_TESTS,record)
+	$(call UNIT_TESTS,packaging)
 	rt ci
 	@log=$$(mktemp); \
 	{ bench/refuse-memory $$(ls crates/landaudit/out/landaudit) && bench/refuse-tests && bench/drive; } \
@@ -27,4 +71,4 @@ test:
 
 # What needs strace and a kernel with Landlock, and is no part of the gate; says what it skips and why.
 live:
-	$(RECORDER_TESTS) -p 'live_*.py' --verbose
+	$(call UNIT_TESTS,record) -p 'live_*.py' --verbose

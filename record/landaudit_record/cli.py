@@ -8,7 +8,7 @@ import signal
 import sys
 from collections.abc import Sequence
 
-from . import commands
+from . import VERSION, commands
 from .problems import Problem
 
 DESCRIPTION = "Record a program, try a Landlock policy on the recording, and read what breaks."
@@ -25,6 +25,7 @@ def parser() -> argparse.ArgumentParser:
         epilog=EPILOG,
         formatter_class=argparse.RawDescriptionHelpFormatter,
     )
+    top.add_argument("-V", "--version", action="version", version=f"landaudit-record {VERSION}")
     subcommands = top.add_subparsers(dest="command", required=True, metavar="SUBCOMMAND")
     for command in commands.ALL:
         sub = subcommands.add_parser(

@@ -5,6 +5,7 @@ from __future__ import annotations
 import os
 import shutil
 import subprocess
+import sys
 from collections.abc import Iterator
 from dataclasses import dataclass
 from pathlib import Path
@@ -31,13 +32,17 @@ class Answer:
 
 
 def find(named: str | None) -> Path:
-    """The program: the one that is named, else the one that `make landaudit` built, else the one on PATH."""
+    """The program that is named, else the one that `make landaudit` built, the installed one, or the one on PATH.
+
+    Where landaudit-record is installed, landaudit lies beside it.
+    """
     if named is not None:
         if os.access(named, os.X_OK) and Path(named).is_file():
             return Path(named)
         raise Problem(f"{named} is no program: give --landaudit the path of landaudit", WANTING)
-    if os.access(BUILT, os.X_OK):
-        return BUILT
+    for program in (BUILT, Path(sys.argv[0]).parent / "landaudit"):
+        if os.access(program, os.X_OK) and program.is_file():
+            return program
     found = shutil.which("landaudit")
     if found is None:
         raise Problem("landaudit is not built: run 'make landaudit', or name it by --landaudit", WANTING)

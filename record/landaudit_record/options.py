@@ -35,7 +35,8 @@ def add_landaudit(parser: argparse.ArgumentParser) -> None:
     parser.add_argument(
         "--landaudit",
         metavar="PATH",
-        help="landaudit itself (where 'make landaudit' puts it, else the one on PATH, if it is left out)",
+        help="landaudit itself (if it is left out, where 'make landaudit' puts it, else beside landaudit-record, "
+        "else on PATH)",
     )
 
 

@@ -12,7 +12,7 @@ import unittest
 from pathlib import Path
 from unittest import mock
 
-from landaudit_record import cli
+from landaudit_record import VERSION, cli
 from landaudit_record.recorder import tracing
 from landaudit_record.recorder.writing import Recording
 
@@ -44,6 +44,14 @@ class CommandLine(unittest.TestCase):
                 self.assertFalse(end.exception.code)
                 example = out.getvalue().partition("example:\n")[2]
                 self.assertIn(f"  landaudit-record {command} ", example)
+
+    def test_the_version(self) -> None:
+        for word in ("-V", "--version"):
+            with self.subTest(word), contextlib.redirect_stdout(io.StringIO()) as out:
+                with self.assertRaises(SystemExit) as end:
+                    cli.main([word])
+                self.assertFalse(end.exception.code)
+                self.assertEqual(out.getvalue(), f"landaudit-record {VERSION}\n")
 
     def test_wrong_words_are_status_2(self) -> None:
         for words in ([], ["nosuch"], ["audit"], ["audit", "rec", "--abi", "6"]):

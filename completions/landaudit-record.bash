@@ -1,0 +1,62 @@
+# Completion of landaudit-record for bash.
+
+# The options of a subcommand, or what can stand in its place.
+_landaudit_record_words() {
+    case $1 in
+        run) echo '-h --help --watch --port-rules --' ;;
+        convert) echo '-h --help --port-rules' ;;
+        policy) echo '-h --help --out --tree --program --abi' ;;
+        audit) echo '-h --help --policy --program --abi --json --landaudit' ;;
+        compare) echo '-h --help --abi --json --differences --landaudit' ;;
+        suggest) echo '-h --help --policy --program --abi --landaudit' ;;
+        *) echo 'run convert policy audit compare suggest -h --help -V --version' ;;
+    esac
+}
+
+# The command behind the dashes, which stand at a place of the line.
+_landaudit_record_command() {
+    if declare -F _command_offset > /dev/null; then
+        _command_offset $(($1 + 1))
+    elif ((COMP_CWORD == $1 + 1)); then
+        mapfile -t COMPREPLY < <(compgen -c -- "$cur")
+    fi
+}
+
+_landaudit_record() {
+    local cur=${COMP_WORDS[COMP_CWORD]} prev=${COMP_WORDS[COMP_CWORD - 1]} sub= i
+    # With an empty answer bash completes names of files.
+    COMPREPLY=()
+    ((COMP_CWORD > 1)) && sub=${COMP_WORDS[1]}
+    for ((i = 2; i < COMP_CWORD; i++)); do
+        if [[ $sub == run && ${COMP_WORDS[i]} == -- ]]; then
+            _landaudit_record_command "$i"
+            return
+        fi
+    done
+    # --abi=4 comes as three words.
+    if [[ $cur == = ]]; then
+        cur=
+    elif [[ $prev == = ]]; then
+        prev=${COMP_WORDS[COMP_CWORD - 2]}
+    fi
+    case $prev in
+        --abi) mapfile -t COMPREPLY < <(compgen -W '1 2 3 4 5' -- "$cur") ;;
+        --program) mapfile -t COMPREPLY < <(compgen -c -- "$cur") ;;
+        --policy | --port-rules)
+            compopt -o filenames 2> /dev/null
+            mapfile -t COMPREPLY < <(compgen -f -X '!*.toml' -- "$cur"; compgen -d -- "$cur")
+            ;;
+        --watch)
+            compopt -o filenames 2> /dev/null
+            mapfile -t COMPREPLY < <(compgen -d -- "$cur")
+            ;;
+        --out | --tree | --differences | --landaudit) ;;
+        *)
+            if [[ -z $sub || $cur == -* ]]; then
+                mapfile -t COMPREPLY < <(compgen -W "$(_landaudit_record_words "$sub")" -- "$cur")
+            fi
+            ;;
+    esac
+}
+
+complete -o bashdefault -o default -F _landaudit_record landaudit-record

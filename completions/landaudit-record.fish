@@ -1,0 +1,41 @@
+# Completion of landaudit-record for fish.
+
+function __landaudit_record_has --description 'The subcommand is one of these, and no command stands behind it yet'
+    set -l words (commandline -opc)
+    contains -- "$words[2]" $argv; and not contains -- -- $words
+end
+
+function __landaudit_record_runs --description 'A command of its own stands behind the dashes'
+    set -l words (commandline -opc)
+    test "$words[2]" = run; and contains -- -- $words
+end
+
+function __landaudit_record_command --description 'Completes the command behind the dashes'
+    set -l words (commandline -opc)
+    set -l behind $words[(math (contains -i -- -- $words) + 1)..-1]
+    complete -C "$(string join ' ' -- (string escape -- $behind) (commandline -ct))"
+end
+
+complete -c landaudit-record -f
+complete -c landaudit-record -s h -l help -n 'not __landaudit_record_runs' -d 'Print help'
+complete -c landaudit-record -n __fish_is_first_arg -s V -l version -d 'Print the version'
+complete -c landaudit-record -n __fish_is_first_arg -a run -d 'Record a command'
+complete -c landaudit-record -n __fish_is_first_arg -a convert -d 'Write the tree and the trace of a recording again'
+complete -c landaudit-record -n __fish_is_first_arg -a policy -d 'Write a trace in which the program starts under a policy'
+complete -c landaudit-record -n __fish_is_first_arg -a audit -d 'Say what a policy would refuse'
+complete -c landaudit-record -n __fish_is_first_arg -a compare -d 'Compare the answers with what the kernel did'
+complete -c landaudit-record -n __fish_is_first_arg -a suggest -d 'Print rules that let the refused calls pass'
+
+complete -c landaudit-record -n '__landaudit_record_has run convert audit compare suggest' -a '(__fish_complete_directories)'
+complete -c landaudit-record -n '__landaudit_record_has policy' -F
+complete -c landaudit-record -n '__landaudit_record_has run' -l watch -x -a '(__fish_complete_directories)' -d 'Directory to list before the run'
+complete -c landaudit-record -n '__landaudit_record_has run convert' -l port-rules -r -F -d 'Policy that the command puts on itself'
+complete -c landaudit-record -n '__landaudit_record_has audit suggest' -l policy -r -F -d 'Policy to try'
+complete -c landaudit-record -n '__landaudit_record_has policy audit suggest' -l program -x -a '(__fish_complete_command)' -d 'Put the policy before each run of this program'
+complete -c landaudit-record -n '__landaudit_record_has policy audit compare suggest' -l abi -x -a '1 2 3 4 5' -d 'Version of the interface of Landlock'
+complete -c landaudit-record -n '__landaudit_record_has audit compare' -l json -d 'Print the same as data'
+complete -c landaudit-record -n '__landaudit_record_has audit compare suggest' -l landaudit -r -F -d 'landaudit itself'
+complete -c landaudit-record -n '__landaudit_record_has policy' -l out -r -F -d 'Where the trace goes'
+complete -c landaudit-record -n '__landaudit_record_has policy' -l tree -r -F -d 'Tree'
+complete -c landaudit-record -n '__landaudit_record_has compare' -l differences -r -F -d 'Write each difference'
+complete -c landaudit-record -n __landaudit_record_runs -a '(__landaudit_record_command)'

@@ -1,0 +1,164 @@
+"""Completions offer just the options and subcommands that the programs have: asked of each shell that is installed."""
+
+from __future__ import annotations
+
+import os
+import pty
+import re
+import select
+import shutil
+import subprocess
+import unittest
+
+from . import options
+from .places import COMPLETIONS
+
+BASH = """
+source "$1/landaudit.bash"
+source "$1/landaudit-record.bash"
+read -ra COMP_WORDS <<< "$2"
+[[ $2 == *' ' ]] && COMP_WORDS+=('')
+COMP_CWORD=$((${#COMP_WORDS[@]} - 1))
+eval "_${COMP_WORDS[0]//-/_}"
+printf '%s\\n' "${COMPREPLY[@]}"
+"""
+FISH = "for file in $argv[1]/*.fish; source $file; end; complete -C $argv[2]"
+
+#: Completions are added by compadd, which here also prints what it adds; with -O, -A or -D it adds nothing.
+ZSH = """
+autoload -Uz compinit; compinit -u -D
+compadd() {
+    if [[ "${@[1,(i)(-|--)]}" == *-(O|A|D)* ]]; then builtin compadd "$@"; return; fi
+    local -a matches
+    builtin compadd -A matches "$@"
+    builtin compadd "$@"
+    local added=$?
+    print -rn -- "<match "${^matches}">"
+    return added
+}
+the_end() { compstate[insert]=; compstate[list]=; print -rn -- 'the' 'end'; comppostfuncs=(the_end) }
+comppostfuncs=(the_end)
+"""
+
+
+def bash(line: str) -> set[str]:
+    """What bash offers, by the functions that it calls."""
+    run = subprocess.run(
+        ["bash", "--norc", "-c", BASH, "bash", COMPLETIONS, line], capture_output=True, text=True, check=True
+    )
+    return set(run.stdout.split())
+
+
+def fish(line: str) -> set[str]:
+    """What fish offers."""
+    run = subprocess.run(
+        ["fish", "--no-config", "-c", FISH, COMPLETIONS, line], capture_output=True, text=True, check=True
+    )
+    return {found.partition("\t")[0] for found in run.stdout.splitlines()}
+
+
+class Zsh:
+    """A zsh on a terminal, where alone it completes; it prints each match, and a word at the end of all."""
+
+    def __init__(self) -> None:
+        self._child, self._terminal = pty.fork()
+        if self._child == 0:
+            os.execvp("zsh", ["zsh", "-f", "-i"])
+        self._send(f"fpath=({COMPLETIONS} $fpath)\n{ZSH}print -r -- the'' end\n")
+
+    def __call__(self, line: str) -> set[str]:
+        """What zsh offers. The line is killed afterwards (Control-U)."""
+        found = self._send(f"{line}\t\x15")
+        return {match.rstrip("=") for match in re.findall(r"<match (.*?)>", found)}
+
+    def close(self) -> None:
+        """Ends the shell."""
+        os.close(self._terminal)
+        os.waitpid(self._child, 0)
+
+    def _send(self, text: str) -> str:
+        """Sends text to the terminal, and gives what comes back up to the end, for which it waits ten seconds."""
+        os.write(self._terminal, text.encode())
+        found = ""
+        while "the end" not in found and select.select([self._terminal], [], [], 10)[0]:
+            found += os.read(self._terminal, 65536).decode(errors="replace")
+        return found
+
+
+class Asked:
+    """What each shell has to offer."""
+
+    def assert_offers(self, line: str, wanted: set[str]) -> None:
+        """Sees what a shell offers for the last word of a line."""
+        raise NotImplementedError
+
+    def test_the_options_of_landaudit(self) -> None:
+        self.assert_offers("landaudit -", options.of_landaudit())
+
+    def test_the_abis_of_landaudit(self) -> None:
+        self.assert_offers("landaudit --abi ", {"1", "2", "3", "4", "5"})
+
+    def test_the_subcommands(self) -> None:
+        self.assert_offers("landaudit-record ", set(options.subcommands()))
+
+    def test_the_options_before_a_subcommand(self) -> None:
+        self.assert_offers("landaudit-record -", options.of_landaudit_record())
+
+    def test_the_options_of_each_subcommand(self) -> None:
+        for name, having in options.subcommands().items():
+            self.assert_offers(f"landaudit-record {name} -", having)
+
+    def test_a_folder_named_as_a_subcommand(self) -> None:
+        self.assert_offers("landaudit-record convert run -", options.subcommands()["convert"])
+
+    def test_the_abis_of_landaudit_record(self) -> None:
+        self.assert_offers("landaudit-record audit rec --abi ", {"1", "2", "3", "4", "5"})
+
+
+@unittest.skipUnless(shutil.which("bash"), "bash is not installed")
+class OfBash(Asked, unittest.TestCase):
+    def assert_offers(self, line: str, wanted: set[str]) -> None:
+        """Bash offers the options beside the subcommands too, and the dashes before a command."""
+        with self.subTest(line):
+            offered = {word for word in bash(line) if not word.startswith("-") or line.endswith("-")} - {"--"}
+            self.assertEqual(offered, wanted)
+
+    def test_an_option_with_a_sign(self) -> None:
+        self.assertEqual(bash("landaudit --abi = 4"), {"4"})
+
+    def test_a_command_behind_the_dashes(self) -> None:
+        self.assertIn("bash", bash("landaudit-record run rec -- bas"))
+        self.assertEqual(bash("landaudit-record run rec -- bash --watch"), set())
+
+
+@unittest.skipUnless(shutil.which("fish"), "fish is not installed")
+class OfFish(Asked, unittest.TestCase):
+    def assert_offers(self, line: str, wanted: set[str]) -> None:
+        with self.subTest(line):
+            self.assertEqual(fish(line), wanted)
+
+    def test_a_command_behind_the_dashes(self) -> None:
+        self.assertIn("bash", fish("landaudit-record run rec -- bas"))
+        self.assertNotIn("--watch", fish("landaudit-record run rec -- bash --w"))
+
+
+@unittest.skipUnless(shutil.which("zsh"), "zsh is not installed")
+class OfZsh(Asked, unittest.TestCase):
+    zsh: Zsh
+
+    @classmethod
+    def setUpClass(cls) -> None:
+        cls.zsh = Zsh()
+        cls.addClassCleanup(cls.zsh.close)
+
+    def assert_offers(self, line: str, wanted: set[str]) -> None:
+        with self.subTest(line):
+            self.assertEqual(self.zsh(line), wanted)
+
+    def test_a_command_behind_the_dashes(self) -> None:
+        self.assertIn("bash", self.zsh("landaudit-record run rec -- bas"))
+        self.assertNotIn("--watch", self.zsh("landaudit-record run rec -- bash --w"))
+
+
+if __name__ == "__main__":
+    unittest.main()

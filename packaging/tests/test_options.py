@@ -1,0 +1,69 @@
+"""The manual pages name just the options that the programs have."""
+
+from __future__ import annotations
+
+import re
+import subprocess
+import unittest
+
+from . import options
+from .places import BUILT, MAN
+
+#: The words behind `Fl`: `-abi Ar N`, or `h , -help`.
+FLAG = re.compile(r"\bFl ((?:-{0,2}[\w-]+)(?: [|,] -{0,2}[\w-]+)*)")
+
+
+def flags(lines: str) -> set[str]:
+    """The options that lines of a manual page name."""
+    return {f"-{word}" for found in FLAG.findall(lines) for word in re.split(r" [|,] ", found)} - {"--"}
+
+
+def items(page: str) -> set[str]:
+    """The options that have an item of their own."""
+    return flags("\n".join(re.findall(r"^\.It Fl .*$", page, re.MULTILINE)))
+
+
+def section(page: str, name: str) -> str:
+    """A section of a page, without its heading."""
+    return page.partition(f".Sh {name}\n")[2].partition("\n.Sh ")[0]
+
+
+class Landaudit(unittest.TestCase):
+    def setUp(self) -> None:
+        self.page = (MAN / "landaudit.1").read_text(encoding="utf-8")
+
+    def test_the_source_has_the_options_that_its_documents_name(self) -> None:
+        self.assertEqual(options.of_landaudit(), {"--abi", "--workers", "--grain", "-h", "--help"})
+
+    def test_each_option_has_an_item(self) -> None:
+        self.assertEqual(items(self.page), options.of_landaudit())
+
+    def test_the_synopsis(self) -> None:
+        self.assertEqual(flags(section(self.page, "SYNOPSIS")), options.of_landaudit())
+
+    @unittest.skipUnless(BUILT.exists(), f"{BUILT} is not built")
+    def test_the_help_of_the_built_program(self) -> None:
+        run = subprocess.run([BUILT, "--help"], capture_output=True, text=True, check=True)
+        self.assertEqual(set(re.findall(r"(?<![\w-])--?\w[\w-]*", run.stdout)), options.of_landaudit())
+
+
+class LandauditRecord(unittest.TestCase):
+    def setUp(self) -> None:
+        self.page = (MAN / "landaudit-record.1").read_text(encoding="utf-8")
+
+    def test_each_option_has_an_item(self) -> None:
+        having = options.of_landaudit_record().union(*options.subcommands().values())
+        self.assertEqual(items(self.page), having)
+
+    def test_each_subcommand_has_an_item(self) -> None:
+        self.assertEqual(set(re.findall(r"^\.It Cm (\w+)$", self.page, re.MULTILINE)), set(options.subcommands()))
+
+    def test_the_synopsis_of_each_subcommand(self) -> None:
+        blocks = section(self.page, "SYNOPSIS").split(".Nm\n")
+        shown = {words[1]: flags(block) for block in blocks if (words := re.match(r"\.Cm (\w+)\n", block))}
+        wanted = {name: having - {"-h", "--help"} for name, having in options.subcommands().items()}
+        self.assertEqual(shown, wanted)
+
+
+if __name__ == "__main__":
+    unittest.main()
