@@ -6,9 +6,11 @@ import os
 import pty
 import re
 import select
+import shlex
 import shutil
 import subprocess
 import unittest
+from pathlib import Path
 
 from . import options
 from .places import COMPLETIONS
@@ -60,11 +62,11 @@ def fish(line: str) -> set[str]:
 class Zsh:
     """A zsh on a terminal, where alone it completes; it prints each match, and a word at the end of all."""
 
-    def __init__(self) -> None:
+    def __init__(self, folder: Path) -> None:
         self._child, self._terminal = pty.fork()
         if self._child == 0:
             os.execvp("zsh", ["zsh", "-f", "-i"])
-        self._send(f"fpath=({COMPLETIONS} $fpath)\n{ZSH}print -r -- the'' end\n")
+        self._send(f"fpath=({shlex.quote(str(folder))} $fpath)\n{ZSH}print -r -- the'' end\n")
 
     def __call__(self, line: str) -> set[str]:
         """What zsh offers. The line is killed afterwards (Control-U)."""
@@ -148,7 +150,7 @@ class OfZsh(Asked, unittest.TestCase):
 
     @classmethod
     def setUpClass(cls) -> None:
-        cls.zsh = Zsh()
+        cls.zsh = Zsh(COMPLETIONS)
         cls.addClassCleanup(cls.zsh.close)
 
     def assert_offers(self, line: str, wanted: set[str]) -> None:

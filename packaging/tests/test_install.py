@@ -11,12 +11,14 @@ from pathlib import Path
 
 from landaudit_record import VERSION
 
-from .places import BUILT, MAN, TOP
+from .places import BUILT, TOP
+from .test_completions import Zsh
 
 #: Stands for the program where it isn't built: says so, and where it was run from.
 STAND_IN = '#!/bin/sh\necho "landaudit: a stand-in at $0" >&2\nexit 4\n'
 #: A kept log of strace, which converts without strace.
 LOG = TOP / "record" / "tests" / "logs" / "forks"
+BASH_COMPLETION = Path("/usr/share/bash-completion/bash_completion")
 
 
 def files(root: Path) -> set[str]:
@@ -98,6 +100,29 @@ class Install(unittest.TestCase):
                 found = self.said("man", "-M", self.prefix / "share" / "man", "-w", number, name)
                 self.assertEqual(found, (0, f"{self.prefix}/share/man/man{number}/{name}.{number}\n"))
 
+    @unittest.skipUnless(BASH_COMPLETION.exists(), "bash-completion is not installed")
+    def test_bash_finds_the_completions(self) -> None:
+        self.make("install")
+        code = f". {BASH_COMPLETION}; for c in landaudit landaudit-record; do _completion_loader $c; complete -p $c; done"
+        status, text = self.said("bash", "--norc", "-c", code, XDG_DATA_DIRS=f"{self.prefix}/share")
+        self.assertEqual(status, 0)
+        self.assertRegex(text, r"\A.* -F _landaudit landaudit\n.* -F _landaudit_record landaudit-record\n\Z")
+
+    @unittest.skipUnless(shutil.which("fish"), "fish is not installed")
+    def test_fish_finds_the_completions(self) -> None:
+        self.make("install")
+        places = {"XDG_DATA_DIRS": f"{self.prefix}/share", "PATH": f"{self.prefix}/bin:{os.environ['PATH']}"}
+        self.assertIn("--grain\t", self.said("fish", "-c", "complete -C 'landaudit --'", **places)[1])
+        self.assertIn("suggest\t", self.said("fish", "-c", "complete -C 'landaudit-record '", **places)[1])
+
+    @unittest.skipUnless(shutil.which("zsh"), "zsh is not installed")
+    def test_zsh_finds_the_completions(self) -> None:
+        self.make("install")
+        zsh = Zsh(self.prefix / "share" / "zsh" / "site-functions")
+        self.addCleanup(zsh.close)
+        self.assertIn("--grain", zsh("landaudit --"))
+        self.assertIn("suggest", zsh("landaudit-record "))
+
     def test_nothing_is_left(self) -> None:
         for folder in ("bin", "share/man/man1"):
             (self.prefix / folder).mkdir(parents=True)
@@ -131,9 +156,16 @@ class Install(unittest.TestCase):
         self.assertEqual(self.make("uninstall").returncode, 0)
         self.assertFalse(self.scratch.exists())
 
-    def said(self, *words: str | Path) -> tuple[int, str]:
+    def said(self, *words: str | Path, **variables: str) -> tuple[int, str]:
         """The status of a command, and what it prints to either output."""
-        run = subprocess.run(words, stdout=subprocess.PIPE, stderr=subprocess.STDOUT, text=True, check=False)
+        run = subprocess.run(
+            words,
+            stdout=subprocess.PIPE,
+            stderr=subprocess.STDOUT,
+            text=True,
+            check=False,
+            env={**os.environ, "HOME": str(self.root), **variables},
+        )
         return run.returncode, run.stdout
 
 
