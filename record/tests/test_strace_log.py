@@ -37,6 +37,18 @@ class Lines(unittest.TestCase):
         assert isinstance(call, Call)
         self.assertEqual(call.arguments, ["[3, 4]", "{a=1, b=[2, 3]}", '"}"'])
 
+    def test_commas_and_brackets_of_names_part_no_arguments(self) -> None:
+        (call,) = read(r'1  f(3</a, b>, "c, \"d", 4</e)>, 0 /* F, G */) = 5</h, i>')
+        assert isinstance(call, Call)
+        self.assertEqual(call.arguments, ["3</a, b>", r'"c, \"d"', "4</e)>", "0 /* F, G */"])
+        self.assertEqual((call.value, call.note), (5, "</h, i>"))
+
+    def test_a_call_that_is_read_twice_is_told_twice(self) -> None:
+        first, second = read("1  close(3</a>) = 0", "2  close(3</a>) = 0")
+        assert isinstance(first, Call) and isinstance(second, Call)
+        self.assertEqual((first.line, first.tid, first.arguments), (1, 1, ["3</a>"]))
+        self.assertEqual((second.line, second.tid, second.arguments), (2, 2, ["3</a>"]))
+
     def test_a_call_without_arguments(self) -> None:
         (call,) = read("1  vfork() = 2")
         assert isinstance(call, Call)

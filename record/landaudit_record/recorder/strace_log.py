@@ -10,10 +10,11 @@ from __future__ import annotations
 import gzip
 import re
 from collections import deque
-from collections.abc import Iterator
+from collections.abc import Iterator, Sequence
 from dataclasses import dataclass, field
+from functools import lru_cache
 from pathlib import Path
-from typing import TextIO
+from typing import NamedTuple, TextIO
 
 from . import values
 from ..problems import Problem
@@ -21,11 +22,22 @@ from ..problems import Problem
 UNFINISHED = " <unfinished ...>"
 
 _LINE = re.compile(r"(\d+) +(.*)")
+_NO_CALL = ("+++ ", "--- ", "<... ")
 _RESUMED = re.compile(r"<\.\.\. (\w+) resumed>")
-_RESULT = re.compile(r"\)\s*= (-?\d+|0x[0-9a-f]+|\?)(.*)", re.DOTALL)
+_NAME = re.compile(r"(\w+)\(")
+_RESULT = r"\)\s*= (-?\d+|0x[0-9a-f]+|\?)(.*)"
+_ENDING = re.compile(_RESULT)
 _ERROR = re.compile(r" (E[A-Z0-9]+) ")
 _SUPERSEDED = re.compile(r"superseded by execve in pid (\d+)")
-_PIECE = re.compile(r'"(?:[^"\\]|\\.)*"|/\*.*?\*/|<(?:[^<>]|<[^<>]*>)*>|[()\[\]{},]')
+_PIECE = re.compile(r'"[^"\\]*(?:\\.[^"\\]*)*"|/\*.*?\*/|<[^<>]*(?:<[^<>]*>[^<>]*)*>|[()\[\]{},]')
+#: What most arguments are made of: no brackets, and no comma in a text, a comment or what stands behind a descriptor.
+_USUAL_PARTS = (
+    r'[^"/<>()\[\]{}]++',
+    r'"[^"\\,]*+(?:\\[^,][^"\\,]*+)*+"',
+    r"/\*[^*,]*+\*/",
+    r"<[^<>,]*+(?:<[^<>,]*+>[^<>,]*+)*+>",
+)
+_USUAL_CALL = re.compile(rf"(\w+)\(((?:{'|'.join(_USUAL_PARTS)})*+){_RESULT}")
 _FORKS = r"(?:clone3?|v?fork)"
 _FORK = re.compile(rf"(\d+) +(?:{_FORKS}\(.*|<\.\.\. {_FORKS} resumed>.*)\)\s*= (\d+)$")
 _FORK_BEGINS = re.compile(rf"(\d+) +{_FORKS}\(.*<unfinished \.\.\.>$")
@@ -43,7 +55,7 @@ class Call:
     line: int
     tid: int
     name: str
-    arguments: list[str]
+    arguments: Sequence[str]
     value: int | None
     error: str | None
     note: str
@@ -160,15 +172,10 @@ def _event(number: int, tid: int, text: str, pending: dict[int, tuple[int, str]]
     if text.endswith(UNFINISHED):
         pending[tid] = (number, text[: -len(UNFINISHED)])
         return None
+    if not text.startswith(_NO_CALL):
+        return _call(number, tid, text)
     if text.startswith("+++ "):
-        superseded = _SUPERSEDED.search(text)
-        if superseded is None:
-            pending.pop(tid, None)
-            return Ended(number, tid)
-        by = int(superseded[1])
-        if by in pending:
-            pending[tid] = pending.pop(by)
-        return Superseded(number, tid, by)
+        return _end(number, tid, text, pending)
     if text.startswith("--- "):
         return None
     resumed = _RESUMED.match(text)
@@ -180,19 +187,55 @@ def _event(number: int, tid: int, text: str, pending: dict[int, tuple[int, str]]
     return _call(begun[0], tid, begun[1] + text[resumed.end() :])
 
 
+def _end(number: int, tid: int, text: str, pending: dict[int, tuple[int, str]]) -> Event:
+    superseded = _SUPERSEDED.search(text)
+    if superseded is None:
+        pending.pop(tid, None)
+        return Ended(number, tid)
+    by = int(superseded[1])
+    if by in pending:
+        pending[tid] = pending.pop(by)
+    return Superseded(number, tid, by)
+
+
 def _call(number: int, tid: int, text: str) -> Event:
-    opening = text.find("(")
-    name = text[:opening]
-    if opening < 1 or not name.replace("_", "a").isalnum():
-        return Unread(number, tid, text)
-    arguments, end = split_arguments(text, opening + 1)
-    result = _RESULT.match(text, end)
-    if result is None:
-        return Unread(number, tid, text)
-    value = None if result[1] == "?" else int(result[1], 0)
-    error = _ERROR.match(result[2])
-    failed = error[1] if error is not None and (value is None or value == -1) else None
-    return Call(number, tid, name, arguments, value, failed, result[2], text)
+    said = _said(text)
+    return Unread(number, tid, text) if said is None else Call(number, tid, *said, text)
+
+
+class _Said(NamedTuple):
+    """What the text of a call says, as `Call` has it."""
+
+    name: str
+    arguments: Sequence[str]
+    value: int | None
+    error: str | None
+    note: str
+
+
+@lru_cache(values.KEPT)
+def _said(text: str) -> _Said | None:
+    """What a text says, if it is the text of a call that ended."""
+    parts = _parts(text)
+    if parts is None:
+        return None
+    name, arguments, result, note = parts
+    value = None if result == "?" else int(result, 0)
+    error = _ERROR.match(note) if value is None or value == -1 else None
+    return _Said(name, arguments, value, error[1] if error is not None else None, note)
+
+
+def _parts(text: str) -> tuple[str, list[str], str, str] | None:
+    """The name of a call, its arguments, its result and the note behind it."""
+    if usual := _USUAL_CALL.match(text):
+        arguments = [argument.strip() for argument in usual[2].split(",")] if usual[2] else []
+        return usual[1], arguments, usual[3], usual[4]
+    opening = _NAME.match(text)
+    if opening is None:
+        return None
+    arguments, end = split_arguments(text, opening.end())
+    ending = _ENDING.match(text, end)
+    return (opening[1], arguments, ending[1], ending[2]) if ending is not None else None
 
 
 def split_arguments(text: str, start: int) -> tuple[list[str], int]:

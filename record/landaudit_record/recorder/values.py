@@ -3,7 +3,7 @@
 from __future__ import annotations
 
 import re
-from dataclasses import dataclass
+from dataclasses import dataclass, field
 from functools import lru_cache
 
 _ESCAPE = re.compile(rb"\\(x[0-9a-f]{2}|[0-7]{1,3}|.)", re.DOTALL)
@@ -19,17 +19,20 @@ _DEVICE = re.compile(r"<(char|block) \d+:\d+>$")
 
 @dataclass(frozen=True, slots=True)
 class Descriptor:
-    """A descriptor's number, and what strace says of it: a path, or a name as `pipe:[1]`, and the kind of a device."""
+    """A descriptor's number, and what strace says of it: a path, or a name as `pipe:[1]`, and the kind of a device.
+
+    `path` is the path behind it, if it has one.
+    """
 
     number: int
     behind: str | None
     device: str | None = None
     deleted: bool = False
+    path: str | None = field(init=False)
 
-    @property
-    def path(self) -> str | None:
-        """The path behind it, if it has one."""
-        return self.behind if self.behind is not None and self.behind.startswith("/") else None
+    def __post_init__(self) -> None:
+        path = self.behind if self.behind is not None and self.behind.startswith("/") else None
+        object.__setattr__(self, "path", path)
 
 
 def _unescaped(match: re.Match[bytes]) -> bytes:
