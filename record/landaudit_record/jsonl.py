@@ -4,6 +4,7 @@ from __future__ import annotations
 
 import json
 from collections.abc import Iterable, Iterator
+from functools import lru_cache
 from pathlib import Path
 from typing import Any
 
@@ -12,6 +13,8 @@ from .problems import Problem
 Record = dict[str, Any]
 
 _encode = json.JSONEncoder(ensure_ascii=False, separators=(",", ":")).encode
+#: Records repeat their texts: so many different ones are kept as they are written.
+_encode_text = lru_cache(16_384)(_encode)
 
 
 def numbered(path: Path) -> Iterator[tuple[int, Record]]:
@@ -33,6 +36,15 @@ def _object(path: Path, number: int, line: bytes) -> Record:
     if not isinstance(value, dict):
         raise Problem(f"{path} line {number} is no JSON object")
     return value
+
+
+def value(of: Any) -> str:
+    """A value as JSON: a text, a number or a flag, as most members are, without setting up an encoder for it."""
+    if isinstance(of, str):
+        return _encode_text(of)
+    if of is True:
+        return "true"
+    return str(of) if type(of) is int else _encode(of)
 
 
 def line(record: Record) -> str:

@@ -65,14 +65,13 @@ class Scene:
         """Writes a record of something that Landlock judges, with what the kernel answered."""
         if thread.layers < len(thread.process.restricted):
             raise CannotSay("a call of a thread with fewer layers than its process")
-        self.note(thread, call, op, **members, kernel=call.error or "ok")
+        self.note(thread, call, op, call.error or "ok", **members)
 
-    def note(self, thread: Thread, call: Call, op: str, **members: Any) -> None:
-        """Writes a record that only keeps the books."""
+    def note(self, thread: Thread, call: Call, op: str, kernel: str | None = None, **members: Any) -> None:
+        """Writes a record that only keeps the books, where the kernel's answer is not said."""
         if not thread.process.in_trace:
             raise CannotSay("a call of a process that the trace has no room for")
-        kernel = members.pop("kernel", None)
-        self.recording.write(op, thread.process.pid, **members, call=call.line, kernel=kernel)
+        self.recording.write(op, thread.process.pid, call.line, kernel, **members)
 
     def leave_out(self, thread: Thread, call: Call, reason: str) -> None:
         """Counts something about a call that trace and tree can't hold."""
@@ -103,10 +102,13 @@ class Scene:
 
     def written(self, found: Found) -> Spot:
         """What a resolved path names, as the trace writes it."""
-        real = checked_path(found.path)
         if found.node is not None:
-            return Spot(self.tree.place(real, found.node.kind, found.node.target), real, found.node, True)
-        return self.absent(real, found.broken or 0, found.in_directory)
+            return self.there(found.path, found.node)
+        return self.absent(checked_path(found.path), found.broken or 0, found.in_directory)
+
+    def there(self, real: str, node: Node) -> Spot:
+        """An object at a real path."""
+        return Spot(self.tree.place(checked_path(real), node.kind, node.target), real, node, True)
 
     def absent(self, real: str, count: int | None = None, in_directory: bool = True) -> Spot:
         """A name that is not there; the object over it is at the first `count` names, all but the last if not said."""
@@ -122,8 +124,7 @@ class Scene:
 
     def present(self, real: str, kind: str) -> Spot:
         """An object that is known to be there, whatever was known of it before."""
-        node = self.names.ensure(checked_path(real), kind)
-        return Spot(self.tree.place(real, node.kind, node.target), real, node, True)
+        return self.there(real, self.names.ensure(checked_path(real), kind))
 
     def as_missing(self, spot: Spot) -> Spot:
         """The same name, now that the kernel says that nothing is there."""
@@ -214,7 +215,7 @@ class Scene:
         """A process that is there when the trace begins."""
         self._join(thread)
         self.processes[thread.process.pid] = thread.process
-        self.recording.write("start", thread.process.pid, **flags, call=call.line)
+        self.recording.write("start", thread.process.pid, call.line, **flags)
         thread.process.in_trace = True
 
     def end(self, tid: int, line: int) -> None:
@@ -227,7 +228,7 @@ class Scene:
             del self.processes[thread.process.pid]
             self.names.put(f"/proc/{thread.process.pid}", None)
             if thread.process.in_trace:
-                self.recording.write("exit", thread.process.pid, call=line)
+                self.recording.write("exit", thread.process.pid, line)
 
 
 @dataclass(frozen=True)

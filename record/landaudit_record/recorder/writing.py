@@ -91,7 +91,7 @@ class Recording:
         self._trace.close()
         self._unsaid.close()
 
-    def write(self, op: str, pid: int, **members: Any) -> None:
+    def write(self, op: str, pid: int, call: int, kernel: str | None = None, **members: Any) -> None:
         """Adds a record; members that are None or false are left out."""
         if self.records >= MOST_RECORDS:
             raise CannotSay(f"a record past the trace's limit of {MOST_RECORDS:,}")
@@ -99,11 +99,16 @@ class Recording:
             if self.processes >= MOST_PROCESSES:
                 raise CannotSay(f"a process past the trace's limit of {MOST_PROCESSES:,}")
             self.processes += 1
-        record: jsonl.Record = {"op": op, "pid": pid}
-        record.update((name, value) for name, value in members.items() if value is not None and value is not False)
-        if op == "ioctl":
-            record["driver"] = members["driver"]
-        self._trace.write(jsonl.line(record))
+        line = f'{{"op":"{op}","pid":{pid}'
+        for name, value in members.items():
+            if value is not None and value is not False:
+                line += f',"{name}":{jsonl.value(value)}'
+        line += f',"call":{call}'
+        if kernel is not None:
+            line += f',"kernel":"{kernel}"'
+        if op == "ioctl" and members["driver"] is False:
+            line += ',"driver":false'
+        self._trace.write(line + "}\n")
         self.records += 1
 
     def leave_out(self, reason: str, line: int, pid: int, call: str) -> None:

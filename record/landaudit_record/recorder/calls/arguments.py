@@ -60,4 +60,4 @@ def descriptor_at(scene: Scene, call: Call, index: int | None) -> Descriptor | N
 
 def shown(spot: Spot, to: Spot | None = None) -> dict[str, str | None]:
     """The members that say the real paths of a record."""
-    return {"shown": spot.shown, "shown_to": to.shown if to is not None else None}
+    return {"shown": spot.shown} if to is None else {"shown": spot.shown, "shown_to": to.shown}

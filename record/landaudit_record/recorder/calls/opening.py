@@ -85,7 +85,9 @@ def _opened_spot(scene: Scene, result: Descriptor, flags: int) -> tuple[Spot, bo
         return scene.present(path, result.device), False
     if flags & O_DIRECTORY:
         return scene.present(path, "dir"), False
-    return scene.present(path, node.kind if node is not None else _kind_after(scene, path)), False
+    if node is not None:
+        return scene.there(path, node), False
+    return scene.present(path, _kind_after(scene, path)), False
 
 
 def _without_name(scene: Scene, path: str) -> Spot:
