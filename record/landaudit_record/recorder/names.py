@@ -6,12 +6,17 @@ touch is as the listing before the run says, else as the disk says after it.
 
 from __future__ import annotations
 
+from collections.abc import Sequence
 from dataclasses import dataclass, field
+from functools import lru_cache
 from typing import Protocol
 
+from . import values
 from .disk import Disk, Seen
 
 MOST_LINKS = 40
+#: Under this directory links lead elsewhere than their targets say (proc(5)).
+PROC = ["proc"]
 
 
 @dataclass(slots=True, eq=False)
@@ -46,14 +51,15 @@ class Found:
         return self.broken == len(self.names) - 1
 
 
-def join(names: list[str]) -> str:
+def join(names: Sequence[str]) -> str:
     """The path of a list of names."""
     return "/" + "/".join(names)
 
 
-def split(path: str) -> list[str]:
+@lru_cache(values.KEPT)
+def split(path: str) -> tuple[str, ...]:
     """The names of a path."""
-    return [name for name in path.split("/") if name and name != "."]
+    return tuple(name for name in path.split("/") if name and name != ".")
 
 
 class Links(Protocol):
@@ -98,8 +104,12 @@ class Names:
 
     def at(self, path: str) -> Node | None:
         """The object at a real path, one without links on its way."""
+        return self.below_root(split(path))
+
+    def below_root(self, names: Sequence[str]) -> Node | None:
+        """The object of the names of a real path."""
         node: Node | None = self.root
-        for name in split(path):
+        for name in names:
             if node is None or node.kind != "dir":
                 return None
             node = self.child(node, name)
@@ -155,11 +165,11 @@ class _Walk:
         self._names = names
         self._links = links
         self._top = split(root)
-        self._here = list(self._top) if path.startswith("/") else split(directory)
-        self._left = split(path)[::-1]
+        self._here = list(self._top if path.startswith("/") else split(directory))
+        self._left = list(reversed(split(path)))
         self._follows_last = follow or path.endswith("/")
         self._followed = 0
-        self._node = names.at(join(self._here))
+        self._node = names.below_root(self._here)
 
     def found(self) -> Found:
         """Where the path leads."""
@@ -167,45 +177,45 @@ class _Walk:
             name = self._left.pop()
             if name == "..":
                 self._go_to(self._here[: max(len(self._here) - 1, len(self._top))])
-            elif self._node is None or self._node.kind != "dir":
-                return self._broken(name, len(self._here))
-            elif not self._follow(name):
-                child = self._names.child(self._node, name)
-                if child is None or self._is_loop(child):
-                    return self._broken(name, len(self._here))
-                self._here.append(name)
-                self._node = child
+            elif self._node is None or self._node.kind != "dir" or not self._step(self._node, name):
+                return Found([*self._here, name, *reversed(self._left)], None, len(self._here))
         return Found(self._here, self._node, None if self._node is not None else max(len(self._here) - 1, 0))
 
-    def _go_to(self, names: list[str]) -> None:
-        self._here = list(names)
-        self._node = self._names.at(join(self._here))
-
-    def _follow(self, name: str) -> bool:
-        """Follows a name that is a link, where links are followed here."""
-        if self._node is None or not (self._left or self._follows_last):
-            return False
-        path = join([*self._here, name])
-        target = self._links.magic(path)
-        if target is not None:
-            self._turn_to(target, [])
+    def _step(self, directory: Node, name: str) -> bool:
+        """Goes to a name in the directory, or where it leads as a link; false where there is nothing to go to."""
+        follows = bool(self._left) or self._follows_last
+        if follows and self._here[:1] == PROC and self._follow_magic(name):
             return True
-        child = self._names.child(self._node, name)
-        if child is None or child.kind != "sym" or child.target is None or self._followed == MOST_LINKS:
+        child = self._names.child(directory, name)
+        if child is None:
             return False
-        self._links.passed(path, child)
-        self._followed += 1
-        self._turn_to(child.target, self._top)
+        if follows and child.kind == "sym":
+            return self._follow(child, name)
+        self._here.append(name)
+        self._node = child
         return True
 
-    def _turn_to(self, target: str, top: list[str]) -> None:
-        self._left.extend(split(target)[::-1])
+    def _follow_magic(self, name: str) -> bool:
+        """Follows a link of /proc, if the name is one."""
+        target = self._links.magic(join([*self._here, name]))
+        if target is not None:
+            self._turn_to(target, ())
+        return target is not None
+
+    def _follow(self, link: Node, name: str) -> bool:
+        """Follows a link; false where it leads nowhere, or where the links have no end."""
+        if link.target is None or self._followed == MOST_LINKS:
+            return False
+        self._links.passed(join([*self._here, name]), link)
+        self._followed += 1
+        self._turn_to(link.target, self._top)
+        return True
+
+    def _turn_to(self, target: str, top: Sequence[str]) -> None:
+        self._left.extend(reversed(split(target)))
         if target.startswith("/"):
             self._go_to(top)
 
-    def _is_loop(self, child: Node) -> bool:
-        """Whether a name is still a link where it should have been followed: the links have no end."""
-        return child.kind == "sym" and bool(self._left or self._follows_last)
-
-    def _broken(self, name: str, count: int) -> Found:
-        return Found([*self._here, name, *self._left[::-1]], None, count)
+    def _go_to(self, names: Sequence[str]) -> None:
+        self._here = list(names)
+        self._node = self._names.below_root(names)
