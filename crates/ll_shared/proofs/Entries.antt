@@ -1,0 +1,65 @@
+-- The entries of a tree of forks are what is found in it.
+use Rattle.std.proofs.Common.{◌≡◌, ◌≢◌, ℕ, ◌+◌, ◌*◌, ◌/◌, ◌%◌, ◌<◌, ◌==◌, Bool, true, false, ◌&&◌, List, [], ◌∷◌, ◌++◌, map, Option, Some, None, cond, if◌then◌else◌, refl, sym, ap, ◌∙◌, arith}
+use Rattle.std.specs.Ordering.{nat_cmp, eq_by_cmp}
+use Rattle.std.specs.Cmp.{nat_cmp_total, unsigned_ties, unsigned_tied}
+use Rattle.std.proofs.lemmas.Bool.Decides.{nat_tests}
+use Rattle.std.specs.FinMap.{FinMap, find, get, insert, remove, from_entries, get-from_entries, get-insert, get-remove, same_map, nat_cmp-IsAntisymmetric}
+use Rattle.ll_shared.specs.declared.node.Node.{Node}
+use Rattle.ll_shared.specs.declared.node.Node.TheVariants.{Empty, Leaf, Fork'}
+use Rattle.ll_shared.specs.Nodes.{chosen, found}
+use Rattle.ll_shared.specs.Maps.{under, entries}
+
+-- a key is one with these two bits below if its two lowest bits are these and the rest is the rest
+split_key : (q key bits : ℕ) → bits < 4 → (q == 4 * key + bits) ≡ (q % 4 == bits && q / 4 == key)
+split_key q key bits small = grind (arith, nat_tests)
+
+-- the first of two that is there
+abbrev or_else : {X : Type 0} → Option X → Option X → Option X
+or_else (Some x) other = Some x
+or_else None other = other
+
+module _ {V : Type 0} where
+  -- among entries one after another the first that is there is found
+  find_append : (q : ℕ) (xs ys : List (ℕ × V)) → find nat_cmp q (xs ++ ys) ≡ or_else (find nat_cmp q xs) (find nat_cmp q ys)
+  find_append q [] ys = refl
+  find_append q (x ∷ xs) ys = grind (arith, find_append q xs ys)
+
+  find_under : (q bits : ℕ) (es : List (ℕ × V)) → bits < 4 → find nat_cmp q (under bits es) ≡ (if q % 4 == bits then find nat_cmp (q / 4) es else None)
+  find_under q bits [] small = grind arith
+  find_under q bits (e ∷ es) small =
+      rw (unsigned_tied, split_key q e.0 bits small, find_under q bits es small) (grind (arith, nat_tests))
+
+  four_places : (q : ℕ) (a b c d : Option V) →
+      or_else (or_else (or_else (if q % 4 == 0 then a else None) (if q % 4 == 1 then b else None)) (if q % 4 == 2 then c else None)) (if q % 4 == 3 then d else None) ≡ chosen q a b c d
+  four_places q a b c d = grind (arith, nat_tests)
+
+  find-entries : (node : Node V) (q : ℕ) → find nat_cmp q (entries node) ≡ found node q
+  find-entries Empty q = refl
+  find-entries (Leaf key value) q = rw unsigned_tied refl
+  find-entries (Fork' p a b c d) q =
+      rw (find_append, find_append, find_append, find_under q 0 (entries a) (omega arith), find_under q 1 (entries b) (omega arith), find_under q 2 (entries c) (omega arith), find_under q 3 (entries d) (omega arith),
+        find-entries a (q / 4), find-entries b (q / 4), find-entries c (q / 4), find-entries d (q / 4))
+        (four_places q _ _ _ _)
+
+  -- what the map has is what the tree finds
+  pub get_found : (node : Node V) (q : ℕ) → get (from_entries {R = nat_cmp} (entries node)) q ≡ found node q
+  get_found node q = get-from_entries nat_cmp_total (entries node) q ∙ find-entries node q
+
+  -- two trees that find the same are the same map
+  pub same : (a b : Node V) → ((q : ℕ) → found a q ≡ found b q) → from_entries {R = nat_cmp} (entries a) ≡ from_entries (entries b)
+  same a b is = same_map nat_cmp_total nat_cmp-IsAntisymmetric _ _ (λ q. get_found a q ∙ is q ∙ sym (get_found b q))
+
+  module _ (old new : Node V) (key : ℕ) where
+    -- a tree that finds a new value for one key is the map in which it was inserted
+    pub inserted : (value : V) → ((q : ℕ) → found new q ≡ (if q == key then Some value else found old q))
+        → from_entries {R = nat_cmp} (entries new) ≡ insert (from_entries (entries old)) key value
+    inserted value is = same_map nat_cmp_total nat_cmp-IsAntisymmetric _ _ (λ q. get_found new q ∙ is q ∙ sym (rw (get-insert nat_cmp_total, unsigned_tied, get_found) refl))
+
+    -- and one that finds none for it any more is the map from which it was removed
+    pub removed : ((q : ℕ) → found new q ≡ (if q == key then None else found old q)) → from_entries {R = nat_cmp} (entries new) ≡ remove (from_entries (entries old)) key
+    removed is = same_map nat_cmp_total nat_cmp-IsAntisymmetric _ _ (λ q. get_found new q ∙ is q ∙ sym (rw (get-remove nat_cmp_total, unsigned_tied, get_found) refl))
+
+    -- the same key by key
+    pub each : (value : Option V) → ((q : ℕ) → found new q ≡ (if q == key then value else found old q))
+        → (q : ℕ) → get (from_entries {R = nat_cmp} (entries new)) q ≡ (if key == q then value else get (from_entries {R = nat_cmp} (entries old)) q)
+    each value is q = let turned : (key == q) ≡ (q == key) = grind (arith, nat_tests) in rw (get_found, get_found, turned) (is q)

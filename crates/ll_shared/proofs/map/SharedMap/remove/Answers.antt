@@ -1,0 +1,17 @@
+use Rattle.std.proofs.Common.{◌≡◌, ap, sym, ◌∙◌, Some, None}
+use Rattle.std.specs.FinMap as finite
+use Rattle.std.proofs.lemmas.Result.{on_ok_weaker, on_err_weaker}
+use Rattle.ll_shared.proofs.Entries.{same, each, removed}
+use Rattle.ll_shared.proofs.map.SharedMap.remove.Goals as goal
+
+pub returns-clause-ok : goal.returns-clause-ok
+returns-clause-ok g c =
+  rw (← c.self.view_is) (on_ok_weaker c.put.result (removed c.self.inside.root c.put.new.self c.args.key) c.put.ensures.ok)
+
+pub returns-clause-each : goal.returns-clause-each
+returns-clause-each g c =
+  rw (← c.self.view_is) (on_ok_weaker c.put.result (each c.self.inside.root c.put.new.self c.args.key None) c.put.ensures.ok)
+
+pub returns-clause-err : goal.returns-clause-err
+returns-clause-err g c =
+  rw (← c.self.view_is) (on_err_weaker c.put.result (same c.put.new.self c.self.inside.root) c.put.ensures.err)
