@@ -1,7 +1,12 @@
 -- The entries of a tree of forks are what is found in it.
-use Rattle.std.proofs.Common.{◌≡◌, ◌≢◌, ℕ, ◌+◌, ◌*◌, ◌/◌, ◌%◌, ◌<◌, ◌==◌, Bool, true, false, ◌&&◌, List, [], ◌∷◌, ◌++◌, map, Option, Some, None, cond, if◌then◌else◌, refl, sym, ap, ◌∙◌, arith}
-use Rattle.std.specs.Ordering.{nat_cmp, eq_by_cmp}
-use Rattle.std.specs.Cmp.{nat_cmp_total, unsigned_ties, unsigned_tied}
+use Rattle.std.proofs.Common.{◌≡◌, ℕ, ◌+◌, ◌*◌, ◌/◌, ◌%◌, ◌<◌, ◌==◌, false, ◌&&◌, List, [], ◌∷◌, ◌++◌, map, Bor, is_some, Option, Some, None, cond, if◌then◌else◌, inl, inr, refl, sym, ap, ◌∙◌, arith}
+use Rattle.std.specs.declared.result.Result.{Result}
+use Rattle.std.specs.Result.{IfOk}
+use Rattle.std.specs.Option.{option_copied}
+use Rattle.std.proofs.lemmas.Result.{IfOk-weaker}
+use Rattle.std.specs.Ordering.{nat_cmp}
+use Rattle.std.specs.Cmp.{nat_cmp_total, unsigned_tied}
+use Rattle.std.proofs.lemmas.Bool.{cases_eq, eq-eqb, ne_eqb}
 use Rattle.std.proofs.lemmas.Bool.Decides.{nat_tests}
 use Rattle.std.specs.FinMap.{FinMap, find, get, insert, remove, from_entries, get-from_entries, get-insert, get-remove, same_map, nat_cmp-IsAntisymmetric}
 use Rattle.ll_shared.specs.declared.node.Node.{Node}
@@ -12,6 +17,9 @@ use Rattle.ll_shared.specs.Maps.{under, entries}
 -- a key is one with these two bits below if its two lowest bits are these and the rest is the rest
 split_key : (q key bits : ℕ) → bits < 4 → (q == 4 * key + bits) ≡ (q % 4 == bits && q / 4 == key)
 split_key q key bits small = grind (arith, nat_tests)
+
+turned : (a b : ℕ) → (a == b) ≡ (b == a)
+turned a b = grind (arith, nat_tests)
 
 -- the first of two that is there
 abbrev or_else : {X : Type 0} → Option X → Option X → Option X
@@ -37,13 +45,29 @@ module _ {V : Type 0} where
   find-entries Empty q = refl
   find-entries (Leaf key value) q = rw unsigned_tied refl
   find-entries (Fork' p a b c d) q =
-      rw (find_append, find_append, find_append, find_under q 0 (entries a) (omega arith), find_under q 1 (entries b) (omega arith), find_under q 2 (entries c) (omega arith), find_under q 3 (entries d) (omega arith),
-        find-entries a (q / 4), find-entries b (q / 4), find-entries c (q / 4), find-entries d (q / 4))
-        (four_places q _ _ _ _)
+      rw (
+        find_append,
+        find_append,
+        find_append,
+        find_under q 0 (entries a) (omega arith),
+        find_under q 1 (entries b) (omega arith),
+        find_under q 2 (entries c) (omega arith),
+        find_under q 3 (entries d) (omega arith),
+        find-entries a (q / 4),
+        find-entries b (q / 4),
+        find-entries c (q / 4),
+        find-entries d (q / 4),
+      )
+      (four_places q _ _ _ _)
 
   -- what the map has is what the tree finds
   pub get_found : (node : Node V) (q : ℕ) → get (from_entries {R = nat_cmp} (entries node)) q ≡ found node q
   get_found node q = get-from_entries nat_cmp_total (entries node) q ∙ find-entries node q
+
+  -- an answer of what the tree finds is one of what the map has
+  pub old_value : {E : Type 0} (result : Result (Option V) E) (node : Node V) (key : ℕ) → IfOk result (λ old. old ≡ found node key)
+      → IfOk result (λ old. old ≡ get (from_entries {R = nat_cmp} (entries node)) key)
+  old_value result node key is = IfOk-weaker result _ _ (λ old e. e ∙ sym (get_found node key)) is
 
   -- two trees that find the same are the same map
   pub same : (a b : Node V) → ((q : ℕ) → found a q ≡ found b q) → from_entries {R = nat_cmp} (entries a) ≡ from_entries (entries b)
@@ -62,4 +86,21 @@ module _ {V : Type 0} where
     -- the same key by key
     pub each : (value : Option V) → ((q : ℕ) → found new q ≡ (if q == key then value else found old q))
         → (q : ℕ) → get (from_entries {R = nat_cmp} (entries new)) q ≡ (if key == q then value else get (from_entries {R = nat_cmp} (entries old)) q)
-    each value is q = let turned : (key == q) ≡ (q == key) = grind (arith, nat_tests) in rw (get_found, get_found, turned) (is q)
+    each value is q = rw (get_found, get_found, turned key q) (is q)
+
+  -- where a look-up found nothing, the map has nothing
+  pub nothing_there : (looked : Option (Bor V)) (node : Node V) (map : FinMap nat_cmp V) (key : ℕ) → is_some looked ≡ false → option_copied looked ≡ found node key
+      → from_entries (entries node) ≡ map → get map key ≡ None
+  nothing_there None node map key none found_is view_is = ap (λ m. get m key) (sym view_is) ∙ get_found node key ∙ sym found_is
+  nothing_there (Some value) node map key none found_is view_is = grind (arith, none)
+
+-- to take away what isn't there changes nothing
+module _ {V : Type 0} (map : FinMap nat_cmp V) (key : ℕ) (absent : get map key ≡ None) where
+  pub absent_each : (q : ℕ) → get map q ≡ (if key == q then None else get map q)
+  absent_each q = elim (cases_eq key q) [
+    | inl same ↦ rw (eq-eqb key q same, ← same) absent
+    | inr other ↦ rw (ne_eqb key q other) refl
+  ]
+
+  pub absent_removed : map ≡ remove map key
+  absent_removed = same_map nat_cmp_total nat_cmp-IsAntisymmetric _ _ (λ q. absent_each q ∙ sym (get-remove nat_cmp_total map key q ∙ ap (λ b. cond b None (get map q)) (unsigned_tied q key ∙ turned q key)))

@@ -1,5 +1,5 @@
 -- What a tree of forks has, read as a function from keys to values.
-use Rattle.std.specs.Prelude.{◌≡◌, ℕ, ◌+◌, ◌*◌, ◌/◌, ◌%◌, max, List, [], ◌∷◌, ◌++◌, map, Option, Some, None, ◌==◌, if◌then◌else◌}
+use Rattle.std.specs.Prelude.{◌≡◌, ℕ, ◌+◌, ◌*◌, ◌/◌, ◌%◌, Option, Some, None, ◌==◌, if◌then◌else◌}
 use Rattle.ll_shared.specs.declared.node.Node.{Node}
 use Rattle.ll_shared.specs.declared.node.Node.TheVariants.{Empty, Leaf, Fork'}
 use Rattle.ll_shared.specs.declared.node.Four.{Four}

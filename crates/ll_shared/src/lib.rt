@@ -6,5 +6,4 @@ mod node;
 #[cfg(test)]
 mod tests;
 
-
 pub use map::SharedMap;

@@ -1,6 +1,6 @@
 //! The map.
 
-ghost use Rattle.std.specs.Prelude.{◌≡◌, ◌==◌, ℕ, Some, None, OnOk, OnErr, if◌then◌else◌};
+ghost use Rattle.std.specs.Prelude.{◌≡◌, ◌==◌, ℕ, Some, None, IfOk, OnOk, OnErr, if◌then◌else◌};
 ghost use Rattle.std.specs.Option.{option_copied};
 ghost use Rattle.std.specs.Ordering.{nat_cmp};
 ghost use Rattle.std.specs.FinMap as finite;
@@ -50,7 +50,8 @@ impl<V: Copy> SharedMap<V> {
     }
 
     /// Gives a key a value, in place of the one that it had.
-    pub fn insert(&mut self, key: u64, value: V) -> Result<(), AllocError>
+    pub fn insert(&mut self, key: u64, value: V) -> Result<Option<V>, AllocError>
+        ensures old { IfOk result (λ old. old ≡ finite.get self.old key) }
         ensures ok { OnOk result (self.new ≡ finite.insert self.old key value) }
         ensures each { OnOk result ((q : ℕ) → finite.get self.new q ≡ (if key == q then Some value else finite.get self.old q)) }
         ensures err { OnErr result (self.new ≡ self.old) }
@@ -59,11 +60,15 @@ impl<V: Copy> SharedMap<V> {
     }
 
     /// Takes a key's value away.
-    pub fn remove(&mut self, key: u64) -> Result<(), AllocError>
+    pub fn remove(&mut self, key: u64) -> Result<Option<V>, AllocError>
+        ensures old { IfOk result (λ old. old ≡ finite.get self.old key) }
         ensures ok { OnOk result (self.new ≡ finite.remove self.old key) }
         ensures each { OnOk result ((q : ℕ) → finite.get self.new q ≡ (if key == q then None else finite.get self.old q)) }
         ensures err { OnErr result (self.new ≡ self.old) }
     {
+        if self.root.get(key).is_none() {
+            return Ok(None);
+        }
         self.root.put(self.alloc, key, None)
     }
 }

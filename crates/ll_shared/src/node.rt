@@ -1,7 +1,8 @@
 //! The tree that a map is kept as.
 
-ghost use Rattle.std.specs.Prelude.{◌≡◌, ◌≢◌, ◌+◌, ◌*◌, ◌<◌, ◌/◌, ◌%◌, ◌==◌, ℕ, Option, Some, None, if◌then◌else◌, OnOk, OnErr, IfOk};
+ghost use Rattle.std.specs.Prelude.{◌≡◌, ◌≢◌, ◌+◌, ◌*◌, ◌<◌, ◌/◌, ◌%◌, ◌==◌, ℕ, Option, Some, None, if◌then◌else◌, OnOk, OnErr, IfOk, IsTrue};
 ghost use Rattle.std.specs.Option.{option_copied};
+ghost use Rattle.ll_shared.specs.declared.node.Node.TheVariants.{Empty};
 ghost use Rattle.ll_shared.specs.Nodes.{found, found_in, steps, steps_in, SameNode, SameFour};
 
 use std::alloc::{AllocError, Global};
@@ -44,13 +45,7 @@ impl<V: Copy> Node<V> {
     {
         match self {
             Node::Empty => None,
-            Node::Leaf(known, value) => {
-                if key == *known {
-                    Some(value)
-                } else {
-                    None
-                }
-            }
+            Node::Leaf(known, value) => { if key == *known { Some(value) } else { None } }
             Node::Fork(four) => four.pick(key % 4).get(key / 4),
         }
     }
@@ -66,34 +61,80 @@ impl<V: Copy> Node<V> {
         }
     }
 
-    /// Gives a key a value, or takes its value away. Forks with other owners are copied on the way down; the others
-    /// are changed where they are.
+    /// A fork in which nothing stands goes.
+    fn prune(&mut self)
+        ensures { (q : ℕ) → found self.new q ≡ found self.old q }
+    {
+        if self.is_bare() {
+            *self = Node::Empty;
+        }
+    }
+
+    /// Gives a key a value, or takes its value away, and answers the one that it had. Forks with other owners are
+    /// copied on the way down; the others are changed where they are. A fork that has nothing any more goes.
     #[cycle(put)]
-    pub(crate) fn put(&mut self, alloc: Global, key: u64, value: Option<V>) -> Result<(), AllocError>
+    pub(crate) fn put(
+        &mut self,
+        alloc: Global,
+        key: u64,
+        value: Option<V>,
+    ) -> Result<Option<V>, AllocError>
+        ensures old { IfOk result (λ old. old ≡ found self.old key) }
         ensures ok { OnOk result ((q : ℕ) → found self.new q ≡ (if q == key then value else found self.old q)) }
         ensures err { OnErr result ((q : ℕ) → found self.new q ≡ found self.old q) }
     {
         match self {
             Node::Empty => {
                 *self = Node::entry(key, value);
-                Ok(())
+                Ok(None)
             }
             Node::Leaf(known, old) => {
+                let old = *old;
                 if *known == key {
                     *self = Node::entry(key, value);
-                    return Ok(());
+                    return Ok(Some(old));
                 }
-                let mut four = Four::only(*known, *old);
+                let mut four = Four::only(*known, old);
                 four.put(alloc, key, value)?;
                 *self = Node::Fork(Arc::new(alloc, four)?);
-                Ok(())
+                Ok(None)
             }
-            Node::Fork(four) => Arc::make_mut(four)?.put(alloc, key, value),
+            Node::Fork(four) => {
+                let old = Arc::make_mut(four)?.put(alloc, key, value)?;
+                self.prune();
+                Ok(old)
+            }
+        }
+    }
+}
+
+impl<V> Node<V> {
+    /// Whether there is nothing here.
+    fn is_empty(&self) -> bool
+        ensures { IsTrue result → self.now ≡ Empty }
+    {
+        matches!(self, Node::Empty)
+    }
+
+    /// Whether this is a fork in which nothing stands.
+    fn is_bare(&self) -> bool
+        ensures { IsTrue result → (q : ℕ) → found self.now q ≡ None }
+    {
+        match self {
+            Node::Fork(four) => four.is_bare(),
+            _ => false,
         }
     }
 }
 
 impl<V> Four<V> {
+    /// Whether nothing stands in the four.
+    fn is_bare(&self) -> bool
+        ensures { IsTrue result → (q : ℕ) → found_in self.now q ≡ None }
+    {
+        self.zero.is_empty() && self.one.is_empty() && self.two.is_empty() && self.three.is_empty()
+    }
+
     /// The one of the four under two lowest bits. The choices only pick a reference, so they are made without jumps.
     fn pick(&self, bits: u64) -> &Node<V>
         ensures found { (key : ℕ) → bits ≡ key % 4 → found result.now (key / 4) ≡ found_in self.now key }
@@ -127,9 +168,10 @@ impl<V: Copy> Four<V> {
         four
     }
 
-    /// Gives a key a value, or takes its value away.
+    /// Gives a key a value, or takes its value away, and answers the one that it had.
     #[cycle(put)]
-    fn put(&mut self, alloc: Global, key: u64, value: Option<V>) -> Result<(), AllocError>
+    fn put(&mut self, alloc: Global, key: u64, value: Option<V>) -> Result<Option<V>, AllocError>
+        ensures old { IfOk result (λ old. old ≡ found_in self.old key) }
         ensures ok { OnOk result ((q : ℕ) → found_in self.new q ≡ (if q == key then value else found_in self.old q)) }
         ensures err { OnErr result ((q : ℕ) → found_in self.new q ≡ found_in self.old q) }
     {

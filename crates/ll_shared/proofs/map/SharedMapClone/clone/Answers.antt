@@ -1,5 +1,4 @@
 use Rattle.std.proofs.Common.{ap, ◌∙◌}
-use Rattle.ll_shared.specs.Nodes.{found}
 use Rattle.ll_shared.proofs.Entries.{same}
 use Rattle.ll_shared.proofs.map.SharedMapClone.clone.Goals as goal
 
