@@ -1,4 +1,5 @@
-//! A map whose copies share what they have in common.
+//! Maps from numbers to values whose clones share what they have in common: a clone takes no memory that grows with
+//! the map, and a change of one of them copies only the way to its key.
 #![tactic(auto)]
 
 mod map;

@@ -11,6 +11,17 @@ use std::alloc::{AllocError, Global};
 use std::marker::Model;
 
 /// A map from numbers to values whose clones share what they have in common.
+///
+/// It is a tree over the bits of the keys, two bits a level from the lowest on. Where n keys are dense or random, the
+/// way to each has about half as many forks as n has bits. No way has more than 32, whatever the keys: so calls, and
+/// the dropping of a map, nest 33 levels deep at most. A fork has room for four entries (104 bytes where a value has
+/// eight).
+///
+/// Keys that agree in many low bits lie deep. Whoever chooses the keys can make an entry cost 16 forks (1.7 KB where a
+/// value has eight bytes), 32 once the key from which it was parted is removed, and a change of a shared map 32. The
+/// bits of keys aren't mixed first: a mixing that is known can be undone, and dense keys would lie further apart.
+///
+/// A map takes memory by the entries that it has and not by those that it had: a fork goes with its last entry.
 #[derive(Drop)]
 pub struct SharedMap<V> {
     alloc: Global,
@@ -32,7 +43,7 @@ impl<V> Model for SharedMap<V> {
 }
 
 impl<V: Copy> SharedMap<V> {
-    /// No entry. Takes no memory.
+    /// No entry. It takes no memory.
     pub fn new(alloc: Global) -> SharedMap<V>
         ensures { result ≡ finite.empty }
     {
@@ -42,14 +53,16 @@ impl<V: Copy> SharedMap<V> {
         }
     }
 
-    /// The value of a key.
+    /// The value of a key, one step for each fork on the way.
     pub fn get(&self, key: u64) -> Option<&V>
         ensures { option_copied result ≡ finite.get self.now key }
     {
         self.root.get(key)
     }
 
-    /// Gives a key a value, in place of the one that it had.
+    /// Gives a key a value, and answers the one that it had. Forks on the way that other maps have too are copied, all
+    /// others are changed where they are; a new key that meets another one takes a fork for each two bits in which
+    /// they agree further. Without memory the map stays as it was.
     pub fn insert(&mut self, key: u64, value: V) -> Result<Option<V>, AllocError>
         ensures old { IfOk result (λ old. old ≡ finite.get self.old key) }
         ensures ok { OnOk result (self.new ≡ finite.insert self.old key value) }
@@ -59,7 +72,8 @@ impl<V: Copy> SharedMap<V> {
         self.root.put(self.alloc, key, Some(value))
     }
 
-    /// Takes a key's value away.
+    /// Takes a key's value away, and answers it. Only forks on the way that other maps have too are copied, and none
+    /// where the key has no value. Without memory the map stays as it was.
     pub fn remove(&mut self, key: u64) -> Result<Option<V>, AllocError>
         ensures old { IfOk result (λ old. old ≡ finite.get self.old key) }
         ensures ok { OnOk result (self.new ≡ finite.remove self.old key) }
@@ -76,6 +90,8 @@ impl<V: Copy> SharedMap<V> {
 impl<V: Copy> Clone for SharedMap<V> {
     ghost is_clone = { λ map copy. copy ≡ map };
 
+    /// The same map once more. It takes no memory and the same time for every map; it fails only where a fork has as
+    /// many owners as can be counted.
     fn clone(&self) -> Result<SharedMap<V>, AllocError> {
         Ok(SharedMap {
             alloc: self.alloc,
