@@ -1,18 +1,17 @@
 -- What the words of a command line come to.
-use Rattle.std.proofs.Common.{◌≡◌, ◌≢◌, ◌∙◌, ℕ, Bool, true, false, List, [], ◌∷◌, Option, Some, None, Result, Ok, Err, MatchResult, refl, ap, sym, subst, inl, inr, arith}
+use Rattle.std.proofs.Common.{◌≡◌, ◌∙◌, ℕ, Bool, true, false, List, [], ◌∷◌, Option, Some, None, Result, Ok, Err, MatchResult, refl, ap, sym, subst, arith}
 use Rattle.std.specs.Prelude.{IfOk}
 use Rattle.std.specs.Str.Parse.{ParsesUnsigned}
 use Rattle.clap.specs.declared.builder.value_parser.ValueParser.TheVariants.{Unsigned}
 use Rattle.clap.specs.declared.error.Error.{Error}
 use Rattle.clap.specs.declared.error.kind.ErrorKind.{ErrorKind}
-use Rattle.clap.specs.declared.error.kind.ErrorKind.TheVariants.{DisplayHelp}
 use Rattle.clap.specs.declared.parser.matches.ArgMatches.{ArgMatches}
 use Rattle.clap.specs.Matches.{ReadsOne}
 use Rattle.clap.specs.ValueTests.{is_unsigned_in}
 use Rattle.clap.specs.Words.{App, FailsBy, HasKind, HasMatchesOf, IsAmong, Kinds, Row, Text, fault_of, found_of, is_simple, is_simple_and_free, matches_of, rows_of}
 use Rattle.clap.proofs.OnLiterals.{clap_on_literals}
 use Rattle.clap.proofs.ValueTestLemmas.{accepts-Accepts, Accepts-accepts}
-use Rattle.ll_audit.specs.Command.{IsRefusal, command, faults, number_in, request_if, request_in, request_of}
+use Rattle.ll_audit.specs.Command.{command, faults, number_in, request_if, request_in, request_of}
 
 -- what a getter reads of a text is the number in it
 pub number_in-read : (E : Type 0) (G : List ℕ → Result ℕ E → Type 0) (text : List ℕ) (read : Option ℕ)
@@ -76,17 +75,3 @@ request_of-fault words kind among = by_kinds (faults words) among
     by_kinds : (kinds : Kinds) → IsAmong kind kinds → request_if kinds (matches_of command words) ≡ None
     by_kinds [] h = elim h [ ]
     by_kinds (k ∷ ks) h = refl
-
--- an error that is no help leaves the words without a request and without help
-pub refused : (words : List Text) (kind : ErrorKind) → IsRefusal words kind → kind ≢ DisplayHelp
-    → (request_of words ≡ None) × (faults words ≢ DisplayHelp ∷ [])
-refused words kind (inl among) other = (
-  request_of-fault words kind among,
-  λ help. elim (subst (IsAmong kind) help among) [ inl same ↦ other same | inr none ↦ none ],
-)
-refused words kind (inr lacks) other = (
-  lacks.2,
-  λ help.
-      let bad : [] ≡ DisplayHelp ∷ [] = sym lacks.1 ∙ help in
-      cc,
-)

@@ -1,7 +1,9 @@
 pub mod CommandLine
+pub mod Faultless
 pub mod FilesByName
 pub mod LayerText
 pub mod LinesLeft
 pub mod Endings
 pub mod Wants
 pub mod OneReport
+pub mod SameWords

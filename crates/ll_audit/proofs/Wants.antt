@@ -1,8 +1,7 @@
 -- Want of memory or of a thread, behind two files that read, is a fault of the audit.
-use Rattle.std.proofs.Common.{◌≡◌, ℕ, List, Result, Ok, Err, sym, subst, inl, inr}
-use Rattle.std.specs.Prelude.{◌⊎◌, IfErr}
+use Rattle.std.proofs.Common.{ℕ, List, Result, Ok, Err, sym, subst, inl, inr}
+use Rattle.std.specs.Prelude.{IfErr}
 use Rattle.ll_audit.specs.declared.fault.Fault.{Fault}
-use Rattle.ll_audit.specs.declared.fault.Fault.TheVariants as fault
 use Rattle.ll_audit.specs.Audits.{IsCrew, IsFaultOf, IsWant, ReadsAsTree, ReadsAsTrace}
 
 want_is_fault : (workers : ℕ) (tree trace : List ℕ) (of : Fault) → IsCrew workers → ReadsAsTree tree → ReadsAsTrace trace → IsWant of

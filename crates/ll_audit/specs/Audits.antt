@@ -1,6 +1,6 @@
 -- What an audit answers: the report, or why there is none.
 -- Source: docs/FORMATS.md, "The report" and "Faults of a run"; docs/SEMANTICS.md.
-use Rattle.std.specs.Prelude.{◌≡◌, ◌⊎◌, ◌<◌, ◌≤◌, ℕ, List}
+use Rattle.std.specs.Prelude.{◌≡◌, ◌⊎◌, ◌≤◌, ℕ, List}
 use Rattle.ll_rights.specs.declared.abi.Abi.{Abi}
 use Rattle.ll_tree.specs.Reading.{IsBad}
 use Rattle.ll_tree.specs.TreeReading.{IsTreeOf, tree_format}

@@ -1,10 +1,10 @@
 -- The command line: `landaudit --abi N [--workers N] [--grain N] TREE TRACE`, and what it asks for.
 -- Source: docs/FORMATS.md, "The command line".
-use Rattle.std.specs.Prelude.{◌≡◌, ◌≢◌, ◌==◌, ◌&&◌, ◌⊎◌, ⊤, nat_lt, ℕ, true, List, [], ◌∷◌, Option, Some, None, codes, find, if◌then◌else◌, option_and_then}
+use Rattle.std.specs.Prelude.{◌≡◌, ◌≢◌, ◌==◌, ◌&&◌, ⊤, nat_lt, ℕ, true, List, [], ◌∷◌, Option, Some, None, codes, find, if◌then◌else◌, option_and_then}
 use Rattle.std.specs.Str.Parse.{digits_value, without_leading_plus}
 use Rattle.clap.specs.declared.builder.action.ArgAction.TheVariants.{Set}
 use Rattle.clap.specs.declared.builder.value_parser.ValueParser.TheVariants.{Unsigned}
-use Rattle.clap.specs.declared.error.kind.ErrorKind.TheVariants.{DisplayHelp, MissingRequiredArgument}
+use Rattle.clap.specs.declared.error.kind.ErrorKind.TheVariants.{DisplayHelp}
 use Rattle.clap.specs.declared.error.kind.ErrorKind.{ErrorKind}
 use Rattle.clap.specs.Words.{App, IsAmong, Kinds, Row, Rule, Text, fault_of, first_of, matches_of, new_app, new_rule, one_of, with_rule}
 use Rattle.clap.specs.ValueTests.{is_unsigned_in}
@@ -96,15 +96,9 @@ request_if (kind ∷ kinds) rows = None
 unfoldable pub request_of : List Text → Option Request
 request_of words = request_if (faults words) (matches_of command words)
 
--- the words ask for no run, and not for help alone
+-- the words have a fault that is no call for help
 abbrev pub AreWrong : List Text → Type 0
-AreWrong words = (request_of words ≡ None) × (faults words ≢ DisplayHelp ∷ [])
-
--- an error of this kind answers the words: one of their faults, or that they lack an argument
-abbrev pub IsRefusal : List Text → ErrorKind → Type 0
-IsRefusal words kind =
-    IsAmong kind (faults words)
-    ⊎ ((kind ≡ MissingRequiredArgument) × (faults words ≡ []) × (request_of words ≡ None))
+AreWrong words = (kind : ErrorKind) × IsAmong kind (faults words) × (kind ≢ DisplayHelp)
 
 -- a run, as it was asked for
 abbrev pub request_by : Run → Request

@@ -87,7 +87,7 @@ WritesReport words files status old new =
     (status ≡ 0) ⊎ (status ≡ 1) → (request : Request) → request_of words ≡ Some request →
     (report : Report) × Reports files request report × Appends old new report.bytes.items × (status ≡ report_status report.refused)
 
--- With status 2 the words are wrong.
+-- With status 2 the words have a fault that is no call for help.
 abbrev pub HasWrongWords : List Text → ℕ → Type 0
 HasWrongWords words status = status ≡ 2 → AreWrong words
 

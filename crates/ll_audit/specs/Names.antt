@@ -1,6 +1,9 @@
 -- The names that the report gives to operations and to errors.
 -- Source: docs/FORMATS.md, "The report"; the errors' names are those of errno(3).
-use Rattle.std.specs.Prelude.{ℕ, List, codes}
+use Rattle.std.specs.Prelude.{◌≡◌, ℕ, List, Ok, codes}
+use Rattle.serde_json.specs.Data.{Data}
+use Rattle.ll_tree.specs.Lines.{Line}
+use Rattle.ll_tree.specs.Members.{text_at, value_at}
 use Rattle.ll_rules.specs.declared.errno.Errno.{Errno}
 use Rattle.ll_rules.specs.declared.errno.Errno.TheVariants as errno
 use Rattle.ll_trace.specs.declared.op.Op.{Op}
@@ -35,6 +38,12 @@ op_name op.Mount = codes "mount"
 op_name (op.Bind port) = codes "bind"
 op_name (op.Connect port) = codes "connect"
 op_name (op.Ioctl fd driver) = codes "ioctl"
+
+-- a line of a trace says its operation by this word, its object's member "op"
+pub record SaysOperation (line : Line) (word : List ℕ) : Type 0 where
+  pub value : Data
+  pub object : value_at line.bytes ≡ Ok value
+  pub word_said : text_at (codes "op") value ≡ Ok word
 
 -- the name of an error
 abbrev pub error_name : Errno → List ℕ

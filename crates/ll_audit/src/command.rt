@@ -176,14 +176,13 @@ fn read<'a>(alloc: Global, words: &'a [String]) -> Result<Run<'a>, Error>
     ensures { MatchResult result
         (λ run. (spec.request_of (map string_bytes words.entry.now) ≡ Some (spec.request_by run))
         × IsCrew run.workers)
-        (λ error. (kind_of error ≡ OutOfMemory)
-        ⊎ spec.IsRefusal (map string_bytes words.entry.now) (kind_of error)) }
+        (HasKind (spec.faults (map string_bytes words.entry.now))) }
 {
     let mut command = command(alloc)?;
     let matches = parse(&mut command, words)?;
     match run_of(&matches) {
         Some(run) => Ok(run),
-        None => Err(command.error(ErrorKind::MissingRequiredArgument, "an argument is missing")?),
+        None => unreachable!(),
     }
 }
 

@@ -1,14 +1,21 @@
 //! What holds by the definitions alone.
 
-ghost use Rattle.std.specs.Prelude.{◌≡◌, ◌∷◌, ℕ, List, [], Some, None, codes};
+ghost use Rattle.std.specs.Prelude.{◌≡◌, ◌∷◌, ◌↔◌, ℕ, List, [], Some, None, Ok, IsSome, codes};
+ghost use Rattle.clap.specs.Words.{Text};
 ghost use Rattle.clap.specs.declared.error.kind.ErrorKind.TheVariants as kind;
 ghost use Rattle.ll_rights.specs.declared.abi.Abi.{Abi as Version};
 ghost use Rattle.ll_rights.specs.declared.abi.Abi.TheVariants.{V4, V5};
+ghost use Rattle.ll_tree.specs.Lines.{Line};
 ghost use Rattle.ll_tree.specs.WorkedTree.{worked_tree};
+ghost use Rattle.ll_trace.specs.declared.record.Record.{Record};
+ghost use Rattle.ll_trace.specs.Entries.{entry_at};
+ghost use Rattle.ll_trace.specs.Records.{entry_of};
+ghost use Rattle.ll_state.specs.declared.answer.Answer.{Answer};
 ghost use Rattle.ll_state.specs.Worlds.{judged};
 ghost use Rattle.ll_audit.specs.Audits.{IsReport};
 ghost use Rattle.ll_audit.specs.Command.{faults, request_of};
-ghost use Rattle.ll_audit.specs.Lines.{lines_of};
+ghost use Rattle.ll_audit.specs.Lines.{line_of, lines_of};
+ghost use Rattle.ll_audit.specs.Names.{SaysOperation};
 ghost use Rattle.ll_audit.specs.Report.{report_text};
 ghost use Rattle.ll_audit.specs.declared.report.Report.{Report as Made};
 
@@ -31,6 +38,18 @@ pub fn command_lines()
     ensures help { faults (codes "landaudit" ∷ codes "--help" ∷ []) ≡ kind.DisplayHelp ∷ [] }
     ensures help_last { faults (codes "landaudit" ∷ codes "--abi" ∷ codes "4" ∷ codes "t" ∷ codes "r" ∷ codes "--help" ∷ [])
         ≡ kind.DisplayHelp ∷ [] }
+{}
+
+/// Words name a run just where they have no fault.
+pub fn words_without_a_fault_name_a_run()
+    ensures { (words : List Text) → IsSome (request_of words) ↔ (faults words ≡ []) }
+{}
+
+/// The word by which the report tells of a record's operation is the one that the record's line of the
+/// trace says.
+pub fn the_report_has_the_words_of_the_trace()
+    ensures { (line : Line) (of : Record) (answer : Answer) → entry_at line ≡ Ok (entry_of of)
+        → SaysOperation line (line_of of answer).op }
 {}
 
 /// Two reports on the same bytes under the same version are the same bytes, whatever workers judged

@@ -21,7 +21,10 @@ pub use auditing::audit;
 pub use cut::Cut;
 pub use fault::Fault;
 pub use idle::Idle;
-pub use laws::{command_lines, empty_report, the_same_bytes_have_one_report};
+pub use laws::{
+    command_lines, empty_report, the_report_has_the_words_of_the_trace,
+    the_same_bytes_have_one_report, words_without_a_fault_name_a_run,
+};
 pub use outcome::Ending;
 pub use program::{front, front_ending};
 pub use report::Report;

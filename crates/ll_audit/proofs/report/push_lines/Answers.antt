@@ -1,4 +1,3 @@
-use Rattle.std.proofs.Common.{arith}
 use Rattle.ll_audit.proofs.LinesLeft.{all_written, one_more}
 use Rattle.ll_audit.proofs.report.push_lines.Goals as goal
 

@@ -1,0 +1,6 @@
+use Rattle.ll_trace.specs.Records.{entry_of}
+use Rattle.ll_audit.proofs.SameWords.{line_says}
+use Rattle.ll_audit.proofs.laws.the_report_has_the_words_of_the_trace.Goals as goal
+
+pub returns : goal.returns
+returns c = λ line of answer reads. line_says line (entry_of of) reads
