@@ -74,7 +74,7 @@ four_wrong status a (inr b) = omega (arith, a, b)
 
 module _ {Output Errors : Type 0} (contents : Output → Option (List ℕ)) (lines : Errors → Option (List ℕ)) (ending : Ending) (old new : Output) (errors_old errors_new : Errors) where
   pub bounded : (of : Outcome) → EndsWith contents lines of ending old new errors_old errors_new → ending.status ≤ 4
-  bounded (outcome.Report report) (inl why) = high_bounded ending.status (inr why.0)
+  bounded (outcome.Report report) (inl (why, _)) = high_bounded ending.status (inr why.0)
   bounded (outcome.Report report) (inr written) = low_bounded ending.status (reporting report.refused ending.status written.0)
   bounded (outcome.Help error) (inl why) = high_bounded ending.status (inr why.0)
   bounded (outcome.Help error) (inr written) = omega (arith, written.0)
@@ -82,7 +82,7 @@ module _ {Output Errors : Type 0} (contents : Output → Option (List ℕ)) (lin
   bounded (outcome.Failure of) ends = high_bounded ending.status (failing of ending.status ends.0.0)
 
   pub stays_quiet : (of : Outcome) → EndsWith contents lines of ending old new errors_old errors_new → StaysQuiet ending.status errors_old errors_new
-  stays_quiet (outcome.Report report) (inl why) low = absurd (low_high ending.status low (inr why.0))
+  stays_quiet (outcome.Report report) (inl (why, _)) low = absurd (low_high ending.status low (inr why.0))
   stays_quiet (outcome.Report report) (inr written) low = written.2
   stays_quiet (outcome.Help error) (inl why) low = absurd (low_high ending.status low (inr why.0))
   stays_quiet (outcome.Help error) (inr written) low = written.1
@@ -92,7 +92,7 @@ module _ {Output Errors : Type 0} (contents : Output → Option (List ℕ)) (lin
 module _ {Output Errors : Type 0} (contents : Output → Option (List ℕ)) (lines : Errors → Option (List ℕ)) (words : List Text) (files : Option Files) (before after : ℕ) (ending : Ending) (old new : Output) (errors_old errors_new : Errors) where
   pub writes_report : (of : Outcome) → IsOutcomeOf words files before after of → EndsWith contents lines of ending old new errors_old errors_new
       → WritesReport words files ending.status (contents old) (contents new)
-  writes_report (outcome.Report report) has (inl why) low request asked = absurd (low_high ending.status low (inr why.0))
+  writes_report (outcome.Report report) has (inl (why, _)) low request asked = absurd (low_high ending.status low (inr why.0))
   writes_report (outcome.Report report) has (inr written) low request asked =
       let same : has.request ≡ request = same_Some has.request request (sym has.asked ∙ asked) in
       (report, subst (λ (r : Request). Reports files r report) same has.reports, written.1, written.0)
@@ -102,7 +102,7 @@ module _ {Output Errors : Type 0} (contents : Output → Option (List ℕ)) (lin
 
   pub wrong_words : (of : Outcome) → IsOutcomeOf words files before after of → EndsWith contents lines of ending old new errors_old errors_new
       → HasWrongWords words ending.status
-  wrong_words (outcome.Report report) has (inl why) two = absurd (two_high ending.status two (inr why.0))
+  wrong_words (outcome.Report report) has (inl (why, _)) two = absurd (two_high ending.status two (inr why.0))
   wrong_words (outcome.Report report) has (inr written) two = absurd (low_two ending.status (reporting report.refused ending.status written.0) two)
   wrong_words (outcome.Help error) help (inl why) two = absurd (two_high ending.status two (inr why.0))
   wrong_words (outcome.Help error) help (inr written) two = absurd (low_two ending.status (inl written.0) two)
@@ -122,10 +122,13 @@ module _ {Output Errors : Type 0} (contents : Output → Option (List ℕ)) (lin
   ends_without_run (outcome.Failure of) has ends none = inr (inr (no_run_failing of has ends.0.0 none))
 
   pub writes_nothing : (of : Outcome) → IsOutcomeOf words files before after of → EndsWith contents lines of ending old new errors_old errors_new
-      → WritesNothing words files ending.status old new
-  writes_nothing (outcome.Report report) has (inl why) = (λ wrong. absurd (four_wrong ending.status why.0 wrong), λ _. inr (inr (report, has)))
-  writes_nothing (outcome.Report report) has (inr written) =
-      (λ wrong. absurd (low_wrong ending.status (reporting report.refused ending.status written.0) wrong), λ _. inr (inr (report, has)))
+      → WritesNothing contents words files ending.status old new
+  writes_nothing (outcome.Report report) has (inl (why, beginning)) =
+      (λ wrong. absurd (four_wrong ending.status why.0 wrong), λ _. inr (inr (report, has, beginning)))
+  writes_nothing (outcome.Report report) has (inr written) = (
+    λ wrong. absurd (low_wrong ending.status (reporting report.refused ending.status written.0) wrong),
+    λ four. absurd (low_high ending.status (reporting report.refused ending.status written.0) (inr four)),
+  )
   writes_nothing (outcome.Help error) help (inl why) = (λ wrong. absurd (four_wrong ending.status why.0 wrong), λ _. inr (inl help))
   writes_nothing (outcome.Help error) help (inr written) = (λ wrong. absurd (low_wrong ending.status (inl written.0) wrong), λ _. inr (inl help))
   writes_nothing (outcome.Usage error) wrong ends = (λ _. ends.1, λ _. inl ends.1)
@@ -133,7 +136,7 @@ module _ {Output Errors : Type 0} (contents : Output → Option (List ℕ)) (lin
 
   pub tells_why : (of : Outcome) → IsOutcomeOf words files before after of → EndsWith contents lines of ending old new errors_old errors_new
       → TellsWhy words files before after ending (lines errors_old) (lines errors_new)
-  tells_why (outcome.Report report) has (inl why) high = (failure.Unwritten, inr (refl, inr (report, has)), why)
+  tells_why (outcome.Report report) has (inl (why, _)) high = (failure.Unwritten, inr (refl, inr (report, has)), why)
   tells_why (outcome.Report report) has (inr written) high = absurd (low_high ending.status (reporting report.refused ending.status written.0) high)
   tells_why (outcome.Help error) help (inl why) high = (failure.Unwritten, inr (refl, inl help), why)
   tells_why (outcome.Help error) help (inr written) high = absurd (low_high ending.status (inl written.0) high)

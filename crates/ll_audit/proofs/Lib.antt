@@ -7,3 +7,4 @@ pub mod Endings
 pub mod Wants
 pub mod OneReport
 pub mod SameWords
+pub mod Beginnings

@@ -18,7 +18,7 @@ use Rattle.ll_audit.specs.Audits.{IsReport, ReadsAsTrace, ReadsAsTree}
 use Rattle.ll_audit.specs.Command.{AreWrong, Request, faults, request_of}
 use Rattle.ll_audit.specs.FaultLines.{failure_status}
 use Rattle.ll_audit.specs.Files.{Files, bytes_of}
-use Rattle.ll_audit.specs.Outcomes.{Complains, report_status}
+use Rattle.ll_audit.specs.Outcomes.{AppendsBeginning, Complains, report_status}
 
 -- these are the bytes of the file of a name, where the files are known
 abbrev pub AreBytesOf : Option Files → Text → List ℕ → Type 0
@@ -97,11 +97,18 @@ EndsWithoutRun words status =
     request_of words ≡ None →
     (status ≡ 2) ⊎ ((status ≡ 0) × IsAmong DisplayHelp (faults words)) ⊎ (status ≡ 4)
 
--- With status 2 or 3 nothing is written to the output. Nor is it with status 4, unless there was a report or help to be
--- written and writing failed.
-abbrev pub WritesNothing : {Output : Type 0} → List Text → Option Files → ℕ → Output → Output → Type 0
-WritesNothing words files status old new =
-    ((status ≡ 2) ⊎ (status ≡ 3) → new ≡ old) × ((status ≡ 4) → (new ≡ old) ⊎ HasOutput words files)
+-- help is asked for, or known bytes grow by a beginning of the report that the words ask for
+abbrev pub IsCutShort : List Text → Option Files → Option (List ℕ) → Option (List ℕ) → Type 0
+IsCutShort words files old new =
+    IsAmong DisplayHelp (faults words)
+    ⊎ ((report : Report) × HasReport words files report × AppendsBeginning old new report.bytes.items)
+
+-- With status 2 or 3 nothing is written to the output. Nor is it with status 4, unless writing the report or help failed:
+-- then a beginning of the report may be there.
+abbrev pub WritesNothing : {Output : Type 0} → (Output → Option (List ℕ)) → List Text → Option Files → ℕ → Output → Output → Type 0
+WritesNothing contents words files status old new =
+    ((status ≡ 2) ⊎ (status ≡ 3) → new ≡ old)
+    × ((status ≡ 4) → (new ≡ old) ⊎ IsCutShort words files (contents old) (contents new))
 
 -- With status 0 or 1 nothing is written to the error output.
 abbrev pub StaysQuiet : {Errors : Type 0} → ℕ → Errors → Errors → Type 0

@@ -1,6 +1,6 @@
 -- How a run ends: its status, what it writes to standard output, and the line on standard error.
 -- Source: docs/FORMATS.md, "Statuses" and "Faults of a run".
-use Rattle.std.specs.Prelude.{◌≡◌, ◌==◌, ◌⊎◌, ℕ, List, Option, if◌then◌else◌}
+use Rattle.std.specs.Prelude.{◌≡◌, ◌==◌, ◌⊎◌, ℕ, List, Option, take, if◌then◌else◌}
 use Rattle.std.specs.Bool.{OnTrue}
 use Rattle.std.specs.Io.KnownBytes.{Appends}
 use Rattle.ll_audit.specs.declared.outcome.Outcome.{Outcome}
@@ -14,6 +14,10 @@ use Rattle.ll_audit.specs.FaultLines.{failure_line, failure_status}
 abbrev pub report_status : ℕ → ℕ
 report_status refused = if refused == 0 then 0 else 1
 
+-- known bytes grow by a beginning of these bytes, which may be none or all of them
+abbrev pub AppendsBeginning : Option (List ℕ) → Option (List ℕ) → List ℕ → Type 0
+AppendsBeginning old new bytes = (count : ℕ) × Appends old new (take count bytes)
+
 -- A failure has its status, and its line was appended to the lines on standard error, if it could be told.
 abbrev pub Complains : Failure → Ending → Option (List ℕ) → Option (List ℕ) → Type 0
 Complains of ending lines_old lines_new =
@@ -23,7 +27,8 @@ Complains of ending lines_old lines_new =
 abbrev pub EndsWith : {Output Errors : Type 0} → (Output → Option (List ℕ)) → (Errors → Option (List ℕ)) → Outcome → Ending
     → Output → Output → Errors → Errors → Type 0
 EndsWith contents lines (outcome.Report report) ending old new errors_old errors_new =
-    Complains Unwritten ending (lines errors_old) (lines errors_new)
+    (Complains Unwritten ending (lines errors_old) (lines errors_new)
+    × AppendsBeginning (contents old) (contents new) report.bytes.items)
     ⊎ ((ending.status ≡ report_status report.refused) × Appends (contents old) (contents new) report.bytes.items
     × (errors_new ≡ errors_old))
 EndsWith contents lines (outcome.Help error) ending old new errors_old errors_new =

@@ -40,8 +40,8 @@ pub fn front<R: Threads + Wait + Sync, S: Source, O: Write, E: Write, G: Gate + 
         (O.contents out.old) (O.contents out.new) }
     ensures wrong_words { HasWrongWords (map string_bytes words.now) result }
     ensures no_run { EndsWithoutRun (map string_bytes words.now) result }
-    ensures nothing { WritesNothing (map string_bytes words.now) (S.files source.old) result
-        out.old out.new }
+    ensures nothing { WritesNothing O.contents (map string_bytes words.now) (S.files source.old)
+        result out.old out.new }
     ensures quiet { StaysQuiet result err.old err.new }
     ensures why { HasReason (map string_bytes words.now) (S.files source.old)
         (S.failed source.old) (S.failed source.new) result }
@@ -66,8 +66,8 @@ pub fn front_ending<R: Threads + Wait + Sync, S: Source, O: Write, E: Write, G: 
         (O.contents out.old) (O.contents out.new) }
     ensures wrong_words { HasWrongWords (map string_bytes words.now) result.status }
     ensures no_run { EndsWithoutRun (map string_bytes words.now) result.status }
-    ensures nothing { WritesNothing (map string_bytes words.now) (S.files source.old) result.status
-        out.old out.new }
+    ensures nothing { WritesNothing O.contents (map string_bytes words.now) (S.files source.old)
+        result.status out.old out.new }
     ensures quiet { StaysQuiet result.status err.old err.new }
     ensures why { TellsWhy (map string_bytes words.now) (S.files source.old)
         (S.failed source.old) (S.failed source.new) result (E.contents err.old) (E.contents err.new) }
