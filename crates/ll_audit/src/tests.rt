@@ -2,10 +2,12 @@
 
 use crate::command::{Plan, plan_of};
 use crate::lines::Failure;
+use crate::names::op_name;
 use crate::outcome::Outcome;
 use crate::report::{push_head, push_refusal, push_total};
 use crate::*;
 use ll_rules::{Errno, LayerSet};
+use ll_trace::Trace;
 use ll_tree::{Cause, ReadFault};
 use std::alloc::{AllocError, Global};
 use std::io;
@@ -44,6 +46,34 @@ impl Write for Failing {
 
     fn flush(&mut self) -> io::Result<()> {
         self.count()
+    }
+}
+
+/// A writer that takes three bytes a call, but is interrupted first and fails after some calls.
+#[derive(Drop)]
+struct Sparing {
+    text: Vec<u8>,
+    interrupts: u64,
+    calls_left: u64,
+}
+
+impl Write for Sparing {
+    fn write(&mut self, buf: &[u8]) -> io::Result<usize> {
+        if self.interrupts > 0 {
+            self.interrupts -= 1;
+            return Err(ErrorKind::Interrupted.into());
+        }
+        if self.calls_left == 0 {
+            return Err(ErrorKind::BrokenPipe.into());
+        }
+        self.calls_left -= 1;
+        let taken = buf.len().min(3);
+        self.text.extend_from_slice(&buf[..taken])?;
+        Ok(taken)
+    }
+
+    fn flush(&mut self) -> io::Result<()> {
+        Ok(())
     }
 }
 
@@ -165,6 +195,72 @@ fn reports_are_written_or_not(rt: HostRuntime) -> Result<(), Fail> {
 }
 
 #[test]
+fn a_failed_write_leaves_a_beginning(rt: HostRuntime) -> Result<(), Fail> {
+    let cases = [(0, 4, ""), (1, 4, "tex"), (2, 0, "text\n")];
+    for (calls_left, status, written) in cases {
+        let bytes = Vec::from_slice(rt.alloc(), b"text\n")?;
+        let outcome = Outcome::Report(Report { bytes, refused: 0 });
+        let mut out = Sparing {
+            text: Vec::new(rt.alloc()),
+            interrupts: 2,
+            calls_left,
+        };
+        let mut err = Vec::new(rt.alloc());
+        assert_eq!(rt; outcome.write_to(&mut out, &mut err).status, status);
+        assert_eq!(rt; out.text.as_slice(), written.as_bytes());
+    }
+    Ok(())
+}
+
+#[test]
+fn words_of_operations(rt: HostRuntime) -> Result<(), Fail> {
+    // The table of docs/FORMATS.md, with the members that a line must have.
+    let table = [
+        ("start", ""),
+        ("fork", ",\"child\":11"),
+        ("nnp", ""),
+        ("create", ",\"rs\":3"),
+        ("add_path", ",\"rs\":3,\"path\":\"/a\""),
+        ("add_port", ",\"rs\":3,\"port\":80"),
+        ("close_rs", ",\"rs\":3"),
+        ("restrict", ",\"rs\":3"),
+        ("open", ",\"path\":\"/a/f\",\"fd\":4,\"mode\":\"r\""),
+        ("adopt", ",\"fd\":5,\"kind\":\"other\""),
+        ("dup", ",\"fd\":4,\"to\":6"),
+        ("close", ",\"fd\":4"),
+        ("ftruncate", ",\"fd\":4"),
+        ("truncate", ",\"path\":\"/a/f\""),
+        ("exec", ",\"path\":\"/a/f\""),
+        ("mknod", ",\"path\":\"/a/n\",\"kind\":\"fifo\""),
+        ("mkdir", ",\"path\":\"/a/d\""),
+        ("symlink", ",\"path\":\"/a/s\""),
+        ("unlink", ",\"path\":\"/a/f\""),
+        ("rmdir", ",\"path\":\"/a/d\""),
+        ("rename", ",\"from\":\"/a/f\",\"to\":\"/a/g\""),
+        ("link", ",\"from\":\"/a/f\",\"to\":\"/a/g\""),
+        ("mount", ""),
+        ("bind", ",\"port\":80"),
+        ("connect", ",\"port\":443"),
+        ("ioctl", ",\"fd\":4,\"driver\":true"),
+        ("exit", ""),
+    ];
+    let mut file = String::new(rt.alloc());
+    for (word, members) in table {
+        file.push_str("{\"op\":\"")?;
+        file.push_str(word)?;
+        file.push_str("\",\"pid\":10")?;
+        file.push_str(members)?;
+        file.push_str("}\n")?;
+    }
+    let trace = Trace::read(rt.alloc(), file.as_bytes()).map_err(|_| "no trace")?;
+    assert_eq!(rt; trace.records().len(), table.len());
+    for (record, (word, _)) in trace.records().iter().zip(table) {
+        assert_eq!(rt; op_name(&record.op), word);
+    }
+    Ok(())
+}
+
+#[test]
 fn files_in_memory(rt: HostRuntime) -> Result<(), Fail> {
     let files: [(&str, &[u8]); 3] = [("t", b"one"), ("r", b"two"), ("t", b"three")];
     let mut source = MemorySource::new(files.as_slice());
@@ -187,6 +283,9 @@ fn files_in_memory(rt: HostRuntime) -> Result<(), Fail> {
 
 #[test]
 fn pieces_of_a_report(rt: HostRuntime) -> Result<(), Fail> {
+    let empty = Report::of(rt.alloc(), &[], &[])?;
+    let want = "total 0 allowed 0 refused 0 moot 0\n";
+    assert_eq!(rt; empty.bytes.as_slice(), want.as_bytes());
     let mut text = Vec::new(rt.alloc());
     push_head(&mut text, 2, 10, "create")?;
     push_refusal(&mut text, Errno::TooBig, LayerSet::new())?;
