@@ -2,9 +2,8 @@
 use Rattle.std.proofs.Common.{◌≡◌, ℕ, ◌+◌, ◌<◌, List, [], ◌∷◌, ◌++◌, refl, sym, ap, ◌∙◌, subst, append_assoc, arith}
 use Rattle.std.specs.Prelude.{sum_by}
 use Rattle.std.specs.List.{All}
-use Rattle.std.proofs.lemmas.List.{append-nil}
 use Rattle.std.proofs.lemmas.List.Sums.{sum_by-append, sum_by-cons, sum_by_push}
-use Rattle.std.proofs.lemmas.List.Elements.{All-push, All-append, All-nil, All-same, All-head, All-tail}
+use Rattle.std.proofs.lemmas.List.Elements.{All-push, All-append, All-same, All-head, All-tail}
 use Rattle.std.proofs.lemmas.Grind.{flat_map-append}
 use Rattle.ll_process.specs.declared.job.Job.{Job}
 use Rattle.ll_process.specs.declared.piece.Piece.{Piece}
@@ -14,7 +13,7 @@ use Rattle.ll_process.specs.Jobs.{SharesOut, processes_of, AllOf as AllJobsOf}
 use Rattle.ll_process.proofs.Counting.{weighed}
 use Rattle.ll_pool.specs.declared.known.Known.{Known}
 use Rattle.ll_pool.specs.Gathered.{AllOf, processes_in}
-use Rattle.ll_pool.specs.Rule.{known, after_giving, after_taking}
+use Rattle.ll_pool.specs.Rule.{known, after_taking}
 use Rattle.ll_pool.specs.Crews.{OnlyGave, SeenTo, IsAccount}
 use Rattle.ll_pool.proofs.Sharing.{processes_in-push, no_processes, no_kids, kids-append}
 
@@ -23,13 +22,6 @@ use Rattle.ll_pool.proofs.Sharing.{processes_in-push, no_processes, no_kids, kid
 pub gave_nothing : (v : Known) → OnlyGave v v
 gave_nothing v = record { its_case = refl; parts = refl; taken = refl }
 
-pub gave_one : (v w : Known) (process : ℕ) → w ≡ after_giving v process → OnlyGave v w
-gave_one v w process is = record {
-  its_case = ap (λ (u : Known). u.case) is;
-  parts = ap (λ (u : Known). u.parts) is;
-  taken = ap (λ (u : Known). u.taken) is;
-}
-
 pub gave_more : (a b c : Known) → OnlyGave a b → OnlyGave b c → OnlyGave a c
 gave_more a b c one two = record { its_case = two.its_case ∙ one.its_case; parts = two.parts ∙ one.parts; taken = two.taken ∙ one.taken }
 
@@ -37,15 +29,6 @@ pub some_part_still : (v w : Known) → OnlyGave v w → 0 < v.parts → 0 < w.p
 some_part_still v w gave some_part = omega (arith, gave.parts, some_part)
 
 -- ---- jobs that were seen to
-
-pub seen_none : (of : Matter) (given : List ℕ) (pieces : List Piece) → SeenTo of [] given given pieces pieces
-seen_none of given pieces = record { pieces_of = λ all. all; shared = λ weight. omega arith }
-
-pub seen_given : (of : Matter) (p : ℕ) (before after : List ℕ) (pieces : List Piece) → after ≡ before ++ p ∷ [] → SeenTo of (p ∷ []) before after pieces pieces
-seen_given of p before after pieces is = record {
-  pieces_of = λ all. all;
-  shared = λ weight. omega (arith, ap (λ (xs : List ℕ). sum_by weight xs) is, sum_by_push weight before p, sum_by-cons weight p []);
-}
 
 pub seen_judged : (of : Matter) (p : ℕ) (before after : List ℕ) (pieces pieces_after : List Piece) (piece : Piece) → pieces_after ≡ pieces ++ piece ∷ [] → piece.case.now ≡ of
     → SharesOut of.records p (numbers piece.processes.items) before after → SeenTo of (p ∷ []) before after pieces pieces_after
@@ -103,13 +86,6 @@ seen_beside of xs ys g h p q theirs one two = record {
 }
 
 -- ---- accounts
-
-pub account_none : (of : Matter) (v : Known) → v.case ≡ of → v.given ≡ [] → v.taken ≡ [] → IsAccount of [] v []
-account_none of v its given taken = record {
-  its_case = its;
-  pieces_of = All-nil (λ (x : Piece). x.case.now ≡ of);
-  seen = rw (given, taken) (seen_none of [] []);
-}
 
 -- a job was taken and seen to
 pub account_more : (of : Matter) (roots : List ℕ) (p : ℕ) (v taken w : Known) (before after : List Piece) → taken ≡ after_taking v p → OnlyGave taken w → SeenTo of (p ∷ []) taken.given w.given before after
@@ -177,13 +153,6 @@ pub record Halfway (of : Matter) (all : List ℕ) (left : List Job) (g0 g1 : Lis
   pub parts : all ≡ done ++ processes_of left
   pub seen : SeenTo of done g0 g1 p0 p1
 
-pub halfway_first : (of : Matter) (jobs : List Job) (given : List ℕ) (pieces : List Piece) → AllJobsOf of jobs → Halfway of (processes_of jobs) jobs given given pieces pieces
-halfway_first of jobs given pieces its = record { left_of = its; done = []; parts = refl; seen = seen_none of given pieces }
-
-pub halfway_job : (of : Matter) (all : List ℕ) (left rest : List Job) (job : Job) (g0 g1 : List ℕ) (p0 p1 : List Piece) → left ≡ job ∷ rest → Halfway of all left g0 g1 p0 p1 → job.case.now ≡ of
-halfway_job of all left rest job g0 g1 p0 p1 is so_far =
-    All-head (λ (j : Job). j.case.now ≡ of) job rest (subst (λ (xs : List Job). AllJobsOf of xs) is so_far.left_of)
-
 pub halfway_more : (of : Matter) (all : List ℕ) (left rest : List Job) (job : Job) (g0 g1 g2 : List ℕ) (p0 p1 p2 : List Piece) → left ≡ job ∷ rest → SeenTo of (job.process.0 ∷ []) g1 g2 p1 p2
     → Halfway of all left g0 g1 p0 p1 → Halfway of all rest g0 g2 p0 p2
 halfway_more of all left rest job g0 g1 g2 p0 p1 p2 is seen so_far = record {
@@ -193,25 +162,7 @@ halfway_more of all left rest job g0 g1 g2 p0 p1 p2 is seen so_far = record {
   seen = seen_on of so_far.done (job.process.0 ∷ []) g0 g1 g2 p0 p1 p2 so_far.seen seen;
 }
 
-pub halfway_end : (of : Matter) (all : List ℕ) (left : List Job) (g0 g1 : List ℕ) (p0 p1 : List Piece) → left ≡ [] → Halfway of all left g0 g1 p0 p1 → SeenTo of all g0 g1 p0 p1
-halfway_end of all left g0 g1 p0 p1 none so_far =
-    subst (λ (xs : List ℕ). SeenTo of xs g0 g1 p0 p1) (sym (so_far.parts ∙ ap (λ (xs : List Job). so_far.done ++ processes_of xs) none ∙ append-nil so_far.done)) so_far.seen
-
 -- ---- the caller's roots
-
--- the roots that are queued first, then those that are left, with workers started in between
-pub account_roots : (of : Matter) (first rest : List ℕ) (v0 v1 v2 v3 : Known) (p1 p2 : List Piece) → v0 ≡ known of 1024 [] [] → OnlyGave v0 v1 → SeenTo of first v0.given v1.given [] p1
-    → v2.given ≡ v1.given → v2.taken ≡ v1.taken → v2.case ≡ of → OnlyGave v2 v3 → SeenTo of rest v2.given v3.given p1 p2 → IsAccount of (first ++ rest) v3 p2
-account_roots of first rest v0 v1 v2 v3 p1 p2 begins gave_first seen_first same_given same_taken its gave_rest seen_rest =
-    let none : v3.taken ≡ [] = gave_rest.taken ∙ same_taken ∙ gave_first.taken ∙ ap (λ (u : Known). u.taken) begins in
-    let one : SeenTo of first [] v1.given [] p1 = subst (λ (g : List ℕ). SeenTo of first g v1.given [] p1) (ap (λ (u : Known). u.given) begins) seen_first in
-    let two : SeenTo of rest v1.given v3.given p1 p2 = subst (λ (g : List ℕ). SeenTo of rest g v3.given p1 p2) same_given seen_rest in
-    let both : SeenTo of (first ++ rest) [] v3.given [] p2 = seen_on of first rest [] v1.given v3.given [] p1 p2 one two in
-    record {
-      its_case = gave_rest.its_case ∙ its;
-      pieces_of = both.pieces_of (All-nil (λ (x : Piece). x.case.now ≡ of));
-      seen = subst (λ (xs : List ℕ). SeenTo of xs [] v3.given [] p2) (sym (ap (λ (ts : List ℕ). (first ++ rest) ++ ts) none ∙ append-nil (first ++ rest))) both;
-    }
 
 -- a job was judged with a hand that keeps nothing
 pub seen_unkept : (of : Matter) (p : ℕ) (given : List ℕ) (pieces pieces_after : List Piece) (piece : Piece) → pieces_after ≡ pieces ++ piece ∷ [] → piece.case.now ≡ of

@@ -1,6 +1,6 @@
 -- The access rights for the network: their names, the ABI that each comes with, and sets of them.
 -- Source: the kernel's userspace document on Landlock, "Network flags".
-use Rattle.std.specs.Prelude.{ℕ, ◌^◌, bit_or, ◌≡◌, Bool, not, ◌&&◌, ◌||◌, List, [], ◌∷◌, Option, Some, None, codes, bytes_eq, ◌==◌, if◌then◌else◌}
+use Rattle.std.specs.Prelude.{ℕ, ◌^◌, bit_or, Bool, not, ◌&&◌, ◌||◌, List, [], ◌∷◌, Option, Some, None, codes, bytes_eq, ◌==◌, if◌then◌else◌}
 use Rattle.std.specs.List.{list_any, list_all}
 use Rattle.ll_rights.specs.declared.net.Net.{Net}
 use Rattle.ll_rights.specs.Bits.{has_place}
@@ -62,10 +62,6 @@ is_within set whole = every_right (λ right. not (has set right) || has whole ri
 -- whether some right is wanted and handled and not granted
 abbrev pub is_lacking : (NetRight → Bool) → (NetRight → Bool) → (NetRight → Bool) → Bool
 is_lacking wanted handled granted = some_right (λ right. wanted right && handled right && not (granted right))
-
--- two sets have the same rights
-abbrev pub SameRights : Net → Net → Type 0
-SameRights a b = (right : NetRight) → has a right ≡ has b right
 
 -- whether two rights are the same
 abbrev pub is_right : NetRight → NetRight → Bool

@@ -1,6 +1,6 @@
 -- The access rights for files: their names, the ABI that each comes with, and sets of them.
 -- Source: landlock(7), "Filesystem actions"; the kernel's userspace document on Landlock, "Filesystem flags".
-use Rattle.std.specs.Prelude.{ℕ, ◌^◌, bit_or, ◌≡◌, Bool, true, false, not, ◌&&◌, ◌||◌, List, [], ◌∷◌, ◌++◌, Option, Some, None, codes, bytes_eq, ◌==◌, if◌then◌else◌}
+use Rattle.std.specs.Prelude.{ℕ, ◌^◌, bit_or, Bool, true, false, not, ◌&&◌, ◌||◌, List, [], ◌∷◌, ◌++◌, Option, Some, None, codes, bytes_eq, ◌==◌, if◌then◌else◌}
 use Rattle.std.specs.List.{list_any, list_all}
 use Rattle.ll_rights.specs.declared.fs.Fs.{Fs}
 use Rattle.ll_rights.specs.Bits.{has_place}
@@ -150,10 +150,6 @@ is_within set whole = every_right (λ right. not (has set right) || has whole ri
 -- whether some right is wanted and handled and not granted
 abbrev pub is_lacking : (FsRight → Bool) → (FsRight → Bool) → (FsRight → Bool) → Bool
 is_lacking wanted handled granted = some_right (λ right. wanted right && handled right && not (granted right))
-
--- two sets have the same rights
-abbrev pub SameRights : Fs → Fs → Type 0
-SameRights a b = (right : FsRight) → has a right ≡ has b right
 
 -- whether two rights are the same
 abbrev pub is_right : FsRight → FsRight → Bool

@@ -5,15 +5,13 @@ use Rattle.std.specs.Str.{bytes_eq}
 use Rattle.std.specs.List.{list_any}
 use Rattle.std.proofs.lemmas.List.Elements.{All-head, All-tail}
 use Rattle.ll_rights.specs.declared.fs.Fs.{Fs}
-use Rattle.ll_rights.specs.Rights.{FsRight, has, no_right, united}
-use Rattle.ll_rights.proofs.Sets.{fs_has-united}
+use Rattle.ll_rights.specs.Rights.{FsRight, has}
 use Rattle.ll_tree.specs.declared.place.NodeId.{NodeId}
 use Rattle.ll_tree.specs.Paths.{Path, front, is_prefix, path_eq}
 use Rattle.ll_tree.specs.Trees.{Entry, IsNode, IsTree, StandsIn, path_at}
 use Rattle.ll_tree.proofs.Climbing.{path_eq-nodes}
 use Rattle.ll_rules.specs.Layers.{RulesOn, granted, granted_on, granted_on_node, in_tree, rule_on_path, node, AreInTree}
-use Rattle.ll_rules.proofs.RightSets.{has_nothing}
-use Rattle.ll_rules.proofs.Booleans.{or_false, or_assoc, and_or, or_and, list_any-agree, list_any-or, list_any-map}
+use Rattle.ll_rules.proofs.Booleans.{or_false, and_or, or_and, list_any-agree, list_any-or, list_any-map}
 
 is_prefix-root : (path : Path) → is_prefix path [] ≡ path_eq path []
 unfolding is_prefix path_eq
@@ -98,28 +96,6 @@ climbed tree rules here None right listed inside within top below =
     ∙ sym (or_false (granted_on_node rules here right))
 climbed tree rules here (Some above) right listed inside within top below =
     from_path (in_tree tree rules) (path_at tree here) (path_at tree above) (granted_on_node rules here right) right (granted_on-node tree rules here right listed inside within) below.is_front
-
-pub climb_begins : (tree : List Entry) (rules : RulesOn ℕ) (here : NodeId) (right : FsRight) → (has no_right right || granted_above tree rules (Some here) right) ≡ granted (in_tree tree rules) (path_at tree here) right
-unfolding granted_above
-climb_begins tree rules here right = rw (has_nothing right) refl
-
-pub climb_goes_on : (tree : List Entry) (rules : RulesOn ℕ) (here : NodeId) (up : Option NodeId) (before rule joined : Fs) (right : FsRight) (total : Bool) → IsTree tree → IsNode tree here → AreInTree tree rules
-    → IfNone up (path_at tree here ≡ []) → IfSome up (StandsIn tree here)
-    → joined ≡ united before rule → has rule right ≡ granted_on_node rules here right
-    → (has before right || granted_above tree rules (Some here) right) ≡ total
-    → (has joined right || granted_above tree rules up right) ≡ total
-unfolding granted_above
-climb_goes_on tree rules here up before rule joined right total listed inside within top below is on so_far =
-    ap (λ (set : Fs). has set right || granted_above tree rules up right) is
-    ∙ ap (λ (b : Bool). b || granted_above tree rules up right) (fs_has-united before rule right)
-    ∙ or_assoc (has before right) (has rule right) (granted_above tree rules up right)
-    ∙ ap (λ (b : Bool). has before right || (b || granted_above tree rules up right)) on
-    ∙ ap (λ (b : Bool). has before right || b) (sym (climbed tree rules here up right listed inside within top below))
-    ∙ so_far
-
-pub climb_ends : (tree : List Entry) (rules : RulesOn ℕ) (all : Fs) (right : FsRight) (total : Bool) → (has all right || granted_above tree rules None right) ≡ total → has all right ≡ total
-unfolding granted_above
-climb_ends tree rules all right total so_far = sym (or_false (has all right)) ∙ so_far
 
 pub nodes_above : (tree : List Entry) (here : NodeId) (up : Option NodeId) → IfSome up (StandsIn tree here) → IfSome up (IsNode tree)
 nodes_above tree here None below = tt

@@ -4,14 +4,11 @@ use Rattle.std.specs.Prelude.{All}
 use Rattle.std.proofs.lemmas.List.Elements.{All-append, All-cons, All-nil, All-weaker}
 use Rattle.std.proofs.lemmas.List.{drop_all}
 use Rattle.std.proofs.Math.Seq.{drop-cons}
-use Rattle.ll_rights.specs.declared.fs.Fs.{Fs}
 use Rattle.ll_rights.specs.declared.net.Net.{Net}
 use Rattle.ll_rights.specs.Rights.{is_empty}
-use Rattle.ll_tree.specs.Paths.{Path}
-use Rattle.ll_tree.specs.Trees.{Entry}
 use Rattle.ll_rules.specs.declared.domain.LayerId.{LayerId}
-use Rattle.ll_rules.specs.Layers.{RulesOn, in_tree}
-use Rattle.ll_rules.specs.Checks.{numbers_from, layer_at, domain_of, all_in_tree, lacks, refusing, lacks_on_port, refusing_port, refusing_mount, numbers_where}
+use Rattle.ll_rules.specs.Layers.{RulesOn}
+use Rattle.ll_rules.specs.Checks.{numbers_from, layer_at, domain_of, lacks_on_port, refusing_port, refusing_mount}
 
 -- the layers that a list of names stands for
 pub numbers_from-map : {A B : Type 0} (test : B → Bool) (h : A → B) (number : ℕ) (xs : List A) → numbers_from test number (map h xs) ≡ numbers_from (λ x. test (h x)) number xs
@@ -47,15 +44,6 @@ noted_below so_far next place refuses noted below =
 
 -- ---- by the names of layers
 
--- whether the layer of a name lacks something wanted on a path
-unfoldable pub refuses_on : List Entry → List (RulesOn ℕ) → Path → Fs → LayerId → Bool
-refuses_on tree layers path wanted id = lacks (in_tree tree (layer_at layers id)) path wanted
-
-pub refusing_by_name : (tree : List Entry) (layers : List (RulesOn ℕ)) (ids : List LayerId) (path : Path) (wanted : Fs) → numbers_from (refuses_on tree layers path wanted) 1 ids ≡ refusing (all_in_tree tree (domain_of layers ids)) path wanted
-unfolding refuses_on
-refusing_by_name tree layers ids path wanted =
-    sym (numbers_from-map (λ layer. lacks layer path wanted) (in_tree tree) 1 (domain_of layers ids) ∙ numbers_from-map (λ rules. lacks (in_tree tree rules) path wanted) (layer_at layers) 1 ids)
-
 -- whether the layer of a name lacks something wanted on a port
 unfoldable pub refuses_on_port : List (RulesOn ℕ) → ℕ → Net → LayerId → Bool
 refuses_on_port layers port wanted id = lacks_on_port (layer_at layers id) port wanted
@@ -71,12 +59,3 @@ refuses_mount layers id = not (is_empty (layer_at layers id).handled_files)
 pub refusing_mount_by_name : (layers : List (RulesOn ℕ)) (ids : List LayerId) → numbers_from (refuses_mount layers) 1 ids ≡ refusing_mount (domain_of layers ids)
 unfolding refuses_mount
 refusing_mount_by_name layers ids = sym (numbers_from-map (λ layer. not (is_empty layer.handled_files)) (layer_at layers) 1 ids)
-
--- whether the layer of a name passes a test of layers with rules on paths
-unfoldable pub passes : List Entry → List (RulesOn ℕ) → (RulesOn Path → Bool) → LayerId → Bool
-passes tree layers test id = test (in_tree tree (layer_at layers id))
-
-pub passing_by_name : (tree : List Entry) (layers : List (RulesOn ℕ)) (ids : List LayerId) (test : RulesOn Path → Bool) → numbers_from (passes tree layers test) 1 ids ≡ numbers_where test (all_in_tree tree (domain_of layers ids))
-unfolding passes
-passing_by_name tree layers ids test =
-    sym (numbers_from-map test (in_tree tree) 1 (domain_of layers ids) ∙ numbers_from-map (λ rules. test (in_tree tree rules)) (layer_at layers) 1 ids)

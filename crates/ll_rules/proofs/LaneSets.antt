@@ -1,9 +1,9 @@
 -- The sets of rights in lanes, and what the vector operations make of them.
 use Rattle.std.proofs.Common.{◌≡◌, ℕ, zero, suc, ◌-◌, ◌%◌, ◌^◌, ◌<◌, ◌≤◌, lit<, lit≤, subst, Bool, true, false, not, ◌&&◌, ◌||◌, cond, eqb, List, [], ◌∷◌, map, length, get_or, replicate, refl, sym, ap, ◌∙◌, arith, inl, inr, bit_and, bit_or, w16, Fits}
 use Rattle.std.specs.Int.{bit_at, bit_not}
-use Rattle.std.proofs.lemmas.Bool.{cases_lt, lt-leb, eqb-true, not-false}
+use Rattle.std.proofs.lemmas.Bool.{cases_lt, lt-leb}
 use Rattle.std.proofs.lemmas.Nat.{and_le_l}
-use Rattle.std.proofs.lemmas.Nat.Bits.{bit_at_and, bit_at_not, bit_at-lt, bit_at-zero, bit_at_ones}
+use Rattle.std.proofs.lemmas.Nat.Bits.{bit_at_and, bit_at_not, bit_at-lt, bit_at_ones}
 use Rattle.std.proofs.lemmas.List.{get_or-map, get_or_past, length-map}
 use Rattle.std.proofs.lemmas.Simd.{length-zip2, length-replicate, get_or-zip2, get_or-replicate, bitmask_splat, bit_mask_l, mask_l-lt}
 use lib.Lanes.{zip2, Each1, mask_l, top}
@@ -189,12 +189,3 @@ filled_places xs places same = passing_upto-agree (is_at_place places) (is_fille
   each : (number : ℕ) → 0 < number → number ≤ 16 → is_at_place places number ≡ is_filled xs number
   each zero pos le = absurd (omega arith)
   each (suc place) pos le = same place (omega arith)
-
-pub none_filled : (xs : List ℕ) (places : ℕ) → length xs ≡ 16 → ((place : ℕ) → place < 16 → eqb (bit_at places place) 1 ≡ not (is_empty (lane xs place))) → places ≡ 0 → (place : ℕ) (right : FsRight) → has (lane xs place) right ≡ false
-none_filled xs places long same none place right =
-    elim (cases_lt place 16) [
-      | inl inside ↦
-          let empty : not (is_empty (lane xs place)) ≡ false = sym (same place inside) ∙ ap (λ (bits : ℕ). eqb (bit_at bits place) 1) none ∙ ap (λ (bit : ℕ). eqb bit 1) (bit_at-zero place) in
-          nothing_in (get_or xs place 0) right (eqb-true (get_or xs place 0) 0 (fs_is_empty (lane xs place) ∙ not-false (is_empty (lane xs place)) empty))
-      | inr past ↦ nothing_in (get_or xs place 0) right (get_or_past xs place 0 (omega arith))
-    ]

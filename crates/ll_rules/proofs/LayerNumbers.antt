@@ -179,10 +179,6 @@ numbers_again set =
     passing_upto-agree (is_at_place set.places) (λ number. is_among number (numbers_of set)) 16
     (λ number pos le. sym (is_among-passing_upto (is_at_place set.places) 16 number pos le))
 
-same_places : (a b : Inside) → a.places < 2 ^ 16 → b.places < 2 ^ 16 → numbers_of a ≡ numbers_of b → a.places ≡ b.places
-same_places a b p q same =
-    sym (places_of-passing_upto a.places 16 ∙ mod-eq_of_lt p) ∙ ap places_of same ∙ places_of-passing_upto b.places 16 ∙ mod-eq_of_lt q
-
 pub places_kept : (set : Inside) (numbers : List ℕ) → numbers_of set ≡ numbers → set.places < 2 ^ 16 → set.places ≡ places_of numbers
 places_kept set numbers same fits = sym (ap places_of (sym same) ∙ places_of-passing_upto set.places 16 ∙ mod-eq_of_lt fits)
 

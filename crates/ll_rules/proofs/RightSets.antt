@@ -1,12 +1,7 @@
 -- Sets of rights that are within known ones.
-use Rattle.std.proofs.Common.{◌≡◌, ℕ, zero, suc, ◌^◌, ◌<◌, min, bit_and, eqb, lit<, Bool, true, false, not, ◌&&◌, ◌||◌, [], ◌∷◌, refl, sym, ap, ◌∙◌, arith, inl, inr}
-use Rattle.std.specs.Int.{bit_at}
-use Rattle.std.proofs.lemmas.Nat.{and_le_r}
-use Rattle.std.proofs.lemmas.Nat.Bits.{bit_at_and, bit_at-lt}
-use Rattle.ll_rights.specs.Bits.{has_place}
-use Rattle.ll_rights.proofs.Places.{has_place-named, has_place-other}
+use Rattle.std.proofs.Common.{◌≡◌, ℕ, zero, suc, ◌<◌, min, eqb, lit<, Bool, true, false, not, ◌&&◌, ◌||◌, [], ◌∷◌, refl, sym, ap, ◌∙◌, arith}
 use Rattle.std.specs.List.{list_any, list_all}
-use Rattle.std.proofs.lemmas.Bool.{and_parts, or_right, false_from_ne_true, false≢true, not-true, cases_lt, lt-leb}
+use Rattle.std.proofs.lemmas.Bool.{and_parts, or_right, false_from_ne_true, false≢true, not-true}
 use Rattle.std.proofs.lemmas.List.Folds.{list_all-append, list_any_at}
 use Rattle.ll_rights.specs.declared.fs.Fs.{Fs}
 use Rattle.ll_rights.specs.declared.net.Net.{Net}
@@ -15,7 +10,7 @@ use Rattle.ll_rights.specs.NetRights as network
 use Rattle.ll_rights.proofs.Sets.{fs_has-only, fs_has-united}
 use Rattle.ll_rules.specs.Layers.{RulesOn, handles}
 use Rattle.ll_rules.specs.Rulesets.{are_file_rights}
-use Rattle.ll_rules.proofs.Booleans.{or_false, and_none, list_all-agree}
+use Rattle.ll_rules.proofs.Booleans.{or_false, list_all-agree}
 
 none_from_implied : (x y : Bool) → (not x || y) ≡ true → y ≡ false → x ≡ false
 none_from_implied true true e none = absurd cc
@@ -110,24 +105,3 @@ both_bits (suc zero) zero p q = refl
 both_bits (suc zero) (suc zero) p q = refl
 both_bits (suc (suc x)) y p q = absurd (omega arith)
 both_bits x (suc (suc y)) p q = absurd (omega arith)
-
-pub has_place-both : (a b place : ℕ) → b < 2 ^ 16 → has_place 16 (bit_and a b) place ≡ (has_place 16 a place && has_place 16 b place)
-has_place-both a b place low =
-    elim (cases_lt place 16) [
-      | inl named ↦
-          rw (has_place-named 16 (bit_and a b) place named, has_place-named 16 a place named, has_place-named 16 b place named, bit_at_and a b place)
-          (both_bits (bit_at a place) (bit_at b place) (bit_at-lt a place) (bit_at-lt b place))
-      | inr unnamed ↦
-          has_place-other 16 (bit_and a b) place unnamed
-          ∙ lt-leb (2 ^ 16) (bit_and a b) (omega (arith, and_le_r a b))
-          ∙ sym (and_none (has_place 16 a place))
-          ∙ ap (λ (found : Bool). has_place 16 a place && found) (sym (has_place-other 16 b place unnamed ∙ lt-leb (2 ^ 16) b low))
-    ]
-
--- the rights that two sets share, where the second is that of the rights for files
-pub has_shared : (set shared : Fs) → shared.0 ≡ bit_and set.0 49159 → (right : files.FsRight) → files.has shared right ≡ (files.has set right && files.is_file_right right)
-unfolding files.has
-has_shared set shared is right =
-    ap (λ (bits : ℕ). has_place 16 bits (files.bit_of right)) is
-    ∙ has_place-both set.0 49159 (files.bit_of right) (lit< tt)
-    ∙ ap (λ (b : Bool). has_place 16 set.0 (files.bit_of right) && b) (has_file right)

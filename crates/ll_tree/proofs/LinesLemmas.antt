@@ -3,7 +3,7 @@ use Rattle.std.proofs.Common.{◌≡◌, ℕ, zero, suc, ◌+◌, ◌-◌, ◌<�
 use Rattle.std.proofs.lemmas.Bool.{false_from_ne_true}
 use Rattle.std.proofs.lemmas.List.{take_rest}
 use Rattle.memchr.specs.Find.{NoneBefore, Nowhere, Passes, is_byte}
-use Rattle.ll_tree.specs.Lines.{lines, with_first, is_blank, filled_from}
+use Rattle.ll_tree.specs.Lines.{lines, with_first, filled_from}
 
 -- the byte is no line feed where none stands below the place
 abbrev pub NoLineFeed : List ℕ → ℕ → Type 0
@@ -44,9 +44,3 @@ pub filled_from-empty : (n : ℕ) (bytes : List ℕ) → length bytes ≡ 0 → 
 unfolding lines
 filled_from-empty n [] none = refl
 filled_from-empty n (b ∷ bytes) none = absurd (omega arith)
-
-pub filled_from-blank : (n : ℕ) (bytes line after : List ℕ) → lines bytes ≡ line ∷ lines after → is_blank line ≡ true → filled_from n bytes ≡ filled_from (n + 1) after
-filled_from-blank n bytes line after cut blank = rw (cut, blank) refl
-
-pub filled_from-filled : (n : ℕ) (bytes line after : List ℕ) → lines bytes ≡ line ∷ lines after → is_blank line ≡ false → filled_from n bytes ≡ record { number = n; bytes = line } ∷ filled_from (n + 1) after
-filled_from-filled n bytes line after cut filled = rw (cut, filled) refl

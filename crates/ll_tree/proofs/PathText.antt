@@ -1,8 +1,8 @@
 -- What `path_of` answers, by the first byte of the text and its names.
-use Rattle.std.proofs.Common.{◌≡◌, ℕ, ◌≤◌, ◌<◌, ◌∷◌, [], List, true, false, length, Some, None, cond, eqb, refl, ap, ◌∙◌, arith}
+use Rattle.std.proofs.Common.{◌≡◌, ℕ, ◌≤◌, ◌∷◌, [], List, true, false, length, Some, None, cond, eqb, refl, ap, ◌∙◌, arith}
 use Rattle.std.specs.Prelude.{◌≢◌, is_some}
 use Rattle.std.specs.List.{list_all, slice_split}
-use Rattle.std.proofs.lemmas.Bool.{le-leb, lt-leb}
+use Rattle.std.proofs.lemmas.Bool.{le-leb}
 use Rattle.std.proofs.lemmas.Bool.Decides.{nat_tests}
 use Rattle.ll_tree.specs.Paths.{is_slash, is_name, names_in, after_slash, path_of}
 
@@ -10,11 +10,6 @@ use Rattle.ll_tree.specs.Paths.{is_slash, is_name, names_in, after_slash, path_o
 pub path_of-short : (text : List ℕ) → length text ≤ 4096 → path_of text ≡ after_slash text
 unfolding path_of
 path_of-short text fits = rw (le-leb (length text) 4096 fits) refl
-
--- a longer one is no path
-pub path_of-long : (text : List ℕ) → 4096 < length text → path_of text ≡ None
-unfolding path_of
-path_of-long text long = rw (lt-leb (length text) 4096 long) refl
 
 -- a text that doesn't begin with a slash is no path
 pub path_of-other : (text : List ℕ) → length text ≤ 4096 → ((rest : List ℕ) → text ≢ 47 ∷ rest) → path_of text ≡ None

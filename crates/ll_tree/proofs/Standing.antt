@@ -20,10 +20,6 @@ pub is_root : (tree : List Entry) → IsTree tree → path_at tree (node 0) ≡ 
 unfolding path_at
 is_root tree listed = ap (λ (e : Entry). e.path) listed.begins.1
 
-pub root_alone : (tree : List Entry) (here : NodeId) → IsTree tree → IsNode tree here → path_at tree here ≡ [] → here.0 ≡ 0
-root_alone tree here listed within top =
-    ap (λ (n : NodeId). n.0) (listed.distinct here (node 0) within listed.begins.0 (top ∙ sym (is_root tree listed)))
-
 -- where something stands in what stands above a node, it is the only one of its path
 pub parent_of-root : (tree : List Entry) (path : Path) → path ≡ [] → parent_of tree path ≡ None
 unfolding parent_of
