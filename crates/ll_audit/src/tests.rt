@@ -212,51 +212,49 @@ fn a_failed_write_leaves_a_beginning(rt: HostRuntime) -> Result<(), Fail> {
     Ok(())
 }
 
+/// A line for each operation of the table in docs/FORMATS.md, with the members that it must have.
+const OPERATIONS: &str = "\
+{\"op\":\"start\",\"pid\":10}
+{\"op\":\"fork\",\"pid\":10,\"child\":11}
+{\"op\":\"nnp\",\"pid\":10}
+{\"op\":\"create\",\"pid\":10,\"rs\":3}
+{\"op\":\"add_path\",\"pid\":10,\"rs\":3,\"path\":\"/a\"}
+{\"op\":\"add_port\",\"pid\":10,\"rs\":3,\"port\":80}
+{\"op\":\"close_rs\",\"pid\":10,\"rs\":3}
+{\"op\":\"restrict\",\"pid\":10,\"rs\":3}
+{\"op\":\"open\",\"pid\":10,\"path\":\"/a/f\",\"fd\":4,\"mode\":\"r\"}
+{\"op\":\"adopt\",\"pid\":10,\"fd\":5,\"kind\":\"other\"}
+{\"op\":\"dup\",\"pid\":10,\"fd\":4,\"to\":6}
+{\"op\":\"close\",\"pid\":10,\"fd\":4}
+{\"op\":\"ftruncate\",\"pid\":10,\"fd\":4}
+{\"op\":\"truncate\",\"pid\":10,\"path\":\"/a/f\"}
+{\"op\":\"exec\",\"pid\":10,\"path\":\"/a/f\"}
+{\"op\":\"mknod\",\"pid\":10,\"path\":\"/a/n\",\"kind\":\"fifo\"}
+{\"op\":\"mkdir\",\"pid\":10,\"path\":\"/a/d\"}
+{\"op\":\"symlink\",\"pid\":10,\"path\":\"/a/s\"}
+{\"op\":\"unlink\",\"pid\":10,\"path\":\"/a/f\"}
+{\"op\":\"rmdir\",\"pid\":10,\"path\":\"/a/d\"}
+{\"op\":\"rename\",\"pid\":10,\"from\":\"/a/f\",\"to\":\"/a/g\"}
+{\"op\":\"link\",\"pid\":10,\"from\":\"/a/f\",\"to\":\"/a/g\"}
+{\"op\":\"mount\",\"pid\":10}
+{\"op\":\"bind\",\"pid\":10,\"port\":80}
+{\"op\":\"connect\",\"pid\":10,\"port\":443}
+{\"op\":\"ioctl\",\"pid\":10,\"fd\":4,\"driver\":true}
+{\"op\":\"exit\",\"pid\":10}
+";
+
 #[test]
 fn words_of_operations(rt: HostRuntime) -> Result<(), Fail> {
-    // The table of docs/FORMATS.md, with the members that a line must have.
-    let table = [
-        ("start", ""),
-        ("fork", ",\"child\":11"),
-        ("nnp", ""),
-        ("create", ",\"rs\":3"),
-        ("add_path", ",\"rs\":3,\"path\":\"/a\""),
-        ("add_port", ",\"rs\":3,\"port\":80"),
-        ("close_rs", ",\"rs\":3"),
-        ("restrict", ",\"rs\":3"),
-        ("open", ",\"path\":\"/a/f\",\"fd\":4,\"mode\":\"r\""),
-        ("adopt", ",\"fd\":5,\"kind\":\"other\""),
-        ("dup", ",\"fd\":4,\"to\":6"),
-        ("close", ",\"fd\":4"),
-        ("ftruncate", ",\"fd\":4"),
-        ("truncate", ",\"path\":\"/a/f\""),
-        ("exec", ",\"path\":\"/a/f\""),
-        ("mknod", ",\"path\":\"/a/n\",\"kind\":\"fifo\""),
-        ("mkdir", ",\"path\":\"/a/d\""),
-        ("symlink", ",\"path\":\"/a/s\""),
-        ("unlink", ",\"path\":\"/a/f\""),
-        ("rmdir", ",\"path\":\"/a/d\""),
-        ("rename", ",\"from\":\"/a/f\",\"to\":\"/a/g\""),
-        ("link", ",\"from\":\"/a/f\",\"to\":\"/a/g\""),
-        ("mount", ""),
-        ("bind", ",\"port\":80"),
-        ("connect", ",\"port\":443"),
-        ("ioctl", ",\"fd\":4,\"driver\":true"),
-        ("exit", ""),
-    ];
-    let mut file = String::new(rt.alloc());
-    for (word, members) in table {
-        file.push_str("{\"op\":\"")?;
-        file.push_str(word)?;
-        file.push_str("\",\"pid\":10")?;
-        file.push_str(members)?;
-        file.push_str("}\n")?;
+    let trace = Trace::read(rt.alloc(), OPERATIONS.as_bytes()).map_err(|_| "no trace")?;
+    let mut words = String::new(rt.alloc());
+    for record in trace.records() {
+        words.push_str(op_name(&record.op))?;
+        words.push(' ')?;
     }
-    let trace = Trace::read(rt.alloc(), file.as_bytes()).map_err(|_| "no trace")?;
-    assert_eq!(rt; trace.records().len(), table.len());
-    for (record, (word, _)) in trace.records().iter().zip(table) {
-        assert_eq!(rt; op_name(&record.op), word);
-    }
+    let want = "start fork nnp create add_path add_port close_rs restrict open adopt dup close \
+        ftruncate truncate exec mknod mkdir symlink unlink rmdir rename link mount bind connect \
+        ioctl exit ";
+    assert_eq!(rt; words.as_str(), want);
     Ok(())
 }
 
