@@ -6,6 +6,8 @@ mod order;
 #[cfg(test)]
 mod orders;
 #[cfg(test)]
+mod refusals;
+#[cfg(test)]
 mod traces;
 #[cfg(test)]
 mod worked;

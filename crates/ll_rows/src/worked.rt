@@ -14,7 +14,7 @@ use std::process::Abort;
 use std::test::Fail;
 
 /// The tree of the worked traces.
-const TREE: &str = "\
+pub(crate) const TREE: &str = "\
 {\"path\":\"/a\",\"kind\":\"dir\"}\n\
 {\"path\":\"/b\",\"kind\":\"dir\"}\n\
 {\"path\":\"/a/s\",\"kind\":\"dir\"}\n\
@@ -52,7 +52,8 @@ fn is_refused(answer: &Answer, expected: Errno, numbers: &[u32]) -> bool {
     }
 }
 
-fn meets(answer: &Answer, told: Told) -> bool {
+/// Whether an answer is the one told.
+pub(crate) fn meets(answer: &Answer, told: Told) -> bool {
     match told {
         Told::Allowed => *answer == Answer::Allowed,
         Told::Moot => *answer == Answer::Moot,
