@@ -405,7 +405,7 @@ pub fn check_move_counted(
         &mut look_ups,
     );
     let denied = filled(denied(lacking, from, to));
-    if to.directory == from.directory {
+    if !denied.is_empty() || to.directory == from.directory {
         return (verdict_of(denied, LayerSet::new()), look_ups);
     }
     let held_back = filled(held_back(tree, layers, ids, attempt, lacking, &mut look_ups));

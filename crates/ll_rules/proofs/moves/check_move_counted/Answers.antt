@@ -4,19 +4,23 @@ use Rattle.ll_rules.specs.declared.domain.LayerId.{LayerId}
 use Rattle.ll_rules.specs.Checks.{domain_of, all_in_tree, numbers_where}
 use Rattle.ll_rules.specs.Moves.{denies, holds_back}
 use Rattle.ll_rules.proofs.MoveLanes.{denied_numbers, held_numbers, move_look_ups}
-use Rattle.ll_rules.proofs.Verdicts.{within_verdict, apart_verdict}
+use Rattle.ll_rules.proofs.Verdicts.{denied_verdict, within_verdict, apart_verdict}
+use Rattle.ll_rules.proofs.moves.check_move_counted.Goals.{then-not-is_empty-via-then-not-is_empty, then-not-is_empty-via-else-not-is_empty+then-eq}
 use Rattle.ll_rules.proofs.moves.check_move_counted.Goals as goal
 
-pub returns-then-eq-clause-answer : goal.returns-then-eq-clause-answer
-returns-then-eq-clause-answer c =
+pub returns-then-not-is_empty-clause-answer : goal.returns-then-not-is_empty-clause-answer
+returns-then-not-is_empty-clause-answer c =
     let few : length c.layers-ids.result.now ≤ 16 = rw c.layers-ids.ensures.value c.layers-ids.ensures.at_most_sixteen in
     let denied_is = c.filled-denied.ensures ∙ denied_numbers c.args.tree.now c.args.attempt.now c.args.layers.now c.layers-ids.result.now few c.denied.result _ _ c.lacking_of-lacking.result.source c.lacking_of-lacking.result.destination c.leaving-from.result.rights c.entering-to.result.rights c.leaving-from.ensures.path c.entering-to.ensures.path c.lacking_of-lacking.ensures.source c.lacking_of-lacking.ensures.destination c.leaving-from.ensures.rights c.entering-to.ensures.rights c.denied.ensures
     ∙ ap (λ (ids : List LayerId). numbers_where (denies c.args.tree.now c.args.attempt.now) (all_in_tree c.args.tree.now (domain_of c.args.layers.now ids))) c.layers-ids.ensures.value in
     let by_paths = path_eq-nodes c.args.tree.now c.leaving-from.result.directory c.entering-to.result.directory c.leaving-from.ensures.tree c.leaving-from.ensures.inside c.entering-to.ensures.inside in
-    c.verdict_of.ensures ∙ rw c.new.ensures (within_verdict _ _ _ _ denied_is _ _ c.leaving-from.ensures.path c.entering-to.ensures.path (sym by_paths ∙ sym c.eq.ensures ∙ c.if-eq.true))
+    c.verdict_of.ensures ∙ rw c.new.ensures (elim c.then-not-is_empty.branch [
+      | then-not-is_empty-via-then-not-is_empty w ↦ denied_verdict _ _ _ _ denied_is _ _ c.leaving-from.ensures.path c.entering-to.ensures.path (sym c.is_empty.ensures.empty ∙ w.if-not-is_empty.true)
+      | then-not-is_empty-via-else-not-is_empty+then-eq w ↦ within_verdict _ _ _ _ denied_is _ _ c.leaving-from.ensures.path c.entering-to.ensures.path (sym by_paths ∙ sym w.eq.ensures ∙ w.if-eq.true)
+    ])
 
-pub returns-then-eq-clause-look_ups : goal.returns-then-eq-clause-look_ups
-returns-then-eq-clause-look_ups c =
+pub returns-then-not-is_empty-clause-look_ups : goal.returns-then-not-is_empty-clause-look_ups
+returns-then-not-is_empty-clause-look_ups c =
     let same : length c.layers-ids.result.now ≡ length c.args.domain.now = ap length c.layers-ids.ensures.value in
     rw (← same) (move_look_ups c.args.tree.now c.leaving-from.result.directory c.entering-to.result.directory _ _ (length c.layers-ids.result.now) c.lacking_of-lacking.new.look_ups c.lacking_of-lacking.new.look_ups c.leaving-from.ensures.path c.entering-to.ensures.path c.lacking_of-lacking.ensures.count (omega arith))
 
