@@ -83,7 +83,7 @@ pub(crate) struct Layers {
 
 /// One layer in both forms: it handles every right, reads in half of the directories beside the way down, and
 /// where `granting` in the first directory of the way.
-#[tactic(auto, using(ll_rules::proofs::Adding::of_tree))]
+#[tactic(auto, using(ll_rules::proofs::Adding::place_of_tree, ll_rules::proofs::Adding::no_rules_in_tree))]
 fn layer_of(alloc: Global, tree: &Tree, number: u32, granting: bool) -> Result<(Layer, PlainLayer)>
     ensures { IfOk result (λ both. AreInTree tree.now both.0) }
 {

@@ -9,7 +9,7 @@ ghost use Rattle.ll_rules.specs.Moves.{IsTargetIn};
 use super::*;
 use crate::moves::{destination_of, source_of};
 use bitflags::Flags;
-use ll_rights::{Abi, Fs, Net};
+use ll_rights::{Abi, Fs, Kind, Net};
 use ll_rules::{
     Domain, Errno, How, Layer, LayerId, LayerSet, Move, Ruleset, Target, Verdict, check_move,
     check_move_counted, check_path, check_path_counted,
@@ -21,11 +21,14 @@ use std::test::*;
 /// How many numbers of nodes the filter of a layer tells apart: those that differ by a multiple share a mark.
 const MARKS: u32 = 4096;
 
-/// How many rules of a layer are within reach of one look; the others stand in its map alone.
+/// How many rules of a layer are within reach of one look, at most; the others stand in its map alone.
 const RECENT: u32 = 64;
 
-/// How many rules a layer gets.
-const RULES: u32 = 2 * RECENT;
+/// How many rules are tried for a layer. Those are added of which a right is left that it handles.
+const TRIED: u32 = 4 * RECENT;
+
+/// More nodes with rules than this are many for a layer.
+const MANY: usize = 100;
 
 /// How many objects are asked about in one domain.
 const ASKED: u32 = 60;
@@ -34,7 +37,7 @@ const ASKED: u32 = 60;
 const DEEPEST: u32 = 12;
 
 /// Kinds of objects that aren't directories.
-const KINDS: [&str; 5] = ["reg", "sym", "char", "fifo", "sock"];
+const KINDS: [&str; 6] = ["reg", "sym", "char", "block", "fifo", "sock"];
 
 /// A list of a tree, with the paths of its nodes after the root, in their order.
 #[derive(Drop)]
@@ -60,7 +63,7 @@ impl Listing {
         self.add(alloc, directory, "dir")?;
         for number in 0..70u32 {
             let path = format!(in alloc; "{directory}/f{number}")?;
-            self.add(alloc, &path, KINDS[(number % 5) as usize])?;
+            self.add(alloc, &path, KINDS[(number % 6) as usize])?;
         }
         Ok(())
     }
@@ -146,7 +149,7 @@ fn node_named(tree: &Tree, path: &str) -> Result<NodeId, Fail>
 }
 
 /// One layer in both forms, with the same rules by chance: half of them on directories.
-#[tactic(auto, using(ll_rules::proofs::Adding::of_tree))]
+#[tactic(auto, using(ll_rules::proofs::Adding::place_of_tree, ll_rules::proofs::Adding::no_rules_in_tree))]
 fn layer_of(
     alloc: Global,
     tree: &Tree,
@@ -160,12 +163,14 @@ fn layer_of(
         return Err(Fail::from("the ruleset is created"));
     };
     let mut plain = PlainLayer::new(alloc, handled);
-    for number in 0..RULES {
-        let path = numbers.object(listing, number)?;
-        let granted = numbers.rights().intersection(handled);
-        let place = tree.resolve(path);
-        if rules.add_path(tree, place, granted).is_ok() {
-            let node = node_named(tree, path)?;
+    for number in 0..TRIED {
+        let node = node_named(tree, numbers.object(listing, number)?)?;
+        let wanted = numbers.rights().intersection(handled);
+        let granted = match tree.kind(node) {
+            Kind::Dir => wanted,
+            _ => wanted.intersection(Fs::FILE),
+        };
+        if rules.add_path(tree, Place::Node(node), granted).is_ok() {
             plain.grant(node, granted)?;
         }
     }
@@ -180,6 +185,16 @@ fn layer_of(
 struct Both {
     lanes: Vec<Layer>,
     plain: Vec<PlainLayer>,
+}
+
+impl Both {
+    /// How many of the layers have rules on many nodes.
+    fn large(&self) -> usize {
+        self.plain
+            .iter()
+            .filter(|layer| layer.nodes() > MANY)
+            .count()
+    }
 }
 
 /// So many layers, at most sixteen.
@@ -342,8 +357,10 @@ fn paths_by_lanes_and_by_plain_layers(rt: HostRuntime) -> Result<(), Fail> {
     let listing = listed_nodes(alloc)?;
     let tree = listed_tree(alloc, &listing)?;
     let mut numbers = Numbers { last: 1 };
+    let mut large = 0;
     for round in 0..34u32 {
         let both = layers_of(alloc, &tree, &listing, round % 17, &mut numbers)?;
+        large = both.large().max(large);
         let domain = stacked(&both.lanes)?;
         for turn in 0..ASKED {
             let path = numbers.object(&listing, turn)?;
@@ -354,11 +371,15 @@ fn paths_by_lanes_and_by_plain_layers(rt: HostRuntime) -> Result<(), Fail> {
             );
         }
     }
+    assert!(rt;
+        large >= 10,
+        "{large} layers of a domain have rules on many nodes"
+    );
     Ok(())
 }
 
 /// The layer whose rules grant reading on some objects, and which handles reading alone.
-#[tactic(auto, using(ll_rules::proofs::Adding::of_tree))]
+#[tactic(auto, using(ll_rules::proofs::Adding::place_of_tree, ll_rules::proofs::Adding::no_rules_in_tree))]
 fn reading_layer(alloc: Global, tree: &Tree, paths: &[String]) -> Result<Layer, Fail>
     ensures { IfOk result (AreInTree tree.now) }
 {
@@ -392,7 +413,7 @@ fn nodes_that_share_a_mark(rt: HostRuntime) -> Result<(), Fail> {
     let listing = listed_nodes(alloc)?;
     let tree = listed_tree(alloc, &listing)?;
     // These have rules: the chain, and objects of the first directories after it.
-    let Some(granted) = listing.paths.get(..RULES as usize) else {
+    let Some(granted) = listing.paths.get(..2 * RECENT as usize) else {
         return Err(Fail::from("there are so many nodes"));
     };
     let mut layers = Vec::new(alloc);
@@ -419,8 +440,10 @@ fn moves_by_lanes_and_by_plain_layers(rt: HostRuntime) -> Result<(), Fail> {
     let listing = listed_nodes(alloc)?;
     let tree = listed_tree(alloc, &listing)?;
     let mut numbers = Numbers { last: 2 };
+    let mut large = 0;
     for round in 0..34u32 {
         let both = layers_of(alloc, &tree, &listing, round % 17, &mut numbers)?;
+        large = both.large().max(large);
         let domain = stacked(&both.lanes)?;
         for turn in 0..ASKED {
             let from = numbers.object(&listing, turn)?;
@@ -439,5 +462,9 @@ fn moves_by_lanes_and_by_plain_layers(rt: HostRuntime) -> Result<(), Fail> {
             }
         }
     }
+    assert!(rt;
+        large >= 10,
+        "{large} layers of a domain have rules on many nodes"
+    );
     Ok(())
 }

@@ -129,13 +129,11 @@ still_in_tree tree old new here set inside more within =
     all_within tree new.file_rules (more.places (outside tree) ∙ rw (lt-ltb here.0 (length tree) inside) (none_outside tree old.file_rules within))
 
 -- what a text names is of the tree
-pub IsOfTree-place : (tree : List Entry) (place : Place) → IsPlace tree place → IsOfTree tree place
-IsOfTree-place tree (Node here) within = within
-IsOfTree-place tree (Gap here) within = within.0
-IsOfTree-place tree Nowhere within = tt
+pub place_of_tree : (tree : List Entry) (place : Place) → IsPlace tree place → IsOfTree tree place
+place_of_tree tree (Node here) within = within
+place_of_tree tree (Gap here) within = within.0
+place_of_tree tree Nowhere within = tt
 
 -- no rules are in every tree
-pub AreInTree-none : (tree : List Entry) (files : Fs) (net : Net) → AreInTree tree (without_rules files net)
-AreInTree-none tree files net = All-nil (λ (number : ℕ). number < length tree)
-
-pub ruleset of_tree = (IsOfTree-place, AreInTree-none)
+pub no_rules_in_tree : (tree : List Entry) (files : Fs) (net : Net) → AreInTree tree (without_rules files net)
+no_rules_in_tree tree files net = All-nil (λ (number : ℕ). number < length tree)

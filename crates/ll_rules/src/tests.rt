@@ -77,7 +77,7 @@ fn target_named(tree: &Tree, path: &str) -> Result<Target, Fail>
     }
 }
 
-#[tactic(auto, using(crate::proofs::Adding::of_tree))]
+#[tactic(auto, using(crate::proofs::Adding::place_of_tree, crate::proofs::Adding::no_rules_in_tree))]
 fn add_path(rules: &mut Ruleset, tree: &Tree, path: &str, files: Fs) -> Result<(), RuleFault>
     requires { AreInTree tree.now rules.old }
     ensures { AreInTree tree.now rules.new }
@@ -86,7 +86,7 @@ fn add_path(rules: &mut Ruleset, tree: &Tree, path: &str, files: Fs) -> Result<(
     rules.add_path(tree, place, files)
 }
 
-#[tactic(auto, using(crate::proofs::Adding::of_tree))]
+#[tactic(auto, using(crate::proofs::Adding::place_of_tree, crate::proofs::Adding::no_rules_in_tree))]
 fn rules_of(alloc: Global, tree: &Tree, wanted: &Wanted) -> Result<Ruleset, Fail>
     ensures { IfOk result (AreInTree tree.now) }
 {
