@@ -13,6 +13,7 @@ from .problems import Problem
 Record = dict[str, Any]
 
 _encode = json.JSONEncoder(ensure_ascii=False, separators=(",", ":")).encode
+_encode_escaped = json.JSONEncoder(separators=(",", ":")).encode
 #: Records repeat their texts: so many different ones are kept as they are written.
 _encode_text = lru_cache(16_384)(_encode)
 
@@ -52,11 +53,19 @@ def line(record: Record) -> str:
     return _encode(record) + "\n"
 
 
+def _line_bytes(record: Record) -> bytes:
+    """A record's line as bytes; a name that is not UTF-8 is told by escapes, from which it is read back."""
+    try:
+        return line(record).encode()
+    except UnicodeEncodeError:
+        return _encode_escaped(record).encode() + b"\n"
+
+
 def write(path: Path, records: Iterable[Record]) -> int:
     """Writes records, one a line, and says how many there were."""
     count = 0
-    with open(path, "w", encoding="utf-8") as out:
+    with open(path, "wb") as out:
         for record in records:
-            out.write(line(record))
+            out.write(_line_bytes(record))
             count += 1
     return count

@@ -2,7 +2,9 @@
 
 from __future__ import annotations
 
+import tempfile
 import unittest
+from pathlib import Path
 
 from landaudit_record import jsonl
 
@@ -18,6 +20,16 @@ class Values(unittest.TestCase):
 
     def test_lists(self) -> None:
         self.assertEqual(jsonl.value(["read", "b c"]), '["read","b c"]')
+
+
+class Files(unittest.TestCase):
+    def test_a_name_that_is_not_utf_8_is_read_back(self) -> None:
+        records = [{"path": "/é"}, {"path": "/bad\udcff"}]
+        with tempfile.TemporaryDirectory() as folder:
+            file = Path(folder) / "names.jsonl"
+            self.assertEqual(jsonl.write(file, records), 2)
+            self.assertEqual(file.read_bytes(), '{"path":"/é"}\n{"path":"/bad\\udcff"}\n'.encode())
+            self.assertEqual([record for _, record in jsonl.numbered(file)], records)
 
 
 if __name__ == "__main__":
