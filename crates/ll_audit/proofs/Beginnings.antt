@@ -1,5 +1,5 @@
 -- What a writer holds while the bytes that are to be written go out piece by piece.
-use Rattle.std.proofs.Common.{◌≡◌, ◌∙◌, ℕ, ◌-◌, List, [], ◌++◌, length, take, drop, Option, ap, sym, subst, append_assoc, append-nil, take-append-drop}
+use Rattle.std.proofs.Common.{◌≡◌, ◌∙◌, ℕ, ◌-◌, List, ◌++◌, length, take, drop, Option, ap, sym, subst, append_assoc, take-append-drop}
 use Rattle.std.proofs.Math.Seq.{take-append_seam}
 use Rattle.std.proofs.lemmas.List.{take_rest}
 use Rattle.std.specs.Io.KnownBytes.{Appends}
@@ -9,10 +9,6 @@ use Rattle.ll_audit.specs.Outcomes.{AppendsBeginning}
 pub beginning : (old new : Option (List ℕ)) (all done rest : List ℕ) → all ≡ done ++ rest → Appends old new done → AppendsBeginning old new all
 beginning old new all done rest split appended =
     (length done, subst (Appends old new) (sym (ap (take (length done)) split ∙ take-append_seam done rest)) appended)
-
--- all of it is one
-pub whole_beginning : (old new : Option (List ℕ)) (all : List ℕ) → Appends old new all → AppendsBeginning old new all
-whole_beginning old new all appended = beginning old new all all [] (sym (append-nil all)) appended
 
 -- some more of the rest is done
 pub moves_on : (all done rest : List ℕ) (count : ℕ) → all ≡ done ++ rest

@@ -3,11 +3,8 @@ use Rattle.std.proofs.Common.{◌≡◌, ◌∙◌, ℕ, suc, ◌+◌, ◌<◌, 
 use Rattle.std.proofs.Math.Seq.{drop-cons, drop-length}
 use Rattle.std.specs.List.{flat_map, count_by}
 use Rattle.std.proofs.lemmas.List.Sums.{sum_by-cons}
-use Rattle.ll_rights.specs.declared.abi.Abi.{Abi}
-use Rattle.ll_tree.specs.Trees.{Entry}
 use Rattle.ll_trace.specs.declared.record.Record.{Record}
-use Rattle.ll_state.specs.declared.answer.Answer.{Answer}
-use Rattle.ll_state.specs.Worlds.{World, judged, judged_from, step, empty_world}
+use Rattle.ll_semantics.specs.declared.answer.Answer.{Answer}
 use Rattle.ll_audit.specs.Report.{ReportLine, Verdict, count_of, is_allowed, is_moot, is_refused, line_text, report_text, total_text}
 use Rattle.ll_audit.specs.Lines.{line_of, lines_of, refused_among, verdict_of}
 
@@ -66,16 +63,6 @@ count_of-answers test (of ∷ others) (answer ∷ answers) same =
       sum_by-cons (λ (said : ReportLine). cond (test said.verdict) 1 0) (line_of of answer) (lines_of others answers),
       sum_by-cons (λ (a : Answer). cond (test (verdict_of a)) 1 0) answer answers,
     )
-
--- one answer for each record
-judged_from-length : (tree : List Entry) (abi : Abi) (world : World) (records : List Record) → length (judged_from tree abi world records) ≡ length records
-unfolding judged_from
-judged_from-length tree abi world [] = refl
-judged_from-length tree abi world (of ∷ others) = ap suc (judged_from-length tree abi (step tree abi world of) others)
-
-pub judged-length : (tree : List Entry) (abi : Abi) (records : List Record) → length (judged tree abi records) ≡ length records
-unfolding judged
-judged-length tree abi records = judged_from-length tree abi empty_world records
 
 -- the text of a report, from its lines and its totals
 pub whole_text : (records : List Record) (answers : List Answer) (lines text : List ℕ) (all passed denied idle : ℕ) → length answers ≡ length records

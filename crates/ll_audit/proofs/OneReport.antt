@@ -6,7 +6,7 @@ use Rattle.ll_tree.specs.Trees.{Entry, root}
 use Rattle.ll_tree.proofs.ReadingLemmas.{reading-good}
 use Rattle.ll_trace.specs.declared.record.Record.{Record}
 use Rattle.ll_trace.proofs.LawLemmas.{one_trace}
-use Rattle.ll_state.specs.Worlds.{judged}
+use Rattle.ll_semantics.specs.Worlds.{judged}
 use Rattle.ll_audit.specs.declared.report.Report.{Report}
 use Rattle.ll_audit.specs.Audits.{IsReport}
 use Rattle.ll_audit.specs.Lines.{lines_of, refused_among}

@@ -1,6 +1,6 @@
 -- What an audit answers: the report, or why there is none.
 -- Source: docs/FORMATS.md, "The report" and "Faults of a run"; docs/SEMANTICS.md.
-use Rattle.std.specs.Prelude.{◌≡◌, ◌⊎◌, ◌≤◌, ℕ, List}
+use Rattle.std.specs.Prelude.{◌≡◌, ◌≤◌, ℕ, List}
 use Rattle.ll_rights.specs.declared.abi.Abi.{Abi}
 use Rattle.ll_tree.specs.Reading.{IsBad}
 use Rattle.ll_tree.specs.TreeReading.{IsTreeOf, tree_format}
@@ -8,9 +8,7 @@ use Rattle.ll_tree.specs.Trees.{Entry}
 use Rattle.ll_trace.specs.declared.record.Record.{Record}
 use Rattle.ll_trace.specs.Entries.{trace_file}
 use Rattle.ll_trace.specs.Records.{IsTrace}
-use Rattle.ll_state.specs.Worlds.{judged}
-use Rattle.ll_pool.specs.declared.running.PoolFault.{PoolFault}
-use Rattle.ll_pool.specs.declared.running.PoolFault.TheVariants as pool
+use Rattle.ll_semantics.specs.Worlds.{judged}
 use Rattle.ll_audit.specs.declared.fault.Fault.{Fault}
 use Rattle.ll_audit.specs.declared.fault.Fault.TheVariants as fault
 use Rattle.ll_audit.specs.declared.report.Report.{Report}
@@ -34,17 +32,6 @@ pub record IsReport (abi : Abi) (tree_bytes trace_bytes : List ℕ) (report : Re
 abbrev pub IsCrew : ℕ → Type 0
 IsCrew workers = (1 ≤ workers) × (workers ≤ 64)
 
--- a reader's answer for bytes that don't read
-abbrev pub IsTreeFault : List ℕ → Fault → Type 0
-IsTreeFault bytes (fault.Tree of) = IsBad tree_format bytes of
-IsTreeFault bytes fault.Memory = Unit {0}
-IsTreeFault bytes _ = ⊥
-
-abbrev pub IsTraceFault : List ℕ → Fault → Type 0
-IsTraceFault bytes (fault.Trace of) = IsBad trace_file bytes of
-IsTraceFault bytes fault.Memory = Unit {0}
-IsTraceFault bytes _ = ⊥
-
 -- some tree is what the bytes read as
 abbrev pub ReadsAsTree : List ℕ → Type 0
 ReadsAsTree bytes = (tree : List Entry) × IsTreeOf bytes tree
@@ -52,15 +39,6 @@ ReadsAsTree bytes = (tree : List Entry) × IsTreeOf bytes tree
 -- some records are what the bytes read as
 abbrev pub ReadsAsTrace : List ℕ → Type 0
 ReadsAsTrace bytes = (records : List Record) × IsTrace bytes records
-
--- what the pool's want comes to
-abbrev pub fault_of_pool : PoolFault → Fault
-fault_of_pool pool.Memory = fault.Memory
-fault_of_pool pool.NoThread = fault.NoThread
-
--- memory or a thread is wanting
-abbrev pub IsWant : Fault → Type 0
-IsWant of = (of ≡ fault.Memory) ⊎ (of ≡ fault.NoThread)
 
 -- Why there is no report: the tree doesn't read, or it does and the trace doesn't. A thread is wanting only where both
 -- read. Want of memory says nothing of the files.

@@ -4,6 +4,7 @@ pub mod Files
 pub mod Report
 pub mod Lines
 pub mod Audits
+pub mod Causes
 pub mod Fronts
 pub mod Outcomes
 pub mod Names

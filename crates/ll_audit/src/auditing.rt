@@ -3,16 +3,16 @@
 ghost use Rattle.std.specs.Prelude.{◌≡◌, ◌++◌, IfOk, IfErr};
 ghost use Rattle.ll_tree.specs.TreeReading.{IsTreeOf};
 ghost use Rattle.ll_trace.specs.Records.{IsTrace};
-ghost use Rattle.ll_state.specs.Worlds.{judged};
-ghost use Rattle.ll_audit.specs.Audits.{IsCrew, IsFaultOf, IsReport, IsReportOn, IsTraceFault, IsTreeFault, IsWant};
+ghost use Rattle.ll_semantics.specs.Worlds.{judged};
+ghost use Rattle.ll_audit.specs.Audits.{IsCrew, IsFaultOf, IsReport, IsReportOn};
+ghost use Rattle.ll_audit.specs.Causes.{IsTraceFault, IsTreeFault, IsWant};
 
 use crate::cut::{Cut, cuts_of};
 use crate::fault::Fault;
 use crate::report::Report;
 use ll_pool::{CollectFault, Gate, collect, run};
-use ll_process::Case;
+use ll_process::{Answer, Case};
 use ll_rights::Abi;
-use ll_state::Answer;
 use ll_trace::Trace;
 use ll_tree::{Cause, Tree};
 use std::alloc::Global;

@@ -10,8 +10,8 @@ ghost use Rattle.ll_audit.specs.Names as spec;
 
 use crate::names::{error_name, op_name};
 use itoa::Buffer;
+use ll_process::Answer;
 use ll_rules::{Errno, LayerSet};
-use ll_state::Answer;
 use ll_trace::Record;
 use std::alloc::{AllocError, Global};
 

@@ -2,8 +2,8 @@
 
 ghost use Rattle.std.specs.Prelude.{All, length, ◌≤◌};
 ghost use Rattle.ll_tree.specs.Trees.{IsNode};
-ghost use Rattle.ll_rules.specs.Layers.{AreInTree};
-ghost use Rattle.ll_rules.specs.Checks.{IsDomainOf};
+ghost use Rattle.ll_rules.specs.InTree.{AreInTree};
+ghost use Rattle.ll_rules.specs.KeptLayers.{IsDomainOf};
 
 use crate::setting::{Layers, deep_tree, layers_of, objects_at};
 use anyhow::{Context, Result};

@@ -2,8 +2,8 @@
 
 ghost use Rattle.std.specs.Prelude.{All, IfOk, length, ◌≡◌, ◌≤◌};
 ghost use Rattle.ll_tree.specs.Trees.{IsNode};
-ghost use Rattle.ll_rules.specs.Layers.{AreInTree};
-ghost use Rattle.ll_rules.specs.Checks.{IsDomainOf};
+ghost use Rattle.ll_rules.specs.InTree.{AreInTree};
+ghost use Rattle.ll_rules.specs.KeptLayers.{IsDomainOf};
 
 use anyhow::{Context, Result};
 use bitflags::Flags;

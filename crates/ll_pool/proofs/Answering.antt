@@ -8,16 +8,16 @@ use Rattle.std.proofs.lemmas.List.Elements.{All-append, All-map, All-nil, All-sa
 use Rattle.std.proofs.lemmas.Grind.{flat_map-append}
 use Rattle.std.proofs.lemmas.Option.{none-some, same_Some, slice_get_within, slice_get-get_or, unwrap_or-slice_get}
 use Rattle.ll_trace.specs.declared.record.Record.{Record}
-use Rattle.ll_state.specs.declared.answer.Answer.{Answer}
-use Rattle.ll_state.specs.declared.answer.Answer.TheVariants.{Moot}
-use Rattle.ll_state.specs.Worlds.{judged}
+use Rattle.ll_semantics.specs.declared.answer.Answer.{Answer}
+use Rattle.ll_semantics.specs.declared.answer.Answer.TheVariants.{Moot}
+use Rattle.ll_semantics.specs.Worlds.{judged}
 use Rattle.ll_process.specs.declared.piece.Piece.{Piece}
 use Rattle.ll_process.specs.Processes.{own_records, own_from, numbers, times, process_count}
 use Rattle.ll_process.specs.Judging.{answer_at, answers_of}
 use Rattle.ll_process.specs.Cases.{Matter, IsCase, answers_in as answers_to}
 use Rattle.ll_process.proofs.Walks.{own_record}
-use Rattle.ll_process.proofs.Worlds.{length-judged}
-use Rattle.ll_process.proofs.Numbers.{numbered_below, count-all}
+use Rattle.ll_semantics.proofs.Worlds.{length-judged}
+use Rattle.ll_semantics.proofs.Numbers.{numbered_below, count-all}
 use Rattle.ll_process.proofs.OwnRecords.{own_from-yes, own_from-no}
 use Rattle.ll_pool.specs.Gathered.{AllOf, processes_in, answers_in, placed}
 use Rattle.ll_pool.proofs.Counts.{times-append, times-cons, times-nil, times-same, times-other}

@@ -2,7 +2,7 @@
 -- Source: docs/FORMATS.md, "The trace file": each record belongs to one process.
 use Rattle.std.specs.Prelude.{◌≡◌, ℕ, ◌<◌, List, [], ◌∷◌, length, min, slice_index, slice_set, All}
 use Rattle.std.specs.List.{flat_map}
-use Rattle.ll_state.specs.declared.answer.Answer.{Answer}
+use Rattle.ll_semantics.specs.declared.answer.Answer.{Answer}
 use Rattle.ll_process.specs.declared.piece.Piece.{Piece}
 use Rattle.ll_process.specs.Processes.{numbers, times}
 use Rattle.ll_process.specs.Cases.{Matter}

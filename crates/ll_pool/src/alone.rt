@@ -1,15 +1,14 @@
 //! All processes of a case, judged on the caller's thread.
 
 ghost use Rattle.std.specs.Prelude.{◌≡◌, ℕ, ◌+◌, List, [], IfOk, sum_by};
-ghost use Rattle.ll_state.specs.Worlds.{judged};
+ghost use Rattle.ll_semantics.specs.Worlds.{judged};
 ghost use Rattle.ll_process.specs.Processes.{kids, roots};
 ghost use Rattle.ll_pool.specs.Gathered.{AllOf, processes_in};
 
 use crate::empty::Empty;
 use crate::gather::{CollectFault, collect};
-use ll_process::{Case, Piece, judge};
+use ll_process::{Answer, Case, Piece, judge};
 use ll_rules::NoMemory;
-use ll_state::Answer;
 use std::alloc::Global;
 
 /// One piece for each root, with all of its descendants.

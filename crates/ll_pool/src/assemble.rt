@@ -1,12 +1,11 @@
 //! Putting answers in the order of the records.
 
 ghost use Rattle.std.specs.Prelude.{◌≡◌, ℕ, ◌<◌, length, All, IfOk, vec_len};
-ghost use Rattle.ll_state.specs.Worlds.{judged};
+ghost use Rattle.ll_semantics.specs.Worlds.{judged};
 ghost use Rattle.ll_process.specs.Processes.{process_count, times};
 ghost use Rattle.ll_pool.specs.Gathered.{AllOf, processes_in, placed};
 
-use ll_process::{Case, Piece};
-use ll_state::Answer;
+use ll_process::{Answer, Case, Piece};
 use std::alloc::{AllocError, Global};
 
 /// Puts answers in their places.

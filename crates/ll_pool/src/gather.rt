@@ -1,15 +1,14 @@
 //! Collecting the answers of pieces in the order of the records.
 
 ghost use Rattle.std.specs.Prelude.{◌≡◌, ℕ, ◌<◌, IfOk, IfErr};
-ghost use Rattle.ll_state.specs.Worlds.{judged};
+ghost use Rattle.ll_semantics.specs.Worlds.{judged};
 ghost use Rattle.ll_process.specs.Processes.{process_count, times};
 ghost use Rattle.ll_pool.specs.Faults.{IsFault};
 ghost use Rattle.ll_pool.specs.Gathered.{AllOf, processes_in};
 
 use crate::assemble::assemble;
 use crate::tally::{first_absent, first_double, tally};
-use ll_process::{Case, Piece};
-use ll_state::Answer;
+use ll_process::{Answer, Case, Piece};
 use ll_trace::ProcessId;
 use std::alloc::{AllocError, Global};
 

@@ -5,10 +5,9 @@ ghost use Rattle.ll_rights.specs.declared.abi.Abi.TheVariants.{V4};
 ghost use Rattle.ll_tree.specs.TreeReading.{IsTreeOf};
 ghost use Rattle.ll_trace.specs.Records.{IsTrace};
 
-use ll_process::Case;
+use ll_process::{Answer, Case};
 use ll_rights::Abi;
 use ll_rules::Errno;
-use ll_state::Answer;
 use ll_trace::Trace;
 use ll_tree::Tree;
 use std::alloc::{AllocError, Global};

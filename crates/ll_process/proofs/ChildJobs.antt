@@ -3,14 +3,14 @@ use Rattle.std.proofs.Common.{◌≡◌, ℕ, ◌<◌, true, take, Some, sym, ap
 use Rattle.std.specs.Prelude.{slice_get}
 use Rattle.ll_trace.specs.declared.record.Record.{Record}
 use Rattle.ll_state.specs.declared.own_state.OwnState.{OwnState}
-use Rattle.ll_state.specs.States.{State}
-use Rattle.ll_state.specs.Worlds.{world_at}
+use Rattle.ll_semantics.specs.States.{State}
+use Rattle.ll_semantics.specs.Situations.{world_at}
 use Rattle.ll_process.specs.Processes.{is_fork, process_count, forked_at}
 use Rattle.ll_process.specs.Judging.{state_met, state_left}
 use Rattle.ll_process.specs.Cases.{Matter, IsCase, BeginsAs, AgreesIn}
 use Rattle.ll_process.specs.Own.{IsOwn}
-use Rattle.ll_state.proofs.Steps.{state_after-fork}
-use Rattle.ll_state.proofs.Numbers.{StartedAt, ForkedAt, forked_at-is, started_at-is, started_once}
+use Rattle.ll_semantics.proofs.Steps.{state_after-fork}
+use Rattle.ll_semantics.proofs.Numbers.{StartedAt, ForkedAt, forked_at-is, started_at-is, started_once}
 use Rattle.ll_process.proofs.Walks.{left_met}
 use Rattle.ll_process.proofs.Forks.{forked, child_state, child_below}
 use Rattle.ll_process.proofs.OwnSteps.{own_process}

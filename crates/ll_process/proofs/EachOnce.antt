@@ -8,8 +8,8 @@ use Rattle.std.proofs.lemmas.List.Concat.{flat_map-cons}
 use Rattle.std.proofs.lemmas.List.Sums.{sum_by-cons, sum_by-append}
 use Rattle.ll_trace.specs.declared.record.Record.{Record}
 use Rattle.ll_process.specs.Processes.{is_start, is_fork, process_count, forked_at, own_from, own_records, children, kids, roots, times, IsNumbered}
-use Rattle.ll_state.proofs.Steps.{start-starts, fork-starts, starts_alone, fork_no_start}
-use Rattle.ll_state.proofs.Numbers.{StartedAt, forked_at-is, forked_at-from, forked_at-none, started_once, start_of}
+use Rattle.ll_semantics.proofs.Steps.{start-starts, fork-starts, starts_alone, fork_no_start}
+use Rattle.ll_semantics.proofs.Numbers.{StartedAt, forked_at-is, forked_at-from, forked_at-none, started_once, start_of}
 use Rattle.ll_process.proofs.OwnRecords.{own_from-yes, own_from-no, own_from-nil}
 
 -- 1 at one process, 0 at any other

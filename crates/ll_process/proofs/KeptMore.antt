@@ -14,13 +14,6 @@ module _ (records : List Record) where
     there = All-nil (λ (p : ℕ). p < process_count records);
   }
 
-  pub keeps_one : (before after : List ℕ) (p : ℕ) → p < process_count records → after ≡ before ++ p ∷ [] → KeepsMore records before after
-  keeps_one before after p there grown = record {
-    newly = p ∷ [];
-    grown = grown;
-    there = All-push (λ (q : ℕ). q < process_count records) [] p (All-nil (λ (q : ℕ). q < process_count records)) there;
-  }
-
   pub keeps_on : (before kept after : List ℕ) → KeepsMore records before kept → KeepsMore records kept after → KeepsMore records before after
   keeps_on before kept after one two = record {
     newly = one.newly ++ two.newly;

@@ -1,63 +1,61 @@
 -- The law of orders, from what one step does.
-use Rattle.std.proofs.Common.{◌≡◌, false, List, length, refl, sym, ap, ◌∙◌, inl, inr, arith}
-use Rattle.std.specs.Prelude.{unwrap_or}
+use Rattle.std.proofs.Common.{◌≡◌, ℕ, true, false, List, refl, sym, ap, ◌∙◌, arith}
 use Rattle.ll_rights.specs.declared.abi.Abi.{Abi}
 use Rattle.ll_tree.specs.Trees.{Entry}
-use Rattle.ll_trace.specs.declared.record.Record.{Record}
 use Rattle.ll_trace.specs.declared.op.Op.{Op}
-use Rattle.ll_trace.specs.declared.op.Op.TheVariants.{Create, AddPath, AddPort}
-use Rattle.ll_state.specs.declared.answer.Answer.{Answer}
-use Rattle.ll_state.specs.declared.answer.Answer.TheVariants.{Allowed}
-use Rattle.ll_state.specs.States.{State, Layer}
-use Rattle.ll_state.specs.Answers.{answer}
-use Rattle.ll_state.specs.Changes.{started, rules as rules_of}
-use Rattle.ll_state.specs.Worlds.{World, state_of, if_allowed, answer_in, state_after, rulesets_after}
+use Rattle.ll_trace.specs.declared.op.Op.TheVariants.{Start, Fork, Create, AddPath, AddPort}
+use Rattle.ll_semantics.specs.States.{State, Layer, fresh}
+use Rattle.ll_semantics.specs.Answers.{answer}
+use Rattle.ll_semantics.specs.Effects.{effect}
+use Rattle.ll_semantics.specs.Processes.{is_starting}
+use Rattle.ll_semantics.specs.Situations.{started, begun_by, rules as rules_of, rulesets_by, state_after, rulesets_after}
+use Rattle.ll_semantics.specs.Worlds.{World, answer_in, step}
+use Rattle.ll_semantics.proofs.Steps.{if_allowed-same, step-other, step-own, step-new, step-rulesets}
 use Rattle.ll_process.specs.Orders.{changes_rulesets, ChangesNoOther, ChangesRulesetsAlone, SeenAlike, DependsOnOwn}
-use Rattle.ll_state.proofs.Steps.{none, step-other, step-own, step-past, step-rulesets, step-begun}
-use Rattle.std.proofs.lemmas.Bool.{cases_lt}
 
 rules-same : (tree : List Entry) (rulesets : List Layer) (op : Op) (s : State) → changes_rulesets op ≡ false → rules_of tree rulesets op s ≡ rulesets
-unfolding rules_of changes_rulesets
+unfolding rules_of rulesets_by effect changes_rulesets
 rules-same tree rulesets (Create rs fs net) s fails = cc
 rules-same tree rulesets (AddPath rs path fs) s fails = cc
 rules-same tree rulesets (AddPort rs port net) s fails = cc
 rules-same tree rulesets op s fails = refl
 
-if_allowed-same : (A : Type 0) (a : Answer) (x : A) → if_allowed a x x ≡ x
-if_allowed-same A Allowed x = refl
-if_allowed-same A a x = refl
-
 rulesets_after-same : (tree : List Entry) (abi : Abi) (rulesets : List Layer) (op : Op) (s : State) → changes_rulesets op ≡ false → rulesets_after tree abi rulesets op s ≡ rulesets
 unfolding rulesets_after
-rulesets_after-same tree abi rulesets op s fails = rw (rules-same tree rulesets op s fails) (if_allowed-same (List Layer) (answer tree abi rulesets op s) rulesets)
+rulesets_after-same tree abi rulesets op s fails = rw (rules-same tree rulesets op s fails) (if_allowed-same (answer tree abi rulesets op s) rulesets)
 
 pub changes_no_other : ChangesNoOther
-changes_no_other tree abi w r p other new =
-    elim (cases_lt p (length w.processes)) [ inl within ↦ step-other tree abi w r p within other | inr past ↦ step-past tree abi w r p (omega arith) ]
+changes_no_other tree abi w process op p other new = step-other tree abi w process op p other new
 
 pub changes_rulesets_alone : ChangesRulesetsAlone
-changes_rulesets_alone tree abi w r fails = step-rulesets tree abi w r ∙ rulesets_after-same tree abi w.rulesets r.op (state_of w r.process.0) fails
+changes_rulesets_alone tree abi w process op fails = step-rulesets tree abi w process op ∙ rulesets_after-same tree abi w.rulesets op (w.processes process) fails
 
 -- the same state and rulesets give the same
-answers_alike : (tree : List Entry) (abi : Abi) (r : Record) (w v : World) → SeenAlike r w v → answer_in tree abi w r ≡ answer_in tree abi v r
+answers_alike : (tree : List Entry) (abi : Abi) (process : ℕ) (op : Op) (w v : World) → SeenAlike process w v → answer_in tree abi w process op ≡ answer_in tree abi v process op
 unfolding answer_in
-answers_alike tree abi r w v same = ap (λ rulesets. answer tree abi rulesets r.op (state_of w r.process.0)) same.rulesets ∙ ap (λ s. answer tree abi v.rulesets r.op s) same.own
+answers_alike tree abi process op w v same = ap (λ rulesets. answer tree abi rulesets op (w.processes process)) same.rulesets ∙ ap (λ s. answer tree abi v.rulesets op s) same.own
+
+-- a process begins the same in every world where its parent is the same
+started_alike : (tree : List Entry) (abi : Abi) (process : ℕ) (op : Op) (w v : World) → SeenAlike process w v → is_starting op ≡ true
+    → (step tree abi w process op).processes w.count ≡ (step tree abi v process op).processes v.count
+unfolding is_starting started begun_by effect
+started_alike tree abi process (Start nnp admin) w v same starts = step-new tree abi w process (Start nnp admin) (fresh nnp admin) refl ∙ sym (step-new tree abi v process (Start nnp admin) (fresh nnp admin) refl)
+started_alike tree abi process (Fork child) w v same starts =
+    step-new tree abi w process (Fork child) (w.processes process) refl ∙ same.own ∙ sym (step-new tree abi v process (Fork child) (v.processes process) refl)
+started_alike tree abi process op w v same starts = absurd (cc)
 
 pub depends_on_own : DependsOnOwn
-depends_on_own tree abi r w v same = record {
-  answer = answers_alike tree abi r w v same;
+depends_on_own tree abi process op w v same = record {
+  answer = answers_alike tree abi process op w v same;
   rulesets =
-      step-rulesets tree abi w r
-      ∙ ap (λ rulesets. rulesets_after tree abi rulesets r.op (state_of w r.process.0)) same.rulesets
-      ∙ ap (λ s. rulesets_after tree abi v.rulesets r.op s) same.own
-      ∙ sym (step-rulesets tree abi v r);
+      step-rulesets tree abi w process op
+      ∙ ap (λ rulesets. rulesets_after tree abi rulesets op (w.processes process)) same.rulesets
+      ∙ ap (λ s. rulesets_after tree abi v.rulesets op s) same.own
+      ∙ sym (step-rulesets tree abi v process op);
   own = λ within there.
-      step-own tree abi w r within
-      ∙ ap (λ rulesets. state_after tree abi rulesets r.op (state_of w r.process.0)) same.rulesets
-      ∙ ap (λ s. state_after tree abi v.rulesets r.op s) same.own
-      ∙ sym (step-own tree abi v r there);
-  started =
-      step-begun tree abi w r
-      ∙ ap (λ s. unwrap_or (started r.op s) none) same.own
-      ∙ sym (step-begun tree abi v r);
+      step-own tree abi w process op (λ last. omega (arith, within, last))
+      ∙ ap (λ rulesets. state_after tree abi rulesets op (w.processes process)) same.rulesets
+      ∙ ap (λ s. state_after tree abi v.rulesets op s) same.own
+      ∙ sym (step-own tree abi v process op (λ last. omega (arith, there, last)));
+  started = λ starts. started_alike tree abi process op w v same starts;
 }

@@ -1,6 +1,4 @@
-pub mod Worlds
 pub mod LawOfOrders
-pub mod Numbers
 pub mod OwnRecords
 pub mod Walks
 pub mod Forks

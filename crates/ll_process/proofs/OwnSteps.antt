@@ -4,20 +4,22 @@ use Rattle.std.specs.Prelude.{slice_get, Result, Ok, Err, IfOk, OnOk}
 use Rattle.ll_rules.specs.declared.errno.NoMemory.{NoMemory}
 use Rattle.std.proofs.lemmas.Option.{same_Some}
 use Rattle.ll_trace.specs.declared.record.Record.{Record}
-use Rattle.ll_state.specs.declared.answer.Answer.{Answer}
-use Rattle.ll_state.specs.declared.answer.Answer.TheVariants.{Allowed}
-use Rattle.ll_state.specs.declared.note.Note.{Note}
+use Rattle.ll_semantics.specs.declared.answer.Answer.{Answer}
+use Rattle.ll_semantics.specs.declared.answer.Answer.TheVariants.{Allowed}
+use Rattle.ll_semantics.specs.declared.note.Note.{Note}
 use Rattle.ll_state.specs.declared.own_state.OwnState.{OwnState}
-use Rattle.ll_state.specs.Agreement.{IsMet, answered, left}
-use Rattle.ll_state.specs.Notes.{NoteFits}
-use Rattle.ll_state.specs.States.{State}
-use Rattle.ll_state.specs.Answers.{answer}
-use Rattle.ll_state.specs.Worlds.{state_after, state_of, world_at}
+use Rattle.ll_semantics.specs.Situations.{answered, left}
+use Rattle.ll_state.specs.Agreement.{IsMet}
+use Rattle.ll_semantics.specs.Notes.{NoteFits}
+use Rattle.ll_semantics.specs.States.{State}
+use Rattle.ll_semantics.specs.Answers.{answer}
+use Rattle.ll_semantics.specs.Situations.{world_at}
+use Rattle.ll_semantics.specs.Situations.{state_after}
 use Rattle.ll_process.specs.Processes.{is_start}
 use Rattle.ll_process.specs.Judging.{state_met, state_left, answer_at}
 use Rattle.ll_process.specs.Cases.{Matter, IsCase, AgreesIn}
 use Rattle.ll_process.specs.Own.{IsOwn, Meets, Leaves, situation_at}
-use Rattle.ll_state.proofs.Steps.{answer-start}
+use Rattle.ll_semantics.proofs.Steps.{answer-start}
 use Rattle.ll_process.proofs.Walks.{answer_met, left_met, met_at_start, met_going_on}
 
 -- the process of an own record
@@ -56,7 +58,7 @@ met_leaves of index p r own case at process agrees =
 pub note_fits : (of : Matter) (index p : ℕ) (r : Record) (note : Note) → IsCase of → slice_get of.records index ≡ Some r → slice_get of.notes index ≡ Some note → is_start r.op ≡ false → r.process.0 ≡ p → NoteFits (situation_at of index p) r.op note
 note_fits of index p r note case at says goes process =
     subst (λ (s : State). NoteFits (record { tree = of.tree; layers = of.layers; abi = of.abi; rulesets = (world_at of.tree of.abi of.records index).rulesets; state = s }) r.op note)
-    (sym (met_going_on of.tree of.abi of.records index p r at goes ∙ ap (λ q. state_of (world_at of.tree of.abi of.records index) q) (sym process)))
+    (sym (met_going_on of.tree of.abi of.records index p r at goes ∙ ap (λ q. (world_at of.tree of.abi of.records index).processes q) (sym process)))
     (case.settled.fits index r note at says)
 
 pub is_met : (of : Matter) (index p : ℕ) → IsCase of → IsMet (situation_at of index p) of.tree of.layers

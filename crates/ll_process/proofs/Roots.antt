@@ -5,37 +5,40 @@ use Rattle.std.specs.List.{cons_option}
 use Rattle.std.proofs.lemmas.List.{map-append, take_more, append-nil, take_all}
 use Rattle.std.proofs.lemmas.List.Elements.{filter-append, All-push, All-same}
 use Rattle.std.proofs.lemmas.Option.{slice_get_within, get_or_from_slice_get}
+use Rattle.ll_tree.specs.Trees.{Entry}
 use Rattle.ll_trace.specs.declared.op.Op.{Op}
 use Rattle.ll_trace.specs.declared.op.Op.TheVariants.{Start}
 use Rattle.ll_trace.specs.declared.record.Record.{Record}
 use Rattle.ll_state.specs.declared.own_state.OwnState.{OwnState}
-use Rattle.ll_state.specs.States.{State, fresh}
-use Rattle.ll_state.specs.Changes.{started}
-use Rattle.ll_state.specs.Worlds.{state_of, step, world_at}
+use Rattle.ll_semantics.specs.States.{State, Layer, fresh}
+use Rattle.ll_semantics.specs.Effects.{effect}
+use Rattle.ll_semantics.specs.Situations.{started, begun_by}
+use Rattle.ll_semantics.specs.Worlds.{step}
+use Rattle.ll_semantics.specs.Situations.{world_at}
 use Rattle.ll_process.specs.declared.job.Job.{Job}
 use Rattle.ll_process.specs.Processes.{is_start, process_count, root_of, root_at, roots}
 use Rattle.ll_process.specs.Judging.{state_left}
 use Rattle.ll_process.specs.Cases.{Matter, IsCase, BeginsAs, AgreesIn}
 use Rattle.ll_process.specs.Jobs.{processes_of, AllOf}
-use Rattle.ll_state.proofs.Worlds.{world_at-more}
-use Rattle.ll_state.proofs.Steps.{step-new, length-world_at, start-starts, is_start-from}
-use Rattle.ll_state.proofs.Numbers.{StartedAt, started_at-is, started_once, numbered_below, count-all}
+use Rattle.ll_semantics.proofs.Worlds.{world_at-more}
+use Rattle.ll_semantics.proofs.Steps.{step-new, count-world_at, start-starts, is_start-from}
+use Rattle.ll_semantics.proofs.Numbers.{StartedAt, started_at-is, started_once, numbered_below, count-all}
 
 -- ---- one start record
 
 pub root_there : (of : Matter) (index : ℕ) (r : Record) → IsCase of → slice_get of.records index ≡ Some r → r.process.0 < process_count of.records
 root_there of index r case at = omega (arith, numbered_below of.records index r case.numbered at, count-all of.records (suc index))
 
-started-start : (op : Op) (nnp admin : Bool) (s : State) → op ≡ Start nnp admin → started op s ≡ Some (fresh nnp admin)
-unfolding started
-started-start op nnp admin s is = ap (λ o. started o s) is
+started-start : (tree : List Entry) (rulesets : List Layer) (op : Op) (nnp admin : Bool) (s : State) → op ≡ Start nnp admin → started tree rulesets op s ≡ Some (fresh nnp admin)
+unfolding started begun_by effect
+started-start tree rulesets op nnp admin s is = ap (λ o. started tree rulesets o s) is
 
 root_left : (of : Matter) (index : ℕ) (r : Record) (nnp admin : Bool) → IsCase of → slice_get of.records index ≡ Some r → r.op ≡ Start nnp admin → state_left of.tree of.abi of.records index r.process.0 ≡ fresh nnp admin
 unfolding state_left
 root_left of index r nnp admin case at is =
-    ap (λ w. state_of w r.process.0) (world_at-more of.tree of.abi of.records index r at)
-    ∙ ap (λ p. state_of (step of.tree of.abi (world_at of.tree of.abi of.records index) r) p) (case.numbered.begins index r at (is_start-from r.op nnp admin is) ∙ sym (length-world_at of.tree of.abi of.records index))
-    ∙ step-new of.tree of.abi (world_at of.tree of.abi of.records index) r (fresh nnp admin) (started-start r.op nnp admin (state_of (world_at of.tree of.abi of.records index) r.process.0) is)
+    ap (λ w. w.processes r.process.0) (world_at-more of.tree of.abi of.records index r at)
+    ∙ ap (λ p. (step of.tree of.abi (world_at of.tree of.abi of.records index) r.process.0 r.op).processes p) (case.numbered.begins index r at (is_start-from r.op nnp admin is) ∙ sym (count-world_at of.tree of.abi of.records index))
+    ∙ step-new of.tree of.abi (world_at of.tree of.abi of.records index) r.process.0 r.op (fresh nnp admin) (started-start of.tree (world_at of.tree of.abi of.records index).rulesets r.op nnp admin ((world_at of.tree of.abi of.records index).processes r.process.0) is)
 
 pub root_begins : (of : Matter) (index : ℕ) (r : Record) (nnp admin : Bool) (own : OwnState) → IsCase of → slice_get of.records index ≡ Some r → r.op ≡ Start nnp admin → AgreesIn of own (fresh nnp admin) → BeginsAs of r.process.0 own
 root_begins of index r nnp admin own case at is agrees k starts =
@@ -75,9 +78,6 @@ roots_more records k r at =
 pub roots_none : (records : List Record) → [] ≡ roots (take 0 records)
 unfolding roots
 roots_none records = refl
-
-pub roots_all : (records : List Record) → roots (take (length records) records) ≡ roots records
-roots_all records = ap (λ (xs : List Record). roots xs) (take_all (length records) records (omega arith))
 
 -- ---- the jobs so far
 

@@ -8,9 +8,9 @@ use Rattle.ll_trace.specs.declared.record.Record.{Record}
 use Rattle.ll_trace.specs.declared.record.ProcessId.{ProcessId}
 use Rattle.ll_trace.specs.Processes.{starts_one, parent_in, started_from, started_by, places_from, own_places, parents, forked_by}
 use Rattle.ll_process.specs.Processes.{is_starting, is_fork, process_count, own_from, own_records, forked_at}
-use Rattle.ll_state.proofs.Numbering.{starting-op}
-use Rattle.ll_state.proofs.Steps.{process_count-cons, fork-starts}
-use Rattle.ll_state.proofs.Numbers.{forked_at-from}
+use Rattle.ll_semantics.proofs.Numbering.{starting-op}
+use Rattle.ll_semantics.proofs.Steps.{process_count-cons, fork-starts}
+use Rattle.ll_semantics.proofs.Numbers.{forked_at-from}
 
 places_from-is : (n : ℕ) (rs : List Record) (p : ℕ) → places_from n rs p ≡ own_from p n rs
 unfolding own_from

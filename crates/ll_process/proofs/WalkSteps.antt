@@ -5,16 +5,16 @@ use Rattle.std.specs.List.{filter_map, cons_option}
 use Rattle.std.proofs.lemmas.List.{append-nil, map-append, take_more, take_all}
 use Rattle.std.proofs.lemmas.List.Elements.{filter_map-append}
 use Rattle.std.proofs.lemmas.Option.{slice_get_within, slice_get-get_or, get_or_from_slice_get}
-use Rattle.ll_state.specs.declared.answer.Answer.{Answer}
+use Rattle.ll_semantics.specs.declared.answer.Answer.{Answer}
 use Rattle.ll_state.specs.declared.own_state.OwnState.{OwnState}
-use Rattle.ll_state.specs.States.{State}
+use Rattle.ll_semantics.specs.States.{State}
 use Rattle.ll_process.specs.declared.job.Job.{Job}
 use Rattle.ll_process.specs.Processes.{own_records, forked_at, children, process_count, started_at}
 use Rattle.ll_process.specs.Judging.{answer_at, answers_of}
 use Rattle.ll_process.specs.Cases.{Matter, IsCase, BeginsAs, AgreesIn, answers_in}
 use Rattle.ll_process.specs.Own.{IsOwn, Meets, Leaves}
 use Rattle.ll_process.specs.Jobs.{processes_of, AllOf, HandsOn, HandedOut}
-use Rattle.ll_state.proofs.Numbers.{StartedAt, start_of, started_at-from}
+use Rattle.ll_semantics.proofs.Numbers.{StartedAt, start_of, started_at-from}
 use Rattle.ll_process.proofs.Walks.{own_record, met_first, met_next}
 use Rattle.ll_process.proofs.HandingOut.{handed_none, handed_on, handed_one, all_handed}
 use Rattle.ll_process.specs.Weights.{weight, weight_of}

@@ -1,19 +1,21 @@
 -- Walking over a process's own records meets the states of the fold.
-use Rattle.std.proofs.Common.{◌≡◌, ◌≢◌, ℕ, zero, suc, ◌+◌, ◌<◌, ◌≤◌, true, false, List, [], ◌∷◌, length, take, drop, Some, refl, sym, ap, ◌∙◌, subst, inl, inr, arith, add-one}
+use Rattle.std.proofs.Common.{◌≡◌, ◌≢◌, ℕ, zero, suc, ◌+◌, ◌<◌, ◌≤◌, true, false, List, [], ◌∷◌, take, drop, Some, refl, sym, ap, ◌∙◌, subst, inl, inr, arith, add-one}
 use Rattle.std.specs.Prelude.{slice_get, ◌==◌, unwrap_or}
 use Rattle.std.proofs.lemmas.Bool.{eqb-true, eqb-false, cases_Bool, cases_lt}
 use Rattle.std.proofs.lemmas.Option.{none-some, same_Some}
 use Rattle.ll_rights.specs.declared.abi.Abi.{Abi}
 use Rattle.ll_tree.specs.Trees.{Entry}
 use Rattle.ll_trace.specs.declared.record.Record.{Record}
-use Rattle.ll_state.specs.declared.answer.Answer.TheVariants.{Moot}
-use Rattle.ll_state.specs.Answers.{answer}
-use Rattle.ll_state.specs.Worlds.{World, empty_world, state_of, state_after, answer_in, step, world_after, world_at, judged}
+use Rattle.ll_semantics.specs.declared.answer.Answer.TheVariants.{Moot}
+use Rattle.ll_semantics.specs.Answers.{answer}
+use Rattle.ll_semantics.specs.Worlds.{World, empty_world, answer_in, step, judged}
+use Rattle.ll_semantics.specs.Situations.{world_after, world_at}
+use Rattle.ll_semantics.specs.Situations.{state_after}
 use Rattle.ll_process.specs.Processes.{is_start, process_count, own_from, own_records, IsNumbered}
-use Rattle.ll_process.specs.Judging.{state_met, state_left, answer_at}
-use Rattle.ll_state.proofs.Worlds.{world_at-more, judged-at}
-use Rattle.ll_state.proofs.Steps.{step-other, step-own, length-step, length-world_at, answer-start, state_after-start}
-use Rattle.ll_state.proofs.Numbers.{count-le, count-started, StartedAt, numbered_below, not_own_before}
+use Rattle.ll_process.specs.Judging.{place_met, state_met, state_left, answer_at}
+use Rattle.ll_semantics.proofs.Worlds.{world_at-more, judged-at}
+use Rattle.ll_semantics.proofs.Steps.{step-other, step-own, count-step, count-world_at, answer-start, state_after-start}
+use Rattle.ll_semantics.proofs.Numbers.{count-le, count-started, StartedAt, numbered_below, not_own_before}
 use Rattle.ll_process.proofs.OwnRecords.{OwnAt, own_at, own_from-skip, own_from-yes, own_from-no, own_from-nil, own_from-first, slice_get-drop}
 
 -- ---- worlds further on
@@ -29,8 +31,8 @@ world_after-later tree abi w [] (suc b) (suc m) =
     subst (λ (n : ℕ). world_after tree abi w (take n []) ≡ w) more refl
 world_after-later tree abi w (r ∷ rs) (suc b) m =
     let more : suc (b + m) ≡ suc b + m = omega arith in
-    subst (λ (n : ℕ). world_after tree abi w (take n (r ∷ rs)) ≡ world_after tree abi (world_after tree abi (step tree abi w r) (take b rs)) (take m (drop b rs))) more
-    (world_after-later tree abi (step tree abi w r) rs b m)
+    subst (λ (n : ℕ). world_after tree abi w (take n (r ∷ rs)) ≡ world_after tree abi (world_after tree abi (step tree abi w r.process.0 r.op) (take b rs)) (take m (drop b rs))) more
+    (world_after-later tree abi (step tree abi w r.process.0 r.op) rs b m)
 
 world_at-later : (tree : List Entry) (abi : Abi) (records : List Record) (b m : ℕ) → world_at tree abi records (b + m) ≡ world_after tree abi (world_at tree abi records b) (take m (drop b records))
 unfolding world_at
@@ -38,7 +40,7 @@ world_at-later tree abi records b m = world_after-later tree abi empty_world rec
 
 -- ---- up to its first own record, a process stays as it is
 
-kept_so_far : (tree : List Entry) (abi : Abi) (w : World) (b : ℕ) (rs : List Record) (p i : ℕ) → p < length w.processes → slice_get (own_from p b rs) 0 ≡ Some i → (m : ℕ) × (i ≡ b + m) × (state_of (world_after tree abi w (take m rs)) p ≡ state_of w p)
+kept_so_far : (tree : List Entry) (abi : Abi) (w : World) (b : ℕ) (rs : List Record) (p i : ℕ) → p < w.count → slice_get (own_from p b rs) 0 ≡ Some i → (m : ℕ) × (i ≡ b + m) × ((world_after tree abi w (take m rs)).processes p ≡ w.processes p)
 unfolding world_after
 kept_so_far tree abi w b [] p i within first = absurd (none-some i (subst (λ (xs : List ℕ). slice_get xs 0 ≡ Some i) (own_from-nil p b) first))
 kept_so_far tree abi w b (r ∷ rs) p i within first =
@@ -50,43 +52,47 @@ kept_so_far tree abi w b (r ∷ rs) p i within first =
       | inr own ↦
           (let other : r.process.0 ≢ p = eqb-false r.process.0 p own in
           let is : own_from p b (r ∷ rs) ≡ own_from p (b + 1) rs = own_from-no p b r rs other in
-          let there : p < length (step tree abi w r).processes = omega (arith, length-step tree abi w r) in
-          let next : (m : ℕ) × (i ≡ b + 1 + m) × (state_of (world_after tree abi (step tree abi w r) (take m rs)) p ≡ state_of (step tree abi w r) p) =
-          kept_so_far tree abi (step tree abi w r) (b + 1) rs p i there (subst (λ (xs : List ℕ). slice_get xs 0 ≡ Some i) is first) in
-          (suc next.0, omega (arith, next.1), next.2 ∙ step-other tree abi w r p within (λ same. other (sym same))))
+          let there : p < (step tree abi w r.process.0 r.op).count = omega (arith, count-step tree abi w r.process.0 r.op) in
+          let next : (m : ℕ) × (i ≡ b + 1 + m) × ((world_after tree abi (step tree abi w r.process.0 r.op) (take m rs)).processes p ≡ (step tree abi w r.process.0 r.op).processes p) =
+          kept_so_far tree abi (step tree abi w r.process.0 r.op) (b + 1) rs p i there (subst (λ (xs : List ℕ). slice_get xs 0 ≡ Some i) is first) in
+          (suc next.0, omega (arith, next.1), next.2 ∙ step-other tree abi w r.process.0 r.op p (λ same. other (sym same)) (λ last. omega (arith, within, last))))
     ]
 
 -- the same, along the trace
-kept_until : (tree : List Entry) (abi : Abi) (records : List Record) (b p i : ℕ) → p < process_count (take b records) → slice_get (own_from p b (drop b records)) 0 ≡ Some i → (b ≤ i) × (state_of (world_at tree abi records i) p ≡ state_of (world_at tree abi records b) p)
+kept_until : (tree : List Entry) (abi : Abi) (records : List Record) (b p i : ℕ) → p < process_count (take b records) → slice_get (own_from p b (drop b records)) 0 ≡ Some i → (b ≤ i) × ((world_at tree abi records i).processes p ≡ (world_at tree abi records b).processes p)
 kept_until tree abi records b p i within first =
-    let there : p < length (world_at tree abi records b).processes = omega (arith, length-world_at tree abi records b) in
-    let found : (m : ℕ) × (i ≡ b + m) × (state_of (world_after tree abi (world_at tree abi records b) (take m (drop b records))) p ≡ state_of (world_at tree abi records b) p) =
+    let there : p < (world_at tree abi records b).count = omega (arith, count-world_at tree abi records b) in
+    let found : (m : ℕ) × (i ≡ b + m) × ((world_after tree abi (world_at tree abi records b) (take m (drop b records))).processes p ≡ (world_at tree abi records b).processes p) =
     kept_so_far tree abi (world_at tree abi records b) b (drop b records) p i there first in (
       omega (arith, found.1),
-      ap (λ n. state_of (world_at tree abi records n) p) found.1
-          ∙ ap (λ w. state_of w p) (world_at-later tree abi records b found.0)
+      ap (λ n. (world_at tree abi records n).processes p) found.1
+          ∙ ap (λ w. w.processes p) (world_at-later tree abi records b found.0)
           ∙ found.2,
     )
 
 -- ---- what an own record meets
 
-pub met_at_start : (tree : List Entry) (abi : Abi) (records : List Record) (i p : ℕ) (r : Record) → slice_get records i ≡ Some r → is_start r.op ≡ true → state_met tree abi records i p ≡ state_of (world_at tree abi records (i + 1)) p
+pub met_at_start : (tree : List Entry) (abi : Abi) (records : List Record) (i p : ℕ) (r : Record) → slice_get records i ≡ Some r → is_start r.op ≡ true → state_met tree abi records i p ≡ (world_at tree abi records (i + 1)).processes p
 unfolding state_met
-met_at_start tree abi records i p r at starts = rw (at, starts) refl
+met_at_start tree abi records i p r at starts =
+    let after : place_met i (slice_get records i) ≡ i + 1 = rw (at, starts) refl in
+    ap (λ (n : ℕ). (world_at tree abi records n).processes p) after
 
-pub met_going_on : (tree : List Entry) (abi : Abi) (records : List Record) (i p : ℕ) (r : Record) → slice_get records i ≡ Some r → is_start r.op ≡ false → state_met tree abi records i p ≡ state_of (world_at tree abi records i) p
+pub met_going_on : (tree : List Entry) (abi : Abi) (records : List Record) (i p : ℕ) (r : Record) → slice_get records i ≡ Some r → is_start r.op ≡ false → state_met tree abi records i p ≡ (world_at tree abi records i).processes p
 unfolding state_met
-met_going_on tree abi records i p r at goes = rw (at, goes) refl
+met_going_on tree abi records i p r at goes =
+    let before : place_met i (slice_get records i) ≡ i = rw (at, goes) refl in
+    ap (λ (n : ℕ). (world_at tree abi records n).processes p) before
 
 -- the answer of the fold is that of the state which the record meets
 pub answer_met : (tree : List Entry) (abi : Abi) (records : List Record) (i : ℕ) (r : Record) → slice_get records i ≡ Some r → answer tree abi (world_at tree abi records i).rulesets r.op (state_met tree abi records i r.process.0) ≡ answer_at tree abi records i
 unfolding answer_at answer_in
 answer_met tree abi records i r at =
-    let fold : slice_get (judged tree abi records) i ≡ Some (answer tree abi (world_at tree abi records i).rulesets r.op (state_of (world_at tree abi records i) r.process.0)) = judged-at tree abi records i r at in
+    let fold : slice_get (judged tree abi records) i ≡ Some (answer tree abi (world_at tree abi records i).rulesets r.op ((world_at tree abi records i).processes r.process.0)) = judged-at tree abi records i r at in
     elim (cases_Bool (is_start r.op)) [
       | inl starts ↦
           answer-start tree abi (world_at tree abi records i).rulesets r.op (state_met tree abi records i r.process.0) starts
-          ∙ sym (ap (λ o. unwrap_or o Moot) fold ∙ answer-start tree abi (world_at tree abi records i).rulesets r.op (state_of (world_at tree abi records i) r.process.0) starts)
+          ∙ sym (ap (λ o. unwrap_or o Moot) fold ∙ answer-start tree abi (world_at tree abi records i).rulesets r.op ((world_at tree abi records i).processes r.process.0) starts)
       | inr goes ↦
           ap (λ s. answer tree abi (world_at tree abi records i).rulesets r.op s) (met_going_on tree abi records i r.process.0 r at goes)
           ∙ sym (ap (λ o. unwrap_or o Moot) fold)
@@ -101,9 +107,9 @@ left_met tree abi records i r numbered at =
           sym (state_after-start tree abi (world_at tree abi records i).rulesets r.op (state_met tree abi records i r.process.0) starts
           ∙ met_at_start tree abi records i r.process.0 r at starts)
       | inr goes ↦
-          (let there : r.process.0 < length (world_at tree abi records i).processes = omega (arith, length-world_at tree abi records i, numbered.goes_on i r at goes) in
-          ap (λ w. state_of w r.process.0) (world_at-more tree abi records i r at)
-          ∙ step-own tree abi (world_at tree abi records i) r there
+          (let there : r.process.0 < (world_at tree abi records i).count = omega (arith, count-world_at tree abi records i, numbered.goes_on i r at goes) in
+          ap (λ w. w.processes r.process.0) (world_at-more tree abi records i r at)
+          ∙ step-own tree abi (world_at tree abi records i) r.process.0 r.op (λ last. omega (arith, there, last))
           ∙ ap (λ s. state_after tree abi (world_at tree abi records i).rulesets r.op s) (sym (met_going_on tree abi records i r.process.0 r at goes)))
     ]
 
@@ -117,9 +123,9 @@ goes_on_later records b i p r numbered at own there after =
       | inr goes ↦ goes
     ]
 
-met_later : (tree : List Entry) (abi : Abi) (records : List Record) (b p i : ℕ) → IsNumbered records → p < process_count (take b records) → slice_get (own_from p b (drop b records)) 0 ≡ Some i → state_met tree abi records i p ≡ state_of (world_at tree abi records b) p
+met_later : (tree : List Entry) (abi : Abi) (records : List Record) (b p i : ℕ) → IsNumbered records → p < process_count (take b records) → slice_get (own_from p b (drop b records)) 0 ≡ Some i → state_met tree abi records i p ≡ (world_at tree abi records b).processes p
 met_later tree abi records b p i numbered there first =
-    let kept : (b ≤ i) × (state_of (world_at tree abi records i) p ≡ state_of (world_at tree abi records b) p) = kept_until tree abi records b p i there first in
+    let kept : (b ≤ i) × ((world_at tree abi records i).processes p ≡ (world_at tree abi records b).processes p) = kept_until tree abi records b p i there first in
     let own : OwnAt p b (drop b records) i (drop 1 (own_from p b (drop b records))) = own_at p b (drop b records) 0 i first in
     let at : slice_get records i ≡ Some own.of = ap (λ n. slice_get records n) own.place ∙ sym (slice_get-drop Record records b own.ahead) ∙ own.at in
     met_going_on tree abi records i p own.of at (goes_on_later records b i p own.of numbered at own.own there kept.0) ∙ kept.1

@@ -9,8 +9,8 @@ use Rattle.std.proofs.lemmas.List.Sums.{sum_by-cons, sum_by-append}
 use Rattle.ll_trace.specs.declared.record.Record.{Record}
 use Rattle.ll_process.specs.Processes.{is_fork, process_count, forked_at, own_from, own_records, children, IsNumbered}
 use Rattle.ll_process.specs.Weights.{weight, weight_of}
-use Rattle.ll_state.proofs.Steps.{fork-starts}
-use Rattle.ll_state.proofs.Numbers.{count-le, count-started, forked_at-from, forked_at-none}
+use Rattle.ll_semantics.proofs.Steps.{fork-starts}
+use Rattle.ll_semantics.proofs.Numbers.{count-le, count-started, forked_at-from, forked_at-none}
 use Rattle.ll_process.proofs.OwnRecords.{own_from-yes, own_from-no, own_from-nil}
 use Rattle.ll_process.proofs.Forks.{child_above, child_below}
 
@@ -76,15 +76,3 @@ pub weight_of-children : (records : List Record) (p n : ℕ) → IsNumbered reco
 unfolding weight_of children own_records
 weight_of-children records p n numbered all =
     children_weigh records records 0 p n (n - p) numbered (λ k. (let same : k ≡ 0 + k = omega arith in ap (λ i. slice_get records i) same)) all (inl (omega arith))
-
-pub weight_of-nil : (n : ℕ) → weight_of n [] ≡ 0
-unfolding weight_of
-weight_of-nil n = refl
-
-pub weight_of-append : (n : ℕ) (xs ys : List ℕ) → weight_of n (xs ++ ys) ≡ weight_of n xs + weight_of n ys
-unfolding weight_of
-weight_of-append n xs ys = sum_by-append (weight n) xs ys
-
-pub weight_of-one : (n p : ℕ) → weight_of n (p ∷ []) ≡ weight n p
-unfolding weight_of
-weight_of-one n p = sum_by-cons (weight n) p [] ∙ (let same : weight n p + 0 ≡ weight n p = omega arith in same)

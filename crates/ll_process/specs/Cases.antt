@@ -5,12 +5,12 @@ use Rattle.ll_rights.specs.declared.abi.Abi.{Abi}
 use Rattle.ll_tree.specs.Trees.{Entry}
 use Rattle.ll_rules.specs.Layers.{RulesOn}
 use Rattle.ll_trace.specs.declared.record.Record.{Record}
-use Rattle.ll_state.specs.declared.answer.Answer.{Answer}
-use Rattle.ll_state.specs.declared.note.Note.{Note}
+use Rattle.ll_semantics.specs.declared.answer.Answer.{Answer}
+use Rattle.ll_semantics.specs.declared.note.Note.{Note}
 use Rattle.ll_state.specs.declared.own_state.OwnState.{OwnState}
 use Rattle.ll_state.specs.Agreement.{Agrees}
 use Rattle.ll_rulebook.specs.Settled.{IsSettled}
-use Rattle.ll_state.specs.States.{State}
+use Rattle.ll_semantics.specs.States.{State}
 use Rattle.ll_process.specs.Processes.{IsNumbered, started_at}
 use Rattle.ll_process.specs.Judging.{state_left, answers_of}
 

@@ -4,10 +4,11 @@ use Rattle.std.specs.Prelude.{ℕ, ◌+◌, List, map, Option, Some, None, unwra
 use Rattle.ll_rights.specs.declared.abi.Abi.{Abi}
 use Rattle.ll_tree.specs.Trees.{Entry}
 use Rattle.ll_trace.specs.declared.record.Record.{Record}
-use Rattle.ll_state.specs.declared.answer.Answer.{Answer}
-use Rattle.ll_state.specs.declared.answer.Answer.TheVariants.{Moot}
-use Rattle.ll_state.specs.States.{State}
-use Rattle.ll_state.specs.Worlds.{state_of, world_at, judged}
+use Rattle.ll_semantics.specs.declared.answer.Answer.{Answer}
+use Rattle.ll_semantics.specs.declared.answer.Answer.TheVariants.{Moot}
+use Rattle.ll_semantics.specs.States.{State}
+use Rattle.ll_semantics.specs.Situations.{world_at}
+use Rattle.ll_semantics.specs.Worlds.{judged}
 use Rattle.ll_process.specs.Processes.{is_start, own_records}
 
 -- the place in the trace from which a record finds its process as it is: a start finds it as it begins
@@ -17,11 +18,11 @@ place_met k (Some r) = if is_start r.op then k + 1 else k
 
 -- the state that a record finds its process in
 unfoldable pub state_met : List Entry → Abi → List Record → ℕ → ℕ → State
-state_met tree abi records k process = state_of (world_at tree abi records (place_met k (slice_get records k))) process
+state_met tree abi records k process = (world_at tree abi records (place_met k (slice_get records k))).processes process
 
 -- the state that a record leaves a process in
 unfoldable pub state_left : List Entry → Abi → List Record → ℕ → ℕ → State
-state_left tree abi records k process = state_of (world_at tree abi records (k + 1)) process
+state_left tree abi records k process = (world_at tree abi records (k + 1)).processes process
 
 -- the answer to a record
 unfoldable pub answer_at : List Entry → Abi → List Record → ℕ → Answer

@@ -3,8 +3,8 @@
 use Rattle.std.specs.Prelude.{◌≡◌, ℕ, Some, slice_get}
 use Rattle.ll_trace.specs.declared.record.Record.{Record}
 use Rattle.ll_state.specs.declared.own_state.OwnState.{OwnState}
-use Rattle.ll_state.specs.Agreement.{Situation}
-use Rattle.ll_state.specs.Worlds.{world_at}
+use Rattle.ll_semantics.specs.Situations.{Situation}
+use Rattle.ll_semantics.specs.Situations.{world_at}
 use Rattle.ll_process.specs.Cases.{Matter, AgreesIn}
 use Rattle.ll_process.specs.Judging.{state_met, state_left}
 

@@ -8,7 +8,7 @@ ghost use Rattle.ll_process.specs.Processes.{process_count, own_records, forked_
 use ll_rights::Abi;
 use ll_rulebook::Rulebook;
 use ll_rules::{Layer, NoMemory};
-use ll_state::Note;
+use ll_semantics::Note;
 use ll_trace::{Op, ProcessId, Record, Trace};
 use ll_tree::Tree;
 use std::alloc::Global;

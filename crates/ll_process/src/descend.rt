@@ -13,7 +13,7 @@ use crate::job::Job;
 use crate::piece::Piece;
 use crate::walk::answer_own;
 use ll_rules::NoMemory;
-use ll_state::Answer;
+use ll_semantics::Answer;
 use ll_trace::ProcessId;
 use std::alloc::Global;
 

@@ -17,7 +17,7 @@ pub use case::Case;
 pub use descend::judge;
 pub use hand::Hand;
 pub use job::Job;
-pub use ll_state::Answer;
+pub use ll_semantics::Answer;
 pub use orders::law_of_orders;
 pub use piece::Piece;
 pub use shares::each_process_once;

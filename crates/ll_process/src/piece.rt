@@ -7,7 +7,7 @@ ghost use Rattle.ll_process.specs.Processes.{process_count, numbers};
 ghost use Rattle.ll_process.specs.Cases.{answers_in};
 
 use crate::case::Case;
-use ll_state::Answer;
+use ll_semantics::Answer;
 use ll_trace::ProcessId;
 
 /// Some processes of a case, with the answers to their records: one process after another, each

@@ -2,15 +2,17 @@
 
 ghost use Rattle.std.specs.Prelude.{◌≡◌, Some, IfOk, OnOk, slice_get};
 ghost use Rattle.ll_trace.specs.declared.record.Record.{Record as OneRecord};
-ghost use Rattle.ll_state.specs.declared.note.Note.{Note as OneNote};
-ghost use Rattle.ll_state.specs.Agreement.{Situation, IsMet, Agrees, answered, left};
-ghost use Rattle.ll_state.specs.Notes.{NoteFits};
+ghost use Rattle.ll_semantics.specs.declared.note.Note.{Note as OneNote};
+ghost use Rattle.ll_semantics.specs.Situations.{Situation, answered, left};
+ghost use Rattle.ll_state.specs.Agreement.{IsMet, Agrees};
+ghost use Rattle.ll_semantics.specs.Notes.{NoteFits};
 ghost use Rattle.ll_process.specs.Judging.{answer_at};
 ghost use Rattle.ll_process.specs.Own.{IsOwn, Meets, Leaves};
 
 use crate::case::Case;
 use ll_rules::NoMemory;
-use ll_state::{Answer, OwnState};
+use ll_semantics::Answer;
+use ll_state::OwnState;
 use ll_trace::{Op, ProcessId};
 
 /// What the record at a place is answered where it meets this.

@@ -5,8 +5,8 @@ use crate::order::judge_greatest_first;
 use crate::worked::Told::{Allowed, Moot, Refused};
 use crate::worked::{case_of, judge_worked};
 use ll_pool::collect;
+use ll_process::Answer;
 use ll_rules::Errno;
-use ll_state::Answer;
 use std::io::Write;
 use std::test::Fail;
 

@@ -3,10 +3,9 @@
 use crate::keeper::Wanted;
 use crate::order::judge_greatest_first;
 use ll_pool::collect;
-use ll_process::Case;
+use ll_process::{Answer, Case};
 use ll_rights::Abi;
 use ll_rules::{Errno, LayerSet};
-use ll_state::Answer;
 use ll_trace::Trace;
 use ll_tree::Tree;
 use std::alloc::{AllocError, Global};

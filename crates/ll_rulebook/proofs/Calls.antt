@@ -16,19 +16,22 @@ use Rattle.ll_rules.specs.declared.errno.Errno.TheVariants.{BadFd}
 use Rattle.ll_rules.specs.declared.errno.RuleFault.{RuleFault}
 use Rattle.ll_rules.specs.declared.errno.RuleFault.TheVariants as faults
 use Rattle.ll_rules.specs.declared.domain.LayerId.{LayerId}
-use Rattle.ll_rules.specs.Layers.{RulesOn, in_tree, AreInTree, with_port_rule}
-use Rattle.ll_rules.specs.Rulesets.{create_fault, RuleRefusal, with_error, without_object, fault_of, add_path_refusal, add_port_refusal, with_rule_at}
+use Rattle.ll_rules.specs.Layers.{RulesOn, with_port_rule}
+use Rattle.ll_rules.specs.InTree.{in_tree, AreInTree}
+use Rattle.ll_rules.specs.Rulesets.{create_fault, RuleRefusal, with_error, without_object, add_path_refusal, add_port_refusal, with_rule_at}
+use Rattle.ll_rules.specs.RuleFaults.{fault_of}
 use Rattle.ll_trace.specs.declared.op.Op.TheVariants as calls
-use Rattle.ll_state.specs.declared.answer.Answer.TheVariants.{Allowed, Moot}
-use Rattle.ll_state.specs.declared.note.Note.{Note}
-use Rattle.ll_state.specs.declared.note.Note.TheVariants.{Answered, Frozen, Open}
-use Rattle.ll_state.specs.Answers.{answer, create_answer, add_path_answer, add_port_answer, fails, of_rule_refusal}
-use Rattle.ll_state.specs.Changes.{change, rules}
-use Rattle.ll_state.specs.Notes.{is_on_rulesets, enforced}
-use Rattle.ll_state.specs.Worlds.{World, state_of}
+use Rattle.ll_semantics.specs.declared.answer.Answer.TheVariants.{Allowed, Moot}
+use Rattle.ll_semantics.specs.declared.note.Note.{Note}
+use Rattle.ll_semantics.specs.declared.note.Note.TheVariants.{Answered, Frozen, Open}
+use Rattle.ll_semantics.specs.Answers.{answer, create_answer, add_path_answer, add_port_answer, fails, of_rule_refusal}
+use Rattle.ll_semantics.specs.Effects.{effect}
+use Rattle.ll_semantics.specs.Situations.{change, rules, state_by, rulesets_by}
+use Rattle.ll_semantics.specs.Notes.{is_on_rulesets, enforced}
+use Rattle.ll_semantics.specs.Worlds.{World}
 use Rattle.ll_rulebook.specs.declared.pass.Pass.{Pass}
 use Rattle.ll_rulebook.specs.declared.tables.Tables.{Tables}
-use Rattle.ll_rulebook.proofs.Quiet.{starts_process}
+use Rattle.ll_semantics.specs.Processes.{is_starting}
 use Rattle.ll_rulebook.specs.Tables.{held_by}
 use Rattle.ll_rulebook.specs.Stores.{Extends, Replaces, AddsPathRule, AddsPortRule, IsAnswerTo}
 use Rattle.ll_rulebook.specs.Passes.{IsSound, Agrees, Settles}
@@ -55,12 +58,12 @@ moot is = cc
 module _ (tree : List Entry) (abi : Abi) (process rs : ℕ) (old : Pass) (found : Option ℕ) (found_is : found ≡ held_by old.tables.held.items process rs)
     (sound : IsSound tree old) (there : process < length old.tables.held.items) where
   -- what the pass finds under the number is what the process holds in the world
-  held_in : (world : World) → Agrees tree old world → (state_of world process).held rs ≡ found
+  held_in : (world : World) → Agrees tree old world → (world.processes process).held rs ≡ found
   held_in world agrees = sym (agrees.held process rs) ∙ sym found_is
 
   -- ---- create
 
-  answer_create : (fs : Fs) (net : Net) (world : World) → Agrees tree old world → answer tree abi world.rulesets (calls.Create rs fs net) (state_of world process) ≡ create_answer abi fs net found
+  answer_create : (fs : Fs) (net : Net) (world : World) → Agrees tree old world → answer tree abi world.rulesets (calls.Create rs fs net) (world.processes process) ≡ create_answer abi fs net found
   unfolding answer
   answer_create fs net world agrees = ap (λ (held : Option ℕ). create_answer abi fs net held) (held_in world agrees)
 
@@ -89,36 +92,36 @@ module _ (tree : List Entry) (abi : Abi) (process rs : ℕ) (old : Pass) (found 
   pub settles_absent : found ≡ None → Settles tree abi process (calls.CloseRs rs) old old (Answered Moot)
   unfolding is_on_rulesets answer
   settles_absent none = settles_refused tree abi process (calls.CloseRs rs) old old Moot sound there (alike_same old) refl refl moot
-      (λ world agrees. let nothing : (state_of world process).held rs ≡ None = held_in world agrees ∙ none in sym (rw nothing refl))
+      (λ world agrees. let nothing : (world.processes process).held rs ≡ None = held_in world agrees ∙ none in sym (rw nothing refl))
 
   -- ---- add_path and add_port where nothing is held
 
   pub settles_unheld_path : (path : List ℕ) (fs : Fs) → found ≡ None → Settles tree abi process (calls.AddPath rs path fs) old old (Answered (fails BadFd))
   unfolding is_on_rulesets answer add_path_answer
   settles_unheld_path path fs none = settles_refused tree abi process (calls.AddPath rs path fs) old old (fails BadFd) sound there (alike_same old) refl refl (failure BadFd)
-      (λ world agrees. let nothing : (state_of world process).held rs ≡ None = held_in world agrees ∙ none in sym (rw nothing refl))
+      (λ world agrees. let nothing : (world.processes process).held rs ≡ None = held_in world agrees ∙ none in sym (rw nothing refl))
 
   pub settles_unheld_port : (port : ℕ) (net : Net) → found ≡ None → Settles tree abi process (calls.AddPort rs port net) old old (Answered (fails BadFd))
   unfolding is_on_rulesets answer add_port_answer
   settles_unheld_port port net none = settles_refused tree abi process (calls.AddPort rs port net) old old (fails BadFd) sound there (alike_same old) refl refl (failure BadFd)
-      (λ world agrees. let nothing : (state_of world process).held rs ≡ None = held_in world agrees ∙ none in sym (rw nothing refl))
+      (λ world agrees. let nothing : (world.processes process).held rs ≡ None = held_in world agrees ∙ none in sym (rw nothing refl))
 
   -- ---- restrict
 
   pub settles_unheld : found ≡ None → Settles tree abi process (calls.Restrict rs) old old Open
-  unfolding is_on_rulesets starts_process enforced
+  unfolding is_on_rulesets is_starting enforced
   settles_unheld none = settles_open tree abi process (calls.Restrict rs) old sound there refl refl
-      (λ world agrees. let nothing : (state_of world process).held rs ≡ None = held_in world agrees ∙ none in rw nothing refl)
+      (λ world agrees. let nothing : (world.processes process).held rs ≡ None = held_in world agrees ∙ none in rw nothing refl)
 
   pub settles_restricted : (new : Pass) (at : ℕ) (id : LayerId) → found ≡ Some at → new.store.rulesets ≡ old.store.rulesets → new.tables ≡ old.tables →
       Extends old.store.layers new.store.layers → All (AreInTree tree) new.store.layers → slice_get new.store.layers id.0 ≡ slice_get old.store.rulesets at →
       Settles tree abi process (calls.Restrict rs) old new (Frozen id)
-  unfolding is_on_rulesets starts_process enforced
+  unfolding is_on_rulesets is_starting enforced
   settles_restricted new at id held rulesets tables extends inside layer =
       settles_frozen tree abi process (calls.Restrict rs) old sound there refl refl new at id
       (record { rulesets = rulesets; tables = ap (λ (t : Tables). t.held.items) tables }) extends inside
       (sound.places process rs at (sym found_is ∙ held)) layer
-      (λ world agrees. let it : (state_of world process).held rs ≡ Some at = held_in world agrees ∙ held in rw it refl)
+      (λ world agrees. let it : (world.processes process).held rs ≡ Some at = held_in world agrees ∙ held in rw it refl)
 
 -- ---- rules that are added
 
@@ -161,16 +164,16 @@ module _ (tree : List Entry) (abi : Abi) (process rs : ℕ) (old new : Pass) (at
   tables_same = ap (λ (t : Tables). t.held.items) tables
 
   path_answer : (path : List ℕ) (fs : Fs) (before : RulesOn ℕ) → slice_get old.store.rulesets at ≡ Some before → (world : World) → Agrees tree old world →
-      answer tree abi world.rulesets (calls.AddPath rs path fs) (state_of world process) ≡ of_rule_refusal (add_path_refusal tree before (place tree path) fs)
+      answer tree abi world.rulesets (calls.AddPath rs path fs) (world.processes process) ≡ of_rule_refusal (add_path_refusal tree before (place tree path) fs)
   unfolding answer add_path_answer
   path_answer path fs before was world agrees =
-      let it : (state_of world process).held rs ≡ Some at = held_in tree abi process rs old (Some at) found_is sound there world agrees in
+      let it : (world.processes process).held rs ≡ Some at = held_in tree abi process rs old (Some at) found_is sound there world agrees in
       let other = other_of tree old.store.rulesets world.rulesets at before agrees.rulesets was in
       rw (it, other.stands, ← other.same.same_files) refl
 
   added_path : (path : List ℕ) (fs : Fs) (done : Unit {0}) → Replaces old.store.rulesets new.store.rulesets at (AddsPathRule tree (place tree path) fs (Ok done)) →
       Settles tree abi process (calls.AddPath rs path fs) old new (Answered Allowed)
-  unfolding is_on_rulesets rules change
+  unfolding is_on_rulesets rules rulesets_by change state_by effect
   added_path path fs done replaces =
       settles_added tree abi process rs old new (calls.AddPath rs path fs) (λ other. with_rule_at tree other (place tree path) fs) at replaces.before replaces.after
       sound there refl (λ rulesets s. refl) (λ rulesets s. refl) (sym found_is) replaces.was replaces.is_now layers tables_same
@@ -181,7 +184,7 @@ module _ (tree : List Entry) (abi : Abi) (process rs : ℕ) (old new : Pass) (at
 
   refused_path : (path : List ℕ) (fs : Fs) (told : RuleRefusal) → Replaces old.store.rulesets new.store.rulesets at (AddsPathRule tree (place tree path) fs (Err (fault_of told))) →
       Settles tree abi process (calls.AddPath rs path fs) old new (Answered (of_rule_refusal (Some told)))
-  unfolding is_on_rulesets rules change
+  unfolding is_on_rulesets rules rulesets_by change state_by effect
   refused_path path fs told replaces =
       settles_refused tree abi process (calls.AddPath rs path fs) old new (of_rule_refusal (Some told)) sound there
       (record { rulesets = replaces.is_now ∙ rw replaces.becomes.err (set_same old.store.rulesets at replaces.before replaces.was); tables = tables_same })
@@ -199,16 +202,16 @@ module _ (tree : List Entry) (abi : Abi) (process rs : ℕ) (old new : Pass) (at
   settles_path_rule path fs (Err faults.Memory) note is replaces = absurd is
 
   port_answer : (port : ℕ) (net : Net) (before : RulesOn ℕ) → slice_get old.store.rulesets at ≡ Some before → (world : World) → Agrees tree old world →
-      answer tree abi world.rulesets (calls.AddPort rs port net) (state_of world process) ≡ of_rule_refusal (add_port_refusal abi before port net)
+      answer tree abi world.rulesets (calls.AddPort rs port net) (world.processes process) ≡ of_rule_refusal (add_port_refusal abi before port net)
   unfolding answer add_port_answer
   port_answer port net before was world agrees =
-      let it : (state_of world process).held rs ≡ Some at = held_in tree abi process rs old (Some at) found_is sound there world agrees in
+      let it : (world.processes process).held rs ≡ Some at = held_in tree abi process rs old (Some at) found_is sound there world agrees in
       let other = other_of tree old.store.rulesets world.rulesets at before agrees.rulesets was in
       rw (it, other.stands, ← other.same.same_network) refl
 
   added_port : (port : ℕ) (net : Net) (done : Unit {0}) → Replaces old.store.rulesets new.store.rulesets at (AddsPortRule abi port net (Ok done)) →
       Settles tree abi process (calls.AddPort rs port net) old new (Answered Allowed)
-  unfolding is_on_rulesets rules change
+  unfolding is_on_rulesets rules rulesets_by change state_by effect
   added_port port net done replaces =
       settles_added tree abi process rs old new (calls.AddPort rs port net) (λ other. with_port_rule other port net) at replaces.before replaces.after
       sound there refl (λ rulesets s. refl) (λ rulesets s. refl) (sym found_is) replaces.was replaces.is_now layers tables_same
@@ -220,7 +223,7 @@ module _ (tree : List Entry) (abi : Abi) (process rs : ℕ) (old new : Pass) (at
 
   refused_port : (port : ℕ) (net : Net) (told : RuleRefusal) → Replaces old.store.rulesets new.store.rulesets at (AddsPortRule abi port net (Err (fault_of told))) →
       Settles tree abi process (calls.AddPort rs port net) old new (Answered (of_rule_refusal (Some told)))
-  unfolding is_on_rulesets rules change
+  unfolding is_on_rulesets rules rulesets_by change state_by effect
   refused_port port net told replaces =
       settles_refused tree abi process (calls.AddPort rs port net) old new (of_rule_refusal (Some told)) sound there
       (record { rulesets = replaces.is_now ∙ rw replaces.becomes.err (set_same old.store.rulesets at replaces.before replaces.was); tables = tables_same })

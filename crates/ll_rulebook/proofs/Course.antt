@@ -9,26 +9,27 @@ use Rattle.ll_rights.specs.NetRights as network
 use Rattle.ll_tree.specs.Trees.{Entry}
 use Rattle.ll_rules.specs.declared.domain.LayerId.{LayerId}
 use Rattle.ll_rules.specs.Layers.{RulesOn, without_rules}
-use Rattle.ll_rules.specs.Checks.{layer_at}
+use Rattle.ll_rules.specs.KeptLayers.{layer_at}
 use Rattle.ll_trace.specs.declared.record.Record.{Record}
 use Rattle.ll_trace.specs.declared.op.Op.{Op}
 use Rattle.ll_trace.specs.Entries.{is_start}
-use Rattle.ll_trace.specs.Records.{AreRecords}
-use Rattle.ll_state.specs.declared.note.Note.{Note}
-use Rattle.ll_state.specs.declared.note.Note.TheVariants.{Answered, Frozen, Open}
-use Rattle.ll_state.specs.States.{Layer, fresh}
-use Rattle.ll_state.specs.Agreement.{answered}
-use Rattle.ll_state.specs.Notes.{NoteFits, IsFrozen, enforced}
-use Rattle.ll_state.specs.Worlds.{World, empty_world, state_of, step, world_after, world_at}
+use Rattle.ll_trace.specs.RecordFacts.{AreRecords}
+use Rattle.ll_semantics.specs.declared.note.Note.{Note}
+use Rattle.ll_semantics.specs.declared.note.Note.TheVariants.{Answered, Frozen, Open}
+use Rattle.ll_semantics.specs.States.{Layer, fresh}
+use Rattle.ll_semantics.specs.Situations.{answered}
+use Rattle.ll_semantics.specs.Notes.{NoteFits, IsFrozen, enforced}
+use Rattle.ll_semantics.specs.Worlds.{World, empty_world, step}
+use Rattle.ll_semantics.specs.Situations.{world_after, world_at}
 use Rattle.ll_rulebook.specs.declared.pass.Pass.{Pass}
 use Rattle.ll_rulebook.specs.Tables.{held_by}
 use Rattle.ll_rulebook.specs.Stores.{Extends}
 use Rattle.ll_rulebook.specs.Settled.{met_by}
-use Rattle.ll_rulebook.specs.Passes.{next_world, Settles, HasSettled}
+use Rattle.ll_rulebook.specs.Passes.{Settles, HasSettled}
 use Rattle.ll_rulebook.proofs.Places.{slice_get-push}
-use Rattle.ll_state.proofs.Numbering.{are_numbered}
-use Rattle.ll_state.proofs.Steps.{length-world_at}
-use Rattle.ll_state.proofs.Worlds.{world_at-more}
+use Rattle.ll_semantics.proofs.Numbering.{are_numbered}
+use Rattle.ll_semantics.proofs.Steps.{count-world_at}
+use Rattle.ll_semantics.proofs.Worlds.{world_at-more}
 
 nothing_stands : {X : Type 0} (xs : List X) (k : ℕ) (x : X) → xs ≡ [] → slice_get xs k ≡ Some x → ⊥
 nothing_stands xs k x empty at = let none : slice_get xs k ≡ None = rw empty refl in cc
@@ -37,8 +38,8 @@ none_held : (pass : Pass) (p q : ℕ) → pass.tables.held.items ≡ [] → held
 unfolding held_by
 none_held pass p q empty = rw empty refl
 
-nothing_there : (tree : List Entry) (abi : Abi) (records : List Record) (p q : ℕ) → (state_of (world_at tree abi records 0) p).held q ≡ None
-unfolding world_at world_after state_of fresh
+nothing_there : (tree : List Entry) (abi : Abi) (records : List Record) (p q : ℕ) → ((world_at tree abi records 0).processes p).held q ≡ None
+unfolding world_at world_after fresh
 nothing_there tree abi records p q = refl
 
 world_empty : (tree : List Entry) (abi : Abi) (records : List Record) → world_at tree abi records 0 ≡ empty_world
@@ -79,19 +80,15 @@ note_stays : (tree : List Entry) (abi : Abi) (old new : List (RulesOn ℕ)) (wor
     NoteFits (met_by tree abi old world process) op note → NoteFits (met_by tree abi new world process) op note
 unfolding NoteFits answered
 note_stays tree abi old new world process op (Answered a) extends fits = fits
-note_stays tree abi old new world process op (Frozen id) extends fits = frozen_stays tree abi old new world process id (enforced world.rulesets op (state_of world process)) extends fits
+note_stays tree abi old new world process op (Frozen id) extends fits = frozen_stays tree abi old new world process id (enforced world.rulesets op (world.processes process)) extends fits
 note_stays tree abi old new world process op Open extends fits = fits
-
-step_is_next : (tree : List Entry) (abi : Abi) (world : World) (r : Record) → step tree abi world r ≡ next_world tree abi world r.process.0 r.op
-unfolding step
-step_is_next tree abi world r = refl
 
 -- after one record more
 pub settled_next : (tree : List Entry) (abi : Abi) (records : List Record) (k : ℕ) (r : Record) (old new : Pass) (notes : List Note) (note : Note) →
     slice_get records k ≡ Some r → HasSettled tree abi records k old notes → Settles tree abi r.process.0 r.op old new note →
     HasSettled tree abi records (k + 1) new (notes ++ note ∷ [])
 settled_next tree abi records k r old new notes note at so_far settles =
-    let next : world_at tree abi records (k + 1) ≡ next_world tree abi (world_at tree abi records k) r.process.0 r.op = world_at-more tree abi records k r at ∙ step_is_next tree abi (world_at tree abi records k) r in
+    let next : world_at tree abi records (k + 1) ≡ step tree abi (world_at tree abi records k) r.process.0 r.op = world_at-more tree abi records k r at in
     record {
       sound = settles.sound;
       agrees = rw next (settles.agrees (world_at tree abi records k) so_far.agrees);
@@ -117,4 +114,4 @@ settled_next tree abi records k r old new notes note at so_far settles =
 pub has_table : (tree : List Entry) (abi : Abi) (records : List Record) (k : ℕ) (r : Record) (pass : Pass) (notes : List Note) → AreRecords records →
     slice_get records k ≡ Some r → HasSettled tree abi records k pass notes → is_start r.op ≡ false → r.process.0 < length pass.tables.held.items
 has_table tree abi records k r pass notes are at so_far other =
-    omega (arith, so_far.agrees.count, length-world_at tree abi records k, (are_numbered records are).goes_on k r at other)
+    omega (arith, so_far.agrees.count, count-world_at tree abi records k, (are_numbered records are).goes_on k r at other)

@@ -1,4 +1,3 @@
-pub mod Worlds
 pub mod Places
 pub mod HeldNumbers
 pub mod Frozen

@@ -1,25 +1,19 @@
 -- What calls leave alone: which change no ruleset, which change nothing that is held, and which start no process.
-use Rattle.std.proofs.Common.{◌≡◌, ℕ, List, Bool, true, false, Option, Some, None, refl}
+use Rattle.std.proofs.Common.{◌≡◌, List, Bool, true, false, Option, Some, None, refl}
 use Rattle.ll_rights.specs.declared.abi.Abi.{Abi}
-use Rattle.ll_rights.specs.declared.fs.Fs.{Fs}
-use Rattle.ll_rights.specs.declared.net.Net.{Net}
-use Rattle.ll_trace.specs.Entries.{is_start}
 use Rattle.ll_tree.specs.Trees.{Entry}
 use Rattle.ll_trace.specs.declared.op.Op.{Op}
 use Rattle.ll_trace.specs.declared.op.Op.TheVariants as calls
-use Rattle.ll_state.specs.declared.answer.Answer.{Answer}
-use Rattle.ll_state.specs.declared.answer.Answer.TheVariants.{Allowed, Moot, Refused}
-use Rattle.ll_state.specs.States.{State, Layer}
-use Rattle.ll_state.specs.Answers.{answer, named}
-use Rattle.ll_state.specs.Changes.{change, rules, started, with_layer}
-use Rattle.ll_state.specs.Notes.{is_on_rulesets, enforced}
-use Rattle.ll_state.specs.Worlds.{state_after, rulesets_after, if_allowed}
-
--- the call starts a process
-unfoldable pub starts_process : Op → Bool
-starts_process (calls.Start nnp admin) = true
-starts_process (calls.Fork child) = true
-starts_process op = false
+use Rattle.ll_semantics.specs.declared.answer.Answer.{Answer}
+use Rattle.ll_semantics.specs.declared.answer.Answer.TheVariants.{Allowed, Moot, Refused}
+use Rattle.ll_semantics.specs.States.{State, Layer}
+use Rattle.ll_semantics.specs.Answers.{answer, named}
+use Rattle.ll_semantics.specs.Effects.{effect, with_layer}
+use Rattle.ll_semantics.specs.Situations.{change, rules, state_by, rulesets_by}
+use Rattle.ll_semantics.specs.Notes.{is_on_rulesets, enforced}
+use Rattle.ll_semantics.specs.Processes.{is_start, is_starting}
+use Rattle.ll_semantics.specs.Worlds.{if_allowed}
+use Rattle.ll_semantics.specs.Situations.{state_after, rulesets_after}
 
 -- what isn't allowed keeps what was before
 pub kept_unless : {A : Type 0} (a : Answer) (after before : A) → (a ≡ Allowed → ⊥) → if_allowed a after before ≡ before
@@ -33,20 +27,14 @@ kept_if_same Allowed after before same = same
 kept_if_same Moot after before same = refl
 kept_if_same (Refused error numbers) after before same = refl
 
-pub on_rulesets_starts_none : (op : Op) (s : State) → is_on_rulesets op ≡ true → started op s ≡ None
-unfolding is_on_rulesets started
-on_rulesets_starts_none (calls.Start nnp admin) s on = absurd (cc)
-on_rulesets_starts_none (calls.Fork child) s on = absurd (cc)
-on_rulesets_starts_none _ s on = refl
-
-pub starts_none : (op : Op) (s : State) → starts_process op ≡ false → started op s ≡ None
-unfolding starts_process started
-starts_none (calls.Start nnp admin) s none = absurd (cc)
-starts_none (calls.Fork child) s none = absurd (cc)
-starts_none _ s none = refl
+pub on_rulesets_starts_none : (op : Op) → is_on_rulesets op ≡ true → is_starting op ≡ false
+unfolding is_on_rulesets is_starting
+on_rulesets_starts_none (calls.Start nnp admin) on = absurd (cc)
+on_rulesets_starts_none (calls.Fork child) on = absurd (cc)
+on_rulesets_starts_none _ on = refl
 
 rules_same : (tree : List Entry) (rulesets : List Layer) (op : Op) (s : State) → is_on_rulesets op ≡ false → rules tree rulesets op s ≡ rulesets
-unfolding is_on_rulesets rules
+unfolding is_on_rulesets rules rulesets_by effect
 rules_same tree rulesets (calls.Create rs fs net) s off = absurd (cc)
 rules_same tree rulesets (calls.AddPath rs path fs) s off = absurd (cc)
 rules_same tree rulesets (calls.AddPort rs port net) s off = absurd (cc)
@@ -62,7 +50,7 @@ layered_held s None = refl
 layered_held s (Some rules) = refl
 
 change_held : (tree : List Entry) (rulesets : List Layer) (op : Op) (s : State) → is_on_rulesets op ≡ false → (change tree rulesets op s).held ≡ s.held
-unfolding is_on_rulesets change
+unfolding is_on_rulesets change state_by effect
 change_held tree rulesets (calls.Create rs fs net) s off = absurd (cc)
 change_held tree rulesets (calls.CloseRs rs) s off = absurd (cc)
 change_held tree rulesets (calls.Restrict rs) s off = layered_held s (named rulesets (s.held rs))
@@ -81,20 +69,27 @@ held_same tree abi rulesets op s off = allowed_held (answer tree abi rulesets op
 -- a call that is not one of those that the pass looks at changes nothing that the pass keeps
 pub record IsOther (op : Op) : Type 0 where
   pub off : is_on_rulesets op ≡ false
-  pub none : starts_process op ≡ false
+  pub none : is_starting op ≡ false
   pub goes_on : is_start op ≡ false
   pub unforced : (rulesets : List Layer) (s : State) → enforced rulesets op s ≡ None
 
-pub is_other : (op : Op) →
-    ((nnp admin : Bool) → op ≡ calls.Start nnp admin → ⊥) → ((child : ℕ) → op ≡ calls.Fork child → ⊥) →
-    ((rs : ℕ) (fs : Fs) (net : Net) → op ≡ calls.Create rs fs net → ⊥) → ((rs : ℕ) (path : List ℕ) (fs : Fs) → op ≡ calls.AddPath rs path fs → ⊥) →
-    ((rs port : ℕ) (net : Net) → op ≡ calls.AddPort rs port net → ⊥) → ((rs : ℕ) → op ≡ calls.CloseRs rs → ⊥) → ((rs : ℕ) → op ≡ calls.Restrict rs → ⊥) → IsOther op
-unfolding is_on_rulesets starts_process is_start enforced
-is_other (calls.Start nnp admin) start fork create path port close restrict = absurd (start nnp admin refl)
-is_other (calls.Fork child) start fork create path port close restrict = absurd (fork child refl)
-is_other (calls.Create rs fs net) start fork create path port close restrict = absurd (create rs fs net refl)
-is_other (calls.AddPath rs text fs) start fork create path port close restrict = absurd (path rs text fs refl)
-is_other (calls.AddPort rs number net) start fork create path port close restrict = absurd (port rs number net refl)
-is_other (calls.CloseRs rs) start fork create path port close restrict = absurd (close rs refl)
-is_other (calls.Restrict rs) start fork create path port close restrict = absurd (restrict rs refl)
-is_other _ start fork create path port close restrict = record { off = refl; none = refl; goes_on = refl; unforced = λ rulesets s. refl }
+unfoldable pub is_other : Op → Bool
+is_other (calls.Start nnp admin) = false
+is_other (calls.Fork child) = false
+is_other (calls.Create rs fs net) = false
+is_other (calls.AddPath rs path fs) = false
+is_other (calls.AddPort rs port net) = false
+is_other (calls.CloseRs rs) = false
+is_other (calls.Restrict rs) = false
+is_other op = true
+
+pub other_is_quiet : (op : Op) → is_other op ≡ true → IsOther op
+unfolding is_other is_on_rulesets is_starting is_start enforced
+other_is_quiet (calls.Start nnp admin) other = absurd (cc)
+other_is_quiet (calls.Fork child) other = absurd (cc)
+other_is_quiet (calls.Create rs fs net) other = absurd (cc)
+other_is_quiet (calls.AddPath rs path fs) other = absurd (cc)
+other_is_quiet (calls.AddPort rs port net) other = absurd (cc)
+other_is_quiet (calls.CloseRs rs) other = absurd (cc)
+other_is_quiet (calls.Restrict rs) other = absurd (cc)
+other_is_quiet _ other = record { off = refl; none = refl; goes_on = refl; unforced = λ rulesets s. refl }

@@ -12,10 +12,12 @@ use Rattle.ll_tree.specs.Paths.{Path}
 use Rattle.ll_tree.specs.Trees.{Entry, path_at}
 use Rattle.ll_tree.specs.declared.place.Place.{Place}
 use Rattle.ll_tree.specs.declared.place.Place.TheVariants.{Node, Gap, Nowhere}
-use Rattle.ll_rules.specs.Layers.{RulesOn, SameRules, in_tree, without_rules}
+use Rattle.ll_rules.specs.Layers.{RulesOn, without_rules}
+use Rattle.ll_rules.specs.KeptLayers.{SameRules}
+use Rattle.ll_rules.specs.InTree.{in_tree}
 use Rattle.ll_rules.specs.Rulesets.{with_rule_at}
 use Rattle.ll_rules.proofs.SameLayers.{SameRules-refl, SameRules-with_file_rule}
-use Rattle.ll_state.specs.States.{Layer}
+use Rattle.ll_semantics.specs.States.{Layer}
 use Rattle.ll_rulebook.specs.Passes.{AreSame}
 use Rattle.ll_rulebook.proofs.Places.{slice_get-set, slice_get-push}
 

@@ -2,7 +2,6 @@
 use Rattle.std.proofs.Common.{◌≡◌, ℕ, ◌+◌, ◌<◌, List, [], ◌∷◌, ◌++◌, length, Bool, true, false, Option, Some, None, cond, get_or, refl, sym, ◌∙◌, ap, arith, eqb, ◌&&◌, ◌⊎◌, inl, inr, All, append-nil, length-append, length-set}
 use Rattle.std.proofs.Math.ListN.{set}
 use Rattle.std.specs.List.{slice_get}
-use Rattle.std.specs.Option.{option_to_list}
 use Rattle.std.proofs.lemmas.Bool.{cases_eq, eq-eqb, ne_eqb}
 use Rattle.std.proofs.lemmas.List.Elements.{All-push, All-set}
 use Rattle.std.proofs.lemmas.Option.{slice_get_within, slice_get-get_or, get_or_from_slice_get}
@@ -13,32 +12,33 @@ use Rattle.ll_rights.specs.Rights as files
 use Rattle.ll_rights.specs.NetRights as network
 use Rattle.ll_tree.specs.Trees.{Entry, place}
 use Rattle.ll_rules.specs.declared.domain.LayerId.{LayerId}
-use Rattle.ll_rules.specs.Layers.{RulesOn, SameRules, in_tree, AreInTree, without_rules}
+use Rattle.ll_rules.specs.Layers.{RulesOn, without_rules}
+use Rattle.ll_rules.specs.KeptLayers.{SameRules}
+use Rattle.ll_rules.specs.InTree.{in_tree, AreInTree}
 use Rattle.ll_rules.specs.Rulesets.{create_fault}
-use Rattle.ll_rules.specs.Checks.{layer_at}
-use Rattle.ll_trace.specs.declared.record.Record.{Record}
+use Rattle.ll_rules.specs.KeptLayers.{layer_at}
 use Rattle.ll_trace.specs.declared.op.Op.{Op}
 use Rattle.ll_trace.specs.declared.op.Op.TheVariants as calls
-use Rattle.ll_state.specs.declared.answer.Answer.{Answer}
-use Rattle.ll_state.specs.declared.answer.Answer.TheVariants.{Allowed, Moot, Refused}
-use Rattle.ll_state.specs.declared.note.Note.TheVariants.{Answered, Frozen, Open}
-use Rattle.ll_state.specs.States.{State, Layer}
-use Rattle.ll_state.specs.Answers.{answer, create_answer}
-use Rattle.ll_state.specs.Agreement.{Situation, answered}
-use Rattle.ll_state.specs.Changes.{change, rules, started, with_held, changed_at}
-use Rattle.ll_state.specs.Notes.{NoteFits, IsFrozen, is_on_rulesets, enforced}
-use Rattle.ll_state.specs.Worlds.{World, state_of, state_after, rulesets_after, step, if_allowed}
+use Rattle.ll_semantics.specs.declared.answer.Answer.{Answer}
+use Rattle.ll_semantics.specs.declared.answer.Answer.TheVariants.{Allowed, Moot, Refused}
+use Rattle.ll_semantics.specs.declared.note.Note.TheVariants.{Answered, Frozen, Open}
+use Rattle.ll_semantics.specs.States.{State, Layer}
+use Rattle.ll_semantics.specs.Answers.{answer, create_answer}
+use Rattle.ll_semantics.specs.Situations.{Situation, answered}
+use Rattle.ll_semantics.specs.Effects.{effect, with_held, changed_at}
+use Rattle.ll_semantics.specs.Situations.{change, rules, started, state_by, rulesets_by, begun_by}
+use Rattle.ll_semantics.specs.Notes.{NoteFits, IsFrozen, is_on_rulesets, enforced}
+use Rattle.ll_semantics.specs.Worlds.{World, with_state, step, if_allowed}
+use Rattle.ll_semantics.specs.Situations.{state_after, rulesets_after}
 use Rattle.ll_rulebook.specs.declared.pass.Pass.{Pass}
-use Rattle.ll_trace.specs.Entries.{is_start}
-use Rattle.ll_rulebook.proofs.Quiet.{starts_process}
+use Rattle.ll_semantics.specs.Processes.{is_starting}
 use Rattle.ll_rulebook.specs.Tables.{held_by, Holds, Begins}
 use Rattle.ll_rulebook.specs.Stores.{Extends}
 use Rattle.ll_rulebook.specs.Settled.{met_by}
-use Rattle.ll_rulebook.specs.Passes.{next_world, IsSound, Agrees, Settles}
+use Rattle.ll_rulebook.specs.Passes.{IsSound, Agrees, Settles}
 use Rattle.ll_rulebook.proofs.Sameness.{same_new, are_same_push, are_same_set, other_of}
-use Rattle.ll_rulebook.proofs.Quiet.{kept_unless, kept_if_same, on_rulesets_starts_none, starts_none, rulesets_same, held_same}
-use Rattle.ll_state.proofs.Steps.{processes-step, step-rulesets}
-use Rattle.ll_rulebook.proofs.Worlds.{IsOwn, state_of-step, state_of-step_start}
+use Rattle.ll_rulebook.proofs.Quiet.{kept_unless, kept_if_same, on_rulesets_starts_none, rulesets_same, held_same}
+use Rattle.ll_semantics.proofs.Steps.{step-rulesets, step-unbegun, step-begun, count-unbegun, count-step, started-none}
 
 -- a pass that has the same rulesets, and tables by which each process holds the same
 pub record IsAlike (old new : Pass) : Type 0 where
@@ -49,42 +49,35 @@ pub record IsAlike (old new : Pass) : Type 0 where
 
 module _ (tree : List Entry) (abi : Abi) (process : ℕ) (op : Op) (old : Pass) (world : World) (agrees : Agrees tree old world) (there : process < length old.tables.held.items) where
   abbrev own : State
-  own = state_of world process
+  own = world.processes process
 
-  is_there : process < length world.processes
-  is_there = omega (arith, agrees.count)
+  count_next : started tree world.rulesets op (world.processes process) ≡ None → length old.tables.held.items ≡ (step tree abi world process op).count
+  count_next none = agrees.count ∙ sym (count-unbegun tree abi world process op none)
 
-  count_next : started op (state_of world process) ≡ None → length old.tables.held.items ≡ length (next_world tree abi world process op).processes
-  count_next none =
-      let more : length (next_world tree abi world process op).processes ≡ length world.processes + length (option_to_list (started op (state_of world process))) = processes-step tree abi world (record { line = 0; process = record { 0 = process }; pid = 0; op = op }) in
-      let no_more : length (option_to_list (started op (state_of world process))) ≡ 0 = rw none refl in
-      omega (arith, agrees.count, more, no_more)
-
-  held_next : started op (state_of world process) ≡ None → (p q : ℕ) →
-      cond (eqb p process) ((state_after tree abi world.rulesets op (state_of world process)).held q) (held_by old.tables.held.items p q) ≡ (state_of (next_world tree abi world process op) p).held q
+  held_next : started tree world.rulesets op (world.processes process) ≡ None → (p q : ℕ) →
+      cond (eqb p process) ((state_after tree abi world.rulesets op (world.processes process)).held q) (held_by old.tables.held.items p q) ≡ ((step tree abi world process op).processes p).held q
   held_next none p q =
-      let after : State = state_after tree abi world.rulesets op (state_of world process) in
-      let step_is : state_of (next_world tree abi world process op) p ≡ cond (eqb p process) after (state_of world p)
-      = state_of-step tree abi world (record { line = 0; process = record { 0 = process }; pid = 0; op = op }) p (record { is_own = inl is_there }) none in
+      let after : State = state_after tree abi world.rulesets op (world.processes process) in
+      let step_is : (step tree abi world process op).processes p ≡ with_state world.processes process after p = step-unbegun tree abi world process op p none in
       elim (cases_eq p process) [
         | inl same ↦ rw (step_is, eq-eqb p process same) refl
         | inr other ↦ rw (step_is, ne_eqb p process other) (agrees.held p q)
       ]
 
-  same_held : (q : ℕ) → (state_after tree abi world.rulesets op (state_of world process)).held q ≡ (state_of world process).held q → (p : ℕ) →
-      held_by old.tables.held.items p q ≡ cond (eqb p process) ((state_after tree abi world.rulesets op (state_of world process)).held q) (held_by old.tables.held.items p q)
+  same_held : (q : ℕ) → (state_after tree abi world.rulesets op (world.processes process)).held q ≡ (world.processes process).held q → (p : ℕ) →
+      held_by old.tables.held.items p q ≡ cond (eqb p process) ((state_after tree abi world.rulesets op (world.processes process)).held q) (held_by old.tables.held.items p q)
   same_held q stays p = elim (cases_eq p process) [
     | inl same ↦ rw (eq-eqb p process same, same, stays) (agrees.held process q)
     | inr other ↦ rw (ne_eqb p process other) refl
   ]
 
   -- where the call changes neither the rulesets nor what is held
-  pub agrees_alike : (new : Pass) → IsAlike old new → started op (state_of world process) ≡ None →
-      rulesets_after tree abi world.rulesets op (state_of world process) ≡ world.rulesets →
-      ((q : ℕ) → (state_after tree abi world.rulesets op (state_of world process)).held q ≡ (state_of world process).held q) →
-      Agrees tree new (next_world tree abi world process op)
+  pub agrees_alike : (new : Pass) → IsAlike old new → started tree world.rulesets op (world.processes process) ≡ None →
+      rulesets_after tree abi world.rulesets op (world.processes process) ≡ world.rulesets →
+      ((q : ℕ) → (state_after tree abi world.rulesets op (world.processes process)).held q ≡ (world.processes process).held q) →
+      Agrees tree new (step tree abi world process op)
   agrees_alike new alike none rules_stay held_stays = record {
-    rulesets = rw (alike.rulesets, step-rulesets tree abi world (record { line = 0; process = record { 0 = process }; pid = 0; op = op }), rules_stay) agrees.rulesets;
+    rulesets = rw (alike.rulesets, step-rulesets tree abi world process op, rules_stay) agrees.rulesets;
     count = rw alike.tables (count_next none);
     held = λ p q. rw alike.tables (same_held q (held_stays q) p ∙ held_next none p q);
   }
@@ -104,18 +97,18 @@ sound_alike tree old new alike layers sound = record {
 -- a call on rulesets that isn't allowed
 pub settles_refused : (tree : List Entry) (abi : Abi) (process : ℕ) (op : Op) (old new : Pass) (a : Answer) → IsSound tree old → process < length old.tables.held.items →
     IsAlike old new → new.store.layers ≡ old.store.layers →
-    is_on_rulesets op ≡ true → (a ≡ Allowed → ⊥) → ((world : World) → Agrees tree old world → a ≡ answer tree abi world.rulesets op (state_of world process)) →
+    is_on_rulesets op ≡ true → (a ≡ Allowed → ⊥) → ((world : World) → Agrees tree old world → a ≡ answer tree abi world.rulesets op (world.processes process)) →
     Settles tree abi process op old new (Answered a)
 unfolding NoteFits answered state_after rulesets_after
 settles_refused tree abi process op old new a sound there alike layers on refused is = record {
   sound = sound_alike tree old new alike (rw layers sound.layers_in_tree) sound;
   layers = rw layers (extends_same old.store.layers);
   agrees = λ world agrees.
-      let not : answer tree abi world.rulesets op (state_of world process) ≡ Allowed → ⊥ = λ allowed. refused (is world agrees ∙ allowed) in
+      let not : answer tree abi world.rulesets op (world.processes process) ≡ Allowed → ⊥ = λ allowed. refused (is world agrees ∙ allowed) in
       agrees_alike tree abi process op old world agrees there new alike
-      (on_rulesets_starts_none op (state_of world process) on)
-      (kept_unless (answer tree abi world.rulesets op (state_of world process)) (rules tree world.rulesets op (state_of world process)) world.rulesets not)
-      (λ q. ap (λ (s : State). s.held q) (kept_unless (answer tree abi world.rulesets op (state_of world process)) (change tree world.rulesets op (state_of world process)) (state_of world process) not));
+      (started-none tree world.rulesets op (world.processes process) (on_rulesets_starts_none op on))
+      (kept_unless (answer tree abi world.rulesets op (world.processes process)) (rules tree world.rulesets op (world.processes process)) world.rulesets not)
+      (λ q. ap (λ (s : State). s.held q) (kept_unless (answer tree abi world.rulesets op (world.processes process)) (change tree world.rulesets op (world.processes process)) (world.processes process) not));
   fits = λ world agrees. (on, is world agrees);
 }
 
@@ -126,14 +119,14 @@ frozen_by at id rules one is within same = rw is (within, same)
 
 -- a call that neither is on rulesets nor starts a process
 module _ (tree : List Entry) (abi : Abi) (process : ℕ) (op : Op) (old : Pass) (sound : IsSound tree old) (there : process < length old.tables.held.items)
-    (off : is_on_rulesets op ≡ false) (none : starts_process op ≡ false) where
-  agrees_off : (new : Pass) → IsAlike old new → (world : World) → Agrees tree old world → Agrees tree new (next_world tree abi world process op)
+    (off : is_on_rulesets op ≡ false) (none : is_starting op ≡ false) where
+  agrees_off : (new : Pass) → IsAlike old new → (world : World) → Agrees tree old world → Agrees tree new (step tree abi world process op)
   agrees_off new alike world agrees =
-      agrees_alike tree abi process op old world agrees there new alike (starts_none op (state_of world process) none)
-      (rulesets_same tree abi world.rulesets op (state_of world process) off)
-      (λ q. ap (λ (held : ℕ → Option ℕ). held q) (held_same tree abi world.rulesets op (state_of world process) off))
+      agrees_alike tree abi process op old world agrees there new alike (started-none tree world.rulesets op (world.processes process) none)
+      (rulesets_same tree abi world.rulesets op (world.processes process) off)
+      (λ q. ap (λ (held : ℕ → Option ℕ). held q) (held_same tree abi world.rulesets op (world.processes process) off))
 
-  pub settles_open : ((world : World) → Agrees tree old world → enforced world.rulesets op (state_of world process) ≡ None) → Settles tree abi process op old old Open
+  pub settles_open : ((world : World) → Agrees tree old world → enforced world.rulesets op (world.processes process) ≡ None) → Settles tree abi process op old old Open
   unfolding NoteFits
   settles_open unforced = record {
     sound = sound;
@@ -145,7 +138,7 @@ module _ (tree : List Entry) (abi : Abi) (process : ℕ) (op : Op) (old : Pass) 
   -- a call that restricts its process by a ruleset that it holds
   pub settles_frozen : (new : Pass) (at : ℕ) (id : LayerId) → IsAlike old new → Extends old.store.layers new.store.layers → All (AreInTree tree) new.store.layers →
       at < length old.store.rulesets → slice_get new.store.layers id.0 ≡ slice_get old.store.rulesets at →
-      ((world : World) → Agrees tree old world → enforced world.rulesets op (state_of world process) ≡ slice_get world.rulesets at) →
+      ((world : World) → Agrees tree old world → enforced world.rulesets op (world.processes process) ≡ slice_get world.rulesets at) →
       Settles tree abi process op old new (Frozen id)
   unfolding NoteFits
   settles_frozen new at id alike extends in_tree_all within layer enforces =
@@ -158,8 +151,8 @@ module _ (tree : List Entry) (abi : Abi) (process : ℕ) (op : Op) (old : Pass) 
         agrees = agrees_off new alike;
         fits = λ world agrees.
             let other = other_of tree old.store.rulesets world.rulesets at one agrees.rulesets stands in
-            let enforced_is : enforced world.rulesets op (state_of world process) ≡ Some other.other = enforces world agrees ∙ other.stands in
-            frozen_by (met_by tree abi new.store.layers world process) id (enforced world.rulesets op (state_of world process)) other.other enforced_is
+            let enforced_is : enforced world.rulesets op (world.processes process) ≡ Some other.other = enforces world agrees ∙ other.stands in
+            frozen_by (met_by tree abi new.store.layers world process) id (enforced world.rulesets op (world.processes process)) other.other enforced_is
             (slice_get_within new.store.layers id.0 one frozen)
             (rw (get_or_from_slice_get new.store.layers id.0 one (without_rules files.no_right network.no_right) frozen) other.same);
       }
@@ -179,7 +172,7 @@ held_or_before false place before found is = inr is
 -- one number of the call's process names another place
 held_changed : (tree : List Entry) (process : ℕ) (old : Pass) (world : World) (rs : ℕ) (place : Option ℕ) → Agrees tree old world → (p q : ℕ) →
     cond (eqb p process && eqb rs q) place (held_by old.tables.held.items p q)
-    ≡ cond (eqb p process) (cond (eqb rs q) place ((state_of world process).held q)) (held_by old.tables.held.items p q)
+    ≡ cond (eqb p process) (cond (eqb rs q) place ((world.processes process).held q)) (held_by old.tables.held.items p q)
 held_changed tree process old world rs place agrees p q = elim (cases_eq p process) [
   | inl same ↦ rw (eq-eqb p process same, same, agrees.held process q) refl
   | inr other ↦ rw (ne_eqb p process other) refl
@@ -192,7 +185,7 @@ module _ (tree : List Entry) (abi : Abi) (process rs : ℕ) (old new : Pass) (so
       new.store.rulesets ≡ old.store.rulesets ++ made ∷ [] → new.store.layers ≡ old.store.layers →
       at ≡ length old.store.rulesets → Holds old.tables.held.items new.tables.held.items process rs (Some at) →
       Settles tree abi process (calls.Create rs fs net) old new (Answered Allowed)
-  unfolding NoteFits answered state_after rulesets_after answer create_answer change rules is_on_rulesets started
+  unfolding NoteFits answered state_after rulesets_after answer create_answer change state_by rules rulesets_by effect is_on_rulesets started begun_by
   settles_created fs net made at free no_fault plain pushed layers last holds = record {
     sound = record {
       places = λ p q found is.
@@ -206,7 +199,7 @@ module _ (tree : List Entry) (abi : Abi) (process rs : ℕ) (old new : Pass) (so
     };
     layers = rw layers (extends_same old.store.layers);
     agrees = λ world agrees.
-        let s : State = state_of world process in
+        let s : State = world.processes process in
         let op : Op = calls.Create rs fs net in
         let nothing : s.held rs ≡ None = sym (agrees.held process rs) ∙ free in
         let allowed : answer tree abi world.rulesets op s ≡ Allowed = rw (nothing, no_fault) refl in
@@ -216,7 +209,7 @@ module _ (tree : List Entry) (abi : Abi) (process rs : ℕ) (old new : Pass) (so
         record {
           rulesets = rw (
             pushed,
-            step-rulesets tree abi world (record { line = 0; process = record { 0 = process }; pid = 0; op = op }),
+            step-rulesets tree abi world process op,
             if_allowed_is (answer tree abi world.rulesets op s) (rules tree world.rulesets op s) world.rulesets allowed,
           )
               (are_same_push tree old.store.rulesets world.rulesets made (without_rules fs net) agrees.rulesets (rw plain (same_new tree fs net)));
@@ -228,14 +221,14 @@ module _ (tree : List Entry) (abi : Abi) (process rs : ℕ) (old new : Pass) (so
               ∙ held_next tree abi process op old world agrees there refl p q;
         };
     fits = λ world agrees.
-        let nothing : (state_of world process).held rs ≡ None = sym (agrees.held process rs) ∙ free in
+        let nothing : (world.processes process).held rs ≡ None = sym (agrees.held process rs) ∙ free in
         (refl, sym (rw (nothing, no_fault) refl));
   }
 
   -- what a number names is closed
   pub settles_closed : (at : ℕ) → held_by old.tables.held.items process rs ≡ Some at → new.store ≡ old.store →
       Holds old.tables.held.items new.tables.held.items process rs None → Settles tree abi process (calls.CloseRs rs) old new (Answered Allowed)
-  unfolding NoteFits answered state_after rulesets_after answer change rules is_on_rulesets started
+  unfolding NoteFits answered state_after rulesets_after answer change state_by rules rulesets_by effect is_on_rulesets started begun_by
   settles_closed at held store holds = record {
     sound = record {
       places = λ p q found is. rw store (elim (held_or_before (eqb p process && eqb rs q) None (held_by old.tables.held.items p q) found (sym (holds.holds p q) ∙ is)) [
@@ -247,7 +240,7 @@ module _ (tree : List Entry) (abi : Abi) (process rs : ℕ) (old new : Pass) (so
     };
     layers = rw store (extends_same old.store.layers);
     agrees = λ world agrees.
-        let s : State = state_of world process in
+        let s : State = world.processes process in
         let op : Op = calls.CloseRs rs in
         let some : s.held rs ≡ Some at = sym (agrees.held process rs) ∙ held in
         let allowed : answer tree abi world.rulesets op s ≡ Allowed = rw some refl in
@@ -256,7 +249,7 @@ module _ (tree : List Entry) (abi : Abi) (process rs : ℕ) (old new : Pass) (so
         record {
           rulesets = rw (
             store,
-            step-rulesets tree abi world (record { line = 0; process = record { 0 = process }; pid = 0; op = op }),
+            step-rulesets tree abi world process op,
             if_allowed_is (answer tree abi world.rulesets op s) (rules tree world.rulesets op s) world.rulesets allowed,
           ) agrees.rulesets;
           count = holds.same_count ∙ count_next tree abi process op old world agrees there refl;
@@ -267,7 +260,7 @@ module _ (tree : List Entry) (abi : Abi) (process rs : ℕ) (old new : Pass) (so
               ∙ held_next tree abi process op old world agrees there refl p q;
         };
     fits = λ world agrees.
-        let some : (state_of world process).held rs ≡ Some at = sym (agrees.held process rs) ∙ held in
+        let some : (world.processes process).held rs ≡ Some at = sym (agrees.held process rs) ∙ held in
         (refl, sym (rw some refl));
   }
 
@@ -282,7 +275,7 @@ pub settles_added : (tree : List Entry) (abi : Abi) (process rs : ℕ) (old new 
     slice_get old.store.rulesets at ≡ Some before → new.store.rulesets ≡ set old.store.rulesets at after →
     new.store.layers ≡ old.store.layers → new.tables.held.items ≡ old.tables.held.items →
     ((other : Layer) → SameRules (in_tree tree before) other → SameRules (in_tree tree after) (f other)) → AreInTree tree after →
-    ((world : World) → Agrees tree old world → answer tree abi world.rulesets op (state_of world process) ≡ Allowed) →
+    ((world : World) → Agrees tree old world → answer tree abi world.rulesets op (world.processes process) ≡ Allowed) →
     Settles tree abi process op old new (Answered Allowed)
 unfolding NoteFits answered state_after rulesets_after
 settles_added tree abi process rs old new op f at before after sound there on rules_is change_is held was is_now layers tables same_next stays allowed = record {
@@ -293,17 +286,17 @@ settles_added tree abi process rs old new op f at before after sound there on ru
   };
   layers = rw layers (extends_same old.store.layers);
   agrees = λ world agrees.
-      let s : State = state_of world process in
+      let s : State = world.processes process in
       let some : s.held rs ≡ Some at = sym (agrees.held process rs) ∙ held in
       let other = other_of tree old.store.rulesets world.rulesets at before agrees.rulesets was in
       let rules_now : rules tree world.rulesets op s ≡ set world.rulesets at (f other.other) = rules_is world.rulesets s ∙ rw (some, other.stands) refl in
-      let none : started op s ≡ None = on_rulesets_starts_none op s on in
+      let none : started tree world.rulesets op s ≡ None = started-none tree world.rulesets op s (on_rulesets_starts_none op on) in
       let held_then : (state_after tree abi world.rulesets op s).held ≡ s.held
       = ap (λ (t : State). t.held) (kept_if_same (answer tree abi world.rulesets op s) (change tree world.rulesets op s) s (change_is world.rulesets s)) in
       record {
         rulesets = rw (
           is_now,
-          step-rulesets tree abi world (record { line = 0; process = record { 0 = process }; pid = 0; op = op }),
+          step-rulesets tree abi world process op,
           if_allowed_is (answer tree abi world.rulesets op s) (rules tree world.rulesets op s) world.rulesets (allowed world agrees),
           rules_now,
         )
@@ -316,33 +309,25 @@ settles_added tree abi process rs old new op f at before after sound there on ru
 
 -- ---- processes that begin
 
-kept_after : (tree : List Entry) (abi : Abi) (rulesets : List Layer) (op : Op) (s : State) → change tree rulesets op s ≡ s → state_after tree abi rulesets op s ≡ s
-unfolding state_after
-kept_after tree abi rulesets op s same = kept_if_same (answer tree abi rulesets op s) (change tree rulesets op s) s same
-
-begun_held : (process p q n m : ℕ) (now before : Option ℕ) (child after s : State) → n ≡ m → now ≡ child.held q → before ≡ s.held q → (p ≡ process → after.held q ≡ s.held q) →
-    cond (eqb p n) now before ≡ (cond (eqb p m) child (cond (eqb p process) after s)).held q
-begun_held process p q n m now before child after s same_count now_is before_is after_is = elim (cases_eq p n) [
+begun_held : (process p q n m : ℕ) (now before : Option ℕ) (child s : State) → n ≡ m → now ≡ child.held q → before ≡ s.held q →
+    cond (eqb p n) now before ≡ (cond (eqb p m) child s).held q
+begun_held process p q n m now before child s same_count now_is before_is = elim (cases_eq p n) [
   | inl last ↦ let also : p ≡ m = last ∙ same_count in rw (eq-eqb p n last, eq-eqb p m also) now_is
   | inr earlier ↦
       let also : p ≡ m → ⊥ = λ last. earlier (last ∙ sym same_count) in
-      rw (ne_eqb p n earlier, ne_eqb p m also) (elim (cases_eq p process) [
-        | inl own ↦ rw (eq-eqb p process own) (before_is ∙ sym (after_is own))
-        | inr other ↦ rw (ne_eqb p process other) before_is
-      ])
+      rw (ne_eqb p n earlier, ne_eqb p m also) before_is
 ]
 
 -- a call that starts a process and changes nothing else
 pub settles_begun : (tree : List Entry) (abi : Abi) (process : ℕ) (old new : Pass) (op : Op) (held : ℕ → Option ℕ) (child : World → State) →
-    IsSound tree old → (process < length old.tables.held.items) ⊎ (is_start op ≡ true) → is_on_rulesets op ≡ false →
-    ((world : World) → started op (state_of world process) ≡ Some (child world)) →
-    ((rulesets : List Layer) (s : State) → change tree rulesets op s ≡ s) →
+    IsSound tree old → is_on_rulesets op ≡ false → is_starting op ≡ true →
+    ((world : World) → started tree world.rulesets op (world.processes process) ≡ Some (child world)) →
     ((rulesets : List Layer) (s : State) → enforced rulesets op s ≡ None) →
     ((world : World) → Agrees tree old world → (q : ℕ) → held q ≡ (child world).held q) →
     ((q place : ℕ) → held q ≡ Some place → place < length old.store.rulesets) →
     new.store ≡ old.store → Begins old.tables.held.items new.tables.held.items held → Settles tree abi process op old new Open
 unfolding NoteFits
-settles_begun tree abi process old new op held child sound own off starts change_is unforced held_is places store begins = record {
+settles_begun tree abi process old new op held child sound off starting starts unforced held_is places store begins = record {
   sound = record {
     places = λ p q found is. rw store (elim (held_or_before (eqb p (length old.tables.held.items)) (held q) (held_by old.tables.held.items p q) found (sym (begins.holds p q) ∙ is)) [
       | inl now ↦ places q found now
@@ -352,23 +337,17 @@ settles_begun tree abi process old new op held child sound own off starts change
     layers_in_tree = rw store sound.layers_in_tree;
   };
   layers = rw store (extends_same old.store.layers);
-  agrees = λ world agrees.
-      let s : State = state_of world process in
-      let r : Record = record { line = 0; process = record { 0 = process }; pid = 0; op = op } in
-      let is_own : IsOwn world r = record { is_own = elim own [ inl there ↦ inl (omega (arith, agrees.count)) | inr start ↦ inr start ] } in
-      let after : State = state_after tree abi world.rulesets op s in
-      let after_is : after ≡ s = kept_after tree abi world.rulesets op s (change_is world.rulesets s) in
-      record {
-        rulesets = rw (store, step-rulesets tree abi world r, rulesets_same tree abi world.rulesets op s off) agrees.rulesets;
-        count =
-            let more : length (step tree abi world r).processes ≡ length world.processes + length (option_to_list (started op s)) = processes-step tree abi world r in
-            let one : length (option_to_list (started op s)) ≡ 1 = rw (starts world) refl in
-            omega (arith, begins.one_more, agrees.count, more, one);
-        held = λ p q.
-            begins.holds p q
-            ∙ begun_held process p q (length old.tables.held.items) (length world.processes) (held q) (held_by old.tables.held.items p q) (child world) after (state_of world p)
-            agrees.count (held_is world agrees q) (agrees.held p q) (λ same. ap (λ (t : State). t.held q) after_is ∙ ap (λ (n : ℕ). (state_of world n).held q) (sym same))
-            ∙ ap (λ (t : State). t.held q) (sym (state_of-step_start tree abi world r p (child world) is_own (starts world)));
-      };
-  fits = λ world agrees. (off, unforced world.rulesets (state_of world process));
+  agrees = λ world agrees. record {
+    rulesets = rw (store, step-rulesets tree abi world process op, rulesets_same tree abi world.rulesets op (world.processes process) off) agrees.rulesets;
+    count =
+        let more : (step tree abi world process op).count ≡ world.count + cond (is_starting op) 1 0 = count-step tree abi world process op in
+        let one : (let n : ℕ = cond (is_starting op) 1 0 in n) ≡ 1 = rw starting refl in
+        omega (arith, begins.one_more, agrees.count, more, one);
+    held = λ p q.
+        begins.holds p q
+        ∙ begun_held process p q (length old.tables.held.items) world.count (held q) (held_by old.tables.held.items p q) (child world) (world.processes p)
+        agrees.count (held_is world agrees q) (agrees.held p q)
+        ∙ ap (λ (t : State). t.held q) (sym (step-begun tree abi world process op p (child world) (starts world)));
+  };
+  fits = λ world agrees. (off, unforced world.rulesets (world.processes process));
 }

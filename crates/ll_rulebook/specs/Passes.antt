@@ -3,21 +3,20 @@
 use Rattle.std.specs.Prelude.{◌≡◌, ℕ, ◌<◌, ◌≤◌, List, [], ◌∷◌, ◌++◌, length, Some, All, slice_get}
 use Rattle.ll_rights.specs.declared.abi.Abi.{Abi}
 use Rattle.ll_tree.specs.Trees.{Entry}
-use Rattle.ll_rules.specs.Layers.{RulesOn, SameRules, in_tree, AreInTree}
+use Rattle.ll_rules.specs.Layers.{RulesOn}
+use Rattle.ll_rules.specs.KeptLayers.{SameRules}
+use Rattle.ll_rules.specs.InTree.{in_tree, AreInTree}
 use Rattle.ll_trace.specs.declared.op.Op.{Op}
-use Rattle.ll_state.specs.declared.note.Note.{Note}
-use Rattle.ll_state.specs.States.{Layer}
+use Rattle.ll_semantics.specs.declared.note.Note.{Note}
+use Rattle.ll_semantics.specs.States.{Layer}
 use Rattle.ll_trace.specs.declared.record.Record.{Record}
-use Rattle.ll_state.specs.Notes.{NoteFits}
-use Rattle.ll_state.specs.Worlds.{World, state_of, step, world_at}
+use Rattle.ll_semantics.specs.Notes.{NoteFits}
+use Rattle.ll_semantics.specs.Worlds.{World, step}
+use Rattle.ll_semantics.specs.Situations.{world_at}
 use Rattle.ll_rulebook.specs.declared.pass.Pass.{Pass}
 use Rattle.ll_rulebook.specs.Tables.{held_by}
 use Rattle.ll_rulebook.specs.Stores.{Extends}
 use Rattle.ll_rulebook.specs.Settled.{met_by, FitUpTo}
-
--- the world after a call of a process
-abbrev pub next_world : List Entry → Abi → World → ℕ → Op → World
-next_world tree abi world process op = step tree abi world (record { line = 0; process = record { 0 = process }; pid = 0; op = op })
 
 -- rulesets with rules on nodes of a tree are, one by one, the same as rulesets with rules on paths
 pub record AreSame (tree : List Entry) (kept : List (RulesOn ℕ)) (rulesets : List Layer) : Type 0 where
@@ -33,14 +32,14 @@ pub record IsSound (tree : List Entry) (pass : Pass) : Type 0 where
 -- the rulesets are those of the world, and each process of the world holds the same of them
 pub record Agrees (tree : List Entry) (pass : Pass) (world : World) : Type 0 where
   pub rulesets : AreSame tree pass.store.rulesets world.rulesets
-  pub count : length pass.tables.held.items ≡ length world.processes
-  pub held : (process number : ℕ) → held_by pass.tables.held.items process number ≡ (state_of world process).held number
+  pub count : length pass.tables.held.items ≡ world.count
+  pub held : (process number : ℕ) → held_by pass.tables.held.items process number ≡ (world.processes process).held number
 
 -- After a call of a process the pass agrees with the next world, if it agreed with one before, and the note fits what the call met there.
 pub record Settles (tree : List Entry) (abi : Abi) (process : ℕ) (op : Op) (old new : Pass) (note : Note) : Type 0 where
   pub sound : IsSound tree new
   pub layers : Extends old.store.layers new.store.layers
-  pub agrees : (world : World) → Agrees tree old world → Agrees tree new (next_world tree abi world process op)
+  pub agrees : (world : World) → Agrees tree old world → Agrees tree new (step tree abi world process op)
   pub fits : (world : World) → Agrees tree old world → NoteFits (met_by tree abi new.store.layers world process) op note
 
 -- the first records are settled: the pass agrees with the world before the next one

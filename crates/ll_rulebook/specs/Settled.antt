@@ -3,16 +3,18 @@
 use Rattle.std.specs.Prelude.{◌≡◌, ℕ, List, length, Some, slice_get, All}
 use Rattle.ll_rights.specs.declared.abi.Abi.{Abi}
 use Rattle.ll_tree.specs.Trees.{Entry}
-use Rattle.ll_rules.specs.Layers.{RulesOn, AreInTree}
+use Rattle.ll_rules.specs.Layers.{RulesOn}
+use Rattle.ll_rules.specs.InTree.{AreInTree}
 use Rattle.ll_trace.specs.declared.record.Record.{Record}
-use Rattle.ll_state.specs.declared.note.Note.{Note}
-use Rattle.ll_state.specs.Agreement.{Situation}
-use Rattle.ll_state.specs.Notes.{NoteFits}
-use Rattle.ll_state.specs.Worlds.{World, state_of, world_at}
+use Rattle.ll_semantics.specs.declared.note.Note.{Note}
+use Rattle.ll_semantics.specs.Situations.{Situation}
+use Rattle.ll_semantics.specs.Notes.{NoteFits}
+use Rattle.ll_semantics.specs.Worlds.{World}
+use Rattle.ll_semantics.specs.Situations.{world_at}
 
 -- what a call of a process meets in a world
 abbrev pub met_by : List Entry → Abi → List (RulesOn ℕ) → World → ℕ → Situation
-met_by tree abi layers world process = record { tree = tree; layers = layers; abi = abi; rulesets = world.rulesets; state = state_of world process }
+met_by tree abi layers world process = record { tree = tree; layers = layers; abi = abi; rulesets = world.rulesets; state = world.processes process }
 
 -- each note up to a place fits what its record meets in the world before it
 abbrev pub FitUpTo : List Entry → Abi → List Record → List (RulesOn ℕ) → List Note → Type 0

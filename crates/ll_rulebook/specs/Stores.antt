@@ -8,12 +8,15 @@ use Rattle.ll_tree.specs.declared.place.Place.{Place}
 use Rattle.ll_tree.specs.Trees.{Entry}
 use Rattle.ll_rules.specs.declared.errno.RuleFault.{RuleFault}
 use Rattle.ll_rules.specs.declared.errno.RuleFault.TheVariants as faults
-use Rattle.ll_state.specs.declared.answer.Answer.TheVariants.{Allowed, Moot}
-use Rattle.ll_state.specs.declared.note.Note.{Note}
-use Rattle.ll_state.specs.declared.note.Note.TheVariants.{Answered}
-use Rattle.ll_state.specs.Answers.{fails}
-use Rattle.ll_rules.specs.Layers.{RulesOn, SameRules, in_tree, AreInTree, GrantsOnPort}
-use Rattle.ll_rules.specs.Rulesets.{add_path_fault, add_port_fault, with_rule_at}
+use Rattle.ll_semantics.specs.declared.answer.Answer.TheVariants.{Allowed, Moot}
+use Rattle.ll_semantics.specs.declared.note.Note.{Note}
+use Rattle.ll_semantics.specs.declared.note.Note.TheVariants.{Answered}
+use Rattle.ll_semantics.specs.Answers.{fails}
+use Rattle.ll_rules.specs.Layers.{RulesOn}
+use Rattle.ll_rules.specs.KeptLayers.{SameRules, GrantsOnPort}
+use Rattle.ll_rules.specs.InTree.{in_tree, AreInTree}
+use Rattle.ll_rules.specs.RuleFaults.{add_path_fault, add_port_fault}
+use Rattle.ll_rules.specs.Rulesets.{with_rule_at}
 
 -- the rulesets in the order in which they were created, and the layers in the order in which they were frozen
 pub record Stock : Type 0 where

@@ -2,16 +2,16 @@
 
 ghost use Rattle.std.specs.Prelude.{◌≡◌, ℕ, ◌<◌, ◌^◌, Bool, false, List, [], length, IfOk, OnOk};
 ghost use Rattle.ll_tree.specs.Trees.{Entry};
-ghost use Rattle.ll_state.specs.Answers.{fails};
+ghost use Rattle.ll_semantics.specs.Answers.{fails};
 ghost use Rattle.ll_trace.specs.Entries.{is_start};
-ghost use Rattle.ll_trace.specs.Records.{AreRecords};
+ghost use Rattle.ll_trace.specs.RecordFacts.{AreRecords};
 ghost use Rattle.ll_rulebook.specs.Stores.{IsAnswerTo};
 
 use crate::store::Store;
 use crate::tables::Tables;
 use ll_rights::{Abi, Fs, Net};
 use ll_rules::{Errno, Layer, LayerSet, NoMemory, RuleFault, Ruleset};
-use ll_state::{Answer, Note};
+use ll_semantics::{Answer, Note};
 use ll_trace::{Op, PathText, Record};
 use ll_tree::Tree;
 use std::alloc::Global;
@@ -194,7 +194,26 @@ impl Pass {
             Op::AddPort { rs, port, net } => self.add_port(abi, process, *rs, *port, *net),
             Op::CloseRs { rs } => Ok(self.close_rs(process, *rs)),
             Op::Restrict { rs } => self.restrict(alloc, process, *rs),
-            _ => Ok(Note::Open),
+            Op::Exit
+            | Op::Nnp
+            | Op::OpenFile { .. }
+            | Op::Adopt { .. }
+            | Op::Dup { .. }
+            | Op::Close { .. }
+            | Op::Ftruncate { .. }
+            | Op::Ioctl { .. }
+            | Op::Truncate { .. }
+            | Op::Exec { .. }
+            | Op::Mknod { .. }
+            | Op::Mkdir { .. }
+            | Op::Symlink { .. }
+            | Op::Unlink { .. }
+            | Op::Rmdir { .. }
+            | Op::Rename { .. }
+            | Op::Link { .. }
+            | Op::Mount
+            | Op::Bind { .. }
+            | Op::Connect { .. } => Ok(Note::Open),
         }
     }
 

@@ -6,7 +6,7 @@ ghost use Rattle.ll_rulebook.specs.Settled.{IsSettled};
 use crate::pass::Pass;
 use ll_rights::Abi;
 use ll_rules::{Layer, NoMemory};
-use ll_state::Note;
+use ll_semantics::Note;
 use ll_trace::Trace;
 use ll_tree::Tree;
 use std::alloc::Global;

@@ -2,9 +2,12 @@
 
 ghost use Rattle.std.specs.Prelude.{◌≡◌, None, ◌<◌, ◌+◌, [], ◌∷◌, ◌++◌, List, length, OnOk, IfOk, OnErr, MatchOption, IsOkUnless, All, ◌^◌, slice_get};
 ghost use Rattle.ll_tree.specs.Trees.{Entry};
-ghost use Rattle.ll_rules.specs.Layers.{SameRules, in_tree, AreInTree, GrantsOnPort};
+ghost use Rattle.ll_rules.specs.KeptLayers.{SameRules, GrantsOnPort};
+ghost use Rattle.ll_rules.specs.InTree.{in_tree, AreInTree};
 ghost use Rattle.ll_rulebook.specs.Stores.{Replaces, AddsPathRule, AddsPortRule, Extends};
-ghost use Rattle.ll_rules.specs.Rulesets.{IsOfTree, add_path_fault, add_port_fault, with_rule_at};
+ghost use Rattle.ll_rules.specs.InTree.{IsOfTree};
+ghost use Rattle.ll_rules.specs.RuleFaults.{add_path_fault, add_port_fault};
+ghost use Rattle.ll_rules.specs.Rulesets.{with_rule_at};
 
 use ll_rights::{Abi, Fs, Net};
 use ll_rules::{Layer, LayerId, NoMemory, RuleFault, Ruleset};

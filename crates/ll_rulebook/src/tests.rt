@@ -1,12 +1,12 @@
 //! That rulebooks are made where memory is left, that what is frozen twice is one layer, and worked traces.
 
 ghost use Rattle.std.specs.Prelude.{◌<◌, length, All};
-ghost use Rattle.ll_rules.specs.Layers.{AreInTree};
+ghost use Rattle.ll_rules.specs.InTree.{AreInTree};
 
 use super::*;
 use ll_rights::{Abi, fs_of_name};
 use ll_rules::{Domain, Errno, Layer, LayerId, LayerSet, check_path};
-use ll_state::{Answer, Note};
+use ll_semantics::{Answer, Note};
 use ll_trace::Trace;
 use ll_tree::{Place, Tree};
 use std::process::Abort;

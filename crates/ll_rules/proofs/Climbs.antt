@@ -8,9 +8,12 @@ use Rattle.ll_rights.specs.declared.fs.Fs.{Fs}
 use Rattle.ll_rights.specs.Rights.{FsRight, has}
 use Rattle.ll_tree.specs.declared.place.NodeId.{NodeId}
 use Rattle.ll_tree.specs.Paths.{Path, front, is_prefix, path_eq}
-use Rattle.ll_tree.specs.Trees.{Entry, IsNode, IsTree, StandsIn, path_at}
+use Rattle.ll_tree.specs.Trees.{Entry, IsNode, path_at}
+use Rattle.ll_tree.specs.TreeFacts.{IsTree, StandsIn}
 use Rattle.ll_tree.proofs.Climbing.{path_eq-nodes}
-use Rattle.ll_rules.specs.Layers.{RulesOn, granted, granted_on, granted_on_node, in_tree, rule_on_path, node, AreInTree}
+use Rattle.ll_rules.specs.Layers.{RulesOn, granted}
+use Rattle.ll_rules.specs.KeptLayers.{granted_on, granted_on_node}
+use Rattle.ll_rules.specs.InTree.{in_tree, rule_on_path, node, AreInTree}
 use Rattle.ll_rules.proofs.Booleans.{or_false, and_or, or_and, list_any-agree, list_any-or, list_any-map}
 
 is_prefix-root : (path : Path) → is_prefix path [] ≡ path_eq path []

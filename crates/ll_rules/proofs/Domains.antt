@@ -8,7 +8,8 @@ use Rattle.ll_rights.specs.declared.net.Net.{Net}
 use Rattle.ll_rights.specs.Rights.{is_empty}
 use Rattle.ll_rules.specs.declared.domain.LayerId.{LayerId}
 use Rattle.ll_rules.specs.Layers.{RulesOn}
-use Rattle.ll_rules.specs.Checks.{numbers_from, layer_at, domain_of, lacks_on_port, refusing_port, refusing_mount}
+use Rattle.ll_rules.specs.Checks.{numbers_from, lacks_on_port, refusing_port, refusing_mount}
+use Rattle.ll_rules.specs.KeptLayers.{layer_at, domain_of}
 
 -- the layers that a list of names stands for
 pub numbers_from-map : {A B : Type 0} (test : B → Bool) (h : A → B) (number : ℕ) (xs : List A) → numbers_from test number (map h xs) ≡ numbers_from (λ x. test (h x)) number xs

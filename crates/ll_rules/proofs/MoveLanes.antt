@@ -7,18 +7,24 @@ use Rattle.ll_rights.specs.Rights.{FsRight, has, some_right, all_rights, is_righ
 use Rattle.ll_rights.specs.NetRights as network
 use Rattle.ll_tree.specs.declared.place.NodeId.{NodeId}
 use Rattle.ll_tree.specs.Paths.{Path, front}
-use Rattle.ll_tree.specs.Trees.{Entry, IsNode, IsTree, path_at, kind_at, depth_at, is_dir}
+use Rattle.ll_tree.specs.Trees.{Entry, IsNode, path_at, kind_at, is_dir}
+use Rattle.ll_tree.specs.TreeFacts.{IsTree, depth_at}
 use Rattle.ll_rules.specs.declared.moves.Move.{Move}
 use Rattle.ll_rules.specs.declared.moves.Target.{Target}
 use Rattle.ll_rules.specs.declared.moves.Target.TheVariants.{New, Over}
 use Rattle.ll_rules.specs.declared.moves.How.{How}
 use Rattle.ll_rules.specs.declared.moves.How.TheVariants.{Rename, Exchange, Link}
-use Rattle.ll_rules.specs.Layers.{RulesOn, without_rules, handles, granted, granted_on_node, in_tree, AreInTree}
-use Rattle.ll_rules.specs.Checks.{domain_of, all_in_tree, numbers_where}
+use Rattle.ll_rules.specs.Layers.{RulesOn, without_rules, handles, granted}
+use Rattle.ll_rules.specs.KeptLayers.{granted_on_node}
+use Rattle.ll_rules.specs.InTree.{in_tree, AreInTree}
+use Rattle.ll_rules.specs.KeptLayers.{domain_of}
+use Rattle.ll_rules.specs.InTree.{all_in_tree}
+use Rattle.ll_rules.specs.Checks.{numbers_where}
 use Rattle.ll_rules.specs.LayerNumbers.{numbers_passing}
 use Rattle.ll_rules.specs.Lanes.{lane, is_filled, layer_in, AreLacking}
 use Rattle.ll_rules.specs.declared.domain.LayerId.{LayerId}
-use Rattle.ll_rules.specs.Moves.{IsTargetIn, source_of, destination_of, kind_there, asked_of_source, asked_of_destination, lacks_one_of, denies, gains, other_gains, holds_back}
+use Rattle.ll_rules.specs.InTree.{IsTargetIn}
+use Rattle.ll_rules.specs.Moves.{source_of, destination_of, kind_there, asked_of_source, asked_of_destination, lacks_one_of, denies, gains, other_gains, holds_back}
 use Rattle.ll_rules.proofs.Booleans.{list_any-or, and_none}
 use Rattle.ll_rules.proofs.Climbs.{from_path, granted_on-node}
 use Rattle.ll_rules.proofs.AskedRights.{some_agree, one_asked}

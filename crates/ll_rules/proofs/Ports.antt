@@ -12,7 +12,8 @@ use Rattle.std.proofs.lemmas.Map.Keys.{IsDistinct-from_sorted}
 use Rattle.ll_rights.specs.declared.net.Net.{Net}
 use Rattle.ll_rights.specs.NetRights.{NetRight, bind_tcp, has, united, no_right}
 use Rattle.ll_rights.proofs.Sets.{net_has-united}
-use Rattle.ll_rules.specs.Layers.{RulesOn, granted_on_port, with_port_rule, GrantsOnPort}
+use Rattle.ll_rules.specs.Layers.{RulesOn, granted_on_port, with_port_rule}
+use Rattle.ll_rules.specs.KeptLayers.{GrantsOnPort}
 use Rattle.ll_rules.proofs.Lookups.{any_at-lookup}
 use Rattle.ll_rules.proofs.Booleans.{or_comm, list_any-agree}
 

@@ -1,30 +1,12 @@
 -- Domains, and the layers of a domain that refuse what is asked of them.
 -- Source: landlock(7), "Landlock rules"; the kernel's userspace document on Landlock, "Layers of file path access rights" and "Ruleset layers".
-use Rattle.std.specs.Prelude.{ℕ, ◌+◌, ◌<◌, Bool, not, List, [], ◌∷◌, ◌++◌, map, length, All, slice_index_or, if◌then◌else◌}
+use Rattle.std.specs.Prelude.{ℕ, ◌+◌, Bool, not, List, [], ◌∷◌, ◌++◌, if◌then◌else◌}
 use Rattle.ll_rights.specs.declared.fs.Fs.{Fs}
 use Rattle.ll_rights.specs.declared.net.Net.{Net}
 use Rattle.ll_rights.specs.Rights as files
 use Rattle.ll_rights.specs.NetRights as network
 use Rattle.ll_tree.specs.Paths.{Path}
-use Rattle.ll_tree.specs.Trees.{Entry}
-use Rattle.ll_rules.specs.declared.domain.LayerId.{LayerId}
-use Rattle.ll_rules.specs.Layers.{RulesOn, without_rules, handles, granted, granted_on_port, in_tree}
-
--- the layer at a place of a list
-abbrev pub layer_at : {P : Type 0} → List (RulesOn P) → LayerId → RulesOn P
-layer_at layers id = slice_index_or layers id.0 (without_rules files.no_right network.no_right)
-
--- the layers that a domain stacks, the oldest first
-abbrev pub domain_of : {P : Type 0} → List (RulesOn P) → List LayerId → List (RulesOn P)
-domain_of layers ids = map (layer_at layers) ids
-
--- the domain names places of the list
-abbrev pub IsDomainOf : {P : Type 0} → List (RulesOn P) → List LayerId → Type 0
-IsDomainOf layers ids = All (λ id. id.0 < length layers) ids
-
--- layers with rules on nodes as layers with rules on paths
-abbrev pub all_in_tree : List Entry → List (RulesOn ℕ) → List (RulesOn Path)
-all_in_tree tree layers = map (in_tree tree) layers
+use Rattle.ll_rules.specs.Layers.{RulesOn, handles, granted, granted_on_port}
 
 -- the numbers of the layers that pass a test, where the first has a given number
 unfoldable pub numbers_from : {L : Type 0} → (L → Bool) → ℕ → List L → List ℕ

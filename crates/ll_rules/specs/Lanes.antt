@@ -7,7 +7,8 @@ use Rattle.ll_rights.specs.Rights.{FsRight, has}
 use Rattle.ll_rights.specs.NetRights as network
 use Rattle.ll_tree.specs.Paths.{Path}
 use Rattle.ll_tree.specs.Trees.{Entry}
-use Rattle.ll_rules.specs.Layers.{RulesOn, without_rules, handles, granted, in_tree}
+use Rattle.ll_rules.specs.Layers.{RulesOn, without_rules, handles, granted}
+use Rattle.ll_rules.specs.InTree.{in_tree}
 
 -- the set of rights that a lane's bits stand for
 abbrev pub set_of : ℕ → Fs

@@ -1,7 +1,10 @@
 pub mod Filters
 pub mod LayerNumbers
 pub mod Layers
+pub mod KeptLayers
+pub mod InTree
 pub mod Rulesets
+pub mod RuleFaults
 pub mod Checks
 pub mod Moves
 pub mod Lanes

@@ -6,7 +6,7 @@ use Rattle.ll_rights.specs.declared.kind.Kind.{Kind}
 use Rattle.ll_rights.specs.Rights.{FsRight, refer, is_right, is_file_right, is_lacking}
 use Rattle.ll_rights.specs.Kinds.{make_right_of, remove_right_of}
 use Rattle.ll_tree.specs.Paths.{Path, front, path_eq}
-use Rattle.ll_tree.specs.Trees.{Entry, IsNode, path_at, kind_at, is_dir}
+use Rattle.ll_tree.specs.Trees.{Entry, path_at, kind_at, is_dir}
 use Rattle.ll_rules.specs.declared.errno.Errno.{Errno}
 use Rattle.ll_rules.specs.declared.errno.Errno.TheVariants.{Acces, XDev}
 use Rattle.ll_rules.specs.declared.moves.Move.{Move}
@@ -20,11 +20,6 @@ use Rattle.ll_rules.specs.Layers.{RulesOn, handles, granted}
 use Rattle.ll_rules.specs.Checks.{numbers_where}
 
 -- ---- the two directories
-
--- what a move names is of the tree
-abbrev pub IsTargetIn : List Entry → Target → Type 0
-IsTargetIn tree (New directory) = IsNode tree directory
-IsTargetIn tree (Over there) = IsNode tree there
 
 -- the directory that the moved object stands in
 abbrev pub source_of : List Entry → Move → Path

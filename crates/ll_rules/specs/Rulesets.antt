@@ -1,6 +1,6 @@
 -- What creating a ruleset and adding rules to it answers.
 -- Source: landlock_create_ruleset(2), landlock_add_rule(2), "ERRORS"; where two errors meet, docs/DECISIONS.md says which comes first.
-use Rattle.std.specs.Prelude.{ℕ, Bool, not, ◌&&◌, ◌||◌, nat_le, nat_lt, List, Option, Some, None, option_map, if◌then◌else◌}
+use Rattle.std.specs.Prelude.{ℕ, Bool, not, ◌&&◌, ◌||◌, nat_le, nat_lt, List, Option, Some, None, if◌then◌else◌}
 use Rattle.ll_rights.specs.declared.abi.Abi.{Abi}
 use Rattle.ll_rights.specs.declared.fs.Fs.{Fs}
 use Rattle.ll_rights.specs.declared.net.Net.{Net}
@@ -10,11 +10,9 @@ use Rattle.ll_rights.specs.NetRights as network
 use Rattle.ll_tree.specs.declared.place.Place.{Place}
 use Rattle.ll_tree.specs.declared.place.Place.TheVariants.{Node, Gap, Nowhere}
 use Rattle.ll_tree.specs.Paths.{Path}
-use Rattle.ll_tree.specs.Trees.{Entry, IsNode, path_at, kind_at, is_dir}
+use Rattle.ll_tree.specs.Trees.{Entry, path_at, kind_at, is_dir}
 use Rattle.ll_rules.specs.declared.errno.Errno.{Errno}
 use Rattle.ll_rules.specs.declared.errno.Errno.TheVariants.{Inval, TooBig, NoMsg}
-use Rattle.ll_rules.specs.declared.errno.RuleFault.{RuleFault}
-use Rattle.ll_rules.specs.declared.errno.RuleFault.TheVariants as faults
 use Rattle.ll_rules.specs.Layers.{RulesOn, with_file_rule}
 
 -- whether a version has rules for ports
@@ -40,18 +38,7 @@ pub data RuleRefusal : Type 0 where
   with_error : Errno → RuleRefusal
   without_object : RuleRefusal
 
--- the fault that tells a refusal; want of memory tells none
-abbrev pub fault_of : RuleRefusal → RuleFault
-fault_of (with_error error) = faults.Errno error
-fault_of without_object = faults.Moot
-
 -- ---- rules for files
-
--- the node that a place names is of the tree
-abbrev pub IsOfTree : List Entry → Place → Type 0
-IsOfTree tree (Node node) = IsNode tree node
-IsOfTree tree (Gap node) = IsNode tree node
-IsOfTree tree Nowhere = Unit {0}
 
 -- whether each right of a set applies to what isn't a directory
 abbrev pub are_file_rights : Fs → Bool
@@ -69,10 +56,6 @@ add_path_refusal tree rules place wanted =
     if files.is_empty wanted then Some (with_error NoMsg)
     else (if not (files.is_within wanted rules.handled_files) then Some (with_error Inval) else place_refusal tree place wanted)
 
--- the fault of a rule for files, where there is memory for it
-abbrev pub add_path_fault : {P : Type 0} → List Entry → RulesOn P → Place → Fs → Option RuleFault
-add_path_fault tree rules place wanted = option_map fault_of (add_path_refusal tree rules place wanted)
-
 -- one rule more, on the path of the node that a place names
 abbrev pub with_rule_at : List Entry → RulesOn Path → Place → Fs → RulesOn Path
 with_rule_at tree rules (Node node) granted = with_file_rule rules (path_at tree node) granted
@@ -88,7 +71,3 @@ add_port_refusal abi rules port wanted =
     else (if network.is_empty wanted then Some (with_error NoMsg)
     else (if not (network.is_within wanted rules.handled_network) then Some (with_error Inval)
     else (if nat_lt 65535 port then Some (with_error Inval) else None)))
-
--- the fault of a rule for a port, where there is memory for it
-abbrev pub add_port_fault : {P : Type 0} → Abi → RulesOn P → ℕ → Net → Option RuleFault
-add_port_fault abi rules port wanted = option_map fault_of (add_port_refusal abi rules port wanted)

@@ -1,9 +1,12 @@
 //! What a domain refuses.
 
 ghost use Rattle.std.specs.Prelude.{◌≡◌, ◌+◌, ◌*◌, ◌<◌, ◌≤◌, length, All};
-ghost use Rattle.ll_tree.specs.Trees.{IsNode, path_at, depth_at};
-ghost use Rattle.ll_rules.specs.Layers.{AreInTree};
-ghost use Rattle.ll_rules.specs.Checks.{layer_at, domain_of, all_in_tree, IsDomainOf, refusing, refusing_port, refusing_mount};
+ghost use Rattle.ll_tree.specs.Trees.{IsNode, path_at};
+ghost use Rattle.ll_tree.specs.TreeFacts.{depth_at};
+ghost use Rattle.ll_rules.specs.InTree.{AreInTree};
+ghost use Rattle.ll_rules.specs.KeptLayers.{layer_at, domain_of, IsDomainOf};
+ghost use Rattle.ll_rules.specs.InTree.{all_in_tree};
+ghost use Rattle.ll_rules.specs.Checks.{refusing, refusing_port, refusing_mount};
 
 use crate::climb::{asked_in, climb};
 use crate::lanes::filled;

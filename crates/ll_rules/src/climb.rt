@@ -2,9 +2,12 @@
 
 ghost use Rattle.std.specs.Prelude.{◌≡◌, ℕ, ◌+◌, ◌*◌, ◌^◌, ◌≤◌, ◌<◌, ◌&&◌, not, true, false, length, All};
 ghost use Rattle.ll_rights.specs.Rights.{FsRight, has};
-ghost use Rattle.ll_tree.specs.Trees.{IsNode, path_at, depth_at};
-ghost use Rattle.ll_rules.specs.Layers.{AreInTree, handles, granted, granted_on_node, in_tree};
-ghost use Rattle.ll_rules.specs.Checks.{domain_of, IsDomainOf};
+ghost use Rattle.ll_tree.specs.Trees.{IsNode, path_at};
+ghost use Rattle.ll_tree.specs.TreeFacts.{depth_at};
+ghost use Rattle.ll_rules.specs.InTree.{AreInTree, in_tree};
+ghost use Rattle.ll_rules.specs.Layers.{handles, granted};
+ghost use Rattle.ll_rules.specs.KeptLayers.{granted_on_node};
+ghost use Rattle.ll_rules.specs.KeptLayers.{domain_of, IsDomainOf};
 ghost use Rattle.ll_rules.specs.Lanes.{set_of, lane, layer_in};
 
 use crate::check::layer_of;

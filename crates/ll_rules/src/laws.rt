@@ -9,7 +9,8 @@ ghost use Rattle.ll_rights.specs.Rights.{execute, write_file, read_file, read_di
 ghost use Rattle.ll_rights.specs.NetRights.{bind_tcp, connect_tcp};
 ghost use Rattle.ll_tree.specs.WorkedTree.{worked_tree};
 ghost use Rattle.ll_rules.specs.Checks.{refusing, refusing_port, refusing_mount};
-ghost use Rattle.ll_rules.specs.Rulesets.{create_fault, add_path_fault, add_port_fault};
+ghost use Rattle.ll_rules.specs.Rulesets.{create_fault};
+ghost use Rattle.ll_rules.specs.RuleFaults.{add_path_fault, add_port_fault};
 ghost use Rattle.ll_rules.specs.WorkedRules.{a, b, a_f, b_g, dev_tty, number, dir_a, dir_a_s, dir_b, file_a_f, file_b_g, these, these_on_ports, layer, port_layer, renamed, linked, exchanged, answer, reading, parted, two_layers, serving, crossing};
 
 use crate::{Errno, RuleFault, Verdict};

@@ -4,11 +4,15 @@ ghost use Rattle.std.specs.Prelude.{◌≡◌, ℕ, ◌+◌, ◌*◌, ◌^◌, �
 ghost use Rattle.std.specs.List.{list_any};
 ghost use Rattle.ll_rights.specs.Rights.{FsRight, has, is_right, is_file_right, some_right};
 ghost use Rattle.ll_tree.specs.Paths.{front};
-ghost use Rattle.ll_tree.specs.Trees.{IsNode, IsTree, path_at, depth_at, kind_at, is_dir};
-ghost use Rattle.ll_rules.specs.Layers.{in_tree, AreInTree, granted_on_node};
-ghost use Rattle.ll_rules.specs.Checks.{domain_of, all_in_tree, IsDomainOf};
+ghost use Rattle.ll_tree.specs.Trees.{IsNode, path_at, kind_at, is_dir};
+ghost use Rattle.ll_tree.specs.TreeFacts.{IsTree, depth_at};
+ghost use Rattle.ll_rules.specs.InTree.{in_tree, AreInTree};
+ghost use Rattle.ll_rules.specs.KeptLayers.{granted_on_node};
+ghost use Rattle.ll_rules.specs.KeptLayers.{domain_of, IsDomainOf};
+ghost use Rattle.ll_rules.specs.InTree.{all_in_tree};
 ghost use Rattle.ll_rules.specs.declared.errno.Errno.TheVariants.{Acces, XDev};
-ghost use Rattle.ll_rules.specs.Moves.{IsTargetIn, source_of, destination_of as destination_path, kind_there, asked_of_source as asked_there, asked_of_destination as asked_here, other_gains as other_object_gains, holds_back as holding_back, refused_by, move_verdict};
+ghost use Rattle.ll_rules.specs.InTree.{IsTargetIn};
+ghost use Rattle.ll_rules.specs.Moves.{source_of, destination_of as destination_path, kind_there, asked_of_source as asked_there, asked_of_destination as asked_here, other_gains as other_object_gains, holds_back as holding_back, refused_by, move_verdict};
 ghost use Rattle.ll_rules.specs.Lanes.{lane, layer_in, AreLacking};
 
 use crate::climb::{ask_on, climb, handled_in};

@@ -4,8 +4,12 @@ ghost use Rattle.std.specs.Prelude.{◌≡◌, ◌&&◌, ◌||◌, false, OnOk, 
 ghost use Rattle.std.specs.Result.{result_err};
 ghost use Rattle.ll_rights.specs.Rights.{FsRight, has, other, is_file_right};
 ghost use Rattle.ll_tree.specs.Trees.{is_dir};
-ghost use Rattle.ll_rules.specs.Layers.{without_rules, SameRules, GrantsOnPort, in_tree, AreInTree};
-ghost use Rattle.ll_rules.specs.Rulesets.{has_ports, create_fault, IsOfTree, are_file_rights, add_path_fault, with_rule_at, add_port_fault};
+ghost use Rattle.ll_rules.specs.Layers.{without_rules};
+ghost use Rattle.ll_rules.specs.KeptLayers.{SameRules, GrantsOnPort};
+ghost use Rattle.ll_rules.specs.InTree.{in_tree, AreInTree};
+ghost use Rattle.ll_rules.specs.Rulesets.{has_ports, create_fault, are_file_rights, with_rule_at};
+ghost use Rattle.ll_rules.specs.InTree.{IsOfTree};
+ghost use Rattle.ll_rules.specs.RuleFaults.{add_path_fault, add_port_fault};
 
 use crate::filter::Filter;
 use crate::recent::Recent;
@@ -69,7 +73,9 @@ impl Layer {
     ghost use Rattle.ll_rights.specs.Rights.{FsRight, has, other, is_empty, is_within};
     ghost use Rattle.ll_rights.specs.NetRights as for_ports;
     ghost use Rattle.ll_tree.specs.Trees.{IsNode, path_at, kind_at};
-    ghost use Rattle.ll_rules.specs.Layers.{handles, granted, granted_on_node, node, in_tree, AreInTree, granted_on_port, GrantsOn, GrantsOnPort};
+    ghost use Rattle.ll_rules.specs.Layers.{handles, granted, granted_on_port};
+    ghost use Rattle.ll_rules.specs.KeptLayers.{granted_on_node, GrantsOn, GrantsOnPort};
+    ghost use Rattle.ll_rules.specs.InTree.{node, in_tree, AreInTree};
     ghost use Rattle.ll_rules.specs.Checks.{lacks, lacks_on_port};
     ghost use Rattle.ll_rules.specs.Moves.{gains};
 
@@ -84,7 +90,7 @@ impl Layer {
     }
 
     /// The rights that the rule on a node grants; none where there is no rule.
-    #[tactic(auto, unfolding(crate::specs::Layers::granted_on_node))]
+    #[tactic(auto, unfolding(crate::specs::KeptLayers::granted_on_node))]
     fn rule_at(&self, node: NodeId) -> Fs
         ensures { (right : FsRight) → has result right ≡ granted_on_node self.now node right }
     {

@@ -2,9 +2,9 @@
 
 ghost use Rattle.std.specs.Prelude.{◌≡◌, All, IfOk, IfSome, OnOk};
 ghost use Rattle.ll_tree.specs.Trees.{IsNode};
-ghost use Rattle.ll_rules.specs.Layers.{AreInTree};
-ghost use Rattle.ll_rules.specs.Checks.{IsDomainOf};
-ghost use Rattle.ll_rules.specs.Moves.{IsTargetIn};
+ghost use Rattle.ll_rules.specs.InTree.{AreInTree};
+ghost use Rattle.ll_rules.specs.KeptLayers.{IsDomainOf};
+ghost use Rattle.ll_rules.specs.InTree.{IsTargetIn};
 
 use super::*;
 use ll_rights::{Abi, Fs, Net, fs_of_name, net_of_name};

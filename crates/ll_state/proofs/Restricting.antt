@@ -6,15 +6,18 @@ use Rattle.std.proofs.lemmas.List.{map-append, length-map}
 use Rattle.std.proofs.lemmas.List.Elements.{All-push, AllZip-push, length_all_zip}
 use Rattle.ll_rules.specs.declared.errno.Errno.TheVariants.{Perm, BadFd, TooBig}
 use Rattle.ll_rules.specs.declared.domain.LayerId.{LayerId}
-use Rattle.ll_rules.specs.Layers.{SameRules, in_tree}
-use Rattle.ll_rules.specs.Checks.{layer_at, domain_of, all_in_tree}
-use Rattle.ll_state.specs.declared.answer.Answer.TheVariants.{Allowed}
+use Rattle.ll_rules.specs.KeptLayers.{SameRules}
+use Rattle.ll_rules.specs.InTree.{in_tree}
+use Rattle.ll_rules.specs.KeptLayers.{layer_at, domain_of}
+use Rattle.ll_rules.specs.InTree.{all_in_tree}
+use Rattle.ll_semantics.specs.declared.answer.Answer.TheVariants.{Allowed}
 use Rattle.ll_state.specs.declared.own_state.OwnState.{OwnState}
-use Rattle.ll_state.specs.States.{State, Layer}
-use Rattle.ll_state.specs.Answers.{fails, may_restrict, restrict_answer}
-use Rattle.ll_state.specs.Changes.{with_layer}
-use Rattle.ll_state.specs.Agreement.{Situation, Agrees}
-use Rattle.ll_state.specs.Notes.{IsFrozen}
+use Rattle.ll_semantics.specs.States.{State, Layer}
+use Rattle.ll_semantics.specs.Answers.{fails, may_restrict, restrict_answer}
+use Rattle.ll_semantics.specs.Effects.{with_layer}
+use Rattle.ll_semantics.specs.Situations.{Situation}
+use Rattle.ll_state.specs.Agreement.{Agrees}
+use Rattle.ll_semantics.specs.Notes.{IsFrozen}
 
 -- a process that may not
 pub restrict_denied : (s : State) (rules : Option Layer) → may_restrict s ≡ false → fails Perm ≡ restrict_answer s rules

@@ -6,8 +6,10 @@ use Rattle.ll_rights.specs.declared.net.Net.{Net}
 use Rattle.ll_tree.specs.Paths.{Path}
 use Rattle.ll_tree.specs.Trees.{Entry}
 use Rattle.ll_rules.specs.declared.moves.Move.{Move}
-use Rattle.ll_rules.specs.Layers.{RulesOn, SameRules}
-use Rattle.ll_rules.specs.Checks.{refusing, refusing_port, refusing_mount, all_in_tree}
+use Rattle.ll_rules.specs.Layers.{RulesOn}
+use Rattle.ll_rules.specs.KeptLayers.{SameRules}
+use Rattle.ll_rules.specs.Checks.{refusing, refusing_port, refusing_mount}
+use Rattle.ll_rules.specs.InTree.{all_in_tree}
 use Rattle.ll_rules.specs.Moves.{move_verdict}
 use Rattle.ll_rules.proofs.SameLayers.{refusing-same, refusing_port-same, refusing_mount-same, move_verdict-same, refusing_port-in_tree, refusing_mount-in_tree}
 

@@ -1,12 +1,1 @@
-pub mod Requests
-pub mod Moves
-pub mod States
-pub mod Answers
-pub mod Changes
-pub mod Worlds
-pub mod Notes
 pub mod Agreement
-pub mod WorkedWords
-pub mod WorkedLayers
-pub mod WorkedCalls
-pub mod Processes

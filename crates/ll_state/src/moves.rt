@@ -1,8 +1,10 @@
 //! Which renames and links the policy is asked about.
 
 ghost use Rattle.std.specs.Prelude.{◌≡◌, ◌<◌, false, IfSome};
-ghost use Rattle.ll_tree.specs.Trees.{IsNode, IsPlace, kind_at, is_dir};
-ghost use Rattle.ll_state.specs.Moves.{IsFitMove, is_root, is_mixed, rename_into, rename_onto, rename_to, rename_move, link_to, link_move};
+ghost use Rattle.ll_tree.specs.Trees.{IsNode, kind_at, is_dir};
+ghost use Rattle.ll_tree.specs.TreeFacts.{IsPlace};
+ghost use Rattle.ll_semantics.specs.Fits.{IsFitMove};
+ghost use Rattle.ll_semantics.specs.Moves.{is_root, is_mixed, rename_into, rename_onto, rename_to, rename_move, link_to, link_move};
 
 use ll_rights::Kind;
 use ll_rules::{How, Move, Target};
@@ -33,7 +35,7 @@ fn is_mixed(tree: &Tree, a: NodeId, b: NodeId) -> bool
 }
 
 /// A rename into a gap: nothing goes beneath itself.
-#[tactic(auto, unfolding(crate::specs::Moves::rename_into))]
+#[tactic(auto, unfolding(ll_semantics::specs::Moves::rename_into))]
 fn rename_into(tree: &Tree, from: NodeId, directory: NodeId, exchange: bool) -> Option<Move>
     requires from_is_node { IsNode tree.now from }
     requires not_root { is_root from ≡ false }
@@ -53,7 +55,7 @@ fn rename_into(tree: &Tree, from: NodeId, directory: NodeId, exchange: bool) -> 
 
 /// A rename onto an object, or an exchange with it: not onto the root, itself, what stands beneath it or what it
 /// stands in, and without exchange no directory onto a file or a file onto a directory.
-#[tactic(auto, unfolding(crate::specs::Moves::rename_onto))]
+#[tactic(auto, unfolding(ll_semantics::specs::Moves::rename_onto))]
 fn rename_onto(tree: &Tree, from: NodeId, to: NodeId, exchange: bool) -> Option<Move>
     requires from_is_node { IsNode tree.now from }
     requires not_root { is_root from ≡ false }
@@ -76,7 +78,7 @@ fn rename_onto(tree: &Tree, from: NodeId, to: NodeId, exchange: bool) -> Option<
 }
 
 /// What rename(2) asks: nothing where no object is there to be moved, or where the tree itself decides the call.
-#[tactic(auto, unfolding(crate::specs::Moves::rename_move, crate::specs::Moves::rename_to))]
+#[tactic(auto, unfolding(ll_semantics::specs::Moves::rename_move, ll_semantics::specs::Moves::rename_to))]
 pub(crate) fn rename_move(tree: &Tree, from: Place, to: Place, exchange: bool) -> Option<Move>
     requires from_place { IsPlace tree.now from }
     requires to_place { IsPlace tree.now to }
@@ -97,7 +99,7 @@ pub(crate) fn rename_move(tree: &Tree, from: Place, to: Place, exchange: bool) -
 }
 
 /// What link(2) asks: an object that isn't a directory gets one more name, in a gap.
-#[tactic(auto, unfolding(crate::specs::Moves::link_move, crate::specs::Moves::link_to))]
+#[tactic(auto, unfolding(ll_semantics::specs::Moves::link_move, ll_semantics::specs::Moves::link_to))]
 pub(crate) fn link_move(tree: &Tree, from: Place, to: Place) -> Option<Move>
     requires from_place { IsPlace tree.now from }
     requires to_place { IsPlace tree.now to }

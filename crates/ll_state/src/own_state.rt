@@ -7,17 +7,15 @@ mod restricting;
 ghost use Rattle.std.specs.Prelude.{◌≡◌, ℕ, List, true, IfOk, OnOk, OnErr};
 ghost use Rattle.ll_tree.specs.Trees.{Entry};
 ghost use Rattle.ll_rules.specs.Layers.{RulesOn};
-ghost use Rattle.ll_state.specs.States.{State, fresh};
-ghost use Rattle.ll_state.specs.Changes.{is_still};
-ghost use Rattle.ll_state.specs.Agreement.{Situation, IsMet, Agrees, answered, left};
-ghost use Rattle.ll_state.specs.Notes.{NoteFits};
+ghost use Rattle.ll_semantics.specs.States.{State, fresh};
+ghost use Rattle.ll_semantics.specs.Situations.{Situation, answered, left};
+ghost use Rattle.ll_state.specs.Agreement.{IsMet, Agrees, is_still};
+ghost use Rattle.ll_semantics.specs.Notes.{NoteFits};
 
-use crate::answer::Answer;
-use crate::descriptor::Descriptor;
-use crate::note::Note;
-use crate::requests::asks;
-use ll_rights::Net;
+use crate::requests::{make_asks, regular_asks, rmdir_asks, unlink_asks};
+use ll_rights::{Fs, Net};
 use ll_rules::{Domain, Layer, NoMemory};
+use ll_semantics::{Answer, Descriptor, Note};
 use ll_trace::Op;
 use ll_tree::Tree;
 use std::alloc::Global;
@@ -51,7 +49,7 @@ fn descriptors_again(
 
 impl OwnState {
     /// The state of a process that a trace begins with.
-    #[tactic(auto, unfolding(crate::specs::States::fresh))]
+    #[tactic(auto, unfolding(ll_semantics::specs::States::fresh))]
     pub fn fresh(alloc: Global, no_new_privs: bool, admin: bool) -> OwnState
         ensures { (tree : List Entry) (layers : List (RulesOn ℕ)) → Agrees tree layers result (fresh no_new_privs admin) }
     {
@@ -100,6 +98,7 @@ impl OwnState {
     }
 
     /// Judges a call whose answer rests on the state of its process alone.
+    #[tactic(auto, unfolding(crate::specs::Agreement::is_still, ll_semantics::specs::Notes::NoteFits, ll_semantics::specs::Notes::is_on_rulesets))]
     fn judge_alone(&mut self, tree: &Tree, layers: &[Layer], op: &Op) -> Result<Answer, NoMemory>
         ghost at: { Situation }
         requires met { IsMet at tree.now layers.now }
@@ -112,19 +111,41 @@ impl OwnState {
         match op {
             Op::Nnp => Ok(self.set_no_new_privs()),
             Op::Restrict { .. } => Ok(self.restrict(None)),
-            Op::OpenFile { path, fd, mode, .. } => {
-                let place = tree.resolve(path.as_str());
-                self.open(tree, layers, *fd, *mode, place, asks(tree, op))
-            }
+            Op::OpenFile {
+                path,
+                fd,
+                mode,
+                create,
+                trunc,
+            } => self.open(tree, layers, path, *fd, *mode, *create, *trunc),
             Op::Adopt { fd, kind } => self.adopt(*fd, *kind),
             Op::Dup { fd, to } => self.dup(*fd, *to),
             Op::Close { fd } => Ok(self.close(*fd)),
-            _ => Ok(self.answer(tree, layers, op)),
+            Op::Start { .. }
+            | Op::Fork { .. }
+            | Op::Exit
+            | Op::Ftruncate { .. }
+            | Op::Ioctl { .. }
+            | Op::Truncate { .. }
+            | Op::Exec { .. }
+            | Op::Mknod { .. }
+            | Op::Mkdir { .. }
+            | Op::Symlink { .. }
+            | Op::Unlink { .. }
+            | Op::Rmdir { .. }
+            | Op::Rename { .. }
+            | Op::Link { .. }
+            | Op::Mount
+            | Op::Bind { .. }
+            | Op::Connect { .. } => Ok(self.answer(tree, layers, op)),
+            Op::Create { .. } | Op::AddPath { .. } | Op::AddPort { .. } | Op::CloseRs { .. } => {
+                unreachable!()
+            }
         }
     }
 
     /// The answer to a call that changes nothing of its process's state.
-    #[tactic(auto, unfolding(crate::specs::Agreement::answered, crate::specs::Answers::answer, ll_rights::specs::NetRights::has, ll_rights::specs::NetRights::only))]
+    #[tactic(auto, unfolding(crate::specs::Agreement::is_still, ll_semantics::specs::Situations::answered, ll_semantics::specs::Answers::answer, ll_rights::specs::Rights::only, ll_rights::specs::NetRights::has, ll_rights::specs::NetRights::only))]
     fn answer(&self, tree: &Tree, layers: &[Layer], op: &Op) -> Answer
         ghost at: { Situation }
         requires met { IsMet at tree.now layers.now }
@@ -136,12 +157,32 @@ impl OwnState {
             Op::Start { .. } | Op::Fork { .. } | Op::Exit => Answer::Allowed,
             Op::Ftruncate { fd } => self.ftruncate(*fd),
             Op::Ioctl { fd, driver } => self.ioctl(*fd, *driver),
+            Op::Truncate { path } => self.ask(tree, layers, regular_asks(tree, path, Fs::TRUNCATE)),
+            Op::Exec { path } => self.ask(tree, layers, regular_asks(tree, path, Fs::EXECUTE)),
+            Op::Mknod { path, kind } => self.ask(
+                tree,
+                layers,
+                make_asks(tree, path, kind.make_right()),
+            ),
+            Op::Mkdir { path } => self.ask(tree, layers, make_asks(tree, path, Fs::MAKE_DIR)),
+            Op::Symlink { path } => self.ask(tree, layers, make_asks(tree, path, Fs::MAKE_SYM)),
+            Op::Unlink { path } => self.ask(tree, layers, unlink_asks(tree, path)),
+            Op::Rmdir { path } => self.ask(tree, layers, rmdir_asks(tree, path)),
             Op::Rename { from, to, exchange } => self.rename(tree, layers, from, to, *exchange),
             Op::Link { from, to } => self.link(tree, layers, from, to),
             Op::Mount => self.mount(layers),
             Op::Bind { port } => self.ask_port(layers, *port, Net::BIND_TCP),
             Op::Connect { port } => self.ask_port(layers, *port, Net::CONNECT_TCP),
-            _ => self.ask(tree, layers, asks(tree, op)),
+            Op::Nnp
+            | Op::Create { .. }
+            | Op::AddPath { .. }
+            | Op::AddPort { .. }
+            | Op::CloseRs { .. }
+            | Op::Restrict { .. }
+            | Op::OpenFile { .. }
+            | Op::Adopt { .. }
+            | Op::Dup { .. }
+            | Op::Close { .. } => unreachable!(),
         }
     }
 }

@@ -1,19 +1,15 @@
 //! What a call asks of the file tree.
 
 ghost use Rattle.std.specs.Prelude.{◌≡◌, IfSome};
-ghost use Rattle.ll_tree.specs.Trees.{IsNode, IsPlace, parent_at};
-ghost use Rattle.ll_state.specs.Requests.{IsFit, rights_of_mode, file_rights, new_file_rights, open_kind, open_asks, regular_asks, make_asks, remove_from, unlink_asks, rmdir_asks, asks};
+ghost use Rattle.ll_tree.specs.Trees.{IsNode, place, parent_at};
+ghost use Rattle.ll_tree.specs.TreeFacts.{IsPlace};
+ghost use Rattle.ll_semantics.specs.Fits.{IsFit};
+ghost use Rattle.ll_semantics.specs.Requests.{rights_of_mode, file_rights, new_file_rights, open_kind, open_asks, regular_asks, make_asks, remove_from, unlink_asks, rmdir_asks};
 
 use ll_rights::{Fs, Kind};
-use ll_trace::{Mode, Op};
+use ll_semantics::Request;
+use ll_trace::{Mode, PathText};
 use ll_tree::{NodeId, Place, Tree};
-
-/// Rights that are asked on a node, where the walk up the tree begins.
-#[derive(Clone, Copy, Debug, PartialEq, Eq)]
-pub struct Request {
-    pub node: NodeId,
-    pub rights: Fs,
-}
 
 /// The rights to open a file for reading, writing or both (landlock(7), "Filesystem actions").
 #[tactic(auto, unfolding(ll_rights::specs::Rights::only, ll_rights::specs::Rights::united))]
@@ -48,7 +44,7 @@ fn new_file_rights(mode: Mode) -> Fs
 }
 
 /// What opening an object of a kind asks.
-#[tactic(auto, unfolding(crate::specs::Requests::open_kind, ll_rights::specs::Rights::only))]
+#[tactic(auto, unfolding(ll_semantics::specs::Requests::open_kind, ll_rights::specs::Rights::only))]
 fn open_kind(kind: Kind, node: NodeId, mode: Mode, create: bool, trunc: bool) -> Option<Request>
     ensures exact { result ≡ open_kind kind node mode create trunc }
     ensures same_node { IfSome result (λ request. request.node ≡ node) }
@@ -66,7 +62,7 @@ fn open_kind(kind: Kind, node: NodeId, mode: Mode, create: bool, trunc: bool) ->
 }
 
 /// What open(2) asks at a place: rights on the object there, or the making of a file in a gap.
-#[tactic(auto, unfolding(crate::specs::Requests::open_asks))]
+#[tactic(auto, unfolding(ll_semantics::specs::Requests::open_asks))]
 pub(crate) fn open_asks(
     tree: &Tree,
     place: Place,
@@ -89,13 +85,12 @@ pub(crate) fn open_asks(
 }
 
 /// What a call asks that wants rights on a regular file itself.
-#[tactic(auto, unfolding(crate::specs::Requests::regular_asks, crate::specs::Requests::regular_kind))]
-pub(crate) fn regular_asks(tree: &Tree, place: Place, rights: Fs) -> Option<Request>
-    requires { IsPlace tree.now place }
-    ensures exact { result ≡ regular_asks tree.now place rights }
+#[tactic(auto, unfolding(ll_semantics::specs::Requests::regular_asks, ll_semantics::specs::Requests::regular_kind))]
+pub(crate) fn regular_asks(tree: &Tree, path: &PathText, rights: Fs) -> Option<Request>
+    ensures exact { result ≡ regular_asks tree.now (place tree.now path.now) rights }
     ensures fit { IfSome result (IsFit tree.now) }
 {
-    match place {
+    match tree.resolve(path.as_str()) {
         Place::Node(node) => match tree.kind(node) {
             Kind::Reg => Some(Request { node, rights }),
             _ => None,
@@ -105,20 +100,19 @@ pub(crate) fn regular_asks(tree: &Tree, place: Place, rights: Fs) -> Option<Requ
 }
 
 /// What a call asks that makes an object: rights on the directory of a gap.
-#[tactic(auto, unfolding(crate::specs::Requests::make_asks))]
-pub(crate) fn make_asks(tree: &Tree, place: Place, rights: Fs) -> Option<Request>
-    requires { IsPlace tree.now place }
-    ensures exact { result ≡ make_asks place rights }
+#[tactic(auto, unfolding(ll_semantics::specs::Requests::make_asks))]
+pub(crate) fn make_asks(tree: &Tree, path: &PathText, rights: Fs) -> Option<Request>
+    ensures exact { result ≡ make_asks (place tree.now path.now) rights }
     ensures fit { IfSome result (IsFit tree.now) }
 {
-    match place {
+    match tree.resolve(path.as_str()) {
         Place::Gap(node) => Some(Request { node, rights }),
         _ => None,
     }
 }
 
 /// What removing an object of a kind asks of the directory that it stands in, which the root hasn't.
-#[tactic(auto, unfolding(crate::specs::Requests::remove_from))]
+#[tactic(auto, unfolding(ll_semantics::specs::Requests::remove_from))]
 fn remove_from(tree: &Tree, kind: Kind, node: NodeId) -> Option<Request>
     requires { IsNode tree.now node }
     ensures exact { result ≡ remove_from kind (parent_at tree.now node) }
@@ -131,13 +125,12 @@ fn remove_from(tree: &Tree, kind: Kind, node: NodeId) -> Option<Request>
 }
 
 /// What unlink(2) asks, which removes all but directories.
-#[tactic(auto, unfolding(crate::specs::Requests::unlink_asks))]
-pub(crate) fn unlink_asks(tree: &Tree, place: Place) -> Option<Request>
-    requires { IsPlace tree.now place }
-    ensures exact { result ≡ unlink_asks tree.now place }
+#[tactic(auto, unfolding(ll_semantics::specs::Requests::unlink_asks))]
+pub(crate) fn unlink_asks(tree: &Tree, path: &PathText) -> Option<Request>
+    ensures exact { result ≡ unlink_asks tree.now (place tree.now path.now) }
     ensures fit { IfSome result (IsFit tree.now) }
 {
-    match place {
+    match tree.resolve(path.as_str()) {
         Place::Node(node) => match tree.kind(node) {
             Kind::Dir => None,
             kind => remove_from(tree, kind, node),
@@ -147,42 +140,16 @@ pub(crate) fn unlink_asks(tree: &Tree, place: Place) -> Option<Request>
 }
 
 /// What rmdir(2) asks, which removes directories, but not the root.
-#[tactic(auto, unfolding(crate::specs::Requests::rmdir_asks))]
-pub(crate) fn rmdir_asks(tree: &Tree, place: Place) -> Option<Request>
-    requires { IsPlace tree.now place }
-    ensures exact { result ≡ rmdir_asks tree.now place }
+#[tactic(auto, unfolding(ll_semantics::specs::Requests::rmdir_asks))]
+pub(crate) fn rmdir_asks(tree: &Tree, path: &PathText) -> Option<Request>
+    ensures exact { result ≡ rmdir_asks tree.now (place tree.now path.now) }
     ensures fit { IfSome result (IsFit tree.now) }
 {
-    match place {
+    match tree.resolve(path.as_str()) {
         Place::Node(node) => match tree.kind(node) {
             Kind::Dir => remove_from(tree, Kind::Dir, node),
             _ => None,
         },
-        _ => None,
-    }
-}
-
-/// What a call asks of the file tree; None where the tree itself decides it, and where it asks something else.
-#[tactic(auto, unfolding(crate::specs::Requests::asks, ll_rights::specs::Rights::only))]
-pub(crate) fn asks(tree: &Tree, op: &Op) -> Option<Request>
-    ensures exact { result ≡ asks tree.now op.now }
-    ensures fit { IfSome result (IsFit tree.now) }
-{
-    match op {
-        Op::OpenFile {
-            path,
-            mode,
-            create,
-            trunc,
-            ..
-        } => open_asks(tree, tree.resolve(path.as_str()), *mode, *create, *trunc),
-        Op::Truncate { path } => regular_asks(tree, tree.resolve(path.as_str()), Fs::TRUNCATE),
-        Op::Exec { path } => regular_asks(tree, tree.resolve(path.as_str()), Fs::EXECUTE),
-        Op::Mknod { path, kind } => make_asks(tree, tree.resolve(path.as_str()), kind.make_right()),
-        Op::Mkdir { path } => make_asks(tree, tree.resolve(path.as_str()), Fs::MAKE_DIR),
-        Op::Symlink { path } => make_asks(tree, tree.resolve(path.as_str()), Fs::MAKE_SYM),
-        Op::Unlink { path } => unlink_asks(tree, tree.resolve(path.as_str())),
-        Op::Rmdir { path } => rmdir_asks(tree, tree.resolve(path.as_str())),
         _ => None,
     }
 }

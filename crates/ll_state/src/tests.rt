@@ -1,7 +1,8 @@
 //! Calls that take memory, which no clause promises to be there.
 
-use crate::{Answer, Note, OwnState, only_allowed_records_change_the_world};
+use crate::OwnState;
 use ll_rules::Layer;
+use ll_semantics::{Answer, Note, only_allowed_records_change_the_world};
 use ll_trace::{Op, Sort};
 use ll_tree::Tree;
 use std::test::*;

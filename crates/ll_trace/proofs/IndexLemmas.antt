@@ -4,7 +4,7 @@ use Rattle.std.proofs.lemmas.List.{take_more, length-take}
 use Rattle.std.proofs.lemmas.Option.{slice_get_read}
 use Rattle.ll_trace.specs.declared.record.Record.{Record}
 use Rattle.ll_trace.specs.declared.tables.Tables.{Tables}
-use Rattle.ll_trace.specs.Records.{AreRecords}
+use Rattle.ll_trace.specs.RecordFacts.{AreRecords}
 use Rattle.ll_trace.specs.Processes.{starts_one, forked_by, parents}
 use Rattle.ll_trace.specs.Indexed.{Adds, Indexes}
 use Rattle.ll_trace.proofs.TableLemmas.{parents-append, length-grown, indexes_next}

@@ -7,7 +7,7 @@ use Rattle.ll_rights.specs.NetRights as network
 use Rattle.ll_tree.specs.Lines.{lines}
 use Rattle.ll_tree.specs.Members.{value_at, text_at, number_at, truth_at, flag_at, items_at, text_in, fold_texts}
 use Rattle.ll_tree.specs.Paths.{is_name, names_in, after_slash, path_of}
-use Rattle.ll_tree.specs.Reading.{read_lines}
+use Rattle.ll_tree.specs.LineByLine.{read_lines}
 use Rattle.ll_trace.specs.Members.{path_in, fs_at, net_at, mode_at, sort_at, made_kind_at, port_at}
 use Rattle.ll_trace.specs.Operations.{start_at, fork_at, create_at, add_path_at, add_port_at, close_rs_at, restrict_at, open_at, adopt_at, dup_at, close_at, ftruncate_at, truncate_at, exec_at, mknod_at, mkdir_at, symlink_at, unlink_at, rmdir_at, rename_at, link_at, bind_at, connect_at, ioctl_at, operation_named, operation_at}
 use Rattle.ll_trace.specs.Entries.{entry_at, is_start, is_exit, pid_started}

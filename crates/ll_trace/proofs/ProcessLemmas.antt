@@ -8,7 +8,8 @@ use Rattle.ll_trace.specs.declared.op.Op.TheVariants.{Fork}
 use Rattle.ll_trace.specs.declared.record.ProcessId.{ProcessId}
 use Rattle.ll_trace.specs.declared.record.Record.{Record}
 use Rattle.ll_trace.specs.Entries.{Entry, is_start, started_pid, is_live, process_count, process_named}
-use Rattle.ll_trace.specs.Records.{entry_of, record_of, process_of, records_after, ArePlaced, AreRecords}
+use Rattle.ll_trace.specs.Records.{entry_of, record_of, process_of, records_after}
+use Rattle.ll_trace.specs.RecordFacts.{ArePlaced, AreRecords}
 use Rattle.ll_trace.specs.Processes.{starts_one, forked_by, parents, parent_in, parent_of, started_from, started_by, places_from}
 use Rattle.std.specs.declared.alloc.Global.{Global}
 use Rattle.std.proofs.lemmas.Option.{slice_get_read}

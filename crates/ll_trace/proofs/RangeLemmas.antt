@@ -9,7 +9,8 @@ use Rattle.ll_trace.specs.declared.op.Op.{Op}
 use Rattle.ll_trace.specs.declared.op.Op.TheVariants.{Start}
 use Rattle.ll_trace.specs.declared.record.Record.{Record}
 use Rattle.ll_trace.specs.Entries.{Entry, is_start, is_pid, pid_started, started_pid, is_start_of, is_end_of, is_live, process_count, process_named, is_unknown, is_twice, is_too_many, misplacement}
-use Rattle.ll_trace.specs.Records.{entry_of, record_of, process_of, records_after, ArePlaced, AreRecords}
+use Rattle.ll_trace.specs.Records.{entry_of, record_of, process_of, records_after}
+use Rattle.ll_trace.specs.RecordFacts.{ArePlaced, AreRecords}
 use Rattle.ll_trace.specs.Processes.{parents}
 
 -- what a place after the past means

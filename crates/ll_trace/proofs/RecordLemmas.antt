@@ -6,7 +6,8 @@ use Rattle.std.specs.BTreeMap.{get}
 use Rattle.ll_trace.specs.declared.record.Record.{Record}
 use Rattle.ll_trace.specs.declared.reader.Reader.{Reader}
 use Rattle.ll_trace.specs.Entries.{Entry, misplacement, process_count}
-use Rattle.ll_trace.specs.Records.{entry_of, record_of, records_after, ArePlaced, AreRecords}
+use Rattle.ll_trace.specs.Records.{entry_of, record_of, records_after}
+use Rattle.ll_trace.specs.RecordFacts.{ArePlaced, AreRecords}
 use Rattle.ll_trace.specs.Kept.{entries, past, owner_of, IsKept, IsNoted}
 
 pub records_after-append : (past entries : List Entry) (entry : Entry) → records_after past (entries ++ entry ∷ []) ≡ records_after past entries ++ record_of (reverse entries ++ past) entry ∷ []

@@ -12,7 +12,8 @@ use Rattle.ll_rights.proofs.Sets.{fs_has-only, fs_has-united, net_has-only, net_
 use Rattle.ll_tree.specs.declared.fault.Cause.{Cause}
 use Rattle.ll_tree.specs.Fault.{◌>>=◌}
 use Rattle.ll_tree.specs.Members.{text_in, fold_texts}
-use Rattle.ll_trace.specs.Members.{with_fs, with_net, text_of, texts_of}
+use Rattle.ll_trace.specs.Members.{with_fs, with_net}
+use Rattle.ll_trace.specs.NameTexts.{text_of, texts_of}
 
 -- what is put together of texts passes a test if it did at first or one of the texts makes it
 module _ {Whole : Type 0} (add : Whole → List ℕ → Whole) (passes : Whole → Bool) (makes : List ℕ → Bool) (step : (whole : Whole) (text : List ℕ) → passes (add whole text) ≡ (passes whole || makes text)) where

@@ -1,7 +1,9 @@
 pub mod Members
+pub mod NameTexts
 pub mod Operations
 pub mod Entries
 pub mod Records
+pub mod RecordFacts
 pub mod Kept
 pub mod Processes
 pub mod Indexed

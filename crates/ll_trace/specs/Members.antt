@@ -1,8 +1,7 @@
 -- The members of a record's line: paths, sets of rights, modes, kinds and ports.
 -- Source: docs/FORMATS.md, "The trace file".
-use Rattle.std.specs.Prelude.{ℕ, List, [], ◌∷◌, unwrap_or, is_some, nat_lt, codes, bytes_eq, Result, Ok, Err, if◌then◌else◌}
-use Rattle.serde_json.specs.Data.{Data, Items, no_items, item}
-use Rattle.serde_json.specs.Find.{as_str}
+use Rattle.std.specs.Prelude.{ℕ, List, is_some, nat_lt, codes, bytes_eq, Result, Ok, Err, if◌then◌else◌}
+use Rattle.serde_json.specs.Data.{Data}
 use Rattle.ll_rights.specs.declared.fs.Fs.{Fs}
 use Rattle.ll_rights.specs.declared.net.Net.{Net}
 use Rattle.ll_rights.specs.declared.kind.Kind.{Kind}
@@ -82,11 +81,3 @@ unfoldable pub port_at : Data → Result ℕ Cause
 port_at value = do
   port ← number_at (codes "port") value
   if nat_lt port 65536 then Ok port else Err Field
-
--- the texts of a list, for the law that a set has just the rights that its names stand for
-abbrev pub text_of : Data → List ℕ
-text_of value = unwrap_or (as_str value) []
-
-abbrev pub texts_of : Items → List (List ℕ)
-texts_of no_items = []
-texts_of (item value others) = text_of value ∷ texts_of others

@@ -1,9 +1,9 @@
 -- The records of a trace: its entries, each with the process that it belongs to.
 -- Source: docs/FORMATS.md, "The trace file".
-use Rattle.std.specs.Prelude.{◌≡◌, ℕ, List, [], ◌∷◌, map, None, unwrap_or, if◌then◌else◌}
+use Rattle.std.specs.Prelude.{◌≡◌, ℕ, List, [], ◌∷◌, map, unwrap_or, if◌then◌else◌}
 use Rattle.ll_tree.specs.Reading.{IsGood}
 use Rattle.ll_trace.specs.declared.record.Record.{Record}
-use Rattle.ll_trace.specs.Entries.{Entry, is_start, misplacement, process_count, process_named, trace_file}
+use Rattle.ll_trace.specs.Entries.{Entry, is_start, process_count, process_named, trace_file}
 
 -- A start belongs to the process that it starts, every other entry to the process that its pid names.
 abbrev pub process_of : List Entry → Entry → ℕ
@@ -20,16 +20,6 @@ records_after past (entry ∷ entries) = record_of past entry ∷ records_after 
 -- the entry that a record was read from
 abbrev pub entry_of : Record → Entry
 entry_of of = record { line = of.line; pid = of.pid; op = of.op }
-
--- each entry has a place after those before it
-abbrev pub ArePlaced : List Entry → List Entry → Type 0
-ArePlaced past [] = Unit {0}
-ArePlaced past (entry ∷ entries) = (misplacement past entry ≡ None) × ArePlaced (entry ∷ past) entries
-
--- Records can be those of a trace: each is in its place, and belongs to the process that it must.
-pub record AreRecords (records : List Record) : Type 0 where
-  pub placed : ArePlaced [] (map entry_of records)
-  pub processes : records ≡ records_after [] (map entry_of records)
 
 -- A trace file reads as these records.
 pub record IsTrace (bytes : List ℕ) (records : List Record) : Type 0 where

@@ -3,7 +3,7 @@
 use Rattle.std.specs.Prelude.{List}
 use Rattle.ll_trace.specs.declared.record.Record.{Record}
 use Rattle.ll_trace.specs.declared.trace.Trace.TheInside.{Inside}
-use Rattle.ll_trace.specs.Records.{AreRecords}
+use Rattle.ll_trace.specs.RecordFacts.{AreRecords}
 use Rattle.ll_trace.specs.Indexed.{Indexes}
 
 abbrev pub records_in : Inside → List Record

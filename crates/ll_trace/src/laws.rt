@@ -10,11 +10,13 @@ ghost use Rattle.ll_rights.specs.NetRights as network;
 ghost use Rattle.ll_tree.specs.declared.fault.ReadFault.{ReadFault};
 ghost use Rattle.ll_tree.specs.Members.{fold_texts};
 ghost use Rattle.ll_tree.specs.Reading.{IsBad};
-ghost use Rattle.ll_trace.specs.Members.{with_fs, with_net, texts_of};
+ghost use Rattle.ll_trace.specs.Members.{with_fs, with_net};
+ghost use Rattle.ll_trace.specs.NameTexts.{texts_of};
 ghost use Rattle.ll_trace.specs.declared.record.ProcessId.{ProcessId};
 ghost use Rattle.ll_trace.specs.declared.record.Record.{Record};
 ghost use Rattle.ll_trace.specs.Entries.{is_start, trace_file};
-ghost use Rattle.ll_trace.specs.Records.{AreRecords, IsTrace};
+ghost use Rattle.ll_trace.specs.RecordFacts.{AreRecords};
+ghost use Rattle.ll_trace.specs.Records.{IsTrace};
 ghost use Rattle.ll_trace.specs.Processes.{parents, parent_of, forked_by, started_by};
 ghost use Rattle.ll_trace.specs.SingleUse.{IsStrictTrace};
 

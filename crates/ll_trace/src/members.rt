@@ -3,7 +3,7 @@
 ghost use Rattle.serde_json.specs.View.{view, items_view};
 ghost use Rattle.ll_rights.specs.Rights as files;
 ghost use Rattle.ll_rights.specs.NetRights as network;
-ghost use Rattle.ll_tree.specs.Fault.{Reads};
+ghost use Rattle.ll_tree.specs.Readers.{Reads};
 ghost use Rattle.ll_tree.specs.Members.{fold_texts};
 ghost use Rattle.ll_trace.specs.Members.{with_fs, fs_at, with_net, net_at, mode_at, sort_at, made_kind_at, port_at};
 

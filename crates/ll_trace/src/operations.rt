@@ -1,7 +1,7 @@
 //! The operation of a record's line, by its name.
 
 ghost use Rattle.serde_json.specs.View.{view};
-ghost use Rattle.ll_tree.specs.Fault.{Gives, Reads};
+ghost use Rattle.ll_tree.specs.Readers.{Gives, Reads};
 ghost use Rattle.ll_trace.specs.Operations.{start_at, fork_at, create_at, add_path_at, add_port_at, close_rs_at, restrict_at, open_at, adopt_at, dup_at, close_at, ftruncate_at, truncate_at, exec_at, mknod_at, mkdir_at, symlink_at, unlink_at, rmdir_at, rename_at, link_at, bind_at, connect_at, ioctl_at, operation_named, operation_at};
 
 use crate::members::{fs_of, made_kind_of, mode_of, net_of, port_of, sort_of};

@@ -1,7 +1,7 @@
 //! The paths of records.
 
 ghost use Rattle.std.specs.Prelude.{◌≡◌};
-ghost use Rattle.ll_tree.specs.Fault.{Gives};
+ghost use Rattle.ll_tree.specs.Readers.{Gives};
 ghost use Rattle.ll_trace.specs.Members.{path_in};
 
 use ll_tree::{Cause, path_ok};

@@ -2,11 +2,13 @@
 
 ghost use Rattle.std.specs.Prelude.{◌≡◌, ◌≢◌, ◌+◌, ◌<◌, ◌∷◌, [], OnOk, IfOk, IfErr, None, Ok, unwrap_or};
 ghost use Rattle.ll_tree.specs.declared.fault.Cause.TheVariants.{Memory};
-ghost use Rattle.ll_tree.specs.Fault.{Gives};
+ghost use Rattle.ll_tree.specs.Readers.{Gives};
 ghost use Rattle.ll_tree.specs.LineView.{line_view};
-ghost use Rattle.ll_tree.specs.Reading.{with_entry, with_line, reading, GivesReading, IsBad};
+ghost use Rattle.ll_tree.specs.LineByLine.{with_entry, with_line, reading, GivesReading};
+ghost use Rattle.ll_tree.specs.Reading.{IsBad};
 ghost use Rattle.ll_trace.specs.Entries.{entry_at, is_live as is_live_in, is_unknown as is_unknown_in, is_twice as is_twice_in, is_too_many, is_end_of, misplacement, process_count, started_pid, trace_file};
-ghost use Rattle.ll_trace.specs.Records.{process_of, AreRecords, IsTrace};
+ghost use Rattle.ll_trace.specs.Records.{process_of, IsTrace};
+ghost use Rattle.ll_trace.specs.RecordFacts.{AreRecords};
 ghost use Rattle.ll_trace.specs.Kept.{IsKept, IsNoted, Begins, Stops, entries, entry_view, number, owner_of, past, runs};
 
 use crate::op::Op;

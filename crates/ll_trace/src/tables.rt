@@ -1,7 +1,7 @@
 //! The processes of a trace, looked up by their numbers.
 
 ghost use Rattle.std.specs.Prelude.{◌≡◌, ◌+◌, ◌<◌, ◌^◌, [], ◌∷◌, ◌++◌, length, None, Some, OnOk, IfOk, if◌then◌else◌};
-ghost use Rattle.ll_trace.specs.Records.{AreRecords};
+ghost use Rattle.ll_trace.specs.RecordFacts.{AreRecords};
 ghost use Rattle.ll_trace.specs.Indexed.{Indexes};
 
 use crate::record::{ProcessId, Record};

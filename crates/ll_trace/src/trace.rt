@@ -4,7 +4,8 @@ ghost use Rattle.std.specs.Prelude.{◌≡◌, ◌≢◌, ◌<◌, ◌≤◌, le
 ghost use Rattle.ll_tree.specs.declared.fault.Cause.TheVariants.{Memory};
 ghost use Rattle.ll_tree.specs.Reading.{IsBad};
 ghost use Rattle.ll_trace.specs.Entries.{trace_file};
-ghost use Rattle.ll_trace.specs.Records.{AreRecords, IsTrace};
+ghost use Rattle.ll_trace.specs.RecordFacts.{AreRecords};
+ghost use Rattle.ll_trace.specs.Records.{IsTrace};
 ghost use Rattle.ll_trace.specs.Processes.{parents, parent_of, own_places, started_by};
 
 use crate::reader::read_records;

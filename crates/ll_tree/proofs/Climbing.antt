@@ -5,7 +5,8 @@ use Rattle.std.specs.Str.{bytes_eq}
 use Rattle.std.proofs.lemmas.Bool.Decides.{same_from_decides, Decides-eqb, Decides-like}
 use Rattle.ll_tree.specs.declared.place.NodeId.{NodeId}
 use Rattle.ll_tree.specs.Paths.{Path, front, is_prefix, path_eq}
-use Rattle.ll_tree.specs.Trees.{Entry, IsNode, IsTree, path_at, depth_at}
+use Rattle.ll_tree.specs.Trees.{Entry, IsNode, path_at}
+use Rattle.ll_tree.specs.TreeFacts.{IsTree, depth_at}
 use Rattle.ll_tree.proofs.Positions.{path_eq-Decides}
 
 -- a path with fewer names is a prefix of another exactly where it is one of its front

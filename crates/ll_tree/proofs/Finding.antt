@@ -8,7 +8,8 @@ use Rattle.std.specs.declared.string.String.{String}
 use Rattle.ll_tree.specs.declared.tree.Object.{Object}
 use Rattle.ll_tree.specs.declared.place.NodeId.{NodeId}
 use Rattle.ll_tree.specs.declared.place.Place.TheVariants as places
-use Rattle.ll_tree.specs.Paths.{Path, text_of, path_of, front}
+use Rattle.ll_tree.specs.Paths.{Path, path_of, front}
+use Rattle.ll_tree.specs.PathTexts.{text_of}
 use Rattle.ll_tree.specs.Trees.{Entry, IsNode, position_of, node_at, gap_in, place_or_gap, place_of, place}
 use Rattle.ll_tree.specs.Kept.{number_of, entries_of, IsSound}
 use Rattle.ll_tree.proofs.PathLaws.{text_of-path_of, is_path-path_of}

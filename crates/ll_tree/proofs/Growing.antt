@@ -10,8 +10,10 @@ use Rattle.ll_rights.specs.declared.kind.Kind.{Kind}
 use Rattle.ll_rights.specs.declared.kind.Kind.TheVariants.{Dir}
 use Rattle.ll_tree.specs.declared.place.NodeId.{NodeId}
 use Rattle.ll_tree.specs.declared.place.Place.TheVariants as places
-use Rattle.ll_tree.specs.Paths.{Path, is_name, is_path, text_of, path_of, front}
-use Rattle.ll_tree.specs.Trees.{Entry, root, IsNode, IsTree, is_dir, is_dir_in, path_at, kind_at, position_of, node_at, parent_of, parent_at, depth_at, gap_in, place_or_gap, place_of, place}
+use Rattle.ll_tree.specs.Paths.{Path, is_name, path_of, front}
+use Rattle.ll_tree.specs.PathTexts.{is_path, text_of}
+use Rattle.ll_tree.specs.Trees.{Entry, root, IsNode, is_dir, is_dir_in, path_at, kind_at, position_of, node_at, parent_of, parent_at, gap_in, place_or_gap, place_of, place}
+use Rattle.ll_tree.specs.TreeFacts.{IsTree, depth_at}
 use Rattle.ll_tree.proofs.Bools.{both}
 use Rattle.ll_tree.proofs.Positions.{path_in, at_position, position_of-some, position_of-kept, is_dir_in-from_place}
 use Rattle.ll_tree.proofs.Standing.{node, is_root, parent_of-root, parent_of-other, parent_found, empty_or_not, is_dir-Dir}
@@ -96,11 +98,11 @@ module _ (tree : List Entry) (new : Entry) (up : NodeId) (listed : IsTree tree) 
     first : (0 < length (tree ++ new ∷ [])) × (get_or (tree ++ new ∷ []) 0 root ≡ root)
     first = let size = length_push tree new in let some = listed.begins.0 in (omega arith, get_or_append_left tree (new ∷ []) root 0 listed.begins.0 ∙ listed.begins.1)
 
-    paths : (here : NodeId) → IsNode (tree ++ new ∷ []) here → IsTrue (Rattle.ll_tree.specs.Paths.is_path (path_at (tree ++ new ∷ []) here))
+    paths : (here : NodeId) → IsNode (tree ++ new ∷ []) here → IsTrue (Rattle.ll_tree.specs.PathTexts.is_path (path_at (tree ++ new ∷ []) here))
     paths here within =
         ⊎_elim
-        (λ (old : (here.0 < length tree) × (get_or (tree ++ new ∷ []) here.0 root ≡ get_or tree here.0 root)). ap (λ (e : Entry). Rattle.ll_tree.specs.Paths.is_path e.path) old.1 ∙ listed.paths here old.0)
-        (λ (last : (here.0 ≡ length tree) × (get_or (tree ++ new ∷ []) here.0 root ≡ new)). ap (λ (e : Entry). Rattle.ll_tree.specs.Paths.is_path e.path) last.1 ∙ fits.is_path)
+        (λ (old : (here.0 < length tree) × (get_or (tree ++ new ∷ []) here.0 root ≡ get_or tree here.0 root)). ap (λ (e : Entry). Rattle.ll_tree.specs.PathTexts.is_path e.path) old.1 ∙ listed.paths here old.0)
+        (λ (last : (here.0 ≡ length tree) × (get_or (tree ++ new ∷ []) here.0 root ≡ new)). ap (λ (e : Entry). Rattle.ll_tree.specs.PathTexts.is_path e.path) last.1 ∙ fits.is_path)
         (old_or_new tree new here.0 within)
 
     distinct : (a b : NodeId) → IsNode (tree ++ new ∷ []) a → IsNode (tree ++ new ∷ []) b → path_at (tree ++ new ∷ []) a ≡ path_at (tree ++ new ∷ []) b → a ≡ b
@@ -182,7 +184,7 @@ length-join (name ∷ next ∷ names) =
 
 -- a path of at most 4,096 bytes has no more names
 pub depth_small : (tree : List Entry) (here : NodeId) → IsTree tree → IsNode tree here → depth_at tree here ≤ 4096
-unfolding depth_at Rattle.ll_tree.specs.Paths.is_path text_of
+unfolding depth_at Rattle.ll_tree.specs.PathTexts.is_path text_of
 depth_small tree here listed within =
     let path = path_at tree here in
     let short = leb-true (length (text_of path)) 4096 (both (list_all is_name path) (leb (length (text_of path)) 4096) (listed.paths here within)).1 in

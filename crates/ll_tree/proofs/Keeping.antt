@@ -16,8 +16,10 @@ use Rattle.std.proofs.lemmas.Map.Text.{btree_map_updates_text}
 use Rattle.ll_tree.specs.declared.place.NodeId.{NodeId}
 use Rattle.ll_tree.specs.declared.place.Place.TheVariants as places
 use Rattle.ll_tree.specs.declared.tree.Object.{Object}
-use Rattle.ll_tree.specs.Paths.{Path, is_path, path_eq, text_of, path_of}
-use Rattle.ll_tree.specs.Trees.{Entry, named, IsTree, position_of, parent_at, depth_at, place}
+use Rattle.ll_tree.specs.Paths.{Path, path_eq, path_of}
+use Rattle.ll_tree.specs.PathTexts.{is_path, text_of}
+use Rattle.ll_tree.specs.Trees.{Entry, position_of, parent_at, place}
+use Rattle.ll_tree.specs.TreeFacts.{named, IsTree, depth_at}
 use Rattle.ll_tree.specs.Kept.{path_of_key, number_of, path_numbered, entries_from, entries_of, IsSound}
 use Rattle.ll_tree.proofs.PathLaws.{text_of-path_of, bytes_eq-text_of}
 use Rattle.ll_tree.proofs.Positions.{position_of-push}

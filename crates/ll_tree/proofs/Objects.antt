@@ -3,7 +3,8 @@ use Rattle.std.proofs.Common.{◌≡◌, ℕ, ◌<◌, List, length, sym, ap, �
 use Rattle.ll_tree.specs.declared.tree.Object.{Object}
 use Rattle.std.specs.declared.string.String.{String}
 use Rattle.ll_tree.specs.declared.place.NodeId.{NodeId}
-use Rattle.ll_tree.specs.Trees.{Entry, root, kind_at, parent_at, depth_at}
+use Rattle.ll_tree.specs.Trees.{Entry, root, kind_at, parent_at}
+use Rattle.ll_tree.specs.TreeFacts.{depth_at}
 use Rattle.ll_tree.specs.Kept.{entries_of, IsSound}
 use Rattle.ll_tree.proofs.Listing.{length-entries_of, get_or-entries_of}
 

@@ -10,7 +10,8 @@ use Rattle.std.proofs.lemmas.Slice.Eq.{slice_eq-Decides, bytes_eq-Decides}
 use Rattle.std.proofs.lemmas.Option.{cond_some, none-some, same_Some}
 use Rattle.std.proofs.lemmas.List.Splits.{join_with_byte-slice_split, slice_split_none, slice_split_at}
 use Rattle.std.proofs.lemmas.List.Sums.{AllPass-from_list_all}
-use Rattle.ll_tree.specs.Paths.{Path, Name, is_slash, is_name, is_name_byte, is_path, path_eq, text_of, names_in, after_slash, path_of}
+use Rattle.ll_tree.specs.Paths.{Path, Name, is_slash, is_name, is_name_byte, path_eq, names_in, after_slash, path_of}
+use Rattle.ll_tree.specs.PathTexts.{is_path, text_of}
 use Rattle.ll_tree.proofs.Bools.{both}
 use Rattle.ll_tree.proofs.PathText.{path_of-slash}
 

@@ -4,9 +4,10 @@ use Rattle.std.proofs.lemmas.List.{append-nil}
 use Rattle.ll_tree.specs.declared.fault.Cause.{Cause}
 use Rattle.ll_tree.specs.declared.fault.ReadFault.{ReadFault}
 use Rattle.ll_tree.specs.declared.fault.Cause.TheVariants.{Json, Field, BadPath, NoParent, Twice, TooMany, UnknownProcess, Memory}
-use Rattle.ll_tree.specs.Fault.{Fails}
+use Rattle.ll_tree.specs.Readers.{Fails}
 use Rattle.ll_tree.specs.Lines.{Line, filled_lines}
-use Rattle.ll_tree.specs.Reading.{Format, entries_of, first_fault, IsGood, IsBad, with_line, read_lines, reading, MeetsFault}
+use Rattle.ll_tree.specs.Reading.{Format, entries_of, first_fault, IsGood, IsBad}
+use Rattle.ll_tree.specs.LineByLine.{with_line, read_lines, reading, MeetsFault}
 
 -- the same, where these entries stand before the lines
 abbrev pub fault_from : {Entry : Type 0} → Format Entry → List Entry → List Line → Line → Option Cause

@@ -12,8 +12,10 @@ use Rattle.std.proofs.lemmas.Map.Text.{is_eq-slice_cmp}
 use Rattle.ll_rights.specs.declared.kind.Kind.{Kind}
 use Rattle.ll_rights.specs.declared.kind.Kind.TheVariants.{Dir}
 use Rattle.ll_tree.specs.declared.tree.Object.{Object}
-use Rattle.ll_tree.specs.Paths.{Path, is_path, path_eq, text_of, path_of, after_slash, names_in}
-use Rattle.ll_tree.specs.Trees.{Entry, root, IsTree, path_at, position_of, parent_of, parent_at, depth_at}
+use Rattle.ll_tree.specs.Paths.{Path, path_eq, path_of, after_slash, names_in}
+use Rattle.ll_tree.specs.PathTexts.{is_path, text_of}
+use Rattle.ll_tree.specs.Trees.{Entry, root, path_at, position_of, parent_of, parent_at}
+use Rattle.ll_tree.specs.TreeFacts.{IsTree, depth_at}
 use Rattle.ll_tree.specs.Kept.{path_of_key, path_numbered, number_of, entries_from, entries_of, IsSound}
 use Rattle.ll_tree.proofs.PathLaws.{bytes_eq-text_of}
 use Rattle.ll_tree.proofs.Standing.{node}

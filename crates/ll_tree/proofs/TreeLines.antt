@@ -11,9 +11,12 @@ use Rattle.ll_tree.specs.declared.fault.ReadFault.{ReadFault}
 use Rattle.ll_tree.specs.declared.place.NodeId.{NodeId}
 use Rattle.ll_tree.specs.declared.place.Place.TheVariants as places
 use Rattle.ll_tree.specs.Paths.{Path, path_of, path_eq, front}
-use Rattle.ll_tree.specs.Trees.{Entry, root, named, IsTree, is_dir, is_dir_in, kind_at, position_of, node_at, gap_in, place_or_gap, place_of, place}
-use Rattle.ll_tree.specs.Reading.{with_entry, add_unless, reading, GivesReading, IsBad}
-use Rattle.ll_tree.specs.TreeReading.{is_listed, fault_in, tree_format, below_root, IsRooted, IsTreeOf}
+use Rattle.ll_tree.specs.Trees.{Entry, root, is_dir, is_dir_in, kind_at, position_of, node_at, gap_in, place_or_gap, place_of, place}
+use Rattle.ll_tree.specs.TreeFacts.{named, IsTree}
+use Rattle.ll_tree.specs.LineByLine.{with_entry, add_unless, reading, GivesReading}
+use Rattle.ll_tree.specs.Reading.{IsBad}
+use Rattle.ll_tree.specs.TreeReading.{is_listed, fault_in, tree_format, IsTreeOf}
+use Rattle.ll_tree.specs.TreeByLine.{below_root, IsRooted}
 use Rattle.ll_tree.proofs.ReadingLemmas.{good_from_reading, bad_from_fault}
 use Rattle.ll_tree.proofs.Finding.{read_of}
 use Rattle.ll_tree.proofs.Growing.{gap_fits, above_at, not_at}

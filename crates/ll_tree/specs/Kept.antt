@@ -9,8 +9,10 @@ use Rattle.std.specs.BTreeMap.{is_at}
 use Rattle.std.specs.Cmp.Lexicographic.{slice_cmp}
 use Rattle.std.specs.Ordering.{nat_cmp}
 use Rattle.ll_tree.specs.declared.tree.Object.{Object}
-use Rattle.ll_tree.specs.Paths.{Path, is_path, text_of, path_of}
-use Rattle.ll_tree.specs.Trees.{Entry, IsTree, position_of, parent_at, depth_at}
+use Rattle.ll_tree.specs.Paths.{Path, path_of}
+use Rattle.ll_tree.specs.PathTexts.{is_path, text_of}
+use Rattle.ll_tree.specs.Trees.{Entry, position_of, parent_at}
+use Rattle.ll_tree.specs.TreeFacts.{IsTree, depth_at}
 
 -- the path that a key spells
 unfoldable pub path_of_key : {A : Type 0} → Option (String A × ℕ) → Path

@@ -1,7 +1,7 @@
 -- A path of the listed tree as the list of its names, and the text that spells it.
 -- Source: docs/FORMATS.md, "Paths".
 use Rattle.std.specs.Prelude.{ℕ, ◌∷◌, [], List, Bool, true, false, ◌&&◌, ◌==◌, not, nat_le, length, codes, Option, Some, None, if◌then◌else◌}
-use Rattle.std.specs.List.{list_all, slice_split, join_with_byte}
+use Rattle.std.specs.List.{list_all, slice_split}
 use Rattle.std.specs.Str.{bytes_eq}
 use Rattle.std.specs.Cmp.Lexicographic.{pointwise}
 
@@ -24,10 +24,6 @@ is_name_byte byte = not (is_slash byte) && not (byte == 0)
 unfoldable pub is_name : Name → Bool
 is_name name = not (length name == 0) && not (bytes_eq name (codes ".")) && not (bytes_eq name (codes "..")) && list_all is_name_byte name
 
--- a path's text has each name after one slash; the root's is the slash alone
-unfoldable pub text_of : Path → List ℕ
-text_of path = 47 ∷ join_with_byte 47 path
-
 -- the names between the slashes, where each is one
 unfoldable pub names_in : List ℕ → Option Path
 names_in [] = Some []
@@ -40,10 +36,6 @@ after_slash (byte ∷ bytes) = if is_slash byte then names_in bytes else None
 -- the path that a text of at most 4,096 bytes spells, the first of them a slash
 unfoldable pub path_of : List ℕ → Option Path
 path_of text = if nat_le (length text) 4096 then after_slash text else None
-
--- the names can stand in a text of at most 4,096 bytes
-unfoldable pub is_path : Path → Bool
-is_path path = list_all is_name path && nat_le (length (text_of path)) 4096
 
 -- the path without its last name
 unfoldable pub front : Path → Path

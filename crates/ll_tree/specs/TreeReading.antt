@@ -1,6 +1,6 @@
 -- The reading of the tree file: the object on a line, and what is wrong with it after the lines before.
 -- Source: docs/FORMATS.md, "The tree file".
-use Rattle.std.specs.Prelude.{◌≡◌, List, ◌∷◌, ℕ, Bool, not, nat_lt, length, drop, codes, Option, Some, None, Result, Ok, ok_or, if◌then◌else◌}
+use Rattle.std.specs.Prelude.{◌≡◌, List, ◌∷◌, ℕ, Bool, not, nat_lt, length, codes, Option, Some, None, Result, Ok, ok_or, if◌then◌else◌}
 use Rattle.std.specs.List.{list_any}
 use Rattle.std.specs.Str.{bytes_eq}
 use Rattle.serde_json.specs.Data.{Data}
@@ -10,7 +10,7 @@ use Rattle.ll_tree.specs.declared.fault.Cause.{Cause}
 use Rattle.ll_tree.specs.declared.fault.Cause.TheVariants.{Field, BadPath, Twice, NoParent, TooMany}
 use Rattle.ll_tree.specs.Fault.{◌>>=◌}
 use Rattle.ll_tree.specs.Members.{value_at, text_at}
-use Rattle.ll_tree.specs.Reading.{Format, IsGood, with_entry}
+use Rattle.ll_tree.specs.Reading.{Format, IsGood}
 use Rattle.ll_tree.specs.Paths.{Path, path_of, path_eq, front}
 use Rattle.ll_tree.specs.Trees.{Entry, root, is_dir_in}
 
@@ -55,19 +55,6 @@ fault_in tree entry =
 -- the tree file: the root is there before the first line
 abbrev pub tree_format : Format Entry
 tree_format = record { entry_of_line = λ line. entry_on line.bytes; fault_after = λ earlier. fault_in (root ∷ earlier) }
-
--- the entries with the object that a value describes, or its fault
-abbrev pub with_value : List Entry → Data → Result (List Entry) Cause
-with_value earlier value = do
-  entry ← entry_in value
-  with_entry tree_format earlier entry
-
--- the entries of a tree without the root
-abbrev pub below_root : List Entry → List Entry
-below_root tree = drop 1 tree
-
-abbrev pub IsRooted : List Entry → Type 0
-IsRooted tree = tree ≡ root ∷ below_root tree
 
 -- the tree that a file is, where none of its lines has a fault
 abbrev pub IsTreeOf : List ℕ → List Entry → Type 0

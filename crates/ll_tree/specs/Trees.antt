@@ -1,6 +1,6 @@
 -- The listed file tree: its objects with their paths and kinds, and the place that a text names in it.
 -- Source: docs/FORMATS.md, "The tree file".
-use Rattle.std.specs.Prelude.{◌≡◌, ℕ, suc, ◌<◌, List, [], ◌∷◌, Bool, true, false, ◌&&◌, Option, Some, None, if◌then◌else◌, IsTrue, length, take, slice_index_or, unwrap_or}
+use Rattle.std.specs.Prelude.{ℕ, suc, ◌<◌, List, [], ◌∷◌, Bool, true, false, ◌&&◌, Option, Some, None, if◌then◌else◌, length, slice_index_or}
 use Rattle.std.specs.List.{list_any}
 use Rattle.std.specs.Option.{option_map}
 use Rattle.ll_rights.specs.declared.kind.Kind.{Kind}
@@ -8,7 +8,7 @@ use Rattle.ll_rights.specs.declared.kind.Kind.TheVariants.{Dir, Reg, Sym, Char, 
 use Rattle.ll_tree.specs.declared.place.NodeId.{NodeId}
 use Rattle.ll_tree.specs.declared.place.Place.{Place}
 use Rattle.ll_tree.specs.declared.place.Place.TheVariants as places
-use Rattle.ll_tree.specs.Paths.{Path, is_path, front, path_eq, path_of}
+use Rattle.ll_tree.specs.Paths.{Path, front, path_eq, path_of}
 
 -- an object of the tree
 pub record Entry : Type 0 where
@@ -42,14 +42,6 @@ is_dir Sock = false
 unfoldable pub is_dir_in : List Entry → Path → Bool
 is_dir_in tree path = list_any (λ entry. path_eq entry.path path && is_dir entry.kind) tree
 
--- The root is the first entry and no other. Paths are distinct, and what stands above any other entry is a
--- directory listed before it.
-pub record IsTree (tree : List Entry) : Type 0 where
-  pub begins : (0 < length tree) × (slice_index_or tree 0 root ≡ root)
-  pub paths : (node : NodeId) → IsNode tree node → IsTrue (is_path (path_at tree node))
-  pub distinct : (a b : NodeId) → IsNode tree a → IsNode tree b → path_at tree a ≡ path_at tree b → a ≡ b
-  pub above : (node : NodeId) → IsNode tree node → 0 < node.0 → IsTrue (is_dir_in (take node.0 tree) (front (path_at tree node)))
-
 -- where a path stands in the list
 unfoldable pub position_of : Path → List Entry → Option ℕ
 position_of path [] = None
@@ -68,17 +60,6 @@ parent_of tree (name ∷ names) = node_at tree (front (name ∷ names))
 unfoldable pub parent_at : List Entry → NodeId → Option NodeId
 parent_at tree node = parent_of tree (path_at tree node)
 
--- a directory that stands before a node, and whose path is the node's without its last name
-pub record StandsIn (tree : List Entry) (node up : NodeId) : Type 0 where
-  pub is_node : IsNode tree up
-  pub is_front : path_at tree up ≡ front (path_at tree node)
-  pub is_dir : kind_at tree up ≡ Dir
-  pub before : up.0 < node.0
-
--- how many names lead from the root to a node
-unfoldable pub depth_at : List Entry → NodeId → ℕ
-depth_at tree node = length (path_at tree node)
-
 -- the gap in a directory
 unfoldable pub gap_in : List Entry → Option NodeId → Place
 gap_in tree None = places.Nowhere
@@ -96,13 +77,3 @@ place_of tree (Some path) = place_or_gap tree path (node_at tree path)
 -- the place that a text names, which is nowhere if the text is no path
 unfoldable pub place : List Entry → List ℕ → Place
 place tree text = place_of tree (path_of text)
-
--- a place of a tree names one of its nodes or its directories
-abbrev pub IsPlace : List Entry → Place → Type 0
-IsPlace tree (places.Node node) = IsNode tree node
-IsPlace tree (places.Gap node) = IsNode tree node × (kind_at tree node ≡ Dir)
-IsPlace tree places.Nowhere = Unit {0}
-
--- the entry that a text and a kind make
-abbrev pub named : List ℕ → Kind → Entry
-named text kind = record { path = unwrap_or (path_of text) []; kind = kind }

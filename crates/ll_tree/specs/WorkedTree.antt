@@ -4,7 +4,7 @@ use Rattle.std.specs.Prelude.{◌≡◌, ℕ, List, [], ◌∷◌, ◌++◌, cod
 use Rattle.ll_rights.specs.declared.kind.Kind.TheVariants.{Dir, Reg, Char}
 use Rattle.ll_tree.specs.declared.fault.Cause.{Cause}
 use Rattle.ll_tree.specs.Trees.{Entry, root}
-use Rattle.ll_tree.specs.Reading.{reading}
+use Rattle.ll_tree.specs.LineByLine.{reading}
 use Rattle.ll_tree.specs.TreeReading.{tree_format}
 
 abbrev pub line : List ℕ → List ℕ

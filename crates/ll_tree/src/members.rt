@@ -2,7 +2,7 @@
 
 ghost use Rattle.std.specs.Prelude.{};
 ghost use Rattle.serde_json.specs.View.{view, items_view};
-ghost use Rattle.ll_tree.specs.Fault.{Gives, Reads};
+ghost use Rattle.ll_tree.specs.Readers.{Gives, Reads};
 ghost use Rattle.ll_tree.specs.Members.{value_at, text_at, number_at, truth_at, flag_at, items_at, text_in};
 
 use crate::fault::Cause;

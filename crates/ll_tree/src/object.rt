@@ -2,9 +2,9 @@
 
 ghost use Rattle.std.specs.Prelude.{◌≡◌, IsTrue, IfOk, is_some};
 ghost use Rattle.serde_json.specs.View.{view};
-ghost use Rattle.ll_tree.specs.Fault.{Reads};
+ghost use Rattle.ll_tree.specs.Readers.{Reads};
 ghost use Rattle.ll_tree.specs.Paths.{path_of};
-ghost use Rattle.ll_tree.specs.Trees.{named};
+ghost use Rattle.ll_tree.specs.TreeFacts.{named};
 ghost use Rattle.ll_tree.specs.TreeReading.{kind_named, entry_in};
 
 use crate::fault::Cause;

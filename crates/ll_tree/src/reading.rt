@@ -2,7 +2,8 @@
 
 ghost use Rattle.std.specs.Prelude.{◌≡◌, ◌↔◌, ◌⊎◌, ℕ, List, Ok, Err};
 ghost use Rattle.ll_tree.specs.declared.fault.ReadFault.{ReadFault as Fault};
-ghost use Rattle.ll_tree.specs.Reading.{Format, IsGood, IsBad, reading};
+ghost use Rattle.ll_tree.specs.Reading.{Format, IsGood, IsBad};
+ghost use Rattle.ll_tree.specs.LineByLine.{reading};
 
 /// Reading line after line meets the entries of a file exactly where no line has a fault, and else
 /// the first fault of the first faulty line. Every file is one of the two, and none is both. This holds of

@@ -3,12 +3,15 @@
 ghost use Rattle.std.specs.Prelude.{◌≡◌, ◌≤◌, ◌<◌, [], ◌∷◌, ◌++◌, length, Some, ◌≢◌, IfOk, IfErr, OnOk, OnErr, IsTrue, is_some, IfSome, IfNone};
 ghost use Rattle.ll_tree.specs.declared.fault.Cause.TheVariants.{Memory};
 ghost use Rattle.serde_json.specs.View.{view};
-ghost use Rattle.ll_tree.specs.Fault.{Gives};
+ghost use Rattle.ll_tree.specs.Readers.{Gives};
 ghost use Rattle.ll_tree.specs.LineView.{line_view};
-ghost use Rattle.ll_tree.specs.Reading.{IsBad, GivesReading, reading, with_line, with_entry};
-ghost use Rattle.ll_tree.specs.TreeReading.{IsTreeOf, IsRooted, tree_format, below_root, with_value};
+ghost use Rattle.ll_tree.specs.Reading.{IsBad};
+ghost use Rattle.ll_tree.specs.LineByLine.{GivesReading, reading, with_line, with_entry};
+ghost use Rattle.ll_tree.specs.TreeReading.{IsTreeOf, tree_format};
+ghost use Rattle.ll_tree.specs.TreeByLine.{IsRooted, below_root, with_value};
 ghost use Rattle.ll_tree.specs.Paths.{Path, path_of, is_prefix};
-ghost use Rattle.ll_tree.specs.Trees.{Entry, root, named, IsNode, IsTree, IsPlace, StandsIn, path_at, kind_at, parent_at, depth_at, node_at, gap_in, place};
+ghost use Rattle.ll_tree.specs.Trees.{Entry, root, IsNode, path_at, kind_at, parent_at, node_at, gap_in, place};
+ghost use Rattle.ll_tree.specs.TreeFacts.{named, IsTree, IsPlace, StandsIn, depth_at};
 
 use crate::fault::{Cause, ReadFault};
 use crate::lines::{FileLine, FilledLines};

@@ -1,28 +1,29 @@
 //! Calls that the domain is asked about.
 
-ghost use Rattle.std.specs.Prelude.{◌≡◌, false, Some, IfSome, IfOk, OnErr};
+ghost use Rattle.std.specs.Prelude.{◌≡◌, false, Some, IfSome, IfOk, OnOk, OnErr};
 ghost use Rattle.ll_rights.specs.Rights.{only, truncate};
 ghost use Rattle.ll_rules.specs.Checks.{refusing, refusing_port};
-ghost use Rattle.ll_tree.specs.Trees.{IsNode, IsPlace, path_at, kind_at};
+ghost use Rattle.ll_tree.specs.Trees.{IsNode, path_at, kind_at};
+ghost use Rattle.ll_tree.specs.TreeFacts.{IsPlace};
 ghost use Rattle.ll_trace.specs.declared.op.Op.{Op};
-ghost use Rattle.ll_state.specs.Answers.{refused_by, of_request, of_move, open_answer};
-ghost use Rattle.ll_state.specs.Changes.{opened_file, opened_kind, opened, with_descriptor};
-ghost use Rattle.ll_state.specs.Worlds.{if_allowed};
-ghost use Rattle.ll_state.specs.Requests.{IsFit};
-ghost use Rattle.ll_state.specs.Moves.{IsFitMove};
-ghost use Rattle.ll_state.specs.Agreement.{Situation, IsMet, Agrees, answered};
+ghost use Rattle.ll_semantics.specs.Answers.{refused_by, of_request, of_move};
+ghost use Rattle.ll_semantics.specs.Effects.{opened_file, opened_kind, opened, with_descriptor};
+ghost use Rattle.ll_semantics.specs.Worlds.{if_allowed};
+ghost use Rattle.ll_semantics.specs.Fits.{IsFit};
+ghost use Rattle.ll_semantics.specs.Fits.{IsFitMove};
+ghost use Rattle.ll_semantics.specs.Situations.{Situation, answered, left};
+ghost use Rattle.ll_state.specs.Agreement.{IsMet, Agrees};
 
-use crate::answer::Answer;
-use crate::descriptor::Descriptor;
 use crate::moves::{link_move, rename_move};
 use crate::own_state::OwnState;
-use crate::own_state::descriptors::refused_by;
-use crate::requests::Request;
+use crate::own_state::descriptors::{refused_by, unrestricted};
+use crate::requests::open_asks;
 use ll_rights::{Fs, Kind, Net};
 use ll_rules::{
     Errno, Layer, LayerSet, Move, NoMemory, Verdict, check_mount, check_move, check_path,
     check_port,
 };
+use ll_semantics::{Answer, Descriptor, Request};
 use ll_trace::{Mode, PathText, Sort};
 use ll_tree::{NodeId, Place, Tree};
 
@@ -70,7 +71,7 @@ impl OwnState {
         ensures { result ≡ opened_file (refusing at.state.domain (path_at at.tree node) (only truncate)) mode }
     {
         match mode {
-            Mode::Read => Descriptor::unrestricted(Sort::Other),
+            Mode::Read => unrestricted(Sort::Other),
             Mode::Write | Mode::Both => Descriptor {
                 sort: Sort::Regular,
                 kept: self.refusing(tree, layers, node, Fs::TRUNCATE),
@@ -79,7 +80,7 @@ impl OwnState {
     }
 
     /// What opening an object makes: a device keeps the layers that lack `ioctl_dev`.
-    #[tactic(auto, unfolding(crate::specs::Changes::opened_kind, ll_rights::specs::Rights::only))]
+    #[tactic(auto, unfolding(ll_semantics::specs::Effects::opened_kind, ll_rights::specs::Rights::only))]
     fn opened_node(&self, tree: &Tree, layers: &[Layer], node: NodeId, mode: Mode) -> Descriptor
         ghost at: { Situation }
         requires met { IsMet at tree.now layers.now }
@@ -93,12 +94,12 @@ impl OwnState {
                 sort: Sort::Device,
                 kept: self.refusing(tree, layers, node, Fs::IOCTL_DEV),
             },
-            _ => Descriptor::unrestricted(Sort::Other),
+            _ => unrestricted(Sort::Other),
         }
     }
 
     /// What opening a place makes.
-    #[tactic(auto, unfolding(crate::specs::Changes::opened))]
+    #[tactic(auto, unfolding(ll_semantics::specs::Effects::opened))]
     fn opened(&self, tree: &Tree, layers: &[Layer], place: Place, mode: Mode) -> Descriptor
         ghost at: { Situation }
         requires met { IsMet at tree.now layers.now }
@@ -109,13 +110,12 @@ impl OwnState {
         match place {
             Place::Node(node) => self.opened_node(tree, layers, node, mode),
             Place::Gap(directory) => self.opened_file(tree, layers, directory, mode),
-            Place::Nowhere => Descriptor::unrestricted(Sort::Other),
+            Place::Nowhere => unrestricted(Sort::Other),
         }
     }
 
-    /// open(2) of a place, whose number must be free.
-    #[tactic(auto, unfolding(crate::specs::Answers::open_answer))]
-    pub(crate) fn open(
+    /// open(2) of a place whose number is free.
+    fn open_place(
         &mut self,
         tree: &Tree,
         layers: &[Layer],
@@ -129,19 +129,43 @@ impl OwnState {
         requires agrees { Agrees at.tree at.layers self.old at.state }
         requires place { IsPlace tree.now place }
         requires fit { IfSome request (IsFit tree.now) }
-        ensures answer { IfOk result (λ answer. answer ≡ open_answer (at.state.descriptors fd) (of_request at.tree at.state.domain request)) }
+        ensures answer { IfOk result (λ answer. answer ≡ of_request at.tree at.state.domain request) }
         ensures ok { IfOk result (λ answer. Agrees at.tree at.layers self.new (if_allowed answer (with_descriptor at.state fd (Some (opened at.tree at.state.domain place mode))) at.state)) }
         ensures err { OnErr result (Agrees at.tree at.layers self.new at.state) }
     {
-        if self.descriptor(fd).is_some() {
-            return Ok(Answer::Moot);
-        }
         let answer = self.ask(tree, layers, request);
         if answer == Answer::Allowed {
             let opened = self.opened(tree, layers, place, mode);
             self.put(fd, opened)?;
         }
         Ok(answer)
+    }
+
+    /// open(2), whose number must be free.
+    #[tactic(auto, unfolding(ll_semantics::specs::Situations::answered, ll_semantics::specs::Situations::left, ll_semantics::specs::Situations::state_after, ll_semantics::specs::Situations::change, ll_semantics::specs::Situations::state_by, ll_semantics::specs::Effects::effect, ll_semantics::specs::Answers::answer, ll_semantics::specs::Answers::open_answer))]
+    pub(crate) fn open(
+        &mut self,
+        tree: &Tree,
+        layers: &[Layer],
+        path: &PathText,
+        fd: u64,
+        mode: Mode,
+        create: bool,
+        trunc: bool,
+    ) -> Result<Answer, NoMemory>
+        ghost at: { Situation }
+        requires met { IsMet at tree.now layers.now }
+        requires agrees { Agrees at.tree at.layers self.old at.state }
+        ensures answer { IfOk result (λ answer. answer ≡ answered at (Op.OpenFile path.now fd mode create trunc)) }
+        ensures ok { OnOk result (Agrees at.tree at.layers self.new (left at (Op.OpenFile path.now fd mode create trunc))) }
+        ensures err { OnErr result (Agrees at.tree at.layers self.new at.state) }
+    {
+        if self.descriptor(fd).is_some() {
+            return Ok(Answer::Moot);
+        }
+        let place = tree.resolve(path.as_str());
+        let request = open_asks(tree, place, mode, create, trunc);
+        self.open_place(tree, layers, fd, mode, place, request)
     }
 
     /// The answer to what is asked of a TCP port.
@@ -156,7 +180,7 @@ impl OwnState {
     }
 
     /// mount(2), pivot_root(2): refused by each layer that handles a right for files.
-    #[tactic(auto, using(crate::proofs::SameLayers::refusing_mount_same), unfolding(crate::specs::Agreement::answered, crate::specs::Answers::answer))]
+    #[tactic(auto, using(crate::proofs::SameLayers::refusing_mount_same), unfolding(ll_semantics::specs::Situations::answered, ll_semantics::specs::Answers::answer))]
     pub(crate) fn mount(&self, layers: &[Layer]) -> Answer
         ghost at: { Situation }
         requires layers { at.layers ≡ layers.now }
@@ -185,7 +209,7 @@ impl OwnState {
     }
 
     /// rename(2), renameat2(2).
-    #[tactic(auto, unfolding(crate::specs::Agreement::answered, crate::specs::Answers::answer))]
+    #[tactic(auto, unfolding(ll_semantics::specs::Situations::answered, ll_semantics::specs::Answers::answer))]
     pub(crate) fn rename(
         &self,
         tree: &Tree,
@@ -205,7 +229,7 @@ impl OwnState {
     }
 
     /// link(2).
-    #[tactic(auto, unfolding(crate::specs::Agreement::answered, crate::specs::Answers::answer))]
+    #[tactic(auto, unfolding(ll_semantics::specs::Situations::answered, ll_semantics::specs::Answers::answer))]
     pub(crate) fn link(
         &self,
         tree: &Tree,

@@ -1,15 +1,15 @@
 //! Calls on open descriptors.
 
-ghost use Rattle.std.specs.Prelude.{◌≡◌, Some, None, IfOk, OnOk, OnErr};
+ghost use Rattle.std.specs.Prelude.{◌≡◌, [], Some, None, IfOk, OnOk, OnErr};
 ghost use Rattle.ll_trace.specs.declared.op.Op.{Op};
-ghost use Rattle.ll_state.specs.Changes.{with_descriptor};
-ghost use Rattle.ll_state.specs.Answers.{refused_by};
-ghost use Rattle.ll_state.specs.Agreement.{Situation, Agrees, answered, left};
+ghost use Rattle.ll_semantics.specs.Effects.{with_descriptor};
+ghost use Rattle.ll_semantics.specs.Answers.{refused_by};
+ghost use Rattle.ll_semantics.specs.Situations.{Situation, answered, left};
+ghost use Rattle.ll_state.specs.Agreement.{Agrees};
 
-use crate::answer::Answer;
-use crate::descriptor::Descriptor;
 use crate::own_state::OwnState;
 use ll_rules::{Errno, LayerSet, NoMemory};
+use ll_semantics::{Answer, Descriptor};
 use ll_trace::Sort;
 use std::alloc::AllocError;
 
@@ -21,6 +21,17 @@ pub(crate) fn refused_by(error: Errno, layers: LayerSet) -> Answer
         return Answer::Allowed;
     }
     Answer::Refused(error, layers)
+}
+
+/// A descriptor to which no layer refused anything.
+pub(crate) fn unrestricted(sort: Sort) -> Descriptor
+    ensures sort { result.sort ≡ sort }
+    ensures kept { result.kept ≡ [] }
+{
+    Descriptor {
+        sort,
+        kept: LayerSet::new(),
+    }
 }
 
 impl OwnState {
@@ -47,7 +58,7 @@ impl OwnState {
     }
 
     /// A descriptor that was made without open(2) keeps no layers.
-    #[tactic(auto, unfolding(crate::specs::Agreement::answered, crate::specs::Agreement::left, crate::specs::Worlds::state_after, crate::specs::Answers::answer, crate::specs::Changes::change))]
+    #[tactic(auto, unfolding(ll_semantics::specs::Situations::answered, ll_semantics::specs::Situations::left, ll_semantics::specs::Situations::state_after, ll_semantics::specs::Answers::answer, ll_semantics::specs::Situations::change, ll_semantics::specs::Situations::state_by, ll_semantics::specs::Effects::effect))]
     pub(crate) fn adopt(&mut self, fd: u64, kind: Sort) -> Result<Answer, NoMemory>
         ghost at: { Situation }
         requires { Agrees at.tree at.layers self.old at.state }
@@ -58,12 +69,12 @@ impl OwnState {
         if self.descriptor(fd).is_some() {
             return Ok(Answer::Moot);
         }
-        self.put(fd, Descriptor::unrestricted(kind))?;
+        self.put(fd, unrestricted(kind))?;
         Ok(Answer::Allowed)
     }
 
     /// dup(2): the other number is open on the same, with the same layers kept.
-    #[tactic(auto, unfolding(crate::specs::Agreement::answered, crate::specs::Agreement::left, crate::specs::Worlds::state_after, crate::specs::Answers::answer, crate::specs::Changes::change))]
+    #[tactic(auto, unfolding(ll_semantics::specs::Situations::answered, ll_semantics::specs::Situations::left, ll_semantics::specs::Situations::state_after, ll_semantics::specs::Answers::answer, ll_semantics::specs::Situations::change, ll_semantics::specs::Situations::state_by, ll_semantics::specs::Effects::effect))]
     pub(crate) fn dup(&mut self, fd: u64, to: u64) -> Result<Answer, NoMemory>
         ghost at: { Situation }
         requires { Agrees at.tree at.layers self.old at.state }
@@ -79,7 +90,7 @@ impl OwnState {
     }
 
     /// close(2).
-    #[tactic(auto, unfolding(crate::specs::Agreement::answered, crate::specs::Agreement::left, crate::specs::Worlds::state_after, crate::specs::Answers::answer, crate::specs::Changes::change))]
+    #[tactic(auto, unfolding(ll_semantics::specs::Situations::answered, ll_semantics::specs::Situations::left, ll_semantics::specs::Situations::state_after, ll_semantics::specs::Answers::answer, ll_semantics::specs::Situations::change, ll_semantics::specs::Situations::state_by, ll_semantics::specs::Effects::effect))]
     pub(crate) fn close(&mut self, fd: u64) -> Answer
         ghost at: { Situation }
         requires { Agrees at.tree at.layers self.old at.state }
@@ -93,7 +104,7 @@ impl OwnState {
     }
 
     /// ftruncate(2): the layers that refused `truncate` when the file was opened refuse it still.
-    #[tactic(auto, unfolding(crate::specs::Agreement::answered, crate::specs::Agreement::left, crate::specs::Worlds::state_after, crate::specs::Answers::answer, crate::specs::Changes::change, crate::specs::Answers::ftruncate_answer))]
+    #[tactic(auto, unfolding(ll_semantics::specs::Situations::answered, ll_semantics::specs::Situations::left, ll_semantics::specs::Situations::state_after, ll_semantics::specs::Answers::answer, ll_semantics::specs::Situations::change, ll_semantics::specs::Situations::state_by, ll_semantics::specs::Effects::effect, ll_semantics::specs::Answers::ftruncate_answer))]
     pub(crate) fn ftruncate(&self, fd: u64) -> Answer
         ghost at: { Situation }
         requires { Agrees at.tree at.layers self.now at.state }
@@ -108,7 +119,7 @@ impl OwnState {
 
     /// ioctl(2): the layers that refused `ioctl_dev` when the device was opened refuse the commands that the
     /// policy judges; `driver` says whether this is one.
-    #[tactic(auto, unfolding(crate::specs::Agreement::answered, crate::specs::Agreement::left, crate::specs::Worlds::state_after, crate::specs::Answers::answer, crate::specs::Changes::change, crate::specs::Answers::ioctl_answer))]
+    #[tactic(auto, unfolding(ll_semantics::specs::Situations::answered, ll_semantics::specs::Situations::left, ll_semantics::specs::Situations::state_after, ll_semantics::specs::Answers::answer, ll_semantics::specs::Situations::change, ll_semantics::specs::Situations::state_by, ll_semantics::specs::Effects::effect, ll_semantics::specs::Answers::ioctl_answer))]
     pub(crate) fn ioctl(&self, fd: u64, driver: bool) -> Answer
         ghost at: { Situation }
         requires { Agrees at.tree at.layers self.now at.state }

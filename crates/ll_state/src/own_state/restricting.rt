@@ -2,16 +2,17 @@
 
 ghost use Rattle.std.specs.Prelude.{◌≡◌, Option};
 ghost use Rattle.ll_trace.specs.declared.op.Op.{Op};
-ghost use Rattle.ll_state.specs.States.{Layer as Rules};
-ghost use Rattle.ll_state.specs.Answers.{fails, may_restrict, restrict_answer};
-ghost use Rattle.ll_state.specs.Changes.{with_layer};
-ghost use Rattle.ll_state.specs.Worlds.{if_allowed};
-ghost use Rattle.ll_state.specs.Agreement.{Situation, Agrees, answered, left};
-ghost use Rattle.ll_state.specs.Notes.{IsFrozen};
+ghost use Rattle.ll_semantics.specs.States.{Layer as Rules};
+ghost use Rattle.ll_semantics.specs.Answers.{fails, may_restrict, restrict_answer};
+ghost use Rattle.ll_semantics.specs.Effects.{with_layer};
+ghost use Rattle.ll_semantics.specs.Worlds.{if_allowed};
+ghost use Rattle.ll_semantics.specs.Situations.{Situation, answered, left};
+ghost use Rattle.ll_state.specs.Agreement.{Agrees};
+ghost use Rattle.ll_semantics.specs.Notes.{IsFrozen};
 
-use crate::answer::Answer;
 use crate::own_state::OwnState;
 use ll_rules::{Errno, Full, LayerId, LayerSet};
+use ll_semantics::Answer;
 
 /// Refused with an error by no layer.
 fn fails(error: Errno) -> Answer
@@ -22,7 +23,7 @@ fn fails(error: Errno) -> Answer
 
 impl OwnState {
     /// prctl(2) with `PR_SET_NO_NEW_PRIVS`.
-    #[tactic(auto, unfolding(crate::specs::Agreement::answered, crate::specs::Agreement::left, crate::specs::Worlds::state_after, crate::specs::Answers::answer, crate::specs::Changes::change))]
+    #[tactic(auto, unfolding(ll_semantics::specs::Situations::answered, ll_semantics::specs::Situations::left, ll_semantics::specs::Situations::state_after, ll_semantics::specs::Answers::answer, ll_semantics::specs::Situations::change, ll_semantics::specs::Situations::state_by, ll_semantics::specs::Effects::effect))]
     pub(crate) fn set_no_new_privs(&mut self) -> Answer
         ghost at: { Situation }
         requires { Agrees at.tree at.layers self.old at.state }

@@ -1,6 +1,6 @@
 use Rattle.std.proofs.Common.{refl, lit<}
 use Rattle.std.proofs.lemmas.Fmt.{decimal_digit}
-use Rattle.ll_state.specs.Worlds.{judged, judged_from}
+use Rattle.ll_semantics.specs.Worlds.{judged, judged_from}
 use Rattle.ll_audit.specs.Lines.{lines_of}
 use Rattle.ll_audit.specs.Report.{report_text}
 use Rattle.ll_audit.proofs.laws.empty_report.Goals as goal

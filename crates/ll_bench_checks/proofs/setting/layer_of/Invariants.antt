@@ -1,4 +1,4 @@
-use Rattle.ll_rules.specs.Layers.{AreInTree}
+use Rattle.ll_rules.specs.InTree.{AreInTree}
 use Rattle.ll_bench_checks.proofs.setting.layer_of.Given as goal
 
 abbrev pub invariant-loop-aside : goal.invariant-loop-aside

@@ -1,6 +1,6 @@
 use Rattle.std.proofs.Common.{arith}
 use Rattle.std.proofs.lemmas.List.Elements.{All-push, All-same}
-use Rattle.ll_rules.specs.Layers.{AreInTree}
+use Rattle.ll_rules.specs.InTree.{AreInTree}
 use Rattle.ll_plain.proofs.tests.layers_of.Goals as goal
 
 pub loop-number-preserved : goal.loop-number-preserved

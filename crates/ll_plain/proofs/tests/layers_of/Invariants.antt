@@ -1,6 +1,6 @@
 use Rattle.std.proofs.Common.{◌≤◌, length}
 use Rattle.std.specs.Prelude.{All}
-use Rattle.ll_rules.specs.Layers.{AreInTree}
+use Rattle.ll_rules.specs.InTree.{AreInTree}
 use Rattle.ll_plain.proofs.tests.layers_of.Given as goal
 
 abbrev pub invariant-loop-number : goal.invariant-loop-number

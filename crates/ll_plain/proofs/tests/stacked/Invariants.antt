@@ -1,4 +1,4 @@
-use Rattle.ll_rules.specs.Checks.{IsDomainOf}
+use Rattle.ll_rules.specs.KeptLayers.{IsDomainOf}
 use Rattle.ll_plain.proofs.tests.stacked.Given as goal
 
 abbrev pub invariant-loop-number : goal.invariant-loop-number

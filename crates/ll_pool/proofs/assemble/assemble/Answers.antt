@@ -4,7 +4,7 @@ use Rattle.std.specs.Prelude.{All, vec_len, Some}
 use Rattle.std.proofs.lemmas.List.{take_all}
 use Rattle.std.proofs.lemmas.Option.{slice_get-get_or}
 use Rattle.ll_trace.specs.declared.record.Record.{Record}
-use Rattle.ll_state.specs.declared.answer.Answer.{Answer}
+use Rattle.ll_semantics.specs.declared.answer.Answer.{Answer}
 use Rattle.ll_process.specs.declared.piece.Piece.{Piece}
 use Rattle.ll_pool.specs.Gathered.{placed, answers_in}
 use Rattle.ll_pool.proofs.Counts.{piece_at}

@@ -1,7 +1,7 @@
 -- What is left of the parts goes to its places.
 use Rattle.std.proofs.Common.{◌+◌, ◌∷◌, ℕ, List, drop, sym, ap, ◌∙◌}
 use Rattle.std.proofs.lemmas.List.{length-set, drop_more, drop_all}
-use Rattle.ll_state.specs.declared.answer.Answer.{Answer}
+use Rattle.ll_semantics.specs.declared.answer.Answer.{Answer}
 use Rattle.ll_pool.specs.Gathered.{placed}
 use Rattle.ll_pool.proofs.Placing.{placed-nil, placed-cons}
 use Rattle.ll_pool.proofs.assemble.place.Goals as goal

@@ -1,8 +1,11 @@
 use Rattle.std.proofs.Common.{◌∙◌, ◌&&◌, ap, Bool, List, not, length, ◌≤◌}
 use Rattle.ll_tree.specs.Trees.{path_at}
 use Rattle.ll_rules.specs.declared.domain.LayerId.{LayerId}
-use Rattle.ll_rules.specs.Layers.{granted, in_tree}
-use Rattle.ll_rules.specs.Checks.{domain_of, all_in_tree, refusing}
+use Rattle.ll_rules.specs.Layers.{granted}
+use Rattle.ll_rules.specs.InTree.{in_tree}
+use Rattle.ll_rules.specs.KeptLayers.{domain_of}
+use Rattle.ll_rules.specs.InTree.{all_in_tree}
+use Rattle.ll_rules.specs.Checks.{refusing}
 use Rattle.ll_rules.specs.Lanes.{layer_in}
 use Rattle.ll_rules.proofs.DomainLanes.{refusing_lanes}
 use Rattle.ll_rules.proofs.check.check_path_counted.Goals as goal

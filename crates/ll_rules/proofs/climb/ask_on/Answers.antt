@@ -1,7 +1,8 @@
 use Rattle.std.proofs.Common.{◌≡◌, ◌∙◌, ◌<◌, ◌&&◌, ℕ, not, length, get_or, ap, sym, arith, rules}
 use Rattle.ll_rights.specs.Rights.{FsRight, has}
-use Rattle.ll_rules.specs.Layers.{RulesOn, granted_on_node}
-use Rattle.ll_rules.specs.Checks.{domain_of}
+use Rattle.ll_rules.specs.Layers.{RulesOn}
+use Rattle.ll_rules.specs.KeptLayers.{granted_on_node}
+use Rattle.ll_rules.specs.KeptLayers.{domain_of}
 use Rattle.ll_rules.specs.Lanes.{lane, set_of, layer_in}
 use Rattle.ll_rules.proofs.DomainLanes.{row_next, row_still, row_nothing, layer_in-named, all_left}
 use Rattle.ll_rules.proofs.LaneSets.{nothing_in}

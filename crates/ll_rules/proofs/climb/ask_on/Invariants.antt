@@ -1,7 +1,7 @@
 use Rattle.std.proofs.Common.{◌≡◌, ℕ, ◌+◌, ◌<◌, ◌≤◌, ◌&&◌, not, length, get_or}
 use Rattle.ll_rights.specs.Rights.{FsRight, has}
-use Rattle.ll_rules.specs.Layers.{granted_on_node}
-use Rattle.ll_rules.specs.Checks.{domain_of}
+use Rattle.ll_rules.specs.KeptLayers.{granted_on_node}
+use Rattle.ll_rules.specs.KeptLayers.{domain_of}
 use Rattle.ll_rules.specs.Lanes.{lane, layer_in}
 use Rattle.ll_rules.proofs.climb.ask_on.Given as goal
 

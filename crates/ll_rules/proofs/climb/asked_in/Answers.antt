@@ -1,7 +1,7 @@
 use Rattle.std.proofs.Common.{◌≡◌, ◌∙◌, ◌&&◌, ◌<◌, ℕ, Bool, length, ap, sym, arith, rules}
 use Rattle.ll_rights.specs.Rights.{FsRight, has}
 use Rattle.ll_rules.specs.Layers.{RulesOn, handles}
-use Rattle.ll_rules.specs.Checks.{domain_of}
+use Rattle.ll_rules.specs.KeptLayers.{domain_of}
 use Rattle.ll_rules.specs.Lanes.{set_of, layer_in}
 use Rattle.ll_rules.proofs.DomainLanes.{all_asked, layer_in-named, row_next, row_rest}
 use Rattle.ll_rules.proofs.LaneSets.{within_bits}

@@ -2,8 +2,9 @@ use Rattle.std.proofs.Common.{arith, subst, ℕ, ◌<◌, ◌^◌, length, inl, 
 use Rattle.std.specs.Prelude.{Some, IfSome}
 use Rattle.std.proofs.lemmas.Bool.{cases_lt}
 use Rattle.ll_rights.specs.Rights.{has}
-use Rattle.ll_tree.specs.Trees.{IsNode, depth_at}
-use Rattle.ll_rules.specs.Checks.{domain_of}
+use Rattle.ll_tree.specs.Trees.{IsNode}
+use Rattle.ll_tree.specs.TreeFacts.{depth_at}
+use Rattle.ll_rules.specs.KeptLayers.{domain_of}
 use Rattle.ll_rules.specs.Lanes.{lane, layer_in}
 use Rattle.ll_rules.proofs.Climbs.{nodes_above}
 use Rattle.ll_rules.proofs.DomainLanes.{count_begins, count_goes_on, few_look_ups, left_begins, left_goes_on, left_ends, left_nothing, left_unasked, layer_in-past, layer_in-within}

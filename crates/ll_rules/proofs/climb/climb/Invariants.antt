@@ -2,9 +2,11 @@ use Rattle.std.proofs.Common.{◌≡◌, ℕ, ◌+◌, ◌*◌, ◌≤◌, ◌&&
 use Rattle.std.specs.Prelude.{IfSome}
 use Rattle.std.specs.Option.{option_map_or}
 use Rattle.ll_rights.specs.Rights.{FsRight, has}
-use Rattle.ll_tree.specs.Trees.{IsNode, path_at, depth_at}
-use Rattle.ll_rules.specs.Layers.{granted, in_tree}
-use Rattle.ll_rules.specs.Checks.{domain_of}
+use Rattle.ll_tree.specs.Trees.{IsNode, path_at}
+use Rattle.ll_tree.specs.TreeFacts.{depth_at}
+use Rattle.ll_rules.specs.Layers.{granted}
+use Rattle.ll_rules.specs.InTree.{in_tree}
+use Rattle.ll_rules.specs.KeptLayers.{domain_of}
 use Rattle.ll_rules.specs.Lanes.{lane, layer_in}
 use Rattle.ll_rules.proofs.DomainLanes.{left_above, nodes_up}
 use Rattle.ll_rules.proofs.climb.climb.Given as goal

@@ -1,7 +1,7 @@
 use Rattle.std.proofs.Common.{◌≡◌, ℕ, ◌<◌, ◌≤◌, length, get_or}
 use Rattle.ll_rights.specs.Rights.{FsRight, has}
 use Rattle.ll_rules.specs.Layers.{handles}
-use Rattle.ll_rules.specs.Checks.{domain_of}
+use Rattle.ll_rules.specs.KeptLayers.{domain_of}
 use Rattle.ll_rules.specs.Lanes.{set_of, layer_in}
 use Rattle.ll_rules.proofs.climb.handled_in.Given as goal
 

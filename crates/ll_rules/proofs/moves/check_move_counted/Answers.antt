@@ -1,7 +1,9 @@
 use Rattle.std.proofs.Common.{◌≡◌, ◌∙◌, ◌≤◌, ap, sym, arith, List, length}
 use Rattle.ll_tree.proofs.Climbing.{path_eq-nodes}
 use Rattle.ll_rules.specs.declared.domain.LayerId.{LayerId}
-use Rattle.ll_rules.specs.Checks.{domain_of, all_in_tree, numbers_where}
+use Rattle.ll_rules.specs.KeptLayers.{domain_of}
+use Rattle.ll_rules.specs.InTree.{all_in_tree}
+use Rattle.ll_rules.specs.Checks.{numbers_where}
 use Rattle.ll_rules.specs.Moves.{denies, holds_back}
 use Rattle.ll_rules.proofs.MoveLanes.{denied_numbers, held_numbers, move_look_ups}
 use Rattle.ll_rules.proofs.Verdicts.{denied_verdict, within_verdict, apart_verdict}

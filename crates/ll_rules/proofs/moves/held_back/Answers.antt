@@ -1,7 +1,7 @@
 use Rattle.std.proofs.Common.{◌∙◌, ◌&&◌, ap, refl, Bool}
 use Rattle.ll_rights.specs.Rights.{has, only}
-use Rattle.ll_rules.specs.Layers.{in_tree}
-use Rattle.ll_rules.specs.Checks.{domain_of}
+use Rattle.ll_rules.specs.InTree.{in_tree}
+use Rattle.ll_rules.specs.KeptLayers.{domain_of}
 use Rattle.ll_rules.specs.Lanes.{lane, layer_in}
 use Rattle.ll_rules.specs.Moves.{source_of, destination_of}
 use Rattle.ll_rules.proofs.DomainLanes.{layer_in-within}

@@ -1,7 +1,7 @@
 use Rattle.std.proofs.Common.{◌∙◌, ap, ℕ, List}
 use Rattle.ll_rights.specs.Rights.{has, some_right}
-use Rattle.ll_rules.specs.Layers.{in_tree}
-use Rattle.ll_rules.specs.Checks.{domain_of}
+use Rattle.ll_rules.specs.InTree.{in_tree}
+use Rattle.ll_rules.specs.KeptLayers.{domain_of}
 use Rattle.ll_rules.specs.Lanes.{lane, layer_in}
 use Rattle.ll_rules.proofs.DomainLanes.{layer_in-within}
 use Rattle.ll_rules.proofs.MoveLanes.{other_some, other_none, other_still}

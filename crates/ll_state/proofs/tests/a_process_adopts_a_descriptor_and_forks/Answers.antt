@@ -1,6 +1,6 @@
 -- No layer is there, the process has just started, and nothing is to be noted of its call.
 use Rattle.std.proofs.Common.{refl, arith}
-use Rattle.ll_state.specs.Notes.{NoteFits, is_on_rulesets, enforced}
+use Rattle.ll_semantics.specs.Notes.{NoteFits, is_on_rulesets, enforced}
 use Rattle.ll_state.proofs.tests.a_process_adopts_a_descriptor_and_forks.Goals as goal
 
 pub judge-requires : goal.judge-requires

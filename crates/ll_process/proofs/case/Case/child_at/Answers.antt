@@ -2,8 +2,8 @@ use Rattle.std.proofs.Common.{Option, ◌∙◌, sym, ap}
 use Rattle.std.specs.Option.{option_map}
 use Rattle.ll_trace.specs.declared.record.ProcessId.{ProcessId}
 use Rattle.ll_trace.specs.Processes.{started_by}
-use Rattle.ll_state.proofs.Steps.{is_fork-from, is_fork-not}
-use Rattle.ll_state.proofs.Numbers.{forked_at-none}
+use Rattle.ll_semantics.proofs.Steps.{is_fork-from, is_fork-not}
+use Rattle.ll_semantics.proofs.Numbers.{forked_at-none}
 use Rattle.ll_process.proofs.TraceWords.{forked-started}
 use Rattle.ll_process.proofs.case.Case.child_at.Goals as goal
 

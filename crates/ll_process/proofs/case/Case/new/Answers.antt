@@ -1,8 +1,8 @@
 -- The trace's processes are numbered, and the rulebook is that of the trace.
 use Rattle.std.proofs.Common.{List, subst}
 use Rattle.ll_trace.specs.declared.record.Record.{Record}
-use Rattle.ll_trace.specs.Records.{AreRecords}
-use Rattle.ll_state.proofs.Numbering.{are_numbered}
+use Rattle.ll_trace.specs.RecordFacts.{AreRecords}
+use Rattle.ll_semantics.proofs.Numbering.{are_numbered}
 use Rattle.ll_process.proofs.case.Case.new.Goals as goal
 
 pub invariant_of-result : goal.invariant_of-result

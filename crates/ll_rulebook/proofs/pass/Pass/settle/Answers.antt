@@ -1,4 +1,4 @@
-use Rattle.std.proofs.Common.{ℕ, List, Bool, ap}
+use Rattle.std.proofs.Common.{◌≡◌, ℕ, List, Bool, true, ap, rules}
 use Rattle.ll_rights.specs.declared.abi.Abi.{Abi}
 use Rattle.ll_tree.specs.Trees.{Entry}
 use Rattle.ll_trace.specs.declared.op.Op.{Op}
@@ -6,7 +6,7 @@ use Rattle.ll_trace.specs.declared.op.Op.TheVariants as calls
 use Rattle.ll_trace.specs.Entries.{is_start}
 use Rattle.ll_rulebook.specs.Passes.{IsSound, Settles}
 use Rattle.ll_rulebook.proofs.Calls.{if_ok_so}
-use Rattle.ll_rulebook.proofs.Quiet.{is_other}
+use Rattle.ll_rulebook.proofs.Quiet.{is_other, other_is_quiet}
 use Rattle.ll_rulebook.proofs.Settling.{settles_open}
 use Rattle.ll_rulebook.proofs.pass.Pass.settle.Goals as goal
 
@@ -67,7 +67,9 @@ returns-in-Restrict c = rw c.in-Restrict.is
     (if_ok_so (λ note. (tree : List Entry) (abi : Abi) → IsSound tree c.args.self.now → Settles tree abi c.args.record.now.process.0 (calls.Restrict c.in-Restrict.rs) c.args.self.now c.restrict.new.self note)
     _ c.restrict.result c.restrict.ensures (λ note settled. settled c.args.tree.now c.args.abi c.requires.sound))
 
-pub returns-in_default : goal.returns-in_default
-returns-in_default c =
-    let other = is_other c.args.record.now.op c.in_default.not-Start c.in_default.not-Fork c.in_default.not-Create c.in_default.not-AddPath c.in_default.not-AddPort c.in_default.not-CloseRs c.in_default.not-Restrict in
-    settles_open c.args.tree.now c.args.abi c.args.record.now.process.0 c.args.record.now.op c.args.self.now c.requires.sound (c.requires.there other.goes_on) other.off other.none (λ world agrees. other.unforced _ _)
+pub returns-in-Exit : goal.returns-in-Exit
+unfolding is_other
+returns-in-Exit c =
+    let other : is_other c.args.record.now.op ≡ true = search rules in
+    let quiet = other_is_quiet c.args.record.now.op other in
+    settles_open c.args.tree.now c.args.abi c.args.record.now.process.0 c.args.record.now.op c.args.self.now c.requires.sound (c.requires.there quiet.goes_on) quiet.off quiet.none (λ world agrees. quiet.unforced _ _)

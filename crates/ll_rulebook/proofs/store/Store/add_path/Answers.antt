@@ -1,5 +1,5 @@
 use Rattle.std.proofs.Common.{◌<◌, length}
-use Rattle.ll_rules.specs.Layers.{AreInTree}
+use Rattle.ll_rules.specs.InTree.{AreInTree}
 use Rattle.ll_rulebook.specs.Stores.{AddsPathRule}
 use Rattle.ll_rulebook.proofs.Frozen.{place_within, ruleset_there, replaced, frozen_after, same_ruleset}
 use Rattle.ll_rulebook.proofs.Places.{all_there, stands}

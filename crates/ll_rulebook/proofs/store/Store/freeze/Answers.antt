@@ -1,6 +1,6 @@
 use Rattle.std.proofs.Common.{◌≡◌, ◌<◌, length, sym, refl, rules, eq-eqb, Some, slice_get, ap}
 use Rattle.std.proofs.lemmas.List.Elements.{All-push}
-use Rattle.ll_rules.specs.Layers.{AreInTree}
+use Rattle.ll_rules.specs.InTree.{AreInTree}
 use Rattle.ll_rulebook.specs.Stores.{Stock}
 use Rattle.ll_rulebook.proofs.Frozen.{place_within, ruleset_there, rulesets_same, frozen_now}
 use Rattle.ll_rulebook.proofs.Places.{slice_get-push, stands, all_there}

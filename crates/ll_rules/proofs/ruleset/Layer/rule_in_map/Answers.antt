@@ -5,7 +5,8 @@ use Rattle.std.specs.Option.{unwrap_or}
 use Rattle.std.specs.Prelude.{Option}
 use Rattle.ll_rights.specs.declared.fs.Fs.{Fs}
 use Rattle.ll_rights.specs.Rights.{no_right}
-use Rattle.ll_rules.specs.Layers.{RulesOn, node}
+use Rattle.ll_rules.specs.Layers.{RulesOn}
+use Rattle.ll_rules.specs.InTree.{node}
 use Rattle.ll_rules.proofs.Lookups.{rule_found}
 use Rattle.ll_rules.proofs.ruleset.Layer.rule_in_map.Goals as goal
 

@@ -1,7 +1,8 @@
 use Rattle.std.proofs.Common.{subst, ℕ}
 use Rattle.ll_tree.specs.declared.place.Place.{Place}
-use Rattle.ll_rules.specs.Layers.{RulesOn, GrantsOn}
-use Rattle.ll_rules.specs.Rulesets.{IsOfTree}
+use Rattle.ll_rules.specs.Layers.{RulesOn}
+use Rattle.ll_rules.specs.KeptLayers.{GrantsOn}
+use Rattle.ll_rules.specs.InTree.{IsOfTree}
 use Rattle.ll_rules.proofs.Adding.{one_rule_more, still_in_tree}
 use Rattle.ll_rules.proofs.ruleset.Ruleset.add_path.Goals as goal
 

@@ -1,6 +1,6 @@
 -- No layer and no descriptor, as in a state that a trace begins with.
 use Rattle.std.proofs.Common.{refl, arith}
-use Rattle.ll_state.specs.States.{fresh}
+use Rattle.ll_semantics.specs.States.{fresh}
 use Rattle.ll_state.proofs.own_state.OwnState.fresh.Goals as goal
 
 pub returns : goal.returns

@@ -1,7 +1,7 @@
 -- The note's answer, and the layer of a ruleset.
 use Rattle.std.proofs.Common.{subst}
-use Rattle.ll_state.specs.declared.note.Note.{Note}
-use Rattle.ll_state.specs.Notes.{NoteFits}
+use Rattle.ll_semantics.specs.declared.note.Note.{Note}
+use Rattle.ll_semantics.specs.Notes.{NoteFits}
 use Rattle.ll_state.proofs.Judging.{Agrees-on_rulesets, frozen_answered, frozen_left}
 use Rattle.ll_state.proofs.own_state.OwnState.judge.Goals as goal
 

@@ -4,11 +4,5 @@ use Rattle.ll_state.proofs.own_state.OwnState.open.Given as goal
 abbrev pub ghost-descriptor : goal.ghost-descriptor
 ghost-descriptor g a = g.at
 
-abbrev pub ghost-ask : goal.ghost-ask
-ghost-ask g a = g.at
-
-abbrev pub ghost-opened : goal.ghost-opened
-ghost-opened g a = g.at
-
-abbrev pub ghost-put : goal.ghost-put
-ghost-put g a = g.at
+abbrev pub ghost-open_place : goal.ghost-open_place
+ghost-open_place g a = g.at

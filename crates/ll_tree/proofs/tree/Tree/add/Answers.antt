@@ -1,6 +1,6 @@
 -- A new object keeps the tree sound; a refused growth changes nothing.
 use Rattle.std.proofs.Common.{◌≡◌, ◌+◌, ◌++◌, subst, ◌∷◌, [], ap, ◌∙◌, refl, arith}
-use Rattle.ll_tree.specs.Trees.{named, IsTree}
+use Rattle.ll_tree.specs.TreeFacts.{named, IsTree}
 use Rattle.ll_tree.specs.Kept.{IsSound, entries_of}
 use Rattle.ll_tree.proofs.Growing.{gap_node, depth_small}
 use Rattle.ll_tree.proofs.Keeping.{pushed, unchanged}

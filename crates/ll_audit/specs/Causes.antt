@@ -1,0 +1,30 @@
+-- Why a part of an audit gives nothing: a file that doesn't read, or a want of memory or of threads.
+-- Source: docs/FORMATS.md, "Faults of a run".
+use Rattle.std.specs.Prelude.{◌≡◌, ◌⊎◌, ℕ, List}
+use Rattle.ll_tree.specs.Reading.{IsBad}
+use Rattle.ll_tree.specs.TreeReading.{tree_format}
+use Rattle.ll_trace.specs.Entries.{trace_file}
+use Rattle.ll_pool.specs.declared.running.PoolFault.{PoolFault}
+use Rattle.ll_pool.specs.declared.running.PoolFault.TheVariants as pool
+use Rattle.ll_audit.specs.declared.fault.Fault.{Fault}
+use Rattle.ll_audit.specs.declared.fault.Fault.TheVariants as fault
+
+-- a reader's answer for bytes that don't read
+abbrev pub IsTreeFault : List ℕ → Fault → Type 0
+IsTreeFault bytes (fault.Tree of) = IsBad tree_format bytes of
+IsTreeFault bytes fault.Memory = Unit {0}
+IsTreeFault bytes _ = ⊥
+
+abbrev pub IsTraceFault : List ℕ → Fault → Type 0
+IsTraceFault bytes (fault.Trace of) = IsBad trace_file bytes of
+IsTraceFault bytes fault.Memory = Unit {0}
+IsTraceFault bytes _ = ⊥
+
+-- what the pool's want comes to
+abbrev pub fault_of_pool : PoolFault → Fault
+fault_of_pool pool.Memory = fault.Memory
+fault_of_pool pool.NoThread = fault.NoThread
+
+-- memory or a thread is wanting
+abbrev pub IsWant : Fault → Type 0
+IsWant of = (of ≡ fault.Memory) ⊎ (of ≡ fault.NoThread)

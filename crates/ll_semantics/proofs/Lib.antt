@@ -1,0 +1,5 @@
+pub mod Worlds
+pub mod Steps
+pub mod Unchanged
+pub mod Numbers
+pub mod Numbering

@@ -1,0 +1,255 @@
+-- What one call does to a world: to the state of its own process, to the one it starts, and to all others.
+use Rattle.std.proofs.Common.{◌≡◌, ◌≢◌, ℕ, ◌+◌, Bool, true, false, cond, List, [], ◌∷◌, take, Some, None, refl, sym, ap, ◌∙◌, inl, inr, arith}
+use Rattle.std.proofs.lemmas.Bool.{cases_eq, eq-eqb, ne_eqb}
+use Rattle.std.proofs.lemmas.List.Sums.{sum_by-cons}
+use Rattle.ll_rights.specs.declared.abi.Abi.{Abi}
+use Rattle.ll_tree.specs.Trees.{Entry}
+use Rattle.ll_trace.specs.declared.record.Record.{Record}
+use Rattle.ll_trace.specs.declared.op.Op.{Op}
+use Rattle.ll_trace.specs.declared.op.Op.TheVariants.{Start, Fork}
+use Rattle.ll_semantics.specs.declared.answer.Answer.{Answer}
+use Rattle.ll_semantics.specs.declared.answer.Answer.TheVariants.{Allowed, Moot, Refused}
+use Rattle.ll_semantics.specs.States.{State, Layer}
+use Rattle.ll_semantics.specs.Answers.{answer}
+use Rattle.ll_semantics.specs.Effects.{Effect, nothing, leaves, leaves_rulesets, begins, effect}
+use Rattle.ll_semantics.specs.Situations.{state_by, rulesets_by, begun_by, change, rules, started, state_after, rulesets_after}
+use Rattle.ll_semantics.specs.Worlds.{World, if_allowed, with_state, affected, answer_in, step, empty_world}
+use Rattle.ll_semantics.specs.Situations.{world_after, world_at}
+use Rattle.ll_semantics.specs.Processes.{is_start, is_fork, is_starting, process_count}
+
+-- ---- one state is set
+
+pub with_state-own : (f : ℕ → State) (p : ℕ) (s : State) → with_state f p s p ≡ s
+with_state-own f p s = rw (eq-eqb p p refl) refl
+
+pub with_state-other : (f : ℕ → State) (p q : ℕ) (s : State) → q ≢ p → with_state f p s q ≡ f q
+with_state-other f p q s other = rw (ne_eqb q p other) refl
+
+pub with_state-same : (f : ℕ → State) (p q : ℕ) → with_state f p (f p) q ≡ f q
+with_state-same f p q = elim (cases_eq q p) [
+  | inl same ↦ rw (eq-eqb q p same, same) refl
+  | inr other ↦ rw (ne_eqb q p other) refl
+]
+
+-- ---- what an effect does to a world
+
+affected-own : (w : World) (process : ℕ) (e : Effect) → process ≢ w.count → (affected w process e).processes process ≡ state_by e (w.processes process)
+unfolding state_by
+affected-own w process nothing older = refl
+affected-own w process (leaves s) older = with_state-own w.processes process s
+affected-own w process (leaves_rulesets rulesets s) older = with_state-own w.processes process s
+affected-own w process (begins s) older = with_state-other w.processes w.count process s older
+
+affected-other : (w : World) (process p : ℕ) (e : Effect) → p ≢ process → p ≢ w.count → (affected w process e).processes p ≡ w.processes p
+affected-other w process p nothing other older = refl
+affected-other w process p (leaves s) other older = with_state-other w.processes process p s other
+affected-other w process p (leaves_rulesets rulesets s) other older = with_state-other w.processes process p s other
+affected-other w process p (begins s) other older = with_state-other w.processes w.count p s older
+
+-- where no process begins, only the own one's state can change
+affected-unbegun : (w : World) (process p : ℕ) (e : Effect) → begun_by e ≡ None → (affected w process e).processes p ≡ with_state w.processes process (state_by e (w.processes process)) p
+unfolding begun_by state_by
+affected-unbegun w process p nothing none = sym (with_state-same w.processes process p)
+affected-unbegun w process p (leaves s) none = refl
+affected-unbegun w process p (leaves_rulesets rulesets s) none = refl
+affected-unbegun w process p (begins child) none = absurd (cc)
+
+-- where one begins, it has the next number, and the others are as they were
+affected-begun : (w : World) (process p : ℕ) (e : Effect) (child : State) → begun_by e ≡ Some child → (affected w process e).processes p ≡ with_state w.processes w.count child p
+unfolding begun_by
+affected-begun w process p nothing child is = absurd (cc)
+affected-begun w process p (leaves after) child is = absurd (cc)
+affected-begun w process p (leaves_rulesets rulesets after) child is = absurd (cc)
+affected-begun w process p (begins s) child is = (let same : s ≡ child = cc in ap (λ (t : State). with_state w.processes w.count t p) same)
+
+affected-count : (w : World) (process : ℕ) (e : Effect) → begun_by e ≡ None → (affected w process e).count ≡ w.count
+unfolding begun_by
+affected-count w process nothing none = refl
+affected-count w process (leaves s) none = refl
+affected-count w process (leaves_rulesets rulesets s) none = refl
+affected-count w process (begins child) none = absurd (cc)
+
+affected-rulesets : (w : World) (process : ℕ) (e : Effect) → (affected w process e).rulesets ≡ rulesets_by e w.rulesets
+unfolding rulesets_by
+affected-rulesets w process nothing = refl
+affected-rulesets w process (leaves s) = refl
+affected-rulesets w process (leaves_rulesets rulesets s) = refl
+affected-rulesets w process (begins s) = refl
+
+-- ---- what is left where the call isn't allowed
+
+pub if_allowed-map : {A B : Type 0} (f : A → B) (a : Answer) (after before : A) → f (if_allowed a after before) ≡ if_allowed a (f after) (f before)
+if_allowed-map f Allowed after before = refl
+if_allowed-map f Moot after before = refl
+if_allowed-map f (Refused error numbers) after before = refl
+
+pub if_allowed-same : {A : Type 0} (a : Answer) (x : A) → if_allowed a x x ≡ x
+if_allowed-same Allowed x = refl
+if_allowed-same Moot x = refl
+if_allowed-same (Refused error numbers) x = refl
+
+-- ---- one step
+
+pub step-own : (tree : List Entry) (abi : Abi) (w : World) (process : ℕ) (op : Op) → process ≢ w.count
+    → (step tree abi w process op).processes process ≡ state_after tree abi w.rulesets op (w.processes process)
+unfolding step answer_in state_after change
+step-own tree abi w process op older =
+    let asked : Answer = answer tree abi w.rulesets op (w.processes process) in
+    let does : Effect = effect tree w.rulesets op (w.processes process) in
+    if_allowed-map (λ (v : World). v.processes process) asked (affected w process does) w
+    ∙ ap (λ (s : State). if_allowed asked s (w.processes process)) (affected-own w process does older)
+
+pub step-other : (tree : List Entry) (abi : Abi) (w : World) (process : ℕ) (op : Op) (p : ℕ) → p ≢ process → p ≢ w.count
+    → (step tree abi w process op).processes p ≡ w.processes p
+unfolding step answer_in
+step-other tree abi w process op p other older =
+    let asked : Answer = answer tree abi w.rulesets op (w.processes process) in
+    let does : Effect = effect tree w.rulesets op (w.processes process) in
+    if_allowed-map (λ (v : World). v.processes p) asked (affected w process does) w
+    ∙ ap (λ (s : State). if_allowed asked s (w.processes p)) (affected-other w process p does other older)
+    ∙ if_allowed-same asked (w.processes p)
+
+pub step-rulesets : (tree : List Entry) (abi : Abi) (w : World) (process : ℕ) (op : Op)
+    → (step tree abi w process op).rulesets ≡ rulesets_after tree abi w.rulesets op (w.processes process)
+unfolding step answer_in rulesets_after rules
+step-rulesets tree abi w process op =
+    let asked : Answer = answer tree abi w.rulesets op (w.processes process) in
+    let does : Effect = effect tree w.rulesets op (w.processes process) in
+    if_allowed-map (λ (v : World). v.rulesets) asked (affected w process does) w
+    ∙ ap (λ (rulesets : List Layer). if_allowed asked rulesets w.rulesets) (affected-rulesets w process does)
+
+-- ---- what starts a process
+
+-- only a start and a fork begin a process, and both are allowed
+pub begun_is_allowed : (tree : List Entry) (abi : Abi) (rulesets : List Layer) (op : Op) (s child : State) → started tree rulesets op s ≡ Some child → answer tree abi rulesets op s ≡ Allowed
+unfolding started begun_by effect answer
+begun_is_allowed tree abi rulesets (Start nnp admin) s child is = refl
+begun_is_allowed tree abi rulesets (Fork c) s child is = refl
+begun_is_allowed tree abi rulesets op s child is = absurd (cc)
+
+pub step-begun : (tree : List Entry) (abi : Abi) (w : World) (process : ℕ) (op : Op) (p : ℕ) (child : State) → started tree w.rulesets op (w.processes process) ≡ Some child
+    → (step tree abi w process op).processes p ≡ with_state w.processes w.count child p
+unfolding step answer_in started
+step-begun tree abi w process op p child is =
+    let does : Effect = effect tree w.rulesets op (w.processes process) in
+    ap (λ (a : Answer). (if_allowed a (affected w process does) w).processes p) (begun_is_allowed tree abi w.rulesets op (w.processes process) child is)
+    ∙ affected-begun w process p does child is
+
+pub step-new : (tree : List Entry) (abi : Abi) (w : World) (process : ℕ) (op : Op) (child : State) → started tree w.rulesets op (w.processes process) ≡ Some child
+    → (step tree abi w process op).processes w.count ≡ child
+step-new tree abi w process op child is = step-begun tree abi w process op w.count child is ∙ with_state-own w.processes w.count child
+
+pub step-unbegun : (tree : List Entry) (abi : Abi) (w : World) (process : ℕ) (op : Op) (p : ℕ) → started tree w.rulesets op (w.processes process) ≡ None
+    → (step tree abi w process op).processes p ≡ with_state w.processes process (state_after tree abi w.rulesets op (w.processes process)) p
+unfolding step answer_in started state_after change
+step-unbegun tree abi w process op p none =
+    let asked : Answer = answer tree abi w.rulesets op (w.processes process) in
+    let does : Effect = effect tree w.rulesets op (w.processes process) in
+    let after : State = state_by does (w.processes process) in
+    if_allowed-map (λ (v : World). v.processes p) asked (affected w process does) w
+    ∙ ap (λ (s : State). if_allowed asked s (w.processes p)) (affected-unbegun w process p does none)
+    ∙ ap (λ (s : State). if_allowed asked (with_state w.processes process after p) s) (sym (with_state-same w.processes process p))
+    ∙ sym (if_allowed-map (λ (s : State). with_state w.processes process s p) asked after (w.processes process))
+
+-- ---- how many processes there are
+
+count_kept : (a : Answer) (v w : World) → v.count ≡ w.count → (if_allowed a v w).count ≡ w.count + 0
+count_kept a v w same = if_allowed-map (λ (x : World). x.count) a v w ∙ ap (λ (n : ℕ). if_allowed a n w.count) same ∙ if_allowed-same a w.count ∙ omega arith
+
+pub count-step : (tree : List Entry) (abi : Abi) (w : World) (process : ℕ) (op : Op) → (step tree abi w process op).count ≡ w.count + cond (is_starting op) 1 0
+unfolding step answer_in answer effect is_starting
+count-step tree abi w process (Start nnp admin) = refl
+count-step tree abi w process (Fork child) = refl
+count-step tree abi w process op = count_kept (answer tree abi w.rulesets op (w.processes process)) (affected w process (effect tree w.rulesets op (w.processes process))) w refl
+
+pub count-unbegun : (tree : List Entry) (abi : Abi) (w : World) (process : ℕ) (op : Op) → started tree w.rulesets op (w.processes process) ≡ None → (step tree abi w process op).count ≡ w.count
+unfolding step answer_in started
+count-unbegun tree abi w process op none =
+    let asked : Answer = answer tree abi w.rulesets op (w.processes process) in
+    let does : Effect = effect tree w.rulesets op (w.processes process) in
+    if_allowed-map (λ (v : World). v.count) asked (affected w process does) w
+    ∙ ap (λ (n : ℕ). if_allowed asked n w.count) (affected-count w process does none)
+    ∙ if_allowed-same asked w.count
+
+pub process_count-cons : (r : Record) (rs : List Record) → process_count (r ∷ rs) ≡ cond (is_starting r.op) 1 0 + process_count rs
+unfolding process_count
+process_count-cons r rs = sum_by-cons (λ (x : Record). cond (is_starting x.op) 1 0) r rs
+
+count-world_after : (tree : List Entry) (abi : Abi) (w : World) (rs : List Record) → (world_after tree abi w rs).count ≡ w.count + process_count rs
+unfolding world_after process_count
+count-world_after tree abi w [] = omega arith
+count-world_after tree abi w (r ∷ rs) =
+    omega (arith, count-world_after tree abi (step tree abi w r.process.0 r.op) rs, count-step tree abi w r.process.0 r.op, process_count-cons r rs)
+
+pub count-world_at : (tree : List Entry) (abi : Abi) (records : List Record) (k : ℕ) → (world_at tree abi records k).count ≡ process_count (take k records)
+unfolding world_at
+count-world_at tree abi records k = omega (arith, count-world_after tree abi empty_world (take k records))
+
+-- ---- what the operations have in common
+
+pub started-none : (tree : List Entry) (rulesets : List Layer) (op : Op) (s : State) → is_starting op ≡ false → started tree rulesets op s ≡ None
+unfolding started begun_by effect is_starting
+started-none tree rulesets (Start nnp admin) s fails = cc
+started-none tree rulesets (Fork child) s fails = cc
+started-none tree rulesets op s fails = refl
+
+-- a start is allowed, and leaves the state that it meets
+pub answer-start : (tree : List Entry) (abi : Abi) (rulesets : List Layer) (op : Op) (s : State) → is_start op ≡ true → answer tree abi rulesets op s ≡ Allowed
+unfolding answer is_start
+answer-start tree abi rulesets (Start nnp admin) s holds = refl
+answer-start tree abi rulesets op s holds = cc
+
+pub state_after-start : (tree : List Entry) (abi : Abi) (rulesets : List Layer) (op : Op) (s : State) → is_start op ≡ true → state_after tree abi rulesets op s ≡ s
+unfolding state_after answer change state_by effect is_start
+state_after-start tree abi rulesets (Start nnp admin) s holds = refl
+state_after-start tree abi rulesets op s holds = cc
+
+-- a fork leaves its process as it was, and the child begins with the same state
+pub state_after-fork : (tree : List Entry) (abi : Abi) (rulesets : List Layer) (op : Op) (s : State) → is_fork op ≡ true → state_after tree abi rulesets op s ≡ s
+unfolding state_after answer change state_by effect is_fork
+state_after-fork tree abi rulesets (Fork child) s holds = refl
+state_after-fork tree abi rulesets op s holds = cc
+
+pub started-fork : (tree : List Entry) (rulesets : List Layer) (op : Op) (s : State) → is_fork op ≡ true → started tree rulesets op s ≡ Some s
+unfolding started begun_by effect is_fork
+started-fork tree rulesets (Fork child) s holds = refl
+started-fork tree rulesets op s holds = cc
+
+pub fork-starts : (op : Op) → is_fork op ≡ true → is_starting op ≡ true
+unfolding is_starting is_fork
+fork-starts (Fork child) holds = refl
+fork-starts op holds = cc
+
+pub start-starts : (op : Op) → is_start op ≡ true → is_starting op ≡ true
+unfolding is_starting is_start
+start-starts (Start nnp admin) holds = refl
+start-starts op holds = cc
+
+pub starts_alone : (op : Op) → is_starting op ≡ true → is_start op ≡ false → is_fork op ≡ true
+unfolding is_starting is_start is_fork
+starts_alone (Start nnp admin) holds fails = cc
+starts_alone (Fork child) holds fails = refl
+starts_alone op holds fails = cc
+
+pub fork_no_start : (op : Op) → is_fork op ≡ true → is_start op ≡ false
+unfolding is_start is_fork
+fork_no_start (Fork child) holds = refl
+fork_no_start op holds = cc
+
+pub is_fork-from : (op : Op) (child : ℕ) → op ≡ Fork child → is_fork op ≡ true
+unfolding is_fork
+is_fork-from op child is = ap (λ o. is_fork o) is
+
+pub is_fork-not : (op : Op) → ((child : ℕ) → op ≡ Fork child → ⊥) → is_fork op ≡ false
+unfolding is_fork
+is_fork-not (Fork child) other = absurd (other child refl)
+is_fork-not op other = refl
+
+pub is_start-from : (op : Op) (nnp admin : Bool) → op ≡ Start nnp admin → is_start op ≡ true
+unfolding is_start
+is_start-from op nnp admin is = ap (λ o. is_start o) is
+
+pub is_start-not : (op : Op) → ((nnp admin : Bool) → op ≡ Start nnp admin → ⊥) → is_start op ≡ false
+unfolding is_start
+is_start-not (Start nnp admin) other = absurd (other nnp admin refl)
+is_start-not op other = refl

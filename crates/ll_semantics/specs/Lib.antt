@@ -1,0 +1,13 @@
+pub mod Requests
+pub mod Fits
+pub mod Moves
+pub mod States
+pub mod Answers
+pub mod Effects
+pub mod Worlds
+pub mod Situations
+pub mod Notes
+pub mod WorkedWords
+pub mod WorkedLayers
+pub mod WorkedCalls
+pub mod Processes

@@ -1,0 +1,41 @@
+-- What the rulebook says of a record: what follows from the rulesets alone, whichever processes added their rules.
+-- Source: landlock_restrict_self(2); the kernel's userspace document on Landlock, "Defining and enforcing a security policy".
+use Rattle.std.specs.Prelude.{◌≡◌, ◌<◌, List, Bool, true, false, Option, Some, None, length}
+use Rattle.ll_rules.specs.declared.domain.LayerId.{LayerId}
+use Rattle.ll_rules.specs.KeptLayers.{SameRules}
+use Rattle.ll_rules.specs.InTree.{in_tree}
+use Rattle.ll_rules.specs.KeptLayers.{layer_at}
+use Rattle.ll_trace.specs.declared.op.Op.{Op}
+use Rattle.ll_trace.specs.declared.op.Op.TheVariants as calls
+use Rattle.ll_semantics.specs.declared.note.Note.{Note}
+use Rattle.ll_semantics.specs.declared.note.Note.TheVariants.{Answered, Frozen, Open}
+use Rattle.ll_semantics.specs.States.{State, Layer}
+use Rattle.ll_semantics.specs.Answers.{named}
+use Rattle.ll_semantics.specs.Situations.{Situation, answered}
+
+-- the call is one that creates, changes or closes a ruleset
+unfoldable pub is_on_rulesets : Op → Bool
+is_on_rulesets (calls.Create rs fs net) = true
+is_on_rulesets (calls.AddPath rs path fs) = true
+is_on_rulesets (calls.AddPort rs port net) = true
+is_on_rulesets (calls.CloseRs rs) = true
+is_on_rulesets op = false
+
+-- the ruleset by which a call restricts its process, if it does and holds it
+unfoldable pub enforced : List Layer → Op → State → Option Layer
+enforced rulesets (calls.Restrict rs) s = named rulesets (s.held rs)
+enforced rulesets op s = None
+
+-- a layer is what a ruleset was frozen to; there is none without a ruleset
+unfoldable pub IsFrozen : Situation → Option LayerId → Option Layer → Type 0
+IsFrozen at (Some id) (Some rules) = (id.0 < length at.layers) × SameRules (in_tree at.tree (layer_at at.layers id)) rules
+IsFrozen at (Some id) None = ⊥
+IsFrozen at None (Some rules) = ⊥
+IsFrozen at None None = Unit {0}
+
+-- A note says of a call what the rulesets say: the answer to one that is on rulesets, the layer that its ruleset was
+-- frozen to for one that restricts by a ruleset, and nothing of any other.
+unfoldable pub NoteFits : Situation → Op → Note → Type 0
+NoteFits at op (Answered answer) = (is_on_rulesets op ≡ true) × (answer ≡ answered at op)
+NoteFits at op (Frozen id) = IsFrozen at (Some id) (enforced at.rulesets op at.state)
+NoteFits at op Open = (is_on_rulesets op ≡ false) × (enforced at.rulesets op at.state ≡ None)

@@ -1,0 +1,60 @@
+-- Short words for records and their answers, over the small tree of the worked tree file.
+-- Source: docs/FORMATS.md, "The trace file" and "The report".
+use Rattle.std.specs.Prelude.{◌≡◌, ℕ, List, [], ◌∷◌, map, true, false}
+use Rattle.ll_rights.specs.declared.abi.Abi.{Abi}
+use Rattle.ll_rights.specs.Rights.{FsRight}
+use Rattle.ll_rights.specs.NetRights.{NetRight}
+use Rattle.ll_tree.specs.WorkedTree.{worked_tree}
+use Rattle.ll_rules.specs.declared.errno.Errno.{Errno}
+use Rattle.ll_rules.specs.WorkedRules.{these, these_on_ports}
+use Rattle.ll_trace.specs.declared.record.Record.{Record}
+use Rattle.ll_trace.specs.declared.op.Op.{Op}
+use Rattle.ll_trace.specs.declared.op.Op.TheVariants as calls
+use Rattle.ll_trace.specs.declared.op.Mode.{Mode}
+use Rattle.ll_semantics.specs.declared.answer.Answer.{Answer}
+use Rattle.ll_semantics.specs.declared.answer.Answer.TheVariants.{Allowed, Moot, Refused}
+use Rattle.ll_semantics.specs.Worlds.{judged}
+
+-- ---- calls
+
+abbrev pub start : Op
+start = calls.Start false false
+
+-- a process that has the capability to restrict itself
+abbrev pub privileged_start : Op
+privileged_start = calls.Start false true
+
+abbrev pub creates : ℕ → List FsRight → List NetRight → Op
+creates rs handled handled_on_ports = calls.Create rs (these handled) (these_on_ports handled_on_ports)
+
+abbrev pub adds : ℕ → List ℕ → List FsRight → Op
+adds rs path granted = calls.AddPath rs path (these granted)
+
+abbrev pub adds_port : ℕ → ℕ → List NetRight → Op
+adds_port rs port granted = calls.AddPort rs port (these_on_ports granted)
+
+-- opening what is there
+abbrev pub opens : List ℕ → ℕ → Mode → Op
+opens path fd mode = calls.OpenFile path fd mode false false
+
+-- ---- a call of a process, by its number, and its answer
+
+abbrev pub record_of : ℕ → Op → Record
+record_of process op = record { line = 0; process = record { 0 = process }; pid = 0; op = op }
+
+abbrev pub ok : ℕ → Op → (Record × Answer)
+ok process op = (record_of process op, Allowed)
+
+abbrev pub moot : ℕ → Op → (Record × Answer)
+moot process op = (record_of process op, Moot)
+
+abbrev pub refused : Errno → List ℕ → ℕ → Op → (Record × Answer)
+refused error layers process op = (record_of process op, Refused error layers)
+
+-- a process that starts, and can't gain privileges
+abbrev pub begins : List (Record × Answer)
+begins = ok 0 start ∷ ok 0 calls.Nnp ∷ []
+
+-- each record of a trace is answered as it says
+abbrev pub IsAnswered : Abi → List (Record × Answer) → Type 0
+IsAnswered abi trace = judged worked_tree abi (map (λ pair. pair.0) trace) ≡ map (λ pair. pair.1) trace

@@ -1,0 +1,20 @@
+//! The semantics of a trace: what each call asks, what it is answered, and what it changes. The definitions stand
+//! in `specs/`; here are the types that they share with the code above, and what they say of small traces.
+#![tactic(auto)]
+
+mod answer;
+mod descriptor;
+mod laws;
+mod note;
+mod request;
+mod unchanging;
+
+pub use answer::Answer;
+pub use descriptor::Descriptor;
+pub use laws::{
+    worked_confinements, worked_descriptors, worked_moves, worked_ports, worked_processes,
+    worked_requests, worked_rulesets,
+};
+pub use note::Note;
+pub use request::Request;
+pub use unchanging::only_allowed_records_change_the_world;
