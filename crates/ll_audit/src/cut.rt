@@ -1,7 +1,7 @@
 //! At which forks the work is cut.
 
-ghost use Rattle.std.specs.Prelude.{◌≡◌, ◌<◌, IfOk, length};
-ghost use Rattle.ll_trace.specs.Processes.{parents};
+ghost use Rattle.std.specs.Prelude.{◌≡◌, ◌<◌, IfOk};
+ghost use Rattle.ll_trace.specs.Processes.{process_count};
 ghost use Rattle.ll_audit.specs.Cuts.{cuts_by, is_long};
 
 use ll_trace::{ProcessId, Trace};
@@ -39,7 +39,7 @@ fn long_ones(alloc: Global, trace: &Trace, grain: u64) -> Result<Vec<bool>, Allo
 
 /// Whether a process has this many records.
 fn has_many(trace: &Trace, process: ProcessId, grain: u64) -> bool
-    requires { process.0 < length (parents trace.now) }
+    requires { process.0 < process_count trace.now }
     ensures { result ≡ is_long trace.now grain process.0 }
 {
     grain <= trace.records_of(process).len() as u64

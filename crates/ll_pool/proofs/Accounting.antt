@@ -7,7 +7,7 @@ use Rattle.std.proofs.lemmas.List.Elements.{All-push, All-append, All-same, All-
 use Rattle.std.proofs.lemmas.Grind.{flat_map-append}
 use Rattle.ll_process.specs.declared.job.Job.{Job}
 use Rattle.ll_process.specs.declared.piece.Piece.{Piece}
-use Rattle.ll_process.specs.Processes.{kids, numbers}
+use Rattle.ll_trace.specs.Processes.{kids, numbers}
 use Rattle.ll_process.specs.Cases.{Matter}
 use Rattle.ll_process.specs.Jobs.{SharesOut, processes_of, AllOf as AllJobsOf}
 use Rattle.ll_process.proofs.Counting.{weighed}

@@ -4,7 +4,7 @@ use Rattle.std.specs.Prelude.{sum_by}
 use Rattle.std.proofs.lemmas.List.{map-append, take-append-drop}
 use Rattle.ll_process.specs.declared.job.Job.{Job}
 use Rattle.ll_process.specs.declared.piece.Piece.{Piece}
-use Rattle.ll_process.specs.Processes.{IsNumbered, process_count, roots, times}
+use Rattle.ll_trace.specs.Processes.{IsNumbered, process_count, roots, times}
 use Rattle.ll_process.specs.Cases.{Matter}
 use Rattle.ll_process.specs.Jobs.{processes_of}
 use Rattle.ll_process.proofs.EachOnce.{each_once}

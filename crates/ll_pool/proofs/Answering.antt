@@ -12,12 +12,12 @@ use Rattle.ll_semantics.specs.declared.answer.Answer.{Answer}
 use Rattle.ll_semantics.specs.declared.answer.Answer.TheVariants.{Moot}
 use Rattle.ll_semantics.specs.Worlds.{judged}
 use Rattle.ll_process.specs.declared.piece.Piece.{Piece}
-use Rattle.ll_process.specs.Processes.{own_records, own_from, numbers, times, process_count}
+use Rattle.ll_trace.specs.Processes.{own_records, own_from, numbers, times, process_count}
 use Rattle.ll_process.specs.Judging.{answer_at, answers_of}
 use Rattle.ll_process.specs.Cases.{Matter, IsCase, answers_in as answers_to}
 use Rattle.ll_process.proofs.Walks.{own_record}
 use Rattle.ll_semantics.proofs.Worlds.{length-judged}
-use Rattle.ll_semantics.proofs.Numbers.{numbered_below, count-all}
+use Rattle.ll_trace.proofs.Numbers.{numbered_below, count-all}
 use Rattle.ll_process.proofs.OwnRecords.{own_from-yes, own_from-no}
 use Rattle.ll_pool.specs.Gathered.{AllOf, processes_in, answers_in, placed}
 use Rattle.ll_pool.proofs.Counts.{times-append, times-cons, times-nil, times-same, times-other}

@@ -9,7 +9,7 @@ use Rattle.std.proofs.lemmas.Grind.{flat_map-append}
 use Rattle.std.proofs.lemmas.Option.{slice_get_within, get_or_from_slice_get, slice_get-get_or}
 use Rattle.ll_trace.specs.declared.record.ProcessId.{ProcessId}
 use Rattle.ll_process.specs.declared.piece.Piece.{Piece}
-use Rattle.ll_process.specs.Processes.{numbers, times, process_count}
+use Rattle.ll_trace.specs.Processes.{numbers, times, process_count}
 use Rattle.ll_process.specs.Cases.{Matter}
 use Rattle.ll_pool.specs.Gathered.{processes_in, IsTally}
 

@@ -2,7 +2,7 @@
 use Rattle.std.proofs.Common.{◌≡◌, ℕ, ◌<◌, List, arith}
 use Rattle.ll_trace.specs.declared.record.Record.{Record}
 use Rattle.ll_trace.specs.declared.record.ProcessId.{ProcessId}
-use Rattle.ll_process.specs.Processes.{process_count, times}
+use Rattle.ll_trace.specs.Processes.{process_count, times}
 use Rattle.ll_pool.specs.declared.gather.CollectFault.TheVariants.{Missing, Double}
 use Rattle.ll_pool.specs.Faults.{IsFault}
 

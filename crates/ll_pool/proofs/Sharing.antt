@@ -8,7 +8,7 @@ use Rattle.std.proofs.lemmas.Grind.{flat_map-append}
 use Rattle.ll_trace.specs.declared.record.Record.{Record}
 use Rattle.ll_process.specs.declared.job.Job.{Job}
 use Rattle.ll_process.specs.declared.piece.Piece.{Piece}
-use Rattle.ll_process.specs.Processes.{children, kids, roots, numbers}
+use Rattle.ll_trace.specs.Processes.{children, kids, roots, numbers}
 use Rattle.ll_process.specs.Cases.{Matter}
 use Rattle.ll_process.specs.Jobs.{processes_of, AllOf as AllJobsOf, SharesOut}
 use Rattle.ll_process.proofs.Counting.{weighed}

@@ -3,7 +3,7 @@
 use Rattle.std.specs.Prelude.{◌≡◌, ℕ, ◌+◌, List, [], ◌++◌, sum_by}
 use Rattle.ll_process.specs.declared.piece.Piece.{Piece}
 use Rattle.ll_process.specs.Cases.{Matter}
-use Rattle.ll_process.specs.Processes.{kids}
+use Rattle.ll_trace.specs.Processes.{kids}
 use Rattle.ll_pool.specs.declared.known.Known.{Known}
 use Rattle.ll_pool.specs.Gathered.{AllOf, processes_in}
 

@@ -2,7 +2,7 @@
 -- Source: none; the pieces of this program alone.
 use Rattle.std.specs.Prelude.{◌≡◌, ℕ, ◌<◌, ◌≤◌, List}
 use Rattle.ll_trace.specs.declared.record.Record.{Record}
-use Rattle.ll_process.specs.Processes.{process_count, times}
+use Rattle.ll_trace.specs.Processes.{process_count, times}
 use Rattle.ll_pool.specs.declared.gather.CollectFault.{CollectFault}
 use Rattle.ll_pool.specs.declared.gather.CollectFault.TheVariants.{Missing, Double, Memory}
 

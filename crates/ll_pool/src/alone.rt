@@ -2,7 +2,7 @@
 
 ghost use Rattle.std.specs.Prelude.{◌≡◌, ℕ, ◌+◌, List, [], IfOk, sum_by};
 ghost use Rattle.ll_semantics.specs.Worlds.{judged};
-ghost use Rattle.ll_process.specs.Processes.{kids, roots};
+ghost use Rattle.ll_trace.specs.Processes.{kids, roots, IsNumbered};
 ghost use Rattle.ll_pool.specs.Gathered.{AllOf, processes_in};
 
 use crate::empty::Empty;
@@ -14,6 +14,7 @@ use std::alloc::Global;
 /// One piece for each root, with all of its descendants.
 fn pieces_of(alloc: Global, case: &Case) -> Result<Vec<Piece<'_>>, NoMemory>
     ensures of_case { IfOk result (λ pieces. AllOf case.now pieces.items) }
+    ensures numbered { IfOk result (λ pieces. IsNumbered case.now.records) }
     ensures shared { IfOk result (λ pieces. (weight : ℕ → ℕ) → sum_by weight (processes_in pieces.items)
         ≡ sum_by weight (roots case.now.records) + sum_by weight (kids case.now.records (processes_in pieces.items))) }
 {
@@ -34,7 +35,6 @@ pub fn judge_alone(alloc: Global, case: &Case) -> Result<Vec<Answer>, NoMemory>
     ensures { IfOk result (λ answers. answers.items ≡ judged case.now.tree case.now.abi case.now.records) }
 {
     let pieces = pieces_of(alloc, case)?;
-    let _trace = case.trace();
     match collect(alloc, case, pieces) {
         Ok(answers) => Ok(answers),
         Err(CollectFault::Memory) => Err(NoMemory),

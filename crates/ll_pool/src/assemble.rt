@@ -2,7 +2,7 @@
 
 ghost use Rattle.std.specs.Prelude.{◌≡◌, ℕ, ◌<◌, length, All, IfOk, vec_len};
 ghost use Rattle.ll_semantics.specs.Worlds.{judged};
-ghost use Rattle.ll_process.specs.Processes.{process_count, times};
+ghost use Rattle.ll_trace.specs.Processes.{process_count, times};
 ghost use Rattle.ll_pool.specs.Gathered.{AllOf, processes_in, placed};
 
 use ll_process::{Answer, Case, Piece};

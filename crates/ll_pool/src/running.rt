@@ -1,6 +1,6 @@
 //! Judging all processes of a case by workers.
 ghost use Rattle.std.specs.Prelude.{◌≡◌, ◌≤◌, ◌<◌, ℕ, IfOk};
-ghost use Rattle.ll_process.specs.Processes.{process_count, times};
+ghost use Rattle.ll_trace.specs.Processes.{process_count, times};
 ghost use Rattle.ll_pool.specs.Gathered.{AllOf, processes_in};
 
 use crate::busy::Busy;
@@ -88,7 +88,6 @@ fn run_named<'s, 'c, N: Naming + Send + Sync, R: Threads + Wait + Sync, G: Gate 
     ensures each_once { IfOk result
         (λ pieces. (process : ℕ) → process < process_count case.now.records → times process (processes_in pieces.items) ≡ 1) }
 {
-    let _trace = case.trace();
     let mut first = case.roots(alloc)?;
     let rest = first.split_off(first.len().min(ROOM))?;
     let (line, pass) = open::<N>(alloc)?;

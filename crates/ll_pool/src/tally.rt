@@ -1,7 +1,7 @@
 //! Counting how often each process stands in pieces.
 
 ghost use Rattle.std.specs.Prelude.{◌≡◌, ℕ, ◌+◌, ◌<◌, ◌≤◌, min, length, slice_index, All, IfOk, IfSome, IfNone, vec_len};
-ghost use Rattle.ll_process.specs.Processes.{process_count, numbers, times};
+ghost use Rattle.ll_trace.specs.Processes.{process_count, numbers, times};
 ghost use Rattle.ll_process.specs.Cases.{Matter};
 ghost use Rattle.ll_pool.specs.Gathered.{AllOf, processes_in, IsTally};
 

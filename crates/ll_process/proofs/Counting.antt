@@ -4,7 +4,7 @@ use Rattle.std.specs.Prelude.{sum_by}
 use Rattle.std.proofs.lemmas.Bool.{cases_eq, eq-eqb, ne_eqb}
 use Rattle.std.proofs.lemmas.List.Sums.{sum_by-append, sum_by-cons}
 use Rattle.ll_trace.specs.declared.record.Record.{Record}
-use Rattle.ll_process.specs.Processes.{kids, times}
+use Rattle.ll_trace.specs.Processes.{kids, times}
 use Rattle.ll_process.specs.Jobs.{SharesOut}
 
 -- 1 at one process, 0 at any other

@@ -10,7 +10,7 @@ use Rattle.std.proofs.lemmas.Option.{none-some, same_Some}
 use Rattle.ll_trace.specs.declared.record.ProcessId.{ProcessId}
 use Rattle.ll_semantics.specs.declared.answer.Answer.{Answer}
 use Rattle.ll_process.specs.declared.job.Job.{Job}
-use Rattle.ll_process.specs.Processes.{children, kids, numbers, process_count}
+use Rattle.ll_trace.specs.Processes.{children, kids, numbers, process_count}
 use Rattle.ll_process.specs.Cases.{Matter, answers_in}
 use Rattle.ll_process.specs.Jobs.{processes_of, AllOf, HandedOut, Accounts, SharesOut}
 use Rattle.ll_process.specs.Weights.{weight, weight_of}

@@ -7,9 +7,9 @@ use Rattle.std.proofs.lemmas.Option.{same_Some}
 use Rattle.std.proofs.lemmas.List.Concat.{flat_map-cons}
 use Rattle.std.proofs.lemmas.List.Sums.{sum_by-cons, sum_by-append}
 use Rattle.ll_trace.specs.declared.record.Record.{Record}
-use Rattle.ll_process.specs.Processes.{is_start, is_fork, process_count, forked_at, own_from, own_records, children, kids, roots, times, IsNumbered}
-use Rattle.ll_semantics.proofs.Steps.{start-starts, fork-starts, starts_alone, fork_no_start}
-use Rattle.ll_semantics.proofs.Numbers.{StartedAt, forked_at-is, forked_at-from, forked_at-none, started_once, start_of}
+use Rattle.ll_trace.specs.Processes.{is_start, is_fork, process_count, forked_at, own_from, own_records, children, kids, roots, times, IsNumbered}
+use Rattle.ll_trace.proofs.Starting.{start-starts, fork-starts, starts_alone, fork_no_start}
+use Rattle.ll_trace.proofs.Numbers.{StartedAt, forked_at-is, forked_at-from, forked_at-none, started_once, start_of}
 use Rattle.ll_process.proofs.OwnRecords.{own_from-yes, own_from-no, own_from-nil}
 
 -- 1 at one process, 0 at any other
@@ -115,7 +115,7 @@ hit-alone records p k one i = by_place (cases_eq i k)
         elim (cases_eq child p) [
           | inl same ↦
               let forked = forked_at-is records i child is in
-              absurd (other (started_once records i k p (record { of = forked.of; at = forked.at; starts = fork-starts forked.of.op forked.forks; number = sym same ∙ forked.number }) one))
+              absurd (other (started_once records i k p (record { of = forked.of; at = forked.at; kind = fork-starts forked.of.op forked.kind; number = sym same ∙ forked.number }) one))
           | inr differs ↦ rw (ne_eqb child p differs) refl
         ]
 
@@ -138,7 +138,7 @@ starts-alone : (records : List Record) (p k : ℕ) → IsNumbered records → St
 starts-alone records p k numbered one i r at starts =
     elim (cases_eq i k) [
       | inl same ↦ rw (eq-eqb i k same) (eq-eqb r.process.0 p (numbered.begins i r at starts ∙ ap (λ j. process_count (take j records)) same ∙ sym one.number))
-      | inr other ↦ rw (ne_eqb i k other) (ne_eqb r.process.0 p (λ is. other (started_once records i k p (record { of = r; at = at; starts = start-starts r.op starts; number = sym is ∙ numbered.begins i r at starts }) one)))
+      | inr other ↦ rw (ne_eqb i k other) (ne_eqb r.process.0 p (λ is. other (started_once records i k p (record { of = r; at = at; kind = start-starts r.op starts; number = sym is ∙ numbered.begins i r at starts }) one)))
     ]
 
 root_processes : List Record → List ℕ
@@ -185,7 +185,7 @@ hit-start records p k one starts =
 
 hit-fork : (records : List Record) (p k : ℕ) (one : StartedAt records k p) → is_start one.of.op ≡ false → hit (forked_at records k) p ≡ 1
 unfolding hit
-hit-fork records p k one starts = rw (forked_at-from records k one.of one.at (starts_alone one.of.op one.starts starts), eq-eqb (process_count (take k records)) p (sym one.number)) refl
+hit-fork records p k one starts = rw (forked_at-from records k one.of one.at (starts_alone one.of.op one.kind starts), eq-eqb (process_count (take k records)) p (sym one.number)) refl
 
 kids-count : (records : List Record) (processes : List ℕ) (p k : ℕ) (one : StartedAt records k p) →
     how_often p (kids records processes) ≡ sum_by (λ q. cond (eqb one.of.process.0 q) (hit (forked_at records k) p) 0) processes

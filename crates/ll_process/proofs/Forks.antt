@@ -6,16 +6,17 @@ use Rattle.ll_tree.specs.Trees.{Entry}
 use Rattle.ll_trace.specs.declared.record.Record.{Record}
 use Rattle.ll_semantics.specs.Worlds.{step}
 use Rattle.ll_semantics.specs.Situations.{world_at}
-use Rattle.ll_process.specs.Processes.{is_fork, process_count, IsNumbered}
+use Rattle.ll_trace.specs.Processes.{is_fork, process_count, IsNumbered}
 use Rattle.ll_process.specs.Judging.{state_met, state_left}
 use Rattle.ll_semantics.proofs.Worlds.{world_at-more}
-use Rattle.ll_semantics.proofs.Steps.{step-new, count-world_at, started-fork, fork-starts, fork_no_start}
-use Rattle.ll_semantics.proofs.Numbers.{count-all, count-started, StartedAt}
+use Rattle.ll_trace.proofs.Starting.{fork-starts, fork_no_start}
+use Rattle.ll_semantics.proofs.Steps.{step-new, count-world_at, started-fork}
+use Rattle.ll_trace.proofs.Numbers.{count-all, count-started, StartedAt}
 use Rattle.ll_process.proofs.Walks.{met_going_on}
 
 -- the child that a fork record starts
 pub forked : (records : List Record) (i : ℕ) (r : Record) → slice_get records i ≡ Some r → is_fork r.op ≡ true → StartedAt records i (process_count (take i records))
-forked records i r at forks = record { of = r; at = at; starts = fork-starts r.op forks; number = refl }
+forked records i r at forks = record { of = r; at = at; kind = fork-starts r.op forks; number = refl }
 
 pub child_state : (tree : List Entry) (abi : Abi) (records : List Record) (i : ℕ) (r : Record) → slice_get records i ≡ Some r → is_fork r.op ≡ true → state_left tree abi records i (process_count (take i records)) ≡ state_met tree abi records i r.process.0
 unfolding state_left

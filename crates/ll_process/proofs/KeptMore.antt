@@ -1,9 +1,9 @@
 -- Lists of processes that only grow.
-use Rattle.std.proofs.Common.{◌≡◌, ℕ, ◌<◌, List, [], ◌∷◌, ◌++◌, sym, ap, ◌∙◌, append_assoc}
+use Rattle.std.proofs.Common.{◌≡◌, ℕ, ◌<◌, List, [], ◌++◌, sym, ap, ◌∙◌, append_assoc}
 use Rattle.std.proofs.lemmas.List.{append-nil}
-use Rattle.std.proofs.lemmas.List.Elements.{All-append, All-nil, All-push}
+use Rattle.std.proofs.lemmas.List.Elements.{All-append, All-nil}
 use Rattle.ll_trace.specs.declared.record.Record.{Record}
-use Rattle.ll_process.specs.Processes.{process_count}
+use Rattle.ll_trace.specs.Processes.{process_count}
 use Rattle.ll_process.specs.Jobs.{KeepsMore}
 
 module _ (records : List Record) where

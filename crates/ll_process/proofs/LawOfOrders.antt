@@ -7,7 +7,7 @@ use Rattle.ll_trace.specs.declared.op.Op.TheVariants.{Start, Fork, Create, AddPa
 use Rattle.ll_semantics.specs.States.{State, Layer, fresh}
 use Rattle.ll_semantics.specs.Answers.{answer}
 use Rattle.ll_semantics.specs.Effects.{effect}
-use Rattle.ll_semantics.specs.Processes.{is_starting}
+use Rattle.ll_trace.specs.Processes.{is_starting}
 use Rattle.ll_semantics.specs.Situations.{started, begun_by, rules as rules_of, rulesets_by, state_after, rulesets_after}
 use Rattle.ll_semantics.specs.Worlds.{World, answer_in, step}
 use Rattle.ll_semantics.proofs.Steps.{if_allowed-same, step-other, step-own, step-new, step-rulesets}

@@ -3,7 +3,6 @@ pub mod OwnRecords
 pub mod Walks
 pub mod Forks
 pub mod Weighing
-pub mod TraceWords
 pub mod OwnSteps
 pub mod ChildJobs
 pub mod Walked

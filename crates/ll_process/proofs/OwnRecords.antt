@@ -4,7 +4,7 @@ use Rattle.std.specs.Prelude.{slice_get, ◌==◌}
 use Rattle.std.proofs.lemmas.Bool.{eqb-true, eqb-false, eq-eqb, ne_eqb}
 use Rattle.std.proofs.lemmas.Option.{none-some, same_Some}
 use Rattle.ll_trace.specs.declared.record.Record.{Record}
-use Rattle.ll_process.specs.Processes.{own_from}
+use Rattle.ll_trace.specs.Processes.{own_from}
 
 pub own_from-yes : (p b : ℕ) (r : Record) (rs : List Record) → r.process.0 ≡ p → own_from p b (r ∷ rs) ≡ b ∷ own_from p (b + 1) rs
 unfolding own_from

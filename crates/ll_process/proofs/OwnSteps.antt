@@ -15,7 +15,7 @@ use Rattle.ll_semantics.specs.States.{State}
 use Rattle.ll_semantics.specs.Answers.{answer}
 use Rattle.ll_semantics.specs.Situations.{world_at}
 use Rattle.ll_semantics.specs.Situations.{state_after}
-use Rattle.ll_process.specs.Processes.{is_start}
+use Rattle.ll_trace.specs.Processes.{is_start}
 use Rattle.ll_process.specs.Judging.{state_met, state_left, answer_at}
 use Rattle.ll_process.specs.Cases.{Matter, IsCase, AgreesIn}
 use Rattle.ll_process.specs.Own.{IsOwn, Meets, Leaves, situation_at}

@@ -16,13 +16,14 @@ use Rattle.ll_semantics.specs.Situations.{started, begun_by}
 use Rattle.ll_semantics.specs.Worlds.{step}
 use Rattle.ll_semantics.specs.Situations.{world_at}
 use Rattle.ll_process.specs.declared.job.Job.{Job}
-use Rattle.ll_process.specs.Processes.{is_start, process_count, root_of, root_at, roots}
+use Rattle.ll_trace.specs.Processes.{is_start, process_count, root_of, root_at, roots}
 use Rattle.ll_process.specs.Judging.{state_left}
 use Rattle.ll_process.specs.Cases.{Matter, IsCase, BeginsAs, AgreesIn}
 use Rattle.ll_process.specs.Jobs.{processes_of, AllOf}
 use Rattle.ll_semantics.proofs.Worlds.{world_at-more}
-use Rattle.ll_semantics.proofs.Steps.{step-new, count-world_at, start-starts, is_start-from}
-use Rattle.ll_semantics.proofs.Numbers.{StartedAt, started_at-is, started_once, numbered_below, count-all}
+use Rattle.ll_trace.proofs.Starting.{start-starts, is_start-from}
+use Rattle.ll_semantics.proofs.Steps.{step-new, count-world_at}
+use Rattle.ll_trace.proofs.Numbers.{StartedAt, started_at-is, started_once, numbered_below, count-all}
 
 -- ---- one start record
 
@@ -43,7 +44,7 @@ root_left of index r nnp admin case at is =
 pub root_begins : (of : Matter) (index : ℕ) (r : Record) (nnp admin : Bool) (own : OwnState) → IsCase of → slice_get of.records index ≡ Some r → r.op ≡ Start nnp admin → AgreesIn of own (fresh nnp admin) → BeginsAs of r.process.0 own
 root_begins of index r nnp admin own case at is agrees k starts =
     let start : is_start r.op ≡ true = is_start-from r.op nnp admin is in
-    let here : StartedAt of.records index r.process.0 = record { of = r; at = at; starts = start-starts r.op start; number = case.numbered.begins index r at start } in
+    let here : StartedAt of.records index r.process.0 = record { of = r; at = at; kind = start-starts r.op start; number = case.numbered.begins index r at start } in
     let same : index ≡ k = started_once of.records index k r.process.0 here (started_at-is of.records k r.process.0 starts) in
     subst (λ (i : ℕ). AgreesIn of own (state_left of.tree of.abi of.records i r.process.0)) same
     (subst (λ (s : State). AgreesIn of own s) (sym (root_left of index r nnp admin case at is)) agrees)

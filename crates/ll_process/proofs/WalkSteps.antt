@@ -9,12 +9,12 @@ use Rattle.ll_semantics.specs.declared.answer.Answer.{Answer}
 use Rattle.ll_state.specs.declared.own_state.OwnState.{OwnState}
 use Rattle.ll_semantics.specs.States.{State}
 use Rattle.ll_process.specs.declared.job.Job.{Job}
-use Rattle.ll_process.specs.Processes.{own_records, forked_at, children, process_count, started_at}
+use Rattle.ll_trace.specs.Processes.{own_records, forked_at, children, process_count, started_at}
 use Rattle.ll_process.specs.Judging.{answer_at, answers_of}
 use Rattle.ll_process.specs.Cases.{Matter, IsCase, BeginsAs, AgreesIn, answers_in}
 use Rattle.ll_process.specs.Own.{IsOwn, Meets, Leaves}
 use Rattle.ll_process.specs.Jobs.{processes_of, AllOf, HandsOn, HandedOut}
-use Rattle.ll_semantics.proofs.Numbers.{StartedAt, start_of, started_at-from}
+use Rattle.ll_trace.proofs.Numbers.{StartedAt, start_of, started_at-from}
 use Rattle.ll_process.proofs.Walks.{own_record, met_first, met_next}
 use Rattle.ll_process.proofs.HandingOut.{handed_none, handed_on, handed_one, all_handed}
 use Rattle.ll_process.specs.Weights.{weight, weight_of}
@@ -26,7 +26,7 @@ use Rattle.ll_process.proofs.Walked.{Walked, answers_to, children_to}
 first_meets : (of : Matter) (process i : ℕ) (own : OwnState) → IsCase of → process < process_count of.records → BeginsAs of process own → slice_get (own_records of.records process) 0 ≡ Some i → Meets of i process own
 first_meets of process i own case there begins first =
     let start : (k : ℕ) × StartedAt of.records k process = start_of of.records process there in
-    let starts : started_at of.records start.0 ≡ Some process = started_at-from of.records start.0 start.1.of start.1.at start.1.starts ∙ ap (λ (n : ℕ). Some n) (sym start.1.number) in
+    let starts : started_at of.records start.0 ≡ Some process = started_at-from of.records start.0 start.1.of start.1.at start.1.kind ∙ ap (λ (n : ℕ). Some n) (sym start.1.number) in
     subst (λ (s : State). AgreesIn of own s) (sym (met_first of.tree of.abi of.records process start.0 i case.numbered start.1 first)) (begins start.0 starts)
 
 pub walked_none : (of : Matter) (process : ℕ) (own : OwnState) (answers : List (ℕ × Answer)) (kept : List ℕ) (todo : List Job) → IsCase of → process < process_count of.records → BeginsAs of process own → AllOf of todo → Walked of process 0 own answers answers kept kept todo todo

@@ -5,7 +5,7 @@ use Rattle.std.specs.List.{filter_map}
 use Rattle.ll_semantics.specs.declared.answer.Answer.{Answer}
 use Rattle.ll_state.specs.declared.own_state.OwnState.{OwnState}
 use Rattle.ll_process.specs.declared.job.Job.{Job}
-use Rattle.ll_process.specs.Processes.{own_records, forked_at}
+use Rattle.ll_trace.specs.Processes.{own_records, forked_at}
 use Rattle.ll_process.specs.Judging.{answer_at}
 use Rattle.ll_process.specs.Cases.{Matter}
 use Rattle.ll_process.specs.Own.{Meets}

@@ -11,11 +11,11 @@ use Rattle.ll_semantics.specs.Answers.{answer}
 use Rattle.ll_semantics.specs.Worlds.{World, empty_world, answer_in, step, judged}
 use Rattle.ll_semantics.specs.Situations.{world_after, world_at}
 use Rattle.ll_semantics.specs.Situations.{state_after}
-use Rattle.ll_process.specs.Processes.{is_start, process_count, own_from, own_records, IsNumbered}
+use Rattle.ll_trace.specs.Processes.{is_start, process_count, own_from, own_records, IsNumbered}
 use Rattle.ll_process.specs.Judging.{place_met, state_met, state_left, answer_at}
 use Rattle.ll_semantics.proofs.Worlds.{world_at-more, judged-at}
 use Rattle.ll_semantics.proofs.Steps.{step-other, step-own, count-step, count-world_at, answer-start, state_after-start}
-use Rattle.ll_semantics.proofs.Numbers.{count-le, count-started, StartedAt, numbered_below, not_own_before}
+use Rattle.ll_trace.proofs.Numbers.{count-le, count-started, StartedAt, numbered_below, not_own_before}
 use Rattle.ll_process.proofs.OwnRecords.{OwnAt, own_at, own_from-skip, own_from-yes, own_from-no, own_from-nil, own_from-first, slice_get-drop}
 
 -- ---- worlds further on
@@ -177,6 +177,6 @@ met_first tree abi records p k i numbered one first =
       | inr goes ↦
           (let none : (m : ℕ) (r : Record) → m < k + 1 → slice_get records m ≡ Some r → r.process.0 ≢ p = λ m r less at. not_own_upto records m k p r numbered one goes less at in
           let skipped : own_from p 0 records ≡ own_from p (0 + (k + 1)) (drop (k + 1) records) = own_from-skip p 0 (k + 1) records none in
-          let there : p < process_count (take (k + 1) records) = rw (add-one k) (omega (arith, count-started records k one.of one.at one.starts, one.number)) in
+          let there : p < process_count (take (k + 1) records) = rw (add-one k) (omega (arith, count-started records k one.of one.at one.kind, one.number)) in
           met_later tree abi records (k + 1) p i numbered there (subst (λ (xs : List ℕ). slice_get xs 0 ≡ Some i) (skipped ∙ ap (λ n. own_from p n (drop (k + 1) records)) (omega arith)) first))
     ]

@@ -1,16 +1,16 @@
 -- All children of a process together weigh less than it does.
-use Rattle.std.proofs.Common.{◌≡◌, ◌⊎◌, ℕ, zero, suc, ◌+◌, ◌-◌, ◌<◌, ◌≤◌, ◌^◌, List, [], ◌∷◌, ◌++◌, take, Option, Some, refl, sym, ap, ◌∙◌, subst, inl, inr, arith, add-one}
+use Rattle.std.proofs.Common.{◌≡◌, ◌⊎◌, ℕ, zero, suc, ◌+◌, ◌-◌, ◌<◌, ◌≤◌, ◌^◌, List, [], ◌∷◌, take, Option, Some, sym, ap, ◌∙◌, subst, inl, inr, arith, add-one}
 use Rattle.std.specs.Prelude.{slice_get, sum_by, ◌==◌}
 use Rattle.std.specs.List.{filter_map, cons_option}
 use Rattle.std.proofs.Math.Nat.{pow-le-pow_right, two-pow-succ}
 use Rattle.std.proofs.lemmas.Nat.{pow_pos}
 use Rattle.std.proofs.lemmas.Bool.{cases_Bool, eqb-true, eqb-false}
-use Rattle.std.proofs.lemmas.List.Sums.{sum_by-cons, sum_by-append}
+use Rattle.std.proofs.lemmas.List.Sums.{sum_by-cons}
 use Rattle.ll_trace.specs.declared.record.Record.{Record}
-use Rattle.ll_process.specs.Processes.{is_fork, process_count, forked_at, own_from, own_records, children, IsNumbered}
+use Rattle.ll_trace.specs.Processes.{is_fork, process_count, forked_at, own_from, own_records, children, IsNumbered}
 use Rattle.ll_process.specs.Weights.{weight, weight_of}
-use Rattle.ll_semantics.proofs.Steps.{fork-starts}
-use Rattle.ll_semantics.proofs.Numbers.{count-le, count-started, forked_at-from, forked_at-none}
+use Rattle.ll_trace.proofs.Starting.{fork-starts}
+use Rattle.ll_trace.proofs.Numbers.{count-le, count-started, forked_at-from, forked_at-none}
 use Rattle.ll_process.proofs.OwnRecords.{own_from-yes, own_from-no, own_from-nil}
 use Rattle.ll_process.proofs.Forks.{child_above, child_below}
 

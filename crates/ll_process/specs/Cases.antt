@@ -11,7 +11,7 @@ use Rattle.ll_state.specs.declared.own_state.OwnState.{OwnState}
 use Rattle.ll_state.specs.Agreement.{Agrees}
 use Rattle.ll_rulebook.specs.Settled.{IsSettled}
 use Rattle.ll_semantics.specs.States.{State}
-use Rattle.ll_process.specs.Processes.{IsNumbered, started_at}
+use Rattle.ll_trace.specs.Processes.{IsNumbered, started_at}
 use Rattle.ll_process.specs.Judging.{state_left, answers_of}
 
 -- what contracts see of a case: the layers are those that its trace enforces, and a note stands for each record

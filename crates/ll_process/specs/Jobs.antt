@@ -4,7 +4,7 @@ use Rattle.std.specs.Prelude.{◌≡◌, ℕ, ◌+◌, ◌<◌, ◌≤◌, [], �
 use Rattle.ll_trace.specs.declared.record.Record.{Record}
 use Rattle.ll_process.specs.declared.job.Job.{Job}
 use Rattle.ll_process.specs.Cases.{Matter}
-use Rattle.ll_process.specs.Processes.{kids, process_count, times}
+use Rattle.ll_trace.specs.Processes.{kids, process_count, times}
 
 -- the processes of jobs
 abbrev pub processes_of : List Job → List ℕ

@@ -9,7 +9,7 @@ use Rattle.ll_semantics.specs.declared.answer.Answer.TheVariants.{Moot}
 use Rattle.ll_semantics.specs.States.{State}
 use Rattle.ll_semantics.specs.Situations.{world_at}
 use Rattle.ll_semantics.specs.Worlds.{judged}
-use Rattle.ll_process.specs.Processes.{is_start, own_records}
+use Rattle.ll_trace.specs.Processes.{is_start, own_records}
 
 -- the place in the trace from which a record finds its process as it is: a start finds it as it begins
 abbrev pub place_met : ℕ → Option Record → ℕ

@@ -1,4 +1,3 @@
-pub mod Processes
 pub mod Orders
 pub mod Judging
 pub mod Weights

@@ -5,7 +5,7 @@ use Rattle.ll_rights.specs.declared.abi.Abi.{Abi}
 use Rattle.ll_tree.specs.Trees.{Entry}
 use Rattle.ll_trace.specs.declared.op.Op.{Op}
 use Rattle.ll_trace.specs.declared.op.Op.TheVariants.{Create, AddPath, AddPort}
-use Rattle.ll_semantics.specs.Processes.{is_starting}
+use Rattle.ll_trace.specs.Processes.{is_starting}
 use Rattle.ll_semantics.specs.Worlds.{World, answer_in, step}
 
 -- the call makes or changes a ruleset

@@ -3,7 +3,7 @@
 ghost use Rattle.std.specs.Prelude.{◌≡◌, ◌<◌, ℕ, Some, IfOk, length, slice_get};
 ghost use Rattle.std.specs.Option.{option_map};
 ghost use Rattle.ll_process.specs.Cases.{IsCase};
-ghost use Rattle.ll_process.specs.Processes.{process_count, own_records, forked_at};
+ghost use Rattle.ll_trace.specs.Processes.{process_count, own_records, forked_at};
 
 use ll_rights::Abi;
 use ll_rulebook::Rulebook;

@@ -2,7 +2,7 @@
 
 ghost use Rattle.std.specs.Prelude.{◌≡◌, IfOk, IfSome, OnOk};
 ghost use Rattle.std.specs.Option.{option_map};
-ghost use Rattle.ll_process.specs.Processes.{forked_at};
+ghost use Rattle.ll_trace.specs.Processes.{forked_at};
 ghost use Rattle.ll_process.specs.Own.{IsOwn, Leaves};
 ghost use Rattle.ll_process.specs.Jobs.{HandsOn, KeepsMore};
 

@@ -1,7 +1,7 @@
 //! Jobs: processes that are to be judged, each with the state that it begins with.
 
 ghost use Rattle.std.specs.Prelude.{◌≡◌, ◌<◌};
-ghost use Rattle.ll_process.specs.Processes.{process_count};
+ghost use Rattle.ll_trace.specs.Processes.{process_count};
 ghost use Rattle.ll_process.specs.Cases.{BeginsAs};
 ghost use Rattle.ll_process.specs.AgreesOnce.{BeginsAs-once};
 

@@ -3,7 +3,7 @@
 ghost use Rattle.std.specs.Prelude.{◌≡◌, ◌<◌, ℕ, Some, slice_get};
 ghost use Rattle.std.specs.List.{flat_map};
 ghost use Rattle.ll_trace.specs.declared.record.ProcessId.{ProcessId as Process};
-ghost use Rattle.ll_process.specs.Processes.{process_count, numbers};
+ghost use Rattle.ll_trace.specs.Processes.{process_count, numbers};
 ghost use Rattle.ll_process.specs.Cases.{answers_in};
 
 use crate::case::Case;

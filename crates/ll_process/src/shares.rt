@@ -1,7 +1,7 @@
 //! What holds of processes that are shared out.
 ghost use Rattle.std.specs.Prelude.{◌≡◌, ℕ, ◌+◌, ◌<◌, List};
 ghost use Rattle.ll_trace.specs.declared.record.Record.{Record};
-ghost use Rattle.ll_process.specs.Processes.{IsNumbered, process_count, times, roots, kids};
+ghost use Rattle.ll_trace.specs.Processes.{IsNumbered, process_count, times, roots, kids};
 
 /// Processes that are the roots of a trace together with the children of their own members, each as
 /// often, are all processes of the trace, each once.

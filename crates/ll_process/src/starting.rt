@@ -2,7 +2,7 @@
 
 ghost use Rattle.std.specs.Prelude.{◌≡◌, ◌<◌, IfOk, IfSome, length, slice_get};
 ghost use Rattle.std.specs.Option.{option_map};
-ghost use Rattle.ll_process.specs.Processes.{root_at, roots};
+ghost use Rattle.ll_trace.specs.Processes.{root_at, roots, IsNumbered};
 ghost use Rattle.ll_process.specs.Jobs.{processes_of, AllOf};
 
 use crate::adding::append;
@@ -31,10 +31,11 @@ fn root_job<'c>(alloc: Global, case: &'c Case, index: usize) -> Option<Job<'c>>
 }
 
 impl Case {
-    /// One job for each `start` record, in the order of the trace.
+    /// One job for each `start` record, in the order of the trace, whose processes are numbered.
     pub fn roots(&self, alloc: Global) -> Result<Vec<Job<'_>>, NoMemory>
         ensures roots { IfOk result (λ jobs. processes_of jobs.items ≡ roots self.now.records) }
         ensures of_case { IfOk result (λ jobs. AllOf self.now jobs.items) }
+        ensures numbered { IfOk result (λ jobs. IsNumbered self.now.records) }
     {
         let mut jobs = Vec::new(alloc);
         for index in 0..self.trace().records().len() {

@@ -12,7 +12,7 @@ use Rattle.ll_trace.specs.declared.record.Record.{Record}
 use Rattle.ll_trace.specs.declared.record.ProcessId.{ProcessId}
 use Rattle.ll_process.specs.declared.job.Job.{Job}
 use Rattle.ll_process.specs.declared.piece.Piece.{Piece}
-use Rattle.ll_process.specs.Processes.{IsNumbered, process_count, children, kids, roots, numbers, times}
+use Rattle.ll_trace.specs.Processes.{IsNumbered, process_count, children, kids, roots, numbers, times}
 use Rattle.ll_process.specs.Weights.{weight, weight_of}
 use Rattle.ll_process.specs.Cases.{Matter}
 use Rattle.ll_process.specs.Jobs.{processes_of, AllOf as AllJobsOf, SharesOut}

@@ -1,7 +1,7 @@
 //! All processes of a case, in an order of the caller's own.
 
 ghost use Rattle.std.specs.Prelude.{◌≡◌, ◌<◌, ◌+◌, ℕ, IfOk, sum_by};
-ghost use Rattle.ll_process.specs.Processes.{process_count, times};
+ghost use Rattle.ll_trace.specs.Processes.{process_count, times};
 ghost use Rattle.ll_pool.specs.Gathered.{AllOf, processes_in};
 
 use crate::keeper::{Keeper, Wanted};
@@ -20,7 +20,6 @@ pub fn judge_greatest_first(
     ensures each_once { IfOk result (λ pieces. (process : ℕ) → process < process_count case.now.records
         → times process (processes_in pieces.items) ≡ 1) }
 {
-    let _trace = case.trace();
     let jobs = case.roots(alloc)?;
     let mut keeper = Keeper { wanted, jobs };
     let mut pieces = Vec::new(alloc);

@@ -31,7 +31,7 @@ use Rattle.ll_semantics.specs.Notes.{is_on_rulesets, enforced}
 use Rattle.ll_semantics.specs.Worlds.{World}
 use Rattle.ll_rulebook.specs.declared.pass.Pass.{Pass}
 use Rattle.ll_rulebook.specs.declared.tables.Tables.{Tables}
-use Rattle.ll_semantics.specs.Processes.{is_starting}
+use Rattle.ll_trace.specs.Processes.{is_starting}
 use Rattle.ll_rulebook.specs.Tables.{held_by}
 use Rattle.ll_rulebook.specs.Stores.{Extends, Replaces, AddsPathRule, AddsPortRule, IsAnswerTo}
 use Rattle.ll_rulebook.specs.Passes.{IsSound, Agrees, Settles}

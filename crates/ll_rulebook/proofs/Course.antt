@@ -26,8 +26,7 @@ use Rattle.ll_rulebook.specs.Tables.{held_by}
 use Rattle.ll_rulebook.specs.Stores.{Extends}
 use Rattle.ll_rulebook.specs.Settled.{met_by}
 use Rattle.ll_rulebook.specs.Passes.{Settles, HasSettled}
-use Rattle.ll_rulebook.proofs.Places.{slice_get-push}
-use Rattle.ll_semantics.proofs.Numbering.{are_numbered}
+use Rattle.ll_trace.proofs.Numbers.{slice_get-push}
 use Rattle.ll_semantics.proofs.Steps.{count-world_at}
 use Rattle.ll_semantics.proofs.Worlds.{world_at-more}
 
@@ -114,4 +113,4 @@ settled_next tree abi records k r old new notes note at so_far settles =
 pub has_table : (tree : List Entry) (abi : Abi) (records : List Record) (k : ℕ) (r : Record) (pass : Pass) (notes : List Note) → AreRecords records →
     slice_get records k ≡ Some r → HasSettled tree abi records k pass notes → is_start r.op ≡ false → r.process.0 < length pass.tables.held.items
 has_table tree abi records k r pass notes are at so_far other =
-    omega (arith, so_far.agrees.count, count-world_at tree abi records k, (are_numbered records are).goes_on k r at other)
+    omega (arith, so_far.agrees.count, count-world_at tree abi records k, are.numbered.goes_on k r at other)

@@ -12,7 +12,8 @@ use Rattle.ll_rulebook.specs.declared.store.Stored.{Stored}
 use Rattle.ll_rulebook.specs.Kept.{AreFrozen, stock_of, rulesets_of}
 use Rattle.ll_rulebook.specs.Stores.{Stock, Replaces}
 use Rattle.ll_rules.specs.declared.errno.RuleFault.{RuleFault}
-use Rattle.ll_rulebook.proofs.Places.{slice_get-set, slice_get-push, stands}
+use Rattle.ll_trace.proofs.Numbers.{slice_get-push}
+use Rattle.ll_rulebook.proofs.Places.{slice_get-set, stands}
 
 -- what stands in a list still stands there when more is pushed
 pub stands_on : {X : Type 0} (xs : List X) (k : ℕ) (x y : X) → slice_get xs k ≡ Some x → slice_get (xs ++ y ∷ []) k ≡ Some x

@@ -6,7 +6,8 @@ use Rattle.std.proofs.lemmas.Bool.{cases_eq, eq-eqb, ne_eqb}
 use Rattle.std.proofs.lemmas.Bool.Decides.{nat_tests}
 use Rattle.std.proofs.lemmas.Map.Entries.{entries_from_clone}
 use Rattle.ll_rulebook.specs.Tables.{held_by, Holds, Begins}
-use Rattle.ll_rulebook.proofs.Places.{slice_get-set, slice_get-push, stands}
+use Rattle.ll_trace.proofs.Numbers.{slice_get-push}
+use Rattle.ll_rulebook.proofs.Places.{slice_get-set, stands}
 
 pub place_is : (tables : List (BTreeMap ℕ ℕ)) (process number : ℕ) (held : BTreeMap ℕ ℕ) → process < length tables → held ≡ get_or tables process held →
     get nat_cmp held number ≡ held_by tables process number

@@ -12,12 +12,6 @@ slice_get-set (first ∷ xs) zero (suc j) x within = rw eqb-suc-zero refl
 slice_get-set (first ∷ xs) (suc i) zero x within = rw eqb-zero-suc refl
 slice_get-set (first ∷ xs) (suc i) (suc j) x within = rw eqb-suc-suc (slice_get-set xs i j x (omega arith))
 
-pub slice_get-push : {X : Type 0} (xs : List X) (j : ℕ) (x : X) → slice_get (xs ++ x ∷ []) j ≡ cond (eqb j (length xs)) (Some x) (slice_get xs j)
-slice_get-push [] zero x = refl
-slice_get-push [] (suc j) x = rw eqb-suc-zero refl
-slice_get-push (first ∷ xs) zero x = rw eqb-zero-suc refl
-slice_get-push (first ∷ xs) (suc j) x = rw eqb-suc-suc (slice_get-push xs j x)
-
 -- what is read at a place stands there
 pub stands : {X : Type 0} (xs : List X) (i : ℕ) (x : X) → i < length xs → x ≡ get_or xs i x → slice_get xs i ≡ Some x
 stands {X = X} xs i x within read = slice_get-get_or xs i x within ∙ ap (λ (y : X). Some y) (sym read)

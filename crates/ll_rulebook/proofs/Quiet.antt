@@ -11,7 +11,7 @@ use Rattle.ll_semantics.specs.Answers.{answer, named}
 use Rattle.ll_semantics.specs.Effects.{effect, with_layer}
 use Rattle.ll_semantics.specs.Situations.{change, rules, state_by, rulesets_by}
 use Rattle.ll_semantics.specs.Notes.{is_on_rulesets, enforced}
-use Rattle.ll_semantics.specs.Processes.{is_start, is_starting}
+use Rattle.ll_trace.specs.Processes.{is_start, is_starting}
 use Rattle.ll_semantics.specs.Worlds.{if_allowed}
 use Rattle.ll_semantics.specs.Situations.{state_after, rulesets_after}
 

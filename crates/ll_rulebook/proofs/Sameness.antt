@@ -19,7 +19,8 @@ use Rattle.ll_rules.specs.Rulesets.{with_rule_at}
 use Rattle.ll_rules.proofs.SameLayers.{SameRules-refl, SameRules-with_file_rule}
 use Rattle.ll_semantics.specs.States.{Layer}
 use Rattle.ll_rulebook.specs.Passes.{AreSame}
-use Rattle.ll_rulebook.proofs.Places.{slice_get-set, slice_get-push}
+use Rattle.ll_trace.proofs.Numbers.{slice_get-push}
+use Rattle.ll_rulebook.proofs.Places.{slice_get-set}
 
 pub same_new : (tree : List Entry) (handled_files : Fs) (handled_network : Net) → SameRules (in_tree tree (without_rules handled_files handled_network)) (without_rules handled_files handled_network)
 same_new tree handled_files handled_network = SameRules-refl (without_rules handled_files handled_network)

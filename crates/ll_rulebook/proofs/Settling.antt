@@ -31,7 +31,7 @@ use Rattle.ll_semantics.specs.Notes.{NoteFits, IsFrozen, is_on_rulesets, enforce
 use Rattle.ll_semantics.specs.Worlds.{World, with_state, step, if_allowed}
 use Rattle.ll_semantics.specs.Situations.{state_after, rulesets_after}
 use Rattle.ll_rulebook.specs.declared.pass.Pass.{Pass}
-use Rattle.ll_semantics.specs.Processes.{is_starting}
+use Rattle.ll_trace.specs.Processes.{is_starting}
 use Rattle.ll_rulebook.specs.Tables.{held_by, Holds, Begins}
 use Rattle.ll_rulebook.specs.Stores.{Extends}
 use Rattle.ll_rulebook.specs.Settled.{met_by}

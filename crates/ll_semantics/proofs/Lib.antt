@@ -1,5 +1,3 @@
 pub mod Worlds
 pub mod Steps
 pub mod Unchanged
-pub mod Numbers
-pub mod Numbering

@@ -1,7 +1,6 @@
 -- What one call does to a world: to the state of its own process, to the one it starts, and to all others.
-use Rattle.std.proofs.Common.{◌≡◌, ◌≢◌, ℕ, ◌+◌, Bool, true, false, cond, List, [], ◌∷◌, take, Some, None, refl, sym, ap, ◌∙◌, inl, inr, arith}
+use Rattle.std.proofs.Common.{◌≡◌, ◌≢◌, ℕ, ◌+◌, true, false, cond, List, [], ◌∷◌, take, Some, None, refl, sym, ap, ◌∙◌, inl, inr, arith}
 use Rattle.std.proofs.lemmas.Bool.{cases_eq, eq-eqb, ne_eqb}
-use Rattle.std.proofs.lemmas.List.Sums.{sum_by-cons}
 use Rattle.ll_rights.specs.declared.abi.Abi.{Abi}
 use Rattle.ll_tree.specs.Trees.{Entry}
 use Rattle.ll_trace.specs.declared.record.Record.{Record}
@@ -15,7 +14,8 @@ use Rattle.ll_semantics.specs.Effects.{Effect, nothing, leaves, leaves_rulesets,
 use Rattle.ll_semantics.specs.Situations.{state_by, rulesets_by, begun_by, change, rules, started, state_after, rulesets_after}
 use Rattle.ll_semantics.specs.Worlds.{World, if_allowed, with_state, affected, answer_in, step, empty_world}
 use Rattle.ll_semantics.specs.Situations.{world_after, world_at}
-use Rattle.ll_semantics.specs.Processes.{is_start, is_fork, is_starting, process_count}
+use Rattle.ll_trace.specs.Processes.{is_start, is_fork, is_starting, process_count}
+use Rattle.ll_trace.proofs.Numbers.{process_count-cons}
 
 -- ---- one state is set
 
@@ -171,10 +171,6 @@ count-unbegun tree abi w process op none =
     ∙ ap (λ (n : ℕ). if_allowed asked n w.count) (affected-count w process does none)
     ∙ if_allowed-same asked w.count
 
-pub process_count-cons : (r : Record) (rs : List Record) → process_count (r ∷ rs) ≡ cond (is_starting r.op) 1 0 + process_count rs
-unfolding process_count
-process_count-cons r rs = sum_by-cons (λ (x : Record). cond (is_starting x.op) 1 0) r rs
-
 count-world_after : (tree : List Entry) (abi : Abi) (w : World) (rs : List Record) → (world_after tree abi w rs).count ≡ w.count + process_count rs
 unfolding world_after process_count
 count-world_after tree abi w [] = omega arith
@@ -214,42 +210,3 @@ pub started-fork : (tree : List Entry) (rulesets : List Layer) (op : Op) (s : St
 unfolding started begun_by effect is_fork
 started-fork tree rulesets (Fork child) s holds = refl
 started-fork tree rulesets op s holds = cc
-
-pub fork-starts : (op : Op) → is_fork op ≡ true → is_starting op ≡ true
-unfolding is_starting is_fork
-fork-starts (Fork child) holds = refl
-fork-starts op holds = cc
-
-pub start-starts : (op : Op) → is_start op ≡ true → is_starting op ≡ true
-unfolding is_starting is_start
-start-starts (Start nnp admin) holds = refl
-start-starts op holds = cc
-
-pub starts_alone : (op : Op) → is_starting op ≡ true → is_start op ≡ false → is_fork op ≡ true
-unfolding is_starting is_start is_fork
-starts_alone (Start nnp admin) holds fails = cc
-starts_alone (Fork child) holds fails = refl
-starts_alone op holds fails = cc
-
-pub fork_no_start : (op : Op) → is_fork op ≡ true → is_start op ≡ false
-unfolding is_start is_fork
-fork_no_start (Fork child) holds = refl
-fork_no_start op holds = cc
-
-pub is_fork-from : (op : Op) (child : ℕ) → op ≡ Fork child → is_fork op ≡ true
-unfolding is_fork
-is_fork-from op child is = ap (λ o. is_fork o) is
-
-pub is_fork-not : (op : Op) → ((child : ℕ) → op ≡ Fork child → ⊥) → is_fork op ≡ false
-unfolding is_fork
-is_fork-not (Fork child) other = absurd (other child refl)
-is_fork-not op other = refl
-
-pub is_start-from : (op : Op) (nnp admin : Bool) → op ≡ Start nnp admin → is_start op ≡ true
-unfolding is_start
-is_start-from op nnp admin is = ap (λ o. is_start o) is
-
-pub is_start-not : (op : Op) → ((nnp admin : Bool) → op ≡ Start nnp admin → ⊥) → is_start op ≡ false
-unfolding is_start
-is_start-not (Start nnp admin) other = absurd (other nnp admin refl)
-is_start-not op other = refl

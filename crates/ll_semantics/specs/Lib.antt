@@ -10,4 +10,3 @@ pub mod Notes
 pub mod WorkedWords
 pub mod WorkedLayers
 pub mod WorkedCalls
-pub mod Processes

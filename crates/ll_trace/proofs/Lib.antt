@@ -1,9 +1,10 @@
 pub mod KeptLemmas
+pub mod Starting
+pub mod Numbers
+pub mod Numbering
+pub mod Limits
 pub mod RecordLemmas
 pub mod TableLemmas
-pub mod RangeLemmas
-pub mod IndexLemmas
-pub mod ProcessLemmas
 pub mod LawLemmas
 pub mod OnLiterals
 pub mod SetLemmas

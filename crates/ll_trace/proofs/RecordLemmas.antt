@@ -8,6 +8,7 @@ use Rattle.ll_trace.specs.declared.reader.Reader.{Reader}
 use Rattle.ll_trace.specs.Entries.{Entry, misplacement, process_count}
 use Rattle.ll_trace.specs.Records.{entry_of, record_of, records_after}
 use Rattle.ll_trace.specs.RecordFacts.{ArePlaced, AreRecords}
+use Rattle.ll_trace.proofs.Numbering.{are_numbered}
 use Rattle.ll_trace.specs.Kept.{entries, past, owner_of, IsKept, IsNoted}
 
 pub records_after-append : (past entries : List Entry) (entry : Entry) → records_after past (entries ++ entry ∷ []) ≡ records_after past entries ++ record_of (reverse entries ++ past) entry ∷ []
@@ -31,10 +32,9 @@ AreRecords-append records entry r are here is =
     let same : past ++ [] ≡ past = append-nil past in
     let numbered : records_after [] (map entry_of records ++ entry ∷ []) ≡ records_after [] (map entry_of records) ++ record_of past entry ∷ [] =
     records_after-append [] (map entry_of records) entry ∙ ap (λ (p : List Entry). records_after [] (map entry_of records) ++ record_of p entry ∷ []) same in
-    record {
-      placed = rw entries (ArePlaced-append [] (map entry_of records) entry are.placed (ap (λ (p : List Entry). misplacement p entry) same ∙ here));
-      processes = ap (λ rs. rs ++ r ∷ []) are.processes ∙ (ap (λ x. records_after [] (map entry_of records) ++ x ∷ []) is ∙ (sym numbered ∙ ap (records_after []) (sym entries)));
-    }
+    let placed : ArePlaced [] (map entry_of (records ++ r ∷ [])) = rw entries (ArePlaced-append [] (map entry_of records) entry are.placed (ap (λ (p : List Entry). misplacement p entry) same ∙ here)) in
+    let processes : records ++ r ∷ [] ≡ records_after [] (map entry_of (records ++ r ∷ [])) = ap (λ rs. rs ++ r ∷ []) are.processes ∙ (ap (λ x. records_after [] (map entry_of records) ++ x ∷ []) is ∙ (sym numbered ∙ ap (records_after []) (sym entries))) in
+    record { placed = placed; processes = processes; numbered = are_numbered (records ++ r ∷ []) placed processes }
 
 pub kept_admitted : (old noted new : Reader) (entry : Entry) (r : Record) → IsKept old → misplacement (past old) entry ≡ None → IsNoted old noted entry → new.records.items ≡ noted.records.items ++ r ∷ []
     → new.owners ≡ noted.owners → new.processes ≡ noted.processes → r ≡ record_of (past old) entry → IsKept new

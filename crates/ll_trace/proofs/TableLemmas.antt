@@ -1,13 +1,22 @@
--- The tables of a list of records, and one more.
-use Rattle.std.proofs.Common.{◌≡◌, ◌≢◌, ℕ, zero, suc, ◌+◌, ◌<◌, Bool, true, false, List, [], ◌∷◌, ◌++◌, length, get_or, set, Option, Some, None, Vec, cond, eqb, refl, sym, ap, ◌∙◌, arith, add-zero, zero-add}
+-- The tables of a list of records, and of one more.
+use Rattle.std.proofs.Common.{◌≡◌, ◌≢◌, ℕ, zero, suc, ◌+◌, ◌<◌, ◌≤◌, Bool, true, false, List, [], ◌∷◌, ◌++◌, length, take, get_or, set, Option, Some, None, Vec, cond, eqb, refl, sym, ap, subst, ◌∙◌, arith, add-one, add-zero}
+use Rattle.std.specs.Prelude.{All, IfSome, option_map, slice_get}
+use Rattle.std.specs.List.{AllByRecursion}
 use Rattle.std.proofs.lemmas.Bool.{eqb-true, eqb-false}
-use Rattle.std.proofs.lemmas.List.{get_or-set_same, get_or-set_other, get_or-map, map-set, append-nil, length-append, length-set}
+use Rattle.std.proofs.lemmas.List.{get_or-set_same, get_or-set_other, get_or-map, map-set, append-nil, length-append, length-set, length-take, take_more}
+use Rattle.std.proofs.lemmas.List.Elements.{All-from_recursion}
+use Rattle.std.proofs.lemmas.Option.{slice_get_read}
 use Rattle.std.specs.declared.alloc.Global.{Global}
 use Rattle.ll_trace.specs.declared.record.ProcessId.{ProcessId}
 use Rattle.ll_trace.specs.declared.record.Record.{Record}
 use Rattle.ll_trace.specs.declared.tables.Tables.{Tables}
-use Rattle.ll_trace.specs.Processes.{starts_one, forked_by, parents, started_from, places_from}
-use Rattle.ll_trace.specs.Indexed.{Adds, Indexes, lists}
+use Rattle.ll_trace.specs.Processes.{is_starting, process_count, started_at, own_from, own_records, forked_by, parent_of, only, IsNumbered}
+use Rattle.ll_trace.specs.RecordFacts.{AreRecords}
+use Rattle.ll_trace.specs.Indexed.{Adds, Indexes, lists, started_noted}
+use Rattle.ll_trace.proofs.Limits.{few_processes}
+use Rattle.ll_trace.proofs.Numbers.{process_count-push, count-more, count-all, numbered_below, slice_get-push, started_at-push, parents-push, length-parents, parent_below}
+
+-- ---- one record more in the tables
 
 -- an empty list more is no place more
 grown : (xs : List (List ℕ)) (b : Bool) (q : ℕ) → get_or (xs ++ cond b ([] ∷ []) []) q [] ≡ get_or xs q []
@@ -17,14 +26,14 @@ grown [] false q = refl
 grown (x ∷ xs) b zero = refl
 grown (x ∷ xs) b (suc q) = grown xs b q
 
-pub list_at : (vecs : List (Vec ℕ Global)) (p : ℕ) (own : Vec ℕ Global) → p < length vecs → own ≡ get_or vecs p own → get_or (lists vecs) p [] ≡ own.items
+list_at : (vecs : List (Vec ℕ Global)) (p : ℕ) (own : Vec ℕ Global) → p < length vecs → own ≡ get_or vecs p own → get_or (lists vecs) p [] ≡ own.items
 list_at vecs p own lt is = get_or-map (λ (v : Vec ℕ Global). v.items) vecs p own [] lt ∙ ap (λ (v : Vec ℕ Global). v.items) (sym is)
 
 length-lists : (vecs : List (Vec ℕ Global)) → length (lists vecs) ≡ length vecs
 length-lists [] = refl
 length-lists (v ∷ vecs) = ap (λ n. suc n) (length-lists vecs)
 
-pub length-grown : {X : Type 0} (xs : List X) (b : Bool) (x : X) → length (xs ++ cond b (x ∷ []) []) ≡ length xs + cond b 1 0
+length-grown : {X : Type 0} (xs : List X) (b : Bool) (x : X) → length (xs ++ cond b (x ∷ []) []) ≡ length xs + cond b 1 0
 length-grown xs true x = length-append xs (x ∷ [])
 length-grown xs false x = length-append xs []
 
@@ -39,74 +48,107 @@ pushed vecs p q place old new false same lt is grows =
     rw map-set (get_or-set_other (lists vecs) p q new.items [] there ∙ sym (append-nil (get_or (lists vecs) q [])))
 
 pub adds : (old new : Tables) (of : Record) (place : ℕ) (process : Option ProcessId) (between : List (Vec ℕ Global)) (before after : Vec ℕ Global)
-    → new.parents.items ≡ old.parents.items ++ cond (starts_one of) (forked_by of.op of.process ∷ []) [] → lists between ≡ lists old.own.items ++ cond (starts_one of) ([] ∷ []) []
-    → process ≡ cond (starts_one of) (Some (record { 0 = length old.parents.items })) None → new.started.items ≡ old.started.items ++ process ∷ []
+    → new.parents.items ≡ old.parents.items ++ cond (is_starting of.op) (forked_by of.op of.process ∷ []) [] → lists between ≡ lists old.own.items ++ cond (is_starting of.op) ([] ∷ []) []
+    → process ≡ cond (is_starting of.op) (Some (record { 0 = length old.own.items })) None → new.started.items ≡ old.started.items ++ process ∷ []
     → new.own.items ≡ set between of.process.0 after → before ≡ get_or between of.process.0 before → after.items ≡ before.items ++ place ∷ []
-    → of.process.0 < length old.own.items + cond (starts_one of) 1 0 → Adds old new of place
+    → of.process.0 < length old.own.items + cond (is_starting of.op) 1 0 → Adds old new of place
 adds old new of place process between before after parents_are begun process_is started_are own_is before_is grows known =
-    let count : length between ≡ length old.own.items + cond (starts_one of) 1 0 =
-    sym (length-lists between) ∙ (ap length begun ∙ (length-grown (lists old.own.items) (starts_one of) [] ∙ ap (λ n. n + cond (starts_one of) 1 0) (length-lists old.own.items))) in
+    let count : length between ≡ length old.own.items + cond (is_starting of.op) 1 0 =
+    sym (length-lists between) ∙ (ap length begun ∙ (length-grown (lists old.own.items) (is_starting of.op) [] ∙ ap (λ n. n + cond (is_starting of.op) 1 0) (length-lists old.own.items))) in
     let within : of.process.0 < length between = rw count known in
     record {
       by_process = parents_are;
       size = ap length own_is ∙ (length-set between of.process.0 after ∙ count);
       places = λ q. ap (λ (vs : List (Vec ℕ Global)). get_or (lists vs) q []) own_is ∙ (pushed between of.process.0 q place before after (eqb of.process.0 q) refl within before_is grows
-          ∙ ap (λ ns. ns ++ cond (eqb of.process.0 q) (place ∷ []) []) (ap (λ ls. get_or ls q []) begun ∙ grown (lists old.own.items) (starts_one of) q));
+          ∙ ap (λ ns. ns ++ cond (eqb of.process.0 q) (place ∷ []) []) (ap (λ ls. get_or ls q []) begun ∙ grown (lists old.own.items) (is_starting of.op) q));
       by_record = started_are ∙ ap (λ (p : Option ProcessId). old.started.items ++ p ∷ []) process_is;
     }
 
--- ---- the words, of one record more
+-- ---- one record more in the definitions
 
-with_first : {X : Type 0} (b : Bool) (x : X) (more xs last : List X) → more ≡ xs ++ last → cond b (x ∷ more) more ≡ cond b (x ∷ xs) xs ++ last
-with_first true x more xs last e = ap (λ ys. x ∷ ys) e
-with_first false x more xs last e = e
+own_first : (b : Bool) (k : ℕ) (more xs last : List ℕ) → more ≡ xs ++ last → cond b (k ∷ more) more ≡ cond b (k ∷ xs) xs ++ last
+own_first true k more xs last e = ap (λ ys. k ∷ ys) e
+own_first false k more xs last e = e
 
-pub parents-append : (records : List Record) (of : Record) → parents (records ++ of ∷ []) ≡ parents records ++ cond (starts_one of) (forked_by of.op of.process ∷ []) []
-parents-append [] of = refl
-parents-append (first ∷ records) of = with_first (starts_one first) (forked_by first.op first.process) _ (parents records) _ (parents-append records of)
+own_from-push : (q k : ℕ) (rs : List Record) (of : Record) → own_from q k (rs ++ of ∷ []) ≡ own_from q k rs ++ cond (eqb of.process.0 q) ((k + length rs) ∷ []) []
+unfolding own_from
+own_from-push q k [] of = rw add-zero refl
+own_from-push q k (r ∷ rs) of =
+    let shift : k + 1 + length rs ≡ k + suc (length rs) = omega arith in
+    own_first (eqb r.process.0 q) k _ (own_from q (k + 1) rs) _ (own_from-push q (k + 1) rs of ∙ ap (λ n. own_from q (k + 1) rs ++ cond (eqb of.process.0 q) (n ∷ []) []) shift)
 
-abbrev started_at : Bool → ℕ → List (Option ProcessId)
-started_at b n = cond b (Some (record { 0 = n })) None ∷ []
+started_push : (last b : Bool) (n : ℕ) (started : Option (Option ProcessId)) (before : Option ℕ) → option_map (λ process. process.0) (only started) ≡ before
+    → option_map (λ process. process.0) (only (cond last (Some (cond b (Some (record { 0 = n })) None)) started)) ≡ cond last (cond b (Some n) None) before
+started_push true true n started before same = refl
+started_push true false n started before same = refl
+started_push false b n started before same = same
 
-started_alone : (b : Bool) (n : ℕ) → cond b (Some (record { 0 = n }) ∷ []) (None ∷ []) ≡ started_at b (n + 0)
-started_alone true n = rw add-zero refl
-started_alone false n = refl
-
-started_more : (b last : Bool) (n count : ℕ) (first after more same : List (Option ProcessId)) → after ≡ first ++ started_at last (n + 1 + count) → same ≡ more ++ started_at last (n + count)
-    → cond b (Some (record { 0 = n }) ∷ after) (None ∷ same) ≡ cond b (Some (record { 0 = n }) ∷ first) (None ∷ more) ++ started_at last (n + cond b (suc count) count)
-started_more true last n count first after more same e f = let shift : n + 1 + count ≡ n + suc count = omega arith in ap (λ ys. Some (record { 0 = n }) ∷ ys) (e ∙ ap (λ k. first ++ started_at last k) shift)
-started_more false last n count first after more same e f = ap (λ ys. None ∷ ys) f
-
-length-with_first : {X : Type 0} (b : Bool) (x : X) (xs : List X) → length (cond b (x ∷ xs) xs) ≡ cond b (suc (length xs)) (length xs)
-length-with_first true x xs = refl
-length-with_first false x xs = refl
-
-started_from-append : (n : ℕ) (records : List Record) (of : Record) → started_from n (records ++ of ∷ []) ≡ started_from n records ++ started_at (starts_one of) (n + length (parents records))
-started_from-append n [] of = started_alone (starts_one of) n
-started_from-append n (first ∷ records) of =
-    started_more (starts_one first) (starts_one of) n (length (parents records)) (started_from (n + 1) records) _ (started_from n records) _ (started_from-append (n + 1) records of) (started_from-append n records of)
-    ∙ ap (λ k. started_from n (first ∷ records) ++ started_at (starts_one of) (n + k)) (sym (length-with_first (starts_one first) (forked_by first.op first.process) (parents records)))
-
-place_alone : (b : Bool) (n : ℕ) → cond b (n ∷ []) [] ≡ cond b ((n + 0) ∷ []) []
-place_alone b n = rw add-zero refl
-
-places_from-append : (n : ℕ) (records : List Record) (of : Record) (q : ℕ) → places_from n (records ++ of ∷ []) q ≡ places_from n records q ++ cond (eqb of.process.0 q) ((n + length records) ∷ []) []
-places_from-append n [] of q = place_alone (eqb of.process.0 q) n
-places_from-append n (first ∷ records) of q =
-    let shift : n + 1 + length records ≡ n + length (first ∷ records) = omega arith in
-    let later = places_from-append (n + 1) records of q ∙ ap (λ k. places_from (n + 1) records q ++ cond (eqb of.process.0 q) (k ∷ []) []) shift in
-    with_first (eqb first.process.0 q) n _ (places_from (n + 1) records q) _ later
-
-pub indexes_next : (old new : Tables) (records : List Record) (of : Record) → Indexes old records → Adds old new of (length records) → Indexes new (records ++ of ∷ [])
+indexes_next : (old new : Tables) (records : List Record) (of : Record) → Indexes old records → Adds old new of (length records) → Indexes new (records ++ of ∷ [])
+unfolding own_records
 indexes_next old new records of indexes adds_one =
-    let count : length old.parents.items ≡ 0 + length (parents records) = ap length indexes.by_process ∙ sym (zero-add (length (parents records))) in
-    let size : length (parents (records ++ of ∷ [])) ≡ length (parents records) + cond (starts_one of) 1 0 = ap length (parents-append records of) ∙ length-grown (parents records) (starts_one of) (forked_by of.op of.process) in
-    let here : 0 + length records ≡ length records = zero-add (length records) in
+    let here : 0 + length records ≡ length records = omega arith in
     record {
-      by_process = adds_one.by_process ∙ (ap (λ ps. ps ++ cond (starts_one of) (forked_by of.op of.process ∷ []) []) indexes.by_process ∙ sym (parents-append records of));
-      size = adds_one.size ∙ (ap (λ n. n + cond (starts_one of) 1 0) indexes.size ∙ sym size);
-      places = λ q. adds_one.places q ∙ (ap (λ ns. ns ++ cond (eqb of.process.0 q) (length records ∷ []) []) (indexes.places q)
-          ∙ sym (places_from-append 0 records of q ∙ ap (λ k. places_from 0 records q ++ cond (eqb of.process.0 q) (k ∷ []) []) here));
-      by_record = adds_one.by_record ∙ (ap (λ xs. xs ++ started_at (starts_one of) (length old.parents.items)) indexes.by_record
-          ∙ (ap (λ k. started_from 0 records ++ started_at (starts_one of) k) count ∙ sym (started_from-append 0 records of)));
+      by_process = adds_one.by_process ∙ (ap (λ ps. ps ++ cond (is_starting of.op) (forked_by of.op of.process ∷ []) []) indexes.by_process ∙ sym (parents-push records of));
+      size = omega (arith, adds_one.size, indexes.size, process_count-push records of);
+      places = λ q. adds_one.places q ∙ ap (λ ns. ns ++ cond (eqb of.process.0 q) (length records ∷ []) []) (indexes.places q)
+          ∙ sym (own_from-push q 0 records of ∙ ap (λ k. own_from q 0 records ++ cond (eqb of.process.0 q) (k ∷ []) []) here);
+      rows = ap length adds_one.by_record ∙ length-append old.started.items _ ∙ ap (λ n. n + 1) indexes.rows ∙ sym (length-append records (of ∷ []));
+      by_record = λ k.
+          ap (λ (xs : List (Option ProcessId)). started_noted xs k) adds_one.by_record
+          ∙ ap (λ (o : Option (Option ProcessId)). option_map (λ process. process.0) (only o)) (slice_get-push old.started.items k _)
+          ∙ rw (indexes.size, indexes.rows) (started_push (eqb k (length records)) (is_starting of.op) (process_count records) (slice_get old.started.items k) (started_at records k) (indexes.by_record k))
+          ∙ sym (started_at-push records of k);
     }
+
+-- ---- the tables of the first records, record after record
+
+with_next : (records : List Record) (i : ℕ) (of : Record) → i < length records → of ≡ get_or records i of → take (suc i) records ≡ take i records ++ of ∷ []
+with_next records i of lt is = ap (λ n. take n records) (sym (add-one i)) ∙ (take_more records i of lt ∙ ap (λ (x : Record). take i records ++ x ∷ []) (sym is))
+
+pub known_at : (tables : Tables) (records : List Record) (i : ℕ) (of : Record) → IsNumbered records → i < length records → of ≡ get_or records i of → Indexes tables (take i records)
+    → of.process.0 < length tables.own.items + cond (is_starting of.op) 1 0
+known_at tables records i of numbered lt is indexes =
+    let at : slice_get records i ≡ Some of = slice_get_read records (length records) i of refl lt is in
+    omega (arith, numbered_below records i of numbered at, count-more records i of at, indexes.size)
+
+pub few_at : (tables : Tables) (records : List Record) (i : ℕ) → AreRecords records → Indexes tables (take i records) → length tables.own.items < 4294967296
+few_at tables records i are indexes = omega (arith, indexes.size, count-all records i, few_processes records are)
+
+pub indexes_one_more : (old new : Tables) (records : List Record) (i : ℕ) (of : Record) → i < length records → of ≡ get_or records i of → Indexes old (take i records) → Adds old new of i → Indexes new (take (i + 1) records)
+indexes_one_more old new records i of lt is indexes adds_one =
+    let count : i ≡ length (take i records) = omega (arith, length-take i records) in
+    let next : Indexes new (take i records ++ of ∷ []) = indexes_next old new (take i records) of indexes (let P : ℕ → Type 0 = λ n. Adds old new of n in subst P count adds_one) in
+    rw add-one (rw (with_next records i of lt is) next)
+
+-- ---- what is read from the tables
+
+pub parents_read : (tables : Tables) (records : List Record) (process : ℕ) → Indexes tables records → process < process_count records → process < tables.parents.len
+parents_read tables records process indexes lt = omega (arith, ap length indexes.by_process, length-parents records)
+
+IfSome_by : {X : Type 0} (o : Option X) (P : X → Type 0) → ((x : X) → o ≡ Some x → P x) → IfSome o P
+IfSome_by None P each = tt
+IfSome_by (Some x) P each = each x refl
+
+pub parent_read : (tables : Tables) (records : List Record) (process : ℕ) (r : Option ProcessId) → IsNumbered records → Indexes tables records → process < process_count records
+    → r ≡ get_or tables.parents.items process r → (r ≡ parent_of records process) × IfSome r (λ parent. parent.0 < process)
+parent_read tables records process r numbered indexes lt is =
+    let got : slice_get tables.parents.items process ≡ Some r = slice_get_read tables.parents.items (length tables.parents.items) process r refl (omega (arith, parents_read tables records process indexes lt)) is in
+    let value : parent_of records process ≡ r = ap (λ ps. only (slice_get ps process)) (sym indexes.by_process) ∙ ap only got in
+    (sym value, IfSome_by r (λ parent. parent.0 < process) (λ parent some. parent_below records process parent numbered lt (value ∙ some)))
+
+own_place : (b : Bool) (n m : ℕ) (places : List ℕ) → n < m → AllByRecursion (λ k. k < m) places → AllByRecursion (λ k. k < m) (cond b (n ∷ places) places)
+own_place true n m places lt all = (lt, all)
+own_place false n m places lt all = all
+
+own_within : (q k : ℕ) (rs : List Record) (m : ℕ) → k + length rs ≤ m → AllByRecursion (λ n. n < m) (own_from q k rs)
+unfolding own_from
+own_within q k [] m le = tt
+own_within q k (r ∷ rs) m le = own_place (eqb r.process.0 q) k m (own_from q (k + 1) rs) (omega arith) (own_within q (k + 1) rs m (omega arith))
+
+pub places_read : (tables : Tables) (records : List Record) (process : ℕ) (own : Vec ℕ Global) (places : List ℕ) → Indexes tables records → process < process_count records
+    → own ≡ get_or tables.own.items process own → places ≡ own.items → (places ≡ own_records records process) × All (λ k. k < length records) places
+unfolding own_records
+places_read tables records process own places indexes lt is read =
+    let within : process < length tables.own.items = omega (arith, indexes.size) in
+    let same : places ≡ own_from process 0 records = read ∙ (sym (list_at tables.own.items process own within is) ∙ indexes.places process) in
+    (same, rw same (All-from_recursion (λ k. k < length records) (own_from process 0 records) (own_within process 0 records (length records) (omega arith))))

@@ -1,10 +1,11 @@
 -- What a trace keeps beside its records, so that processes are looked up and not searched for.
 -- Source: docs/FORMATS.md, "The trace file".
-use Rattle.std.specs.Prelude.{◌≡◌, ℕ, ◌+◌, ◌==◌, List, [], ◌∷◌, ◌++◌, length, map, Some, None, Vec, slice_index_or, if◌then◌else◌}
+use Rattle.std.specs.Prelude.{◌≡◌, ℕ, ◌+◌, ◌==◌, List, [], ◌∷◌, ◌++◌, length, map, Option, Some, None, option_map, Vec, slice_get, slice_index_or, if◌then◌else◌}
 use Rattle.std.specs.declared.alloc.Global.{Global}
 use Rattle.ll_trace.specs.declared.record.Record.{Record}
+use Rattle.ll_trace.specs.declared.record.ProcessId.{ProcessId}
 use Rattle.ll_trace.specs.declared.tables.Tables.{Tables}
-use Rattle.ll_trace.specs.Processes.{starts_one, forked_by, parents, started_from, places_from}
+use Rattle.ll_trace.specs.Processes.{is_starting, process_count, started_at, own_records, forked_by, parents, only}
 
 abbrev pub lists : List (Vec ℕ Global) → List (List ℕ)
 lists vecs = map (λ v. v.items) vecs
@@ -13,16 +14,21 @@ lists vecs = map (λ v. v.items) vecs
 abbrev pub places_noted : Tables → ℕ → List ℕ
 places_noted tables process = slice_index_or (lists tables.own.items) process []
 
+-- the number of the process that is noted for a record
+abbrev pub started_noted : List (Option ProcessId) → ℕ → Option ℕ
+started_noted started place = option_map (λ process. process.0) (only (slice_get started place))
+
 -- the tables of some records
 pub record Indexes (tables : Tables) (records : List Record) : Type 0 where
   pub by_process : tables.parents.items ≡ parents records
-  pub size : length tables.own.items ≡ length (parents records)
-  pub places : (process : ℕ) → places_noted tables process ≡ places_from 0 records process
-  pub by_record : tables.started.items ≡ started_from 0 records
+  pub size : length tables.own.items ≡ process_count records
+  pub places : (process : ℕ) → places_noted tables process ≡ own_records records process
+  pub rows : length tables.started.items ≡ length records
+  pub by_record : (place : ℕ) → started_noted tables.started.items place ≡ started_at records place
 
 -- one record more, at a place
 pub record Adds (old new : Tables) (of : Record) (place : ℕ) : Type 0 where
-  pub by_process : new.parents.items ≡ old.parents.items ++ (if starts_one of then forked_by of.op of.process ∷ [] else [])
-  pub size : length new.own.items ≡ length old.own.items + (if starts_one of then 1 else 0)
+  pub by_process : new.parents.items ≡ old.parents.items ++ (if is_starting of.op then forked_by of.op of.process ∷ [] else [])
+  pub size : length new.own.items ≡ length old.own.items + (if is_starting of.op then 1 else 0)
   pub places : (process : ℕ) → places_noted new process ≡ places_noted old process ++ (if of.process.0 == process then place ∷ [] else [])
-  pub by_record : new.started.items ≡ old.started.items ++ (if starts_one of then Some (record { 0 = length old.parents.items }) else None) ∷ []
+  pub by_record : new.started.items ≡ old.started.items ++ (if is_starting of.op then Some (record { 0 = length old.own.items }) else None) ∷ []

@@ -3,9 +3,9 @@ pub mod NameTexts
 pub mod Operations
 pub mod Entries
 pub mod Records
+pub mod Processes
 pub mod RecordFacts
 pub mod Kept
-pub mod Processes
 pub mod Indexed
 pub mod Traces
 pub mod SingleUse

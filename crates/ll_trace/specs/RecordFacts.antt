@@ -4,13 +4,16 @@ use Rattle.std.specs.Prelude.{◌≡◌, List, [], ◌∷◌, map, None}
 use Rattle.ll_trace.specs.declared.record.Record.{Record}
 use Rattle.ll_trace.specs.Entries.{Entry, misplacement}
 use Rattle.ll_trace.specs.Records.{records_after, entry_of}
+use Rattle.ll_trace.specs.Processes.{IsNumbered}
 
 -- each entry has a place after those before it
 abbrev pub ArePlaced : List Entry → List Entry → Type 0
 ArePlaced past [] = Unit {0}
 ArePlaced past (entry ∷ entries) = (misplacement past entry ≡ None) × ArePlaced (entry ∷ past) entries
 
--- Records can be those of a trace: each is in its place, and belongs to the process that it must.
+-- Records can be those of a trace: each is in its place, and belongs to the process that it must. So processes are
+-- numbered in the order in which they are started.
 pub record AreRecords (records : List Record) : Type 0 where
   pub placed : ArePlaced [] (map entry_of records)
   pub processes : records ≡ records_after [] (map entry_of records)
+  pub numbered : IsNumbered records

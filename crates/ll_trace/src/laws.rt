@@ -1,6 +1,6 @@
 //! What holds of traces by their definitions.
 
-ghost use Rattle.std.specs.Prelude.{◌≡◌, ◌⊎◌, ◌<◌, ℕ, suc, List, length, take, true, Some, Ok};
+ghost use Rattle.std.specs.Prelude.{◌≡◌, ◌⊎◌, ◌<◌, ℕ, List, Some, Ok};
 ghost use Rattle.std.specs.List.{list_any, slice_get};
 ghost use Rattle.serde_json.specs.Data.{Items};
 ghost use Rattle.ll_rights.specs.declared.fs.Fs.{Fs};
@@ -12,12 +12,10 @@ ghost use Rattle.ll_tree.specs.Members.{fold_texts};
 ghost use Rattle.ll_tree.specs.Reading.{IsBad};
 ghost use Rattle.ll_trace.specs.Members.{with_fs, with_net};
 ghost use Rattle.ll_trace.specs.NameTexts.{texts_of};
-ghost use Rattle.ll_trace.specs.declared.record.ProcessId.{ProcessId};
 ghost use Rattle.ll_trace.specs.declared.record.Record.{Record};
-ghost use Rattle.ll_trace.specs.Entries.{is_start, trace_file};
-ghost use Rattle.ll_trace.specs.RecordFacts.{AreRecords};
+ghost use Rattle.ll_trace.specs.Entries.{trace_file};
 ghost use Rattle.ll_trace.specs.Records.{IsTrace};
-ghost use Rattle.ll_trace.specs.Processes.{parents, parent_of, forked_by, started_by};
+ghost use Rattle.ll_trace.specs.Processes.{process_count, parent_of, forked_by, started_at};
 ghost use Rattle.ll_trace.specs.SingleUse.{IsStrictTrace};
 
 /// A file reads as one trace and has no fault, or has one first fault, with its line and its cause, and reads
@@ -41,24 +39,16 @@ pub fn traces_of_single_pids()
         → IsStrictTrace bytes records → IsTrace bytes records }
 {}
 
-/// A record belongs to a process that was started by then; a `start` record starts its own process;
-/// each process is started by a record, which tells its parent; processes are numbered in the order in
-/// which they are started, so a parent's number is below its child's.
+/// Each number below the count is that of a process which just one record starts, and this record
+/// tells its parent. (`AreRecords` says to which process each record belongs: `IsNumbered`.)
 pub fn processes_are_numbered()
-    ensures own { (records : List Record) (place : ℕ) (of : Record) → AreRecords records
-        → slice_get records place ≡ Some of → of.process.0 < length (parents (take (suc place) records)) }
-    ensures start { (records : List Record) (place : ℕ) (of : Record) → AreRecords records
-        → slice_get records place ≡ Some of → is_start of.op ≡ true
-        → started_by records place ≡ Some of.process }
-    ensures in_order { (records : List Record) (place : ℕ) (process : ProcessId)
-        → started_by records place ≡ Some process → process.0 ≡ length (parents (take place records)) }
-    ensures each { (records : List Record) (process : ProcessId) → process.0 < length (parents records)
-        → (place : ℕ) × (started_by records place ≡ Some process) }
-    ensures forked { (records : List Record) (place : ℕ) (of : Record) (process : ProcessId)
-        → slice_get records place ≡ Some of → started_by records place ≡ Some process
+    ensures each { (records : List Record) (process : ℕ) → process < process_count records
+        → (place : ℕ) × (started_at records place ≡ Some process) }
+    ensures once { (records : List Record) (place other process : ℕ)
+        → started_at records place ≡ Some process → started_at records other ≡ Some process → place ≡ other }
+    ensures forked { (records : List Record) (place process : ℕ) (of : Record)
+        → slice_get records place ≡ Some of → started_at records place ≡ Some process
         → parent_of records process ≡ forked_by of.op of.process }
-    ensures parent { (records : List Record) (process parent : ProcessId) → AreRecords records
-        → parent_of records process ≡ Some parent → parent.0 < process.0 }
 {}
 
 /// A set of rights that is read from a list of names has just the rights that some name of the list

@@ -156,7 +156,7 @@ pub enum Op {
 
 impl Op {
     ghost use Rattle.ll_trace.specs.Entries.{is_start, is_exit, pid_started};
-    ghost use Rattle.ll_trace.specs.Processes.{forked_by};
+    ghost use Rattle.ll_trace.specs.Processes.{is_starting, forked_by};
 
     #[tactic(auto, unfolding(crate::specs::Entries::is_start))]
     pub(crate) fn is_start(&self) -> bool
@@ -170,6 +170,14 @@ impl Op {
         ensures { result ≡ is_exit self.now }
     {
         matches!(self, Op::Exit)
+    }
+
+    /// Whether this operation starts a process.
+    #[tactic(auto, unfolding(crate::specs::Processes::is_starting))]
+    pub(crate) fn is_starting(&self) -> bool
+        ensures { result ≡ is_starting self.now }
+    {
+        matches!(self, Op::Start { .. } | Op::Fork { .. })
     }
 
     /// The pid of the process that this operation starts, where it is one of the process `pid`.

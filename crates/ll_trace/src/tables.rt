@@ -17,9 +17,10 @@ pub struct Tables {
 }
 
 impl Tables {
-    ghost use Rattle.ll_trace.specs.Processes.{starts_one, forked_by};
+    ghost use Rattle.ll_trace.specs.Processes.{is_starting, forked_by};
     ghost use Rattle.ll_trace.specs.Indexed.{Adds, Indexes, lists, places_noted};
 
+    #[tactic(auto, unfolding(crate::specs::Processes::process_count, crate::specs::Processes::own_from, crate::specs::Processes::own_records, crate::specs::Processes::number_if, crate::specs::Processes::started_at, crate::specs::Processes::parents))]
     fn new(alloc: Global) -> Tables
         ensures { Indexes result [] }
     {
@@ -32,19 +33,19 @@ impl Tables {
 
     /// Makes room for the process that a record starts.
     fn begin(&mut self, alloc: Global, added: &Record) -> Result<Option<ProcessId>, AllocError>
-        requires { length self.old.parents.items < 2 ^ 32 }
+        requires { length self.old.own.items < 2 ^ 32 }
         ensures parents { OnOk result (self.new.parents.items ≡ self.old.parents.items
-            ++ (if starts_one added.now then forked_by added.now.op added.now.process ∷ [] else [])) }
+            ++ (if is_starting added.now.op then forked_by added.now.op added.now.process ∷ [] else [])) }
         ensures own { OnOk result (lists self.new.own.items ≡ lists self.old.own.items
-            ++ (if starts_one added.now then [] ∷ [] else [])) }
+            ++ (if is_starting added.now.op then [] ∷ [] else [])) }
         ensures started { OnOk result (self.new.started.items ≡ self.old.started.items) }
         ensures process { IfOk result (λ process. process
-            ≡ (if starts_one added.now then Some (record { 0 = length self.old.parents.items }) else None)) }
+            ≡ (if is_starting added.now.op then Some (record { 0 = length self.old.own.items }) else None)) }
     {
-        if added.op.started_pid(added.pid).is_none() {
+        if !added.op.is_starting() {
             return Ok(None);
         }
-        let process = ProcessId(self.parents.len() as u32);
+        let process = ProcessId(self.own.len() as u32);
         self.parents.push(added.op.forked_by(added.process))?;
         self.own.push(Vec::new(alloc))?;
         Ok(Some(process))
@@ -52,10 +53,9 @@ impl Tables {
 
     /// Takes in the record at a place.
     fn add(&mut self, alloc: Global, added: &Record, place: u32) -> Result<(), AllocError>
-        requires few { length self.old.parents.items < 2 ^ 32 }
-        requires size { length self.old.own.items ≡ length self.old.parents.items }
+        requires few { length self.old.own.items < 2 ^ 32 }
         requires known { added.now.process.0 < length self.old.own.items
-            + (if starts_one added.now then 1 else 0) }
+            + (if is_starting added.now.op then 1 else 0) }
         ensures { OnOk result (Adds self.old self.new added.now place) }
     {
         let process = self.begin(alloc, added)?;

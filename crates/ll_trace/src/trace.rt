@@ -1,12 +1,12 @@
 //! A trace that was read.
 
-ghost use Rattle.std.specs.Prelude.{◌≡◌, ◌≢◌, ◌<◌, ◌≤◌, length, All, IfOk, IfErr, IfSome};
+ghost use Rattle.std.specs.Prelude.{◌≡◌, ◌≢◌, ◌<◌, ◌≤◌, length, option_map, All, IfOk, IfErr, IfSome};
 ghost use Rattle.ll_tree.specs.declared.fault.Cause.TheVariants.{Memory};
 ghost use Rattle.ll_tree.specs.Reading.{IsBad};
 ghost use Rattle.ll_trace.specs.Entries.{trace_file};
 ghost use Rattle.ll_trace.specs.RecordFacts.{AreRecords};
 ghost use Rattle.ll_trace.specs.Records.{IsTrace};
-ghost use Rattle.ll_trace.specs.Processes.{parents, parent_of, own_places, started_by};
+ghost use Rattle.ll_trace.specs.Processes.{process_count, parent_of, own_records, started_at};
 
 use crate::reader::read_records;
 use crate::record::{ProcessId, Record};
@@ -67,16 +67,16 @@ impl Trace {
 
     /// How many processes the trace has.
     pub fn processes(&self) -> u32
-        ensures count { result ≡ length (parents self.now) }
+        ensures count { result ≡ process_count self.now }
         ensures few { result ≤ 65536 }
     {
-        self.tables.parents.len() as u32
+        self.tables.own.len() as u32
     }
 
     /// The process that forked this one; a process of a `start` record has no parent.
     pub fn parent_of(&self, process: ProcessId) -> Option<ProcessId>
-        requires { process.0 < length (parents self.now) }
-        ensures value { result ≡ parent_of self.now process }
+        requires { process.0 < process_count self.now }
+        ensures value { result ≡ parent_of self.now process.0 }
         ensures below { IfSome result (λ parent. parent.0 < process.0) }
     {
         self.tables.parents[process.0 as usize]
@@ -84,8 +84,8 @@ impl Trace {
 
     /// The places of a process's records among [`Trace::records`], rising.
     pub fn records_of(&self, process: ProcessId) -> &[u32]
-        requires { process.0 < length (parents self.now) }
-        ensures value { result.now ≡ own_places self.now process }
+        requires { process.0 < process_count self.now }
+        ensures value { result.now ≡ own_records self.now process.0 }
         ensures within { All (λ place. place < length self.now) result.now }
     {
         let own = &self.tables.own[process.0 as usize];
@@ -95,7 +95,7 @@ impl Trace {
     /// The process that the `start` or `fork` record at a place starts. No other record starts one,
     /// and there is none at a place past the last.
     pub fn starts(&self, place: u32) -> Option<ProcessId>
-        ensures { result ≡ started_by self.now place }
+        ensures { option_map (λ process. process.0) result ≡ started_at self.now place }
     {
         match self.tables.started.get(place as usize) {
             None => None,

@@ -2,7 +2,7 @@
 use Rattle.std.proofs.Common.{◌≡◌, [], ap, ◌∙◌, subst}
 use Rattle.crossbeam_queue.specs.Passes.{view}
 use Rattle.ll_process.specs.Cases.{Matter}
-use Rattle.ll_process.specs.Processes.{numbers}
+use Rattle.ll_trace.specs.Processes.{numbers}
 use Rattle.ll_process.specs.Jobs.{SharesOut}
 use Rattle.ll_pool.specs.declared.known.Known.{Known}
 use Rattle.ll_pool.proofs.Accounting.{gave_nothing, seen_unkept, account_more}

@@ -2,7 +2,7 @@
 use Rattle.std.proofs.Common.{◌≡◌, ◌<◌, ◌++◌, ℕ, sym, ap, subst, ◌∙◌}
 use Rattle.crossbeam_queue.specs.Passes.{view}
 use Rattle.ll_process.specs.Cases.{Matter}
-use Rattle.ll_process.specs.Processes.{IsNumbered, process_count, roots, times}
+use Rattle.ll_trace.specs.Processes.{IsNumbered, process_count, roots, times}
 use Rattle.ll_process.specs.Jobs.{processes_of}
 use Rattle.ll_pool.specs.Gathered.{processes_in}
 use Rattle.ll_pool.proofs.AllOnce.{all_once}
@@ -12,7 +12,7 @@ pub returns-clause-each_once : goal.returns-clause-each_once
 returns-clause-each_once g c =
     subst (λ (m : Matter). (process : ℕ) → process < process_count m.records → times process (processes_in c.drain.new.pieces.items) ≡ 1) (sym c.requires.named)
     (all_once g.N.Naming.case c.min.result c.in_ok-first.first.items c.split_off.new.self.items c.in_ok-rest.rest.items (view c.drain.new.pass) c.drain.new.pieces.items
-    (subst (λ (m : Matter). IsNumbered m.records) c.requires.named c.trace-trace.ensures.case.numbered)
+    (subst (λ (m : Matter). IsNumbered m.records) c.requires.named c.in_ok-first.ensures.numbered)
     c.in_ok-rest.ensures.items
     c.in_ok-rest.ensures.tail
     (c.in_ok-first.ensures.roots ∙ ap (λ (m : Matter). roots m.records) c.requires.named)

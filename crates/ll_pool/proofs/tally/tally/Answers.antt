@@ -5,10 +5,8 @@ use Rattle.std.proofs.lemmas.Option.{slice_get-get_or}
 use Rattle.std.proofs.lemmas.List.{length-replicate}
 use Rattle.ll_trace.specs.declared.record.ProcessId.{ProcessId}
 use Rattle.ll_trace.specs.declared.record.Record.{Record}
-use Rattle.ll_trace.specs.Processes.{parents}
 use Rattle.ll_process.specs.declared.piece.Piece.{Piece}
-use Rattle.ll_process.specs.Processes.{process_count, numbers, times}
-use Rattle.ll_process.proofs.TraceWords.{length-parents}
+use Rattle.ll_trace.specs.Processes.{process_count, numbers, times}
 use Rattle.ll_pool.proofs.Counts.{tally_none, tally_more, all_there, piece_at, zeros}
 use Rattle.ll_pool.proofs.tally.tally.Goals as goal
 
@@ -16,7 +14,7 @@ pub loop-piece-init : goal.loop-piece-init
 loop-piece-init c =
     let items : c.in_ok-seen.seen.items ≡ replicate c.processes.result 0 = c.in_ok-seen.ensures.items_if_clones_equal (λ y same. same) in
     let count : c.processes.result ≡ process_count c.args.case.now.records =
-    c.processes.ensures.count ∙ ap (λ (rs : List Record). length (parents rs)) c.trace.ensures.records ∙ length-parents c.args.case.now.records in
+    c.processes.ensures.count ∙ ap (λ (rs : List Record). process_count rs) c.trace.ensures.records in
     record {
       len = ap (λ (xs : List ℕ). length xs) items ∙ length-replicate c.processes.result 0 ∙ count;
       each = tally_none c.in_ok-seen.seen.items (λ q inside. zeros c.in_ok-seen.seen.items c.processes.result q items inside);
@@ -42,4 +40,4 @@ loop-piece-preserved c = record {
 
 pub returns-clause-few : goal.returns-clause-few
 returns-clause-few c =
-    omega (arith, c.loop-piece.invariant.len, c.processes.ensures.few, c.processes.ensures.count, ap (λ (rs : List Record). length (parents rs)) c.trace.ensures.records, length-parents c.args.case.now.records)
+    omega (arith, c.loop-piece.invariant.len, c.processes.ensures.few, c.processes.ensures.count, ap (λ (rs : List Record). process_count rs) c.trace.ensures.records)

@@ -1,5 +1,5 @@
 use Rattle.std.proofs.Common.{◌≡◌, length, take}
-use Rattle.ll_process.specs.Processes.{process_count}
+use Rattle.ll_trace.specs.Processes.{process_count}
 use Rattle.ll_pool.specs.Gathered.{processes_in, IsTally}
 use Rattle.ll_pool.proofs.tally.tally.Given as goal
 

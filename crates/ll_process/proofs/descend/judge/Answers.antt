@@ -3,7 +3,7 @@ use Rattle.std.proofs.Common.{◌≡◌, ◌++◌, ◌∷◌, [], ◌<◌, ap, s
 use Rattle.std.proofs.lemmas.Grind.{common_steps}
 use Rattle.ll_trace.specs.declared.record.ProcessId.{ProcessId}
 use Rattle.ll_process.specs.declared.job.Job.{Job}
-use Rattle.ll_process.specs.Processes.{process_count, children}
+use Rattle.ll_trace.specs.Processes.{process_count, children}
 use Rattle.ll_process.specs.Cases.{Matter, answers_in}
 use Rattle.ll_process.specs.Jobs.{processes_of, AllOf, HandedOut, KeepsMore}
 use Rattle.ll_process.proofs.KeptMore.{keeps_on}

@@ -1,4 +1,4 @@
-use Rattle.ll_process.specs.Processes.{process_count}
+use Rattle.ll_trace.specs.Processes.{process_count}
 use Rattle.ll_process.specs.Jobs.{KeepsMore, processes_of}
 use Rattle.ll_process.specs.Weights.{weight_of}
 use Rattle.ll_process.proofs.Descents.{Descended}

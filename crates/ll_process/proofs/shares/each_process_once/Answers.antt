@@ -1,4 +1,4 @@
-use Rattle.ll_process.specs.Processes.{kids, roots}
+use Rattle.ll_trace.specs.Processes.{kids, roots}
 use Rattle.ll_process.proofs.Counting.{sums_of-times}
 use Rattle.ll_process.proofs.EachOnce.{each_once}
 use Rattle.ll_process.proofs.shares.each_process_once.Goals as goal

@@ -16,7 +16,7 @@ judge-requires c κs =
 pub loop-job-smaller : goal.loop-job-smaller
 loop-job-smaller c =
     weighs_less c.args.case.now c.loop-job.keeper.jobs.items c.take_greatest.new.self.jobs.items c.judge.new.hand.jobs.items c.in-Some.job c.in_ok-piece.piece
-    c.trace-trace.ensures.case.numbered c.in-Some.ensures.taken c.loop-job.invariant.held_of c.in_ok-piece.ensures.first c.in_ok-piece.ensures.shares_out
+    c.in_ok-jobs.ensures.numbered c.in-Some.ensures.taken c.loop-job.invariant.held_of c.in_ok-piece.ensures.first c.in_ok-piece.ensures.shares_out
 
 pub loop-job-preserved : goal.loop-job-preserved
 loop-job-preserved c =
@@ -27,4 +27,4 @@ loop-job-preserved c =
 
 pub returns-clause-each_once : goal.returns-clause-each_once
 returns-clause-each_once c =
-    judged_all c.args.case.now c.loop-job.keeper.jobs.items c.loop-job.pieces.items c.trace-trace.ensures.case.numbered c.in_default.ensures.none c.loop-job.invariant
+    judged_all c.args.case.now c.loop-job.keeper.jobs.items c.loop-job.pieces.items c.in_ok-jobs.ensures.numbered c.in_default.ensures.none c.loop-job.invariant

@@ -1,21 +1,19 @@
-use Rattle.ll_trace.proofs.RangeLemmas.{in_range}
-use Rattle.ll_trace.proofs.ProcessLemmas as laws
+use Rattle.std.proofs.Common.{Some, ap, sym, ◌∙◌}
+use Rattle.std.proofs.lemmas.Option.{same_Some}
+use Rattle.ll_trace.specs.declared.record.Record.{Record}
+use Rattle.ll_trace.specs.Processes.{forked_by, only}
+use Rattle.ll_trace.proofs.Numbers.{parent_at, start_of, started_at-from, started_at-is, started_once}
 use Rattle.ll_trace.proofs.laws.processes_are_numbered.Goals as goal
 
-pub returns-clause-own : goal.returns-clause-own
-returns-clause-own c = λ records place of are is. in_range records are place of is
-
-pub returns-clause-start : goal.returns-clause-start
-returns-clause-start c = λ records place of are is start. laws.own_start records are place of is start
-
-pub returns-clause-in_order : goal.returns-clause-in_order
-returns-clause-in_order c = λ records place process is. laws.in_order records place process is
-
 pub returns-clause-each : goal.returns-clause-each
-returns-clause-each c = λ records process lt. laws.each records process lt
+returns-clause-each c = λ records process below.
+    let (place, one) = start_of records process below in
+    (place, started_at-from records place one.of one.at one.kind ∙ ap (λ n. Some n) (sym one.number))
+
+pub returns-clause-once : goal.returns-clause-once
+returns-clause-once c = λ records place other process one two. started_once records place other process (started_at-is records place process one) (started_at-is records other process two)
 
 pub returns-clause-forked : goal.returns-clause-forked
-returns-clause-forked c = λ records place of process is started. laws.forked records place of process is started
-
-pub returns-clause-parent : goal.returns-clause-parent
-returns-clause-parent c = λ records process parent are is. laws.parent_below records are process parent is
+returns-clause-forked c = λ records place process of at starts.
+    let one = started_at-is records place process starts in
+    ap only (parent_at records place process one) ∙ ap (λ (r : Record). forked_by r.op r.process) (same_Some one.of of (sym one.at ∙ at))

@@ -2,7 +2,7 @@
 use Rattle.std.proofs.Common.{refl, subst, ◌∙◌}
 use Rattle.crossbeam_queue.specs.Passes.{view}
 use Rattle.ll_process.specs.Cases.{Matter}
-use Rattle.ll_process.specs.Processes.{numbers}
+use Rattle.ll_trace.specs.Processes.{numbers}
 use Rattle.ll_process.specs.Jobs.{SharesOut}
 use Rattle.ll_pool.proofs.Accounting.{gave_nothing, seen_judged}
 use Rattle.ll_pool.proofs.member.Member.see_to.Goals as goal

@@ -1,18 +1,17 @@
 -- The trace's processes are numbered, and the rulebook is that of the trace.
 use Rattle.std.proofs.Common.{List, subst}
 use Rattle.ll_trace.specs.declared.record.Record.{Record}
-use Rattle.ll_trace.specs.RecordFacts.{AreRecords}
-use Rattle.ll_semantics.proofs.Numbering.{are_numbered}
+use Rattle.ll_trace.specs.Processes.{IsNumbered}
 use Rattle.ll_process.proofs.case.Case.new.Goals as goal
 
 pub invariant_of-result : goal.invariant_of-result
 invariant_of-result c = record {
-  numbered = are_numbered c.args.trace (subst (λ (rs : List Record). AreRecords rs) c.trace.view_is c.trace.invariant.records);
+  numbered = subst (λ (rs : List Record). IsNumbered rs) c.trace.view_is c.trace.invariant.records.numbered;
   settled = c.in_ok-book.ensures;
 }
 
 pub returns-clause-rulebook : goal.returns-clause-rulebook
 returns-clause-rulebook c = record {
-  numbered = are_numbered c.args.trace (subst (λ (rs : List Record). AreRecords rs) c.trace.view_is c.trace.invariant.records);
+  numbered = subst (λ (rs : List Record). IsNumbered rs) c.trace.view_is c.trace.invariant.records.numbered;
   settled = c.in_ok-book.ensures;
 }

@@ -34,3 +34,6 @@ pub returns-clause-roots : goal.returns-clause-roots
 returns-clause-roots c =
     let records : c.records-index-end.result.now ≡ c.args.self.now.records = c.records-index-end.ensures.value ∙ c.trace.ensures.records in
     rooted_all c.args.self.now c.loop-index.index c.loop-index.jobs.items (subst (λ (xs : List Record). length xs ≤ c.loop-index.index) records c.loop-index-test.false) c.loop-index.invariant
+
+pub returns-clause-numbered : goal.returns-clause-numbered
+returns-clause-numbered c = c.trace.ensures.case.numbered

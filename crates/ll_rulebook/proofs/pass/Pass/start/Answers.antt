@@ -4,7 +4,7 @@ use Rattle.ll_semantics.specs.States.{fresh}
 use Rattle.ll_rulebook.proofs.Settling.{settles_begun}
 use Rattle.ll_semantics.specs.Situations.{started, begun_by}
 use Rattle.ll_semantics.specs.Effects.{effect}
-use Rattle.ll_semantics.specs.Processes.{is_starting}
+use Rattle.ll_trace.specs.Processes.{is_starting}
 use Rattle.ll_semantics.specs.Notes.{is_on_rulesets, enforced}
 use Rattle.ll_rulebook.proofs.pass.Pass.start.Goals as goal
 

@@ -3,7 +3,8 @@ use Rattle.std.proofs.lemmas.List.Elements.{All-push}
 use Rattle.ll_rules.specs.InTree.{AreInTree}
 use Rattle.ll_rulebook.specs.Stores.{Stock}
 use Rattle.ll_rulebook.proofs.Frozen.{place_within, ruleset_there, rulesets_same, frozen_now}
-use Rattle.ll_rulebook.proofs.Places.{slice_get-push, stands, all_there}
+use Rattle.ll_trace.proofs.Numbers.{slice_get-push}
+use Rattle.ll_rulebook.proofs.Places.{stands, all_there}
 use Rattle.ll_rulebook.proofs.store.Store.freeze.Goals as goal
 
 pub invariant_of-self-2 : goal.invariant_of-self-2

@@ -5,15 +5,14 @@ use Rattle.std.proofs.lemmas.Bool.{cases_Bool}
 use Rattle.std.proofs.lemmas.Option.{none-some, same_Some}
 use Rattle.ll_tree.specs.declared.fault.Cause.{Cause}
 use Rattle.ll_tree.specs.declared.fault.Cause.TheVariants.{UnknownProcess}
-use Rattle.ll_trace.specs.declared.op.Op.{Op}
-use Rattle.ll_trace.specs.declared.op.Op.TheVariants.{Start, Fork}
 use Rattle.ll_trace.specs.declared.record.Record.{Record}
 use Rattle.ll_trace.specs.Entries as entries
 use Rattle.ll_trace.specs.Entries.{Entry, pid_started, started_pid, is_pid, is_start_of, is_end_of, is_live, process_named, misplacement}
 use Rattle.ll_trace.specs.Records.{entry_of, record_of, records_after, process_of}
-use Rattle.ll_trace.specs.RecordFacts.{ArePlaced, AreRecords}
-use Rattle.ll_semantics.specs.Processes.{is_start, is_starting, process_count, IsNumbered}
-use Rattle.ll_semantics.proofs.Steps.{process_count-cons}
+use Rattle.ll_trace.specs.RecordFacts.{ArePlaced}
+use Rattle.ll_trace.specs.Processes.{is_start, process_count, IsNumbered}
+use Rattle.ll_trace.proofs.Starting.{starting-op}
+use Rattle.ll_trace.proofs.Numbers.{process_count-cons, no_count}
 
 -- ---- a live pid names a process that was started
 
@@ -25,7 +24,7 @@ counted-if : (b : Bool) (n : ℕ) → (if b then n + 1 else n) ≡ cond b 1 0 + 
 counted-if true n = omega arith
 counted-if false n = omega arith
 
-count-cons : (entry : Entry) (past : List Entry) → entries.process_count (entry ∷ past) ≡ cond (is_some (started_pid entry)) 1 0 + entries.process_count past
+pub count-cons : (entry : Entry) (past : List Entry) → entries.process_count (entry ∷ past) ≡ cond (is_some (started_pid entry)) 1 0 + entries.process_count past
 count-cons entry past = counted-if (is_some (started_pid entry)) (entries.process_count past)
 
 one_more : (b : Bool) → b ≡ true → (n : ℕ) → n < cond b 1 0 + n
@@ -36,7 +35,7 @@ no_less : (b : Bool) (n : ℕ) → n ≤ cond b 1 0 + n
 no_less true n = omega arith
 no_less false n = omega arith
 
-pub live_named : (past : List Entry) (pid : ℕ) → is_live past pid ≡ true → unwrap_or (process_named past pid) 0 < entries.process_count past
+live_named : (past : List Entry) (pid : ℕ) → is_live past pid ≡ true → unwrap_or (process_named past pid) 0 < entries.process_count past
 live_named [] pid live = cc
 live_named (entry ∷ past) pid live =
     elim (cases_Bool (is_start_of pid entry)) [
@@ -55,12 +54,6 @@ live_named (entry ∷ past) pid live =
     not_ended false l holds = holds
 
 -- ---- one record
-
-pub starting-op : (op : Op) (pid : ℕ) → is_some (pid_started op pid) ≡ is_starting op
-unfolding pid_started is_starting
-starting-op (Start nnp admin) pid = refl
-starting-op (Fork child) pid = refl
-starting-op op pid = refl
 
 not_unknown : (s l : Bool) (rest : Option Cause) → (if not s && not l then Some UnknownProcess else rest) ≡ None → s ≡ false → l ≡ true
 not_unknown true l rest placed goes = cc
@@ -87,13 +80,9 @@ same_head x y xs ys same = cc
 same_tail : (x y : Record) (xs ys : List Record) → x ∷ xs ≡ y ∷ ys → xs ≡ ys
 same_tail x y xs ys same = cc
 
-no_count : (rs : List Record) → process_count (take 0 rs) ≡ 0
-unfolding process_count
-no_count rs = refl
-
-next_count : (past : List Entry) (x : Record) (k : ℕ) (xs : List Record) → entries.process_count (entry_of x ∷ past) + process_count (take k xs) ≡ entries.process_count past + process_count (take (suc k) (x ∷ xs))
-next_count past x k xs =
-    omega (arith, count-cons (entry_of x) past, process_count-cons x (take k xs), ap (λ b. (let n : ℕ = cond b 1 0 in n)) (starting-op x.op x.pid))
+-- a record more counts as its entry does
+pub count-record : (past : List Entry) (x : Record) (rs : List Record) → entries.process_count (entry_of x ∷ past) + process_count rs ≡ entries.process_count past + process_count (x ∷ rs)
+count-record past x rs = omega (arith, count-cons (entry_of x) past, process_count-cons x rs, ap (λ b. (let n : ℕ = cond b 1 0 in n)) (starting-op x.op x.pid))
 
 numbered_start : (past : List Entry) (rs : List Record) (k : ℕ) (r : Record) → rs ≡ records_after past (map entry_of rs) → slice_get rs k ≡ Some r → is_start r.op ≡ true → r.process.0 ≡ entries.process_count past + process_count (take k rs)
 numbered_start past [] k r same at starts = absurd (none-some r at)
@@ -104,7 +93,7 @@ numbered_start past (x ∷ xs) zero r same at starts =
     omega (arith, no_count (x ∷ xs), ap (λ (y : Record). y.process.0) (sym here), ap (λ (y : Record). y.process.0) own, own_process past (entry_of x) start)
 numbered_start past (x ∷ xs) (suc k) r same at starts =
     numbered_start (entry_of x ∷ past) xs k r (same_tail x (record_of past (entry_of x)) xs (records_after (entry_of x ∷ past) (map entry_of xs)) same) at starts
-    ∙ next_count past x k xs
+    ∙ count-record past x (take k xs)
 
 numbered_other : (past : List Entry) (rs : List Record) (k : ℕ) (r : Record) → rs ≡ records_after past (map entry_of rs) → ArePlaced past (map entry_of rs) → slice_get rs k ≡ Some r → is_start r.op ≡ false → r.process.0 < entries.process_count past + process_count (take k rs)
 numbered_other past [] k r same placed at goes = absurd (none-some r at)
@@ -116,12 +105,12 @@ numbered_other past (x ∷ xs) zero r same placed at goes =
 numbered_other past (x ∷ xs) (suc k) r same placed at goes =
     omega (
       arith,
-      next_count past x k xs,
+      count-record past x (take k xs),
       numbered_other (entry_of x ∷ past) xs k r (same_tail x (record_of past (entry_of x)) xs (records_after (entry_of x ∷ past) (map entry_of xs)) same) placed.1 at goes,
     )
 
-pub are_numbered : (records : List Record) → AreRecords records → IsNumbered records
-are_numbered records read = record {
-  begins = λ k r at starts. (let none : 0 + process_count (take k records) ≡ process_count (take k records) = omega arith in numbered_start [] records k r read.processes at starts ∙ none);
-  goes_on = λ k r at goes. (let below : r.process.0 < 0 + process_count (take k records) = numbered_other [] records k r read.processes read.placed at goes in omega (arith, below));
+pub are_numbered : (records : List Record) → ArePlaced [] (map entry_of records) → records ≡ records_after [] (map entry_of records) → IsNumbered records
+are_numbered records placed same = record {
+  begins = λ k r at starts. omega (arith, numbered_start [] records k r same at starts);
+  goes_on = λ k r at goes. omega (arith, numbered_other [] records k r same placed at goes);
 }
