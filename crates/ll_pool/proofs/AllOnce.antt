@@ -7,7 +7,7 @@ use Rattle.ll_process.specs.declared.piece.Piece.{Piece}
 use Rattle.ll_trace.specs.Processes.{IsNumbered, process_count, roots, times}
 use Rattle.ll_process.specs.Cases.{Matter}
 use Rattle.ll_process.specs.Jobs.{processes_of}
-use Rattle.ll_process.proofs.EachOnce.{each_once}
+use Rattle.ll_process.proofs.EachOnce.{each_once_weighed}
 use Rattle.ll_pool.specs.declared.known.Known.{Known}
 use Rattle.ll_pool.specs.Gathered.{processes_in}
 use Rattle.ll_pool.specs.Rule.{IsSettled}
@@ -23,13 +23,11 @@ cut_processes at jobs first rest one two =
 pub all_once : (of : Matter) (at : ℕ) (jobs first rest : List Job) (v : Known) (pieces : List Piece) → IsNumbered of.records → first ≡ take at jobs → rest ≡ drop at jobs → processes_of jobs ≡ roots of.records
     → IsSettled v → IsAccount of (processes_of first ++ processes_of rest) v pieces → (process : ℕ) → process < process_count of.records → times process (processes_in pieces) ≡ 1
 all_once of at jobs first rest v pieces numbered one two are settled account process below =
-    each_once of.records (processes_in pieces) numbered
-    (record {
-      shared = λ weight.
-          omega (
-            arith,
-            account_settled of (processes_of first ++ processes_of rest) v pieces settled account weight,
-            ap (λ (xs : List ℕ). sum_by weight xs) (cut_processes at jobs first rest one two ∙ are),
-          );
-    })
+    each_once_weighed of.records (processes_in pieces) numbered
+    (λ weight.
+    omega (
+      arith,
+      account_settled of (processes_of first ++ processes_of rest) v pieces settled account weight,
+      ap (λ (xs : List ℕ). sum_by weight xs) (cut_processes at jobs first rest one two ∙ are),
+    ))
     process below

@@ -1,5 +1,5 @@
 -- The answers of all pieces, each process once, are those of the whole trace.
-use Rattle.std.proofs.Common.{◌≡◌, ◌⊎◌, ℕ, zero, suc, ◌+◌, ◌<◌, List, [], ◌∷◌, ◌++◌, length, map, get_or, set, Some, refl, sym, ap, ◌∙◌, subst, inl, inr, arith}
+use Rattle.std.proofs.Common.{◌≡◌, ◌⊎◌, ℕ, zero, suc, ◌<◌, List, [], ◌∷◌, ◌++◌, length, map, get_or, set, Some, refl, sym, ap, ◌∙◌, inl, inr, arith}
 use Rattle.std.specs.Prelude.{slice_get, All}
 use Rattle.std.specs.List.{flat_map}
 use Rattle.std.proofs.lemmas.Bool.{cases_eq}
@@ -12,15 +12,14 @@ use Rattle.ll_semantics.specs.declared.answer.Answer.{Answer}
 use Rattle.ll_semantics.specs.declared.answer.Answer.TheVariants.{Moot}
 use Rattle.ll_semantics.specs.Worlds.{judged}
 use Rattle.ll_process.specs.declared.piece.Piece.{Piece}
-use Rattle.ll_trace.specs.Processes.{own_records, own_from, numbers, times, process_count}
+use Rattle.ll_trace.specs.Processes.{own_records, numbers, times, process_count}
 use Rattle.ll_process.specs.Judging.{answer_at, answers_of}
 use Rattle.ll_process.specs.Cases.{Matter, IsCase, answers_in as answers_to}
-use Rattle.ll_process.proofs.Walks.{own_record}
 use Rattle.ll_semantics.proofs.Worlds.{length-judged}
 use Rattle.ll_trace.proofs.Numbers.{numbered_below, count-all}
-use Rattle.ll_process.proofs.OwnRecords.{own_from-yes, own_from-no}
+use Rattle.ll_process.proofs.OwnRecords.{own_place, own_record, stands_at}
 use Rattle.ll_pool.specs.Gathered.{AllOf, processes_in, answers_in, placed}
-use Rattle.ll_pool.proofs.Counts.{times-append, times-cons, times-nil, times-same, times-other}
+use Rattle.ll_process.proofs.Times.{times-append, times-cons, times-nil, times-same, times-other}
 use Rattle.ll_pool.proofs.Placing.{length-placed}
 
 -- ---- places
@@ -62,25 +61,15 @@ placed_map f (j ∷ js) xs k d known within =
     ])
     inside
 
-own_from-has : (p b : ℕ) (rs : List Record) (m : ℕ) (r : Record) → slice_get rs m ≡ Some r → r.process.0 ≡ p → 0 < times (b + m) (own_from p b rs)
-own_from-has p b [] m r at own = absurd (none-some r at)
-own_from-has p b (x ∷ xs) zero r at own =
-    let here : x.process.0 ≡ p = ap (λ (y : Record). y.process.0) (same_Some x r at) ∙ own in
-    let same : b ≡ b + 0 = omega arith in
-    omega (arith, ap (λ (ys : List ℕ). times (b + 0) ys) (own_from-yes p b x xs here), times-cons (b + 0) b (own_from p (b + 1) xs), times-same (b + 0) b same)
-own_from-has p b (x ∷ xs) (suc m) r at own =
-    let same : b + 1 + m ≡ b + suc m = omega arith in
-    let rest : 0 < times (b + suc m) (own_from p (b + 1) xs) = subst (λ (k : ℕ). 0 < times k (own_from p (b + 1) xs)) same (own_from-has p (b + 1) xs m r at own) in
-    elim (cases_eq x.process.0 p) [
-      | inl here ↦ omega (arith, rest, ap (λ (ys : List ℕ). times (b + suc m) ys) (own_from-yes p b x xs here), times-cons (b + suc m) b (own_from p (b + 1) xs))
-      | inr other ↦ omega (arith, rest, ap (λ (ys : List ℕ). times (b + suc m) ys) (own_from-no p b x xs other))
-    ]
+stands_often : (k : ℕ) (xs : List ℕ) (j : ℕ) → slice_get xs j ≡ Some k → 0 < times k xs
+stands_often k [] j at = absurd (none-some k at)
+stands_often k (x ∷ xs) zero at = omega (arith, times-cons k x xs, times-same k x (same_Some x k at))
+stands_often k (x ∷ xs) (suc j) at = omega (arith, times-cons k x xs, stands_often k xs j at)
 
 own_has : (records : List Record) (k : ℕ) (r : Record) → slice_get records k ≡ Some r → 0 < times k (own_records records r.process.0)
-unfolding own_records
 own_has records k r at =
-    let same : 0 + k ≡ k = omega arith in
-    subst (λ (i : ℕ). 0 < times i (own_from r.process.0 0 records)) same (own_from-has r.process.0 0 records k r at refl)
+    let (j, there) = own_place records r.process.0 k r at refl in
+    stands_often k (own_records records r.process.0) j there
 
 flat_has : (f : ℕ → List ℕ) (k p : ℕ) (ps : List ℕ) → 0 < times p ps → 0 < times k (f p) → 0 < times k (flat_map f ps)
 flat_has f k p [] some has = absurd (omega (arith, some, times-nil p))
@@ -107,15 +96,10 @@ pieces_answer of (x ∷ xs) all =
     ∙ ap (λ (ys : List (ℕ × Answer)). flat_map (answers_to of) (numbers x.processes.items) ++ ys) (pieces_answer of xs (All-tail (λ (piece : Piece). piece.case.now ≡ of) x xs all))
     ∙ sym (flat_map-append (answers_to of) (numbers x.processes.items) (processes_in xs))
 
-record_at : (records : List Record) (k : ℕ) → k < length records → (r : Record) × (slice_get records k ≡ Some r)
-record_at [] k within = absurd (omega arith)
-record_at (x ∷ xs) zero within = (x, refl)
-record_at (x ∷ xs) (suc k) within = record_at xs k (omega arith)
-
 answer_there : (of : Matter) (pieces : List Piece) (before : List Answer) (k : ℕ) → IsCase of → AllOf of pieces → ((q : ℕ) → q < process_count of.records → 0 < times q (processes_in pieces)) → length before ≡ length of.records → k < length of.records
     → get_or (placed (answers_in pieces) before) k Moot ≡ answer_at of.tree of.abi of.records k
 answer_there of pieces before k case all each len within =
-    let found : (r : Record) × (slice_get of.records k ≡ Some r) = record_at of.records k within in
+    let found : (r : Record) × (slice_get of.records k ≡ Some r) = stands_at of.records k within in
     let below : found.0.process.0 < process_count of.records = omega (arith, numbered_below of.records k found.0 case.numbered found.1, count-all of.records (suc k)) in
     let has : 0 < times k (flat_map (own_records of.records) (processes_in pieces)) = flat_has (own_records of.records) k found.0.process.0 (processes_in pieces) (each found.0.process.0 below) (own_has of.records k found.0 found.1) in
     ap (λ (ps : List (ℕ × Answer)). get_or (placed ps before) k Moot) (pieces_answer of pieces all ∙ flat_answers of (processes_in pieces))

@@ -1,36 +1,17 @@
 -- Counting how often each process stands in pieces.
-use Rattle.std.proofs.Common.{◌≡◌, ℕ, ◌+◌, ◌<◌, min, cond, List, [], ◌∷◌, ◌++◌, length, take, replicate, get_or, set, Some, refl, sym, ap, ◌∙◌, inl, inr, arith}
-use Rattle.std.specs.Prelude.{slice_get, slice_index, All, ◌==◌}
+use Rattle.std.proofs.Common.{◌≡◌, ℕ, ◌+◌, ◌<◌, min, List, [], ◌∷◌, ◌++◌, length, take, replicate, get_or, set, Some, refl, sym, ap, ◌∙◌, inl, inr, arith}
+use Rattle.std.specs.Prelude.{slice_get, slice_index, All}
 use Rattle.std.specs.List.{flat_map}
-use Rattle.std.proofs.lemmas.Bool.{cases_eq, eq-eqb, ne_eqb}
+use Rattle.std.proofs.lemmas.Bool.{cases_eq}
 use Rattle.std.proofs.lemmas.List.{map-append, append-nil, take_more, length-set, get_or-set_same, get_or-set_other, get_or-replicate, length-replicate}
-use Rattle.std.proofs.lemmas.List.Sums.{sum_by-append}
 use Rattle.std.proofs.lemmas.Grind.{flat_map-append}
 use Rattle.std.proofs.lemmas.Option.{slice_get_within, get_or_from_slice_get, slice_get-get_or}
 use Rattle.ll_trace.specs.declared.record.ProcessId.{ProcessId}
 use Rattle.ll_process.specs.declared.piece.Piece.{Piece}
 use Rattle.ll_trace.specs.Processes.{numbers, times, process_count}
 use Rattle.ll_process.specs.Cases.{Matter}
+use Rattle.ll_process.proofs.Times.{times-append, times-nil, times-other, times-same}
 use Rattle.ll_pool.specs.Gathered.{processes_in, IsTally}
-
-pub times-append : (q : ℕ) (xs ys : List ℕ) → times q (xs ++ ys) ≡ times q xs + times q ys
-unfolding times
-times-append q xs ys = sum_by-append (λ p. cond (p == q) 1 0) xs ys
-
-pub times-nil : (q : ℕ) → times q [] ≡ 0
-unfolding times
-times-nil q = refl
-
-pub times-same : (q p : ℕ) → p ≡ q → times q (p ∷ []) ≡ 1
-unfolding times
-times-same q p same = rw (eq-eqb p q same) refl
-
-pub times-other : (q p : ℕ) → (p ≡ q → ⊥) → times q (p ∷ []) ≡ 0
-unfolding times
-times-other q p other = rw (ne_eqb p q other) refl
-
-pub times-cons : (q p : ℕ) (xs : List ℕ) → times q (p ∷ xs) ≡ times q (p ∷ []) + times q xs
-times-cons q p xs = times-append q (p ∷ []) xs
 
 -- what was seen before, and these processes
 pub record Counted (before : List ℕ) (processes : List ProcessId) (seen : List ℕ) : Type 0 where

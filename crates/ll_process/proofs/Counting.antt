@@ -61,12 +61,3 @@ weighed records first judged before after shares weight =
       sum_by-append weight judged after,
       sum_by-append weight (first ∷ kids records judged) before,
     )
-
-pub sums_of-times : (xs ys zs : List ℕ) → ((p : ℕ) → times p xs ≡ times p ys + times p zs) → (weight : ℕ → ℕ) → sum_by weight xs ≡ sum_by weight ys + sum_by weight zs
-unfolding times
-sums_of-times xs ys zs same weight =
-    omega (
-      arith,
-      equal_weights xs (ys ++ zs) (λ p. omega (arith, same p, sum_by-append (at_process p) ys zs)) weight,
-      sum_by-append weight ys zs,
-    )

@@ -12,4 +12,5 @@ pub mod KeptMore
 pub mod WalkSteps
 pub mod Descents
 pub mod Roots
+pub mod Times
 pub mod EachOnce

@@ -1,10 +1,16 @@
 -- The places of a process's own records, one after another.
-use Rattle.std.proofs.Common.{◌≡◌, ◌≢◌, ℕ, zero, suc, ◌+◌, ◌<◌, Bool, true, false, List, [], ◌∷◌, drop, Some, refl, sym, ap, ◌∙◌, subst, arith}
-use Rattle.std.specs.Prelude.{slice_get, ◌==◌}
-use Rattle.std.proofs.lemmas.Bool.{eqb-true, eqb-false, eq-eqb, ne_eqb}
+use Rattle.std.proofs.Common.{◌≡◌, ◌≢◌, ℕ, zero, suc, ◌+◌, ◌<◌, ◌≤◌, List, [], ◌∷◌, length, Some, refl, sym, ap, ◌∙◌, inl, inr, arith}
+use Rattle.std.specs.Prelude.{slice_get}
+use Rattle.std.proofs.lemmas.Bool.{cases_eq, cases_lt, eq-eqb, ne_eqb}
 use Rattle.std.proofs.lemmas.Option.{none-some, same_Some}
 use Rattle.ll_trace.specs.declared.record.Record.{Record}
-use Rattle.ll_trace.specs.Processes.{own_from}
+use Rattle.ll_trace.specs.Processes.{own_from, own_records}
+
+-- where a list has a place, something stands there
+pub stands_at : {A : Type 0} (xs : List A) (k : ℕ) → k < length xs → (x : A) × (slice_get xs k ≡ Some x)
+stands_at [] k within = absurd (omega arith)
+stands_at (x ∷ xs) zero within = (x, refl)
+stands_at (x ∷ xs) (suc k) within = stands_at xs k (omega arith)
 
 pub own_from-yes : (p b : ℕ) (r : Record) (rs : List Record) → r.process.0 ≡ p → own_from p b (r ∷ rs) ≡ b ∷ own_from p (b + 1) rs
 unfolding own_from
@@ -18,60 +24,96 @@ pub own_from-nil : (p b : ℕ) → own_from p b [] ≡ []
 unfolding own_from
 own_from-nil p b = refl
 
--- a place among the own records: the record there, and the own records after it
-pub record OwnAt (p b : ℕ) (rs : List Record) (i : ℕ) (after : List ℕ) : Type 0 where
+not_in_none : (p b j i : ℕ) → slice_get (own_from p b []) j ≡ Some i → ⊥
+unfolding own_from
+not_in_none p b j i at = none-some i at
+
+-- a place among the own records is that of an own record
+pub record OwnAt (p b : ℕ) (rs : List Record) (i : ℕ) : Type 0 where
   pub ahead : ℕ
   pub place : i ≡ b + ahead
   pub of : Record
   pub at : slice_get rs ahead ≡ Some of
   pub own : of.process.0 ≡ p
-  pub rest : after ≡ own_from p (i + 1) (drop (suc ahead) rs)
 
-later : (p b : ℕ) (r : Record) (rs : List Record) (i : ℕ) (after : List ℕ) → OwnAt p (b + 1) rs i after → OwnAt p b (r ∷ rs) i after
-later p b r rs i after one = record { ahead = suc one.ahead; place = omega (arith, one.place); of = one.of; at = one.at; own = one.own; rest = one.rest }
+later : (p b : ℕ) (r : Record) (rs : List Record) (i : ℕ) → OwnAt p (b + 1) rs i → OwnAt p b (r ∷ rs) i
+later p b r rs i one = record { ahead = suc one.ahead; place = omega (arith, one.place); of = one.of; at = one.at; own = one.own }
 
-pub own_at : (p b : ℕ) (rs : List Record) (j i : ℕ) → slice_get (own_from p b rs) j ≡ Some i → OwnAt p b rs i (drop (suc j) (own_from p b rs))
-own_at p b [] j i at = absurd (none-some i (subst (λ (xs : List ℕ). slice_get xs j ≡ Some i) (own_from-nil p b) at))
-own_at p b (r ∷ rs) j i at = by_test (r.process.0 == p) refl (λ n. own_at p (b + 1) rs n i)
-  where
-    by_place : (j : ℕ) → r.process.0 ≡ p → ((n : ℕ) → slice_get (own_from p (b + 1) rs) n ≡ Some i → OwnAt p (b + 1) rs i (drop (suc n) (own_from p (b + 1) rs))) → slice_get (b ∷ own_from p (b + 1) rs) j ≡ Some i → OwnAt p b (r ∷ rs) i (drop j (own_from p (b + 1) rs))
-    by_place zero own more here = record {
-      ahead = 0;
-      place = omega (arith, same_Some b i here);
-      of = r;
-      at = refl;
-      own = own;
-      rest = ap (λ n. own_from p (n + 1) rs) (same_Some b i here);
-    }
-    by_place (suc j) own more here = later p b r rs i _ (more j here)
+pub own_at : (p b : ℕ) (rs : List Record) (j i : ℕ) → slice_get (own_from p b rs) j ≡ Some i → OwnAt p b rs i
+own_at p b [] j i at = absurd (not_in_none p b j i at)
+own_at p b (r ∷ rs) zero i at = elim (cases_eq r.process.0 p) [
+  | inl own ↦ record { ahead = 0; place = omega (arith, same_Some b i (rw (own_from-yes p b r rs own) at at)); of = r; at = refl; own = own }
+  | inr other ↦ later p b r rs i (own_at p (b + 1) rs zero i (rw (own_from-no p b r rs other) at at))
+]
+own_at p b (r ∷ rs) (suc j) i at = elim (cases_eq r.process.0 p) [
+  | inl own ↦ later p b r rs i (own_at p (b + 1) rs j i (rw (own_from-yes p b r rs own) at at))
+  | inr other ↦ later p b r rs i (own_at p (b + 1) rs (suc j) i (rw (own_from-no p b r rs other) at at))
+]
 
-    by_test : (t : Bool) → (r.process.0 == p) ≡ t → ((n : ℕ) → slice_get (own_from p (b + 1) rs) n ≡ Some i → OwnAt p (b + 1) rs i (drop (suc n) (own_from p (b + 1) rs))) → OwnAt p b (r ∷ rs) i (drop (suc j) (own_from p b (r ∷ rs)))
-    by_test true own more =
-        let is : own_from p b (r ∷ rs) ≡ b ∷ own_from p (b + 1) rs = own_from-yes p b r rs (eqb-true r.process.0 p own) in
-        subst (λ (xs : List ℕ). OwnAt p b (r ∷ rs) i (drop (suc j) xs)) (sym is) (by_place j (eqb-true r.process.0 p own) more (subst (λ (xs : List ℕ). slice_get xs j ≡ Some i) is at))
-    by_test false own more =
-        let is : own_from p b (r ∷ rs) ≡ own_from p (b + 1) rs = own_from-no p b r rs (eqb-false r.process.0 p own) in
-        subst (λ (xs : List ℕ). OwnAt p b (r ∷ rs) i (drop (suc j) xs)) (sym is) (later p b r rs i _ (more j (subst (λ (xs : List ℕ). slice_get xs j ≡ Some i) is at)))
+-- the places rise
+rising : (p b : ℕ) (rs : List Record) (j l i k : ℕ) → slice_get (own_from p b rs) j ≡ Some i → slice_get (own_from p b rs) l ≡ Some k → j < l → i < k
+rising p b [] j l i k at there less = absurd (not_in_none p b j i at)
+rising p b rs j zero i k at there less = absurd (omega arith)
+rising p b (r ∷ rs) zero (suc l) i k at there less = elim (cases_eq r.process.0 p) [
+  | inl own ↦ omega (arith, same_Some b i (rw (own_from-yes p b r rs own) at at), (own_at p (b + 1) rs l k (rw (own_from-yes p b r rs own) at there)).place)
+  | inr other ↦ rising p (b + 1) rs zero (suc l) i k (rw (own_from-no p b r rs other) at at) (rw (own_from-no p b r rs other) at there) less
+]
+rising p b (r ∷ rs) (suc j) (suc l) i k at there less = elim (cases_eq r.process.0 p) [
+  | inl own ↦ rising p (b + 1) rs j l i k (rw (own_from-yes p b r rs own) at at) (rw (own_from-yes p b r rs own) at there) (omega arith)
+  | inr other ↦ rising p (b + 1) rs (suc j) (suc l) i k (rw (own_from-no p b r rs other) at at) (rw (own_from-no p b r rs other) at there) less
+]
 
--- where no record up to a place is own, the own records are those from that place on
-pub own_from-skip : (p b q : ℕ) (rs : List Record) → ((m : ℕ) (r : Record) → m < q → slice_get rs m ≡ Some r → r.process.0 ≢ p) → own_from p b rs ≡ own_from p (b + q) (drop q rs)
-own_from-skip p b zero rs none = ap (λ n. own_from p n rs) (omega arith)
-own_from-skip p b (suc q) [] none = own_from-nil p b ∙ sym (own_from-nil p (b + suc q))
-own_from-skip p b (suc q) (r ∷ rs) none =
-    own_from-no p b r rs (none 0 r (omega arith) refl)
-    ∙ own_from-skip p (b + 1) q rs (λ m x less at. none (suc m) x (omega arith) at)
-    ∙ ap (λ n. own_from p n (drop q rs)) (omega arith)
-
-pub slice_get-drop : (A : Type 0) (xs : List A) (n k : ℕ) → slice_get (drop n xs) k ≡ slice_get xs (n + k)
-slice_get-drop A xs zero k = ap (λ i. slice_get xs i) (omega arith)
-slice_get-drop A [] (suc n) k = refl
-slice_get-drop A (x ∷ xs) (suc n) k =
-    let next : suc (n + k) ≡ suc n + k = omega arith in
-    slice_get-drop A xs n k ∙ ap (λ (i : ℕ). slice_get (x ∷ xs) i) next
-
--- an own record is the first of those from its place on
-pub own_from-first : (p b : ℕ) (rs : List Record) (r : Record) → slice_get rs 0 ≡ Some r → r.process.0 ≡ p → slice_get (own_from p b rs) 0 ≡ Some b
-own_from-first p b [] r at own = absurd (none-some r at)
-own_from-first p b (x ∷ rs) r at own =
+-- each own record has its place
+has_place : (p b : ℕ) (rs : List Record) (m : ℕ) (r : Record) → slice_get rs m ≡ Some r → r.process.0 ≡ p → (j : ℕ) × (slice_get (own_from p b rs) j ≡ Some (b + m))
+has_place p b [] m r at own = absurd (none-some r at)
+has_place p b (x ∷ rs) zero r at own =
     let here : x.process.0 ≡ p = ap (λ (y : Record). y.process.0) (same_Some x r at) ∙ own in
-    ap (λ (xs : List ℕ). slice_get xs 0) (own_from-yes p b x rs here)
+    let same : b ≡ b + 0 = omega arith in
+    (0, rw (own_from-yes p b x rs here) (ap (λ (n : ℕ). Some n) same))
+has_place p b (x ∷ rs) (suc m) r at own =
+    let (j, there) = has_place p (b + 1) rs m r at own in
+    let same : b + 1 + m ≡ b + suc m = omega arith in
+    elim (cases_eq x.process.0 p) [
+      | inl here ↦ (suc j, rw (own_from-yes p b x rs here) (there ∙ ap (λ (n : ℕ). Some n) same))
+      | inr other ↦ (j, rw (own_from-no p b x rs other) (there ∙ ap (λ (n : ℕ). Some n) same))
+    ]
+
+module _ (records : List Record) (p : ℕ) where
+  -- the record at a place among a process's own records
+  pub own_record : (j i : ℕ) → slice_get (own_records records p) j ≡ Some i → (r : Record) × (slice_get records i ≡ Some r) × (r.process.0 ≡ p)
+  unfolding own_records
+  own_record j i at =
+      let one : OwnAt p 0 records i = own_at p 0 records j i at in
+      (one.of, ap (λ n. slice_get records n) (let here : i ≡ one.ahead = omega (arith, one.place) in here) ∙ one.at, one.own)
+
+  pub own_place : (m : ℕ) (r : Record) → slice_get records m ≡ Some r → r.process.0 ≡ p → (j : ℕ) × (slice_get (own_records records p) j ≡ Some m)
+  unfolding own_records
+  own_place m r at own =
+      let (j, there) = has_place p 0 records m r at own in
+      (j, there ∙ (let same : 0 + m ≡ m = omega arith in ap (λ (n : ℕ). Some n) same))
+
+  pub own_rising : (j l i k : ℕ) → slice_get (own_records records p) j ≡ Some i → slice_get (own_records records p) l ≡ Some k → j < l → i < k
+  unfolding own_records
+  own_rising j l i k at there less = rising p 0 records j l i k at there less
+
+  -- no own record stands before the first place, and none between one place and the next
+  pub first_own : (i m : ℕ) (r : Record) → slice_get (own_records records p) 0 ≡ Some i → slice_get records m ≡ Some r → r.process.0 ≡ p → i ≤ m
+  first_own i m r first at own = by_place (own_place m r at own)
+    where
+      by_place : (j : ℕ) × (slice_get (own_records records p) j ≡ Some m) → i ≤ m
+      by_place (zero, there) = omega (arith, same_Some i m (sym first ∙ there))
+      by_place (suc j, there) = omega (arith, own_rising 0 (suc j) i m first there (omega arith))
+
+  pub next_own : (j i k m : ℕ) (r : Record) → slice_get (own_records records p) j ≡ Some i → slice_get (own_records records p) (suc j) ≡ Some k → slice_get records m ≡ Some r → r.process.0 ≡ p → i < m → k ≤ m
+  next_own j i k m r here next at own past =
+      let (l, there) = own_place m r at own in
+      elim (cases_lt l (suc j)) [
+        | inl before ↦ elim (cases_lt l j) [
+          | inl less ↦ absurd (omega (arith, own_rising l j m i there here less))
+          | inr same ↦ absurd (let is : l ≡ j = omega arith in omega (arith, same_Some m i (sym there ∙ ap (slice_get (own_records records p)) is ∙ here)))
+        ]
+        | inr after ↦ elim (cases_lt (suc j) l) [
+          | inl less ↦ omega (arith, own_rising (suc j) l k m next there less)
+          | inr same ↦ (let is : l ≡ suc j = omega arith in omega (arith, same_Some m k (sym there ∙ ap (slice_get (own_records records p)) is ∙ next)))
+        ]
+      ]

@@ -1,5 +1,5 @@
 -- The processes that a trace begins with, and what they begin with.
-use Rattle.std.proofs.Common.{◌≡◌, ℕ, zero, suc, ◌+◌, ◌<◌, ◌≤◌, Bool, true, false, cond, List, [], ◌∷◌, ◌++◌, length, take, map, Option, Some, None, refl, sym, ap, ◌∙◌, subst, arith}
+use Rattle.std.proofs.Common.{◌≡◌, ℕ, suc, ◌+◌, ◌<◌, ◌≤◌, Bool, true, false, cond, List, [], ◌∷◌, ◌++◌, length, take, map, Option, Some, None, refl, sym, ap, ◌∙◌, subst, arith}
 use Rattle.std.specs.Prelude.{slice_get, filter}
 use Rattle.std.specs.List.{cons_option}
 use Rattle.std.proofs.lemmas.List.{map-append, take_more, append-nil, take_all}
@@ -21,6 +21,7 @@ use Rattle.ll_process.specs.Judging.{state_left}
 use Rattle.ll_process.specs.Cases.{Matter, IsCase, BeginsAs, AgreesIn}
 use Rattle.ll_process.specs.Jobs.{processes_of, AllOf}
 use Rattle.ll_semantics.proofs.Worlds.{world_at-more}
+use Rattle.ll_process.proofs.OwnRecords.{stands_at}
 use Rattle.ll_trace.proofs.Starting.{start-starts, is_start-from}
 use Rattle.ll_semantics.proofs.Steps.{step-new, count-world_at}
 use Rattle.ll_trace.proofs.Numbers.{StartedAt, started_at-is, started_once, numbered_below, count-all}
@@ -86,13 +87,8 @@ pub record Rooted (of : Matter) (k : ℕ) (jobs : List Job) : Type 0 where
   pub roots : processes_of jobs ≡ roots (take k of.records)
   pub of_case : AllOf of jobs
 
-some_at : (A : Type 0) (xs : List A) (k : ℕ) → k < length xs → (x : A) × (slice_get xs k ≡ Some x)
-some_at A [] k within = absurd (omega arith)
-some_at A (x ∷ xs) zero within = (x, refl)
-some_at A (x ∷ xs) (suc k) within = some_at A xs k (omega arith)
-
 roots_next : (of : Matter) (k : ℕ) → k < length of.records → roots (take (k + 1) of.records) ≡ roots (take k of.records) ++ cons_option (root_at of.records k) []
-roots_next of k within = (let found : (r : Record) × (slice_get of.records k ≡ Some r) = some_at Record of.records k within in roots_more of.records k found.0 found.1)
+roots_next of k within = (let found : (r : Record) × (slice_get of.records k ≡ Some r) = stands_at of.records k within in roots_more of.records k found.0 found.1)
 
 pub rooted_none : (of : Matter) (jobs : List Job) → jobs ≡ [] → Rooted of 0 jobs
 rooted_none of jobs none = record {

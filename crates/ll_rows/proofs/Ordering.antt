@@ -18,7 +18,7 @@ use Rattle.ll_process.specs.Cases.{Matter}
 use Rattle.ll_process.specs.Jobs.{processes_of, AllOf as AllJobsOf, SharesOut}
 use Rattle.ll_process.proofs.Weighing.{weight_of-children}
 use Rattle.ll_process.proofs.Counting.{weighed}
-use Rattle.ll_process.proofs.EachOnce.{each_once}
+use Rattle.ll_process.proofs.EachOnce.{each_once_weighed}
 use Rattle.ll_pool.specs.Gathered.{AllOf, processes_in}
 
 pub record Judged (of : Matter) (held : List Job) (pieces : List Piece) : Type 0 where
@@ -110,8 +110,8 @@ judged_more of before rest after job pieces piece taken same all shares so_far =
 pub judged_all : (of : Matter) (held : List Job) (pieces : List Piece) → IsNumbered of.records → held ≡ [] → Judged of held pieces
     → (process : ℕ) → process < process_count of.records → times process (processes_in pieces) ≡ 1
 judged_all of held pieces numbered none all process there =
-    each_once of.records (processes_in pieces) numbered
-    (record { shared = λ weight. omega (arith, all.shared weight, ap (λ (xs : List Job). sum_by weight (processes_of xs)) none) }) process there
+    each_once_weighed of.records (processes_in pieces) numbered
+    (λ weight. omega (arith, all.shared weight, ap (λ (xs : List Job). sum_by weight (processes_of xs)) none)) process there
 
 -- the children of processes weigh at most what these weigh
 kids_weigh : (records : List Record) (n : ℕ) (processes : List ℕ) → IsNumbered records → process_count records ≤ n → sum_by (weight n) (kids records processes) + length processes ≤ sum_by (weight n) processes

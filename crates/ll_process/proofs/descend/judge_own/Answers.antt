@@ -37,22 +37,29 @@ child_job-requires-clause-own g c =
 pub loop-index-preserved : goal.loop-index-preserved
 loop-index-preserved g c =
     let i : ℕ = get_or c.own_records-index-items.result.now c.loop-index.index-index 0 in
-    let handed : HandedAt c.args.job.case.now i (g.H.Hand.kept c.loop-index.hand) (g.H.Hand.kept c.match-branch-3.hand) c.loop-index.todo.items c.match-branch-3.todo.items =
+    let done : HandedAt c.args.job.case.now i (g.H.Hand.kept c.loop-index.hand) (g.H.Hand.kept c.match-branch-3.hand) c.loop-index.todo.items c.match-branch-3.todo.items
+    × KeepsMore c.args.job.case.now.records (g.H.Hand.kept c.args.hand.now) (g.H.Hand.kept c.match-branch-3.hand)
+    × g.H.Hand.suits c.match-branch-3.hand c.args.job.case.now
+    × ((before : g.row.H.Denot) → g.H.Hand.stays before c.args.hand.now → g.H.Hand.stays before c.match-branch-3.hand) =
     elim c.match-branch-3.branch [
       | in-Some+in_ok-offer w ↦
-          subst (λ hand. HandedAt c.args.job.case.now i (g.H.Hand.kept c.loop-index.hand) (g.H.Hand.kept hand) c.loop-index.todo.items c.match-branch-3.todo.items) (sym w.hand-is)
-          (subst (λ todo. HandedAt c.args.job.case.now i (g.H.Hand.kept c.loop-index.hand) (g.H.Hand.kept w.offer.new.hand) c.loop-index.todo.items todo.items) (sym w.todo-is)
-          (handed_child c.args.job.case.now i w.in-Some.child (g.H.Hand.kept c.loop-index.hand) (g.H.Hand.kept w.offer.new.hand) c.loop-index.todo.items w.offer.new.todo.items
-          (sym (ap (λ (o : Option Job). option_map (λ (j : Job). j.process.0) o) w.in-Some.is) ∙ c.in_ok-child.ensures.child)
-          (subst (λ (o : Option Job). IfSome o (λ (j : Job). j.case.now ≡ c.args.job.case.now)) w.in-Some.is c.in_ok-child.ensures.of_case)
-          c.loop-index.invariant.walked.of_case
-          w.in_ok-offer.ensures.hands_on))
+          let its : w.in-Some.child.case.now ≡ c.args.job.case.now = subst (λ (o : Option Job). IfSome o (λ (j : Job). j.case.now ≡ c.args.job.case.now)) w.in-Some.is c.in_ok-child.ensures.of_case in
+          rw (w.hand-is, w.todo-is) (
+            handed_child c.args.job.case.now i w.in-Some.child (g.H.Hand.kept c.loop-index.hand) (g.H.Hand.kept w.offer.new.hand) c.loop-index.todo.items w.offer.new.todo.items
+                (sym (ap (λ (o : Option Job). option_map (λ (j : Job). j.process.0) o) w.in-Some.is) ∙ c.in_ok-child.ensures.child) its c.loop-index.invariant.walked.of_case w.in_ok-offer.ensures.hands_on,
+            keeps_on c.args.job.case.now.records (g.H.Hand.kept c.args.hand.now) (g.H.Hand.kept c.loop-index.hand) (g.H.Hand.kept w.offer.new.hand) c.loop-index.invariant.keeps
+                (subst (λ (m : Matter). KeepsMore m.records (g.H.Hand.kept c.loop-index.hand) (g.H.Hand.kept w.offer.new.hand)) its w.in_ok-offer.ensures.keeps),
+            subst (λ case. g.H.Hand.suits w.offer.new.hand case) its w.in_ok-offer.ensures.suits,
+            λ before same. w.in_ok-offer.ensures.stays before (c.loop-index.invariant.stays before same),
+          )
       | in_default w ↦
-          subst (λ hand. HandedAt c.args.job.case.now i (g.H.Hand.kept c.loop-index.hand) (g.H.Hand.kept hand) c.loop-index.todo.items c.match-branch-3.todo.items) (sym w.hand-is)
-          (subst (λ todo. HandedAt c.args.job.case.now i (g.H.Hand.kept c.loop-index.hand) (g.H.Hand.kept c.loop-index.hand) c.loop-index.todo.items todo.items) (sym w.todo-is)
-          (handed_no_child c.args.job.case.now i (g.H.Hand.kept c.loop-index.hand) c.loop-index.todo.items
-          (sym (ap (λ (o : Option Job). option_map (λ (j : Job). j.process.0) o) w.in_default.is) ∙ c.in_ok-child.ensures.child)
-          c.loop-index.invariant.walked.of_case))
+          rw (w.hand-is, w.todo-is) (
+            handed_no_child c.args.job.case.now i (g.H.Hand.kept c.loop-index.hand) c.loop-index.todo.items
+                (sym (ap (λ (o : Option Job). option_map (λ (j : Job). j.process.0) o) w.in_default.is) ∙ c.in_ok-child.ensures.child) c.loop-index.invariant.walked.of_case,
+            c.loop-index.invariant.keeps,
+            c.loop-index.invariant.suits,
+            c.loop-index.invariant.stays,
+          )
     ] in
     record {
       walked =
@@ -65,29 +72,10 @@ loop-index-preserved g c =
           c.loop-index.invariant.walked
           c.in_ok-answer.ensures.answer c.in_ok-answer.ensures.leaves
           (rw c.if-is_err.ensures.negation at c.push.ensures.items)
-          handed;
-      keeps = elim c.match-branch-3.branch [
-        | in-Some+in_ok-offer w ↦
-            subst (λ hand. KeepsMore c.args.job.case.now.records (g.H.Hand.kept c.args.hand.now) (g.H.Hand.kept hand)) (sym w.hand-is)
-            (keeps_on c.args.job.case.now.records (g.H.Hand.kept c.args.hand.now) (g.H.Hand.kept c.loop-index.hand) (g.H.Hand.kept w.offer.new.hand) c.loop-index.invariant.keeps
-            (subst (λ (m : Matter). KeepsMore m.records (g.H.Hand.kept c.loop-index.hand) (g.H.Hand.kept w.offer.new.hand))
-            (subst (λ (o : Option Job). IfSome o (λ (j : Job). j.case.now ≡ c.args.job.case.now)) w.in-Some.is c.in_ok-child.ensures.of_case) w.in_ok-offer.ensures.keeps))
-        | in_default w ↦ subst (λ hand. KeepsMore c.args.job.case.now.records (g.H.Hand.kept c.args.hand.now) (g.H.Hand.kept hand)) (sym w.hand-is) c.loop-index.invariant.keeps
-      ];
-      suits = elim c.match-branch-3.branch [
-        | in-Some+in_ok-offer w ↦
-            subst (λ hand. g.H.Hand.suits hand c.args.job.case.now) (sym w.hand-is)
-            (subst (λ case. g.H.Hand.suits w.offer.new.hand case)
-            (subst (λ (o : Option Job). IfSome o (λ (j : Job). j.case.now ≡ c.args.job.case.now)) w.in-Some.is c.in_ok-child.ensures.of_case) w.in_ok-offer.ensures.suits)
-        | in_default w ↦ subst (λ hand. g.H.Hand.suits hand c.args.job.case.now) (sym w.hand-is) c.loop-index.invariant.suits
-      ];
-      stays = elim c.match-branch-3.branch [
-        | in-Some+in_ok-offer w ↦
-            subst (λ hand. (before : g.row.H.Denot) → g.H.Hand.stays before c.args.hand.now → g.H.Hand.stays before hand) (sym w.hand-is)
-            (λ before same. w.in_ok-offer.ensures.stays before (c.loop-index.invariant.stays before same))
-        | in_default w ↦
-            subst (λ hand. (before : g.row.H.Denot) → g.H.Hand.stays before c.args.hand.now → g.H.Hand.stays before hand) (sym w.hand-is) c.loop-index.invariant.stays
-      ];
+          done.0;
+      keeps = done.1;
+      suits = done.2;
+      stays = done.3;
     }
 
 pub returns-clause-answered : goal.returns-clause-answered
