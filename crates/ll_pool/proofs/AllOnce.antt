@@ -7,7 +7,7 @@ use Rattle.ll_process.specs.declared.piece.Piece.{Piece}
 use Rattle.ll_trace.specs.Processes.{IsNumbered, process_count, roots, times}
 use Rattle.ll_process.specs.Cases.{Matter}
 use Rattle.ll_process.specs.Jobs.{processes_of}
-use Rattle.ll_process.proofs.EachOnce.{each_once_weighed}
+use Rattle.ll_trace.proofs.EachOnce.{each_once_weighed}
 use Rattle.ll_pool.specs.declared.known.Known.{Known}
 use Rattle.ll_pool.specs.Gathered.{processes_in}
 use Rattle.ll_pool.specs.Rule.{IsSettled}

@@ -1,5 +1,4 @@
 pub mod LawOfOrders
-pub mod OwnRecords
 pub mod Walks
 pub mod Forks
 pub mod Weighing
@@ -12,5 +11,3 @@ pub mod KeptMore
 pub mod WalkSteps
 pub mod Descents
 pub mod Roots
-pub mod Times
-pub mod EachOnce

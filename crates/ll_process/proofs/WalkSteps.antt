@@ -15,7 +15,7 @@ use Rattle.ll_process.specs.Cases.{Matter, IsCase, BeginsAs, AgreesIn, answers_i
 use Rattle.ll_process.specs.Own.{IsOwn, Meets, Leaves}
 use Rattle.ll_process.specs.Jobs.{processes_of, AllOf, HandsOn, HandedOut}
 use Rattle.ll_trace.proofs.Numbers.{StartedAt, start_of, started_at-from}
-use Rattle.ll_process.proofs.OwnRecords.{own_record}
+use Rattle.ll_trace.proofs.OwnRecords.{own_record}
 use Rattle.ll_process.proofs.Walks.{met_first, met_next}
 use Rattle.ll_process.proofs.HandingOut.{handed_none, handed_on, handed_one, all_handed}
 use Rattle.ll_process.specs.Weights.{weight, weight_of}

@@ -11,7 +11,7 @@ use Rattle.ll_trace.specs.Processes.{is_fork, process_count, forked_at, own_from
 use Rattle.ll_process.specs.Weights.{weight, weight_of}
 use Rattle.ll_trace.proofs.Starting.{fork-starts}
 use Rattle.ll_trace.proofs.Numbers.{count-le, count-started, forked_at-from, forked_at-none}
-use Rattle.ll_process.proofs.OwnRecords.{own_from-yes, own_from-no, own_from-nil}
+use Rattle.ll_trace.proofs.OwnRecords.{own_from-yes, own_from-no, own_from-nil}
 use Rattle.ll_process.proofs.Forks.{child_above, child_below}
 
 -- a power above the weights of a process's children from a place on

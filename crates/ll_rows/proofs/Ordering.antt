@@ -18,7 +18,7 @@ use Rattle.ll_process.specs.Cases.{Matter}
 use Rattle.ll_process.specs.Jobs.{processes_of, AllOf as AllJobsOf, SharesOut}
 use Rattle.ll_process.proofs.Weighing.{weight_of-children}
 use Rattle.ll_process.proofs.Counting.{weighed}
-use Rattle.ll_process.proofs.EachOnce.{each_once_weighed}
+use Rattle.ll_trace.proofs.EachOnce.{each_once_weighed}
 use Rattle.ll_pool.specs.Gathered.{AllOf, processes_in}
 
 pub record Judged (of : Matter) (held : List Job) (pieces : List Piece) : Type 0 where

@@ -2,6 +2,9 @@ pub mod KeptLemmas
 pub mod Starting
 pub mod Numbers
 pub mod Numbering
+pub mod Times
+pub mod OwnRecords
+pub mod EachOnce
 pub mod Limits
 pub mod RecordLemmas
 pub mod TableLemmas

@@ -1,4 +1,4 @@
-use Rattle.ll_process.proofs.EachOnce.{each_once_weighed}
+use Rattle.ll_trace.proofs.EachOnce.{each_once_weighed}
 use Rattle.ll_pool.proofs.FaultFree.{not_missing, not_double}
 use Rattle.ll_pool.specs.Gathered.{processes_in}
 use Rattle.ll_pool.proofs.alone.judge_alone.Goals as goal

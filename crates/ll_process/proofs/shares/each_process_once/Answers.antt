@@ -1,4 +1,4 @@
-use Rattle.ll_process.proofs.EachOnce.{each_once}
+use Rattle.ll_trace.proofs.EachOnce.{each_once}
 use Rattle.ll_process.proofs.shares.each_process_once.Goals as goal
 
 pub returns : goal.returns

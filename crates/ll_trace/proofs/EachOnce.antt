@@ -8,7 +8,7 @@ use Rattle.ll_trace.specs.declared.record.Record.{Record}
 use Rattle.ll_trace.specs.Processes.{is_start, is_fork, process_count, forked_at, own_from, own_records, children, kids, root_of, roots, times, IsNumbered}
 use Rattle.ll_trace.proofs.Starting.{start-starts, fork-starts, starts_alone, fork_no_start}
 use Rattle.ll_trace.proofs.Numbers.{StartedAt, forked_at-is, forked_at-from, forked_at-none, started_once, start_of}
-use Rattle.ll_process.proofs.Times.{times-nil, times-same, times-other, times-cons, times-none, times-each}
+use Rattle.ll_trace.proofs.Times.{times-nil, times-same, times-other, times-cons, times-none, times-each}
 
 -- ---- processes that records give, each record by its place
 
