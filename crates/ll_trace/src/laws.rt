@@ -1,6 +1,6 @@
 //! What holds of traces by their definitions.
 
-ghost use Rattle.std.specs.Prelude.{◌≡◌, ◌⊎◌, ◌<◌, ℕ, List, Some, Ok};
+ghost use Rattle.std.specs.Prelude.{◌≡◌, ◌⊎◌, ◌<◌, ℕ, List, [], map, Some, Ok};
 ghost use Rattle.std.specs.List.{list_any, slice_get};
 ghost use Rattle.serde_json.specs.Data.{Items};
 ghost use Rattle.ll_rights.specs.declared.fs.Fs.{Fs};
@@ -12,10 +12,12 @@ ghost use Rattle.ll_tree.specs.Members.{fold_texts};
 ghost use Rattle.ll_tree.specs.Reading.{IsBad};
 ghost use Rattle.ll_trace.specs.Members.{with_fs, with_net};
 ghost use Rattle.ll_trace.specs.NameTexts.{texts_of};
+ghost use Rattle.ll_trace.specs.declared.record.ProcessId.{ProcessId};
 ghost use Rattle.ll_trace.specs.declared.record.Record.{Record};
 ghost use Rattle.ll_trace.specs.Entries.{trace_file};
-ghost use Rattle.ll_trace.specs.Records.{IsTrace};
-ghost use Rattle.ll_trace.specs.Processes.{process_count, parent_of, forked_by, started_at};
+ghost use Rattle.ll_trace.specs.RecordFacts.{ArePlaced};
+ghost use Rattle.ll_trace.specs.Records.{entry_of, records_after, IsTrace};
+ghost use Rattle.ll_trace.specs.Processes.{process_count, parent_of, forked_by, started_at, IsNumbered};
 ghost use Rattle.ll_trace.specs.SingleUse.{IsStrictTrace};
 
 /// A file reads as one trace and has no fault, or has one first fault, with its line and its cause, and reads
@@ -39,9 +41,11 @@ pub fn traces_of_single_pids()
         → IsStrictTrace bytes records → IsTrace bytes records }
 {}
 
-/// Each number below the count is that of a process which just one record starts, and this record
-/// tells its parent. (`AreRecords` says to which process each record belongs: `IsNumbered`.)
+/// The records of entries that have their places are numbered. Each number below the count is that of
+/// a process which just one record starts; this record tells its parent, whose number is below its own.
 pub fn processes_are_numbered()
+    ensures numbered { (records : List Record) → ArePlaced [] (map entry_of records)
+        → records ≡ records_after [] (map entry_of records) → IsNumbered records }
     ensures each { (records : List Record) (process : ℕ) → process < process_count records
         → (place : ℕ) × (started_at records place ≡ Some process) }
     ensures once { (records : List Record) (place other process : ℕ)
@@ -49,6 +53,8 @@ pub fn processes_are_numbered()
     ensures forked { (records : List Record) (place process : ℕ) (of : Record)
         → slice_get records place ≡ Some of → started_at records place ≡ Some process
         → parent_of records process ≡ forked_by of.op of.process }
+    ensures parent { (records : List Record) (process : ℕ) (parent : ProcessId) → IsNumbered records
+        → process < process_count records → parent_of records process ≡ Some parent → parent.0 < process }
 {}
 
 /// A set of rights that is read from a list of names has just the rights that some name of the list

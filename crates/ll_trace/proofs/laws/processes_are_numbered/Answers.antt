@@ -2,8 +2,12 @@ use Rattle.std.proofs.Common.{Some, ap, sym, ◌∙◌}
 use Rattle.std.proofs.lemmas.Option.{same_Some}
 use Rattle.ll_trace.specs.declared.record.Record.{Record}
 use Rattle.ll_trace.specs.Processes.{forked_by, only}
-use Rattle.ll_trace.proofs.Numbers.{parent_at, start_of, started_at-from, started_at-is, started_once}
+use Rattle.ll_trace.proofs.Numbering.{are_numbered}
+use Rattle.ll_trace.proofs.Numbers.{parent_at, parent_below, start_of, started_at-from, started_at-is, started_once}
 use Rattle.ll_trace.proofs.laws.processes_are_numbered.Goals as goal
+
+pub returns-clause-numbered : goal.returns-clause-numbered
+returns-clause-numbered c = are_numbered
 
 pub returns-clause-each : goal.returns-clause-each
 returns-clause-each c = λ records process below.
@@ -17,3 +21,6 @@ pub returns-clause-forked : goal.returns-clause-forked
 returns-clause-forked c = λ records place process of at starts.
     let one = started_at-is records place process starts in
     ap only (parent_at records place process one) ∙ ap (λ (r : Record). forked_by r.op r.process) (same_Some one.of of (sym one.at ∙ at))
+
+pub returns-clause-parent : goal.returns-clause-parent
+returns-clause-parent c = parent_below
