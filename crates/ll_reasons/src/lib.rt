@@ -3,5 +3,7 @@
 #![tactic(auto)]
 
 mod laws;
+mod origins;
 
 pub use laws::allowed_records_need_no_explanation;
+pub use origins::layers_come_from_their_restricts;

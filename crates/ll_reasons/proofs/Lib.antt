@@ -1,0 +1,2 @@
+pub mod Lockstep
+pub mod LayersMade
