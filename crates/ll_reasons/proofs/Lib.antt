@@ -1,2 +1,5 @@
 pub mod Lockstep
+pub mod Alike
 pub mod LayersMade
+pub mod DescriptorsMade
+pub mod RulesetsMade

@@ -63,13 +63,6 @@ sources_at-past tree abi records k past = ap (λ (rs : List Record). sources_aft
 
 -- ---- how many processes there are
 
-sources_by-unbegun : (k : ℕ) (op : Op) (p : ℕ) (a : Answer) (s : Sources) → is_starting op ≡ false
-    → sources_by k op p a s ≡ if_allowed a (record s { processes = with_origins s.processes p (traced k op (s.processes p)) }) s
-unfolding sources_by is_starting
-sources_by-unbegun k (Start nnp admin) p a s goes = cc
-sources_by-unbegun k (Fork child) p a s goes = cc
-sources_by-unbegun k op p a s goes = refl
-
 counts_kept : (a : Answer) (s : Sources) (processes : ℕ → Origins) → (if_allowed a (record s { processes = processes }) s).count ≡ s.count
 counts_kept Allowed s processes = refl
 counts_kept Moot s processes = refl

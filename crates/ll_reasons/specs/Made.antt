@@ -1,15 +1,22 @@
--- What the record at a place of a trace made, where it is one that makes a layer.
--- Source: landlock_restrict_self(2); landlock(7), "Inheritance".
-use Rattle.std.specs.Prelude.{◌≡◌, ◌<◌, ℕ, List, Option, Some, None, slice_get}
+-- What the record at a place of a trace made, where it is one that makes a layer, a descriptor or a ruleset.
+-- Source: landlock_restrict_self(2), landlock_create_ruleset(2); open(2); landlock(7), "Inheritance".
+use Rattle.std.specs.Prelude.{◌≡◌, ◌<◌, ℕ, List, [], Option, Some, None, Bool, true, false, slice_get}
 use Rattle.ll_rights.specs.declared.abi.Abi.{Abi}
-use Rattle.ll_tree.specs.Trees.{Entry}
+use Rattle.ll_rights.specs.declared.fs.Fs.{Fs}
+use Rattle.ll_rights.specs.declared.net.Net.{Net}
+use Rattle.ll_tree.specs.Trees.{Entry, place}
 use Rattle.ll_trace.specs.declared.record.Record.{Record}
+use Rattle.ll_trace.specs.declared.op.Op.{Op}
 use Rattle.ll_trace.specs.declared.op.Op.TheVariants as calls
 use Rattle.ll_semantics.specs.declared.answer.Answer.TheVariants.{Allowed}
-use Rattle.ll_semantics.specs.States.{Layer}
+use Rattle.ll_semantics.specs.declared.descriptor.Descriptor.{Descriptor}
+use Rattle.ll_semantics.specs.States.{State, Layer}
+use Rattle.ll_semantics.specs.Effects.{descriptor, opened}
 use Rattle.ll_semantics.specs.Notes.{enforced}
 use Rattle.ll_semantics.specs.Worlds.{World, judged}
 use Rattle.ll_semantics.specs.Situations.{world_at}
+
+-- ---- layers
 
 -- the ruleset that a record, if there is one, restricts its process by in a world
 unfoldable pub enforced_by : World → Option Record → Option Layer
@@ -31,3 +38,50 @@ pub record IsRestrict (tree : List Entry) (abi : Abi) (records : List Record) (k
 -- and it stands before another place
 abbrev pub IsEarlierRestrict : List Entry → Abi → List Record → ℕ → ℕ → Type 0
 IsEarlierRestrict tree abi records place k = (k < place) × IsRestrict tree abi records k
+
+-- ---- descriptors
+
+-- the call opens a file, or takes what is open by then
+unfoldable pub is_opening : Op → Bool
+is_opening (calls.OpenFile path fd mode create trunc) = true
+is_opening (calls.Adopt fd kind) = true
+is_opening op = false
+
+-- the descriptor that a call opens, as its process's state is before it; what is taken keeps no layers
+unfoldable pub opened_in : List Entry → State → Op → Option Descriptor
+opened_in tree s (calls.OpenFile path fd mode create trunc) = Some (opened tree s.domain (place tree path) mode)
+opened_in tree s (calls.Adopt fd kind) = Some (descriptor kind [])
+opened_in tree s op = None
+
+unfoldable pub opened_by : List Entry → World → Option Record → Option Descriptor
+opened_by tree world None = None
+opened_by tree world (Some r) = opened_in tree (world.processes r.process.0) r.op
+
+-- the descriptor that the record at a place opens
+unfoldable pub opened_at : List Entry → Abi → List Record → ℕ → Option Descriptor
+opened_at tree abi records k = opened_by tree (world_at tree abi records k) (slice_get records k)
+
+-- the record at a place of the trace opens a descriptor, and is allowed
+pub record IsOpening (tree : List Entry) (abi : Abi) (records : List Record) (k : ℕ) : Type 0 where
+  pub of : Record
+  pub at : slice_get records k ≡ Some of
+  pub opens : is_opening of.op ≡ true
+  pub allowed : slice_get (judged tree abi records) k ≡ Some Allowed
+
+abbrev pub IsEarlierOpening : List Entry → Abi → List Record → ℕ → ℕ → Type 0
+IsEarlierOpening tree abi records place k = (k < place) × IsOpening tree abi records k
+
+-- ---- rulesets
+
+-- the record at a place of the trace creates a ruleset, and is allowed
+pub record IsCreate (tree : List Entry) (abi : Abi) (records : List Record) (k : ℕ) : Type 0 where
+  pub of : Record
+  pub rs : ℕ
+  pub fs : Fs
+  pub net : Net
+  pub at : slice_get records k ≡ Some of
+  pub creates : of.op ≡ calls.Create rs fs net
+  pub allowed : slice_get (judged tree abi records) k ≡ Some Allowed
+
+abbrev pub IsEarlierCreate : List Entry → Abi → List Record → ℕ → ℕ → Type 0
+IsEarlierCreate tree abi records place k = (k < place) × IsCreate tree abi records k

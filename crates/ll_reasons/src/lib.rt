@@ -6,4 +6,7 @@ mod laws;
 mod origins;
 
 pub use laws::allowed_records_need_no_explanation;
-pub use origins::layers_come_from_their_restricts;
+pub use origins::{
+    descriptors_come_from_their_openings, layers_come_from_their_restricts,
+    rulesets_come_from_their_creations,
+};

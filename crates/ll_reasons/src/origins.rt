@@ -1,10 +1,14 @@
 //! What holds of the origins of layers, descriptors and rulesets.
 
-ghost use Rattle.std.specs.Prelude.{◌≡◌, ℕ, List, All, length, filter_map, option_and_then, slice_get};
+ghost use Rattle.std.specs.Prelude.{◌≡◌, ℕ, List, All, length, filter_map, option_and_then, slice_get, Some, IfSome, is_some};
 ghost use Rattle.ll_rights.specs.declared.abi.Abi.{Abi};
 ghost use Rattle.ll_tree.specs.Trees.{Entry};
 ghost use Rattle.ll_trace.specs.declared.record.Record.{Record};
-ghost use Rattle.ll_reasons.specs.Made.{enforced_at, IsEarlierRestrict};
+ghost use Rattle.ll_semantics.specs.States.{Layer};
+ghost use Rattle.ll_semantics.specs.Answers.{named};
+ghost use Rattle.ll_semantics.specs.Situations.{world_at};
+ghost use Rattle.ll_reasons.specs.Made.{enforced_at, IsEarlierRestrict, opened_at, IsEarlierOpening, IsEarlierCreate};
+ghost use Rattle.ll_reasons.specs.Conditions.{handled, handled_on_ports};
 ghost use Rattle.ll_reasons.specs.Explanations.{domain_at, origins_at};
 
 /// The layers of a process are in order the rulesets that the records restricted by which its origins name; each
@@ -22,4 +26,42 @@ pub fn layers_come_from_their_restricts()
         → slice_get (domain_at tree abi records place process) i
         ≡ option_and_then (enforced_at tree abi records)
         (slice_get (origins_at tree abi records place process).layers i) }
+{}
+
+/// A number is open just where its origins name an opening; what it is open on is what the record of that opening
+/// opened, whatever numbers it was duplicated to and processes it was handed down to since; and this record is an
+/// earlier `open` or `adopt` that was allowed.
+pub fn descriptors_come_from_their_openings()
+    ensures descriptors { (tree : List Entry) (abi : Abi) (records : List Record) (place process fd : ℕ)
+        → ((world_at tree abi records place).processes process).descriptors fd
+        ≡ option_and_then (opened_at tree abi records) ((origins_at tree abi records place process).openings fd) }
+    ensures open { (tree : List Entry) (abi : Abi) (records : List Record) (place process fd : ℕ)
+        → is_some ((origins_at tree abi records place process).openings fd)
+        ≡ is_some (((world_at tree abi records place).processes process).descriptors fd) }
+    ensures openings { (tree : List Entry) (abi : Abi) (records : List Record) (place process fd : ℕ)
+        → IfSome ((origins_at tree abi records place process).openings fd)
+        (IsEarlierOpening tree abi records place) }
+{}
+
+/// A number is that of a ruleset just where its origins name a creation; this is an earlier `create` that was
+/// allowed, and the ruleset handles just the rights that it names.
+pub fn rulesets_come_from_their_creations()
+    ensures held { (tree : List Entry) (abi : Abi) (records : List Record) (place process rs : ℕ)
+        → is_some ((origins_at tree abi records place process).rulesets rs)
+        ≡ is_some (((world_at tree abi records place).processes process).held rs) }
+    ensures named { (tree : List Entry) (abi : Abi) (records : List Record) (place process rs : ℕ)
+        → is_some (named (world_at tree abi records place).rulesets
+        (((world_at tree abi records place).processes process).held rs))
+        ≡ is_some (((world_at tree abi records place).processes process).held rs) }
+    ensures files { (tree : List Entry) (abi : Abi) (records : List Record) (place process rs : ℕ) (rules : Layer)
+        → named (world_at tree abi records place).rulesets
+        (((world_at tree abi records place).processes process).held rs) ≡ Some rules
+        → handled records (origins_at tree abi records place process) rs ≡ rules.handled_files }
+    ensures ports { (tree : List Entry) (abi : Abi) (records : List Record) (place process rs : ℕ) (rules : Layer)
+        → named (world_at tree abi records place).rulesets
+        (((world_at tree abi records place).processes process).held rs) ≡ Some rules
+        → handled_on_ports records (origins_at tree abi records place process) rs ≡ rules.handled_network }
+    ensures creations { (tree : List Entry) (abi : Abi) (records : List Record) (place process rs : ℕ)
+        → IfSome ((origins_at tree abi records place process).rulesets rs)
+        (IsEarlierCreate tree abi records place) }
 {}
