@@ -3,3 +3,4 @@ pub mod Alike
 pub mod LayersMade
 pub mod DescriptorsMade
 pub mod RulesetsMade
+pub mod Numbers

@@ -3,9 +3,11 @@
 #![tactic(auto)]
 
 mod laws;
+mod layers;
 mod origins;
 
 pub use laws::allowed_records_need_no_explanation;
+pub use layers::refusing_layers_are_explained;
 pub use origins::{
     descriptors_come_from_their_openings, layers_come_from_their_restricts,
     rulesets_come_from_their_creations,
