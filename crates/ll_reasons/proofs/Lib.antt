@@ -4,3 +4,7 @@ pub mod LayersMade
 pub mod DescriptorsMade
 pub mod RulesetsMade
 pub mod Numbers
+pub mod Named
+pub mod Enough
+pub mod Gains
+pub mod InDomain

@@ -272,10 +272,6 @@ contradicts : (a : Answer) (error : Errno) (number : ℕ) (numbers : List ℕ) �
 unfolding by_no_layer
 contradicts a error number numbers none is = (let both : false ≡ true = ap (λ (x : Answer). by_no_layer x) (sym is) ∙ none in cc)
 
-fails_by_none : (e : Errno) → by_no_layer (answers.fails e) ≡ true
-unfolding by_no_layer
-fails_by_none e = refl
-
 unless_by_none : (e : Option Errno) → by_no_layer (answers.unless e) ≡ true
 unfolding by_no_layer
 unless_by_none None = refl

@@ -1,4 +1,5 @@
 pub mod Objections
+pub mod Remedies
 pub mod Origins
 pub mod Made
 pub mod Conditions
