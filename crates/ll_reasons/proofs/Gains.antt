@@ -26,7 +26,7 @@ use Rattle.ll_reasons.proofs.Enough.{or_left, or_right, or_either, and_both, and
 
 -- ---- paths
 
-prefix-trans : (a b c : Path) → is_prefix a b ≡ true → is_prefix b c ≡ true → is_prefix a c ≡ true
+pub prefix-trans : (a b c : Path) → is_prefix a b ≡ true → is_prefix b c ≡ true → is_prefix a c ≡ true
 unfolding is_prefix
 prefix-trans [] b c ab bc = refl
 prefix-trans (x ∷ a) [] c ab bc = cc
@@ -36,7 +36,7 @@ prefix-trans (x ∷ a) (y ∷ b) (z ∷ c) ab bc =
     let second = and_both (bytes_eq y z) (is_prefix b c) bc in
     and_from (bytes_eq x z) (is_prefix a c) ((bytes_eq-Decides x z).1 ((bytes_eq-Decides x y).0 first.0 ∙ (bytes_eq-Decides y z).0 second.0)) (prefix-trans a b c first.1 second.1)
 
-prefix-front : (path : Path) → is_prefix (front path) path ≡ true
+pub prefix-front : (path : Path) → is_prefix (front path) path ≡ true
 unfolding is_prefix front
 prefix-front [] = refl
 prefix-front (name ∷ []) = refl

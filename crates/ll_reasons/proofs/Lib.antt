@@ -8,3 +8,4 @@ pub mod Named
 pub mod Enough
 pub mod Gains
 pub mod InDomain
+pub mod ReasonsTrue

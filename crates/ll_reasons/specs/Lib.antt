@@ -4,4 +4,5 @@ pub mod Origins
 pub mod Made
 pub mod Conditions
 pub mod Reasons
+pub mod ReasonsHold
 pub mod Explanations

@@ -1,0 +1,385 @@
+-- What the reason for a moot call says is so.
+use Rattle.std.proofs.Common.{◌≡◌, ℕ, zero, suc, ◌≤◌, ◌==◌, Bool, true, false, not, List, [], ◌∷◌, length, Option, Some, None, is_some, refl, sym, ap, ◌∙◌, subst, subst₂, inl, inr, arith, IsSomeAnd, nat_le, nat_lt, if◌then◌else◌}
+use Rattle.std.specs.List.{list_any}
+use Rattle.std.specs.Option.{option_map}
+use Rattle.std.proofs.lemmas.Bool.{cases_Bool}
+use Rattle.std.proofs.lemmas.Option.{none-some, same_Some}
+use Rattle.ll_rights.specs.declared.abi.Abi.{Abi}
+use Rattle.ll_rights.specs.declared.fs.Fs.{Fs}
+use Rattle.ll_rights.specs.declared.net.Net.{Net}
+use Rattle.ll_rules.specs.declared.errno.Errno.{Errno}
+use Rattle.ll_rules.specs.declared.errno.Errno.TheVariants.{Acces, Perm, TooBig, Inval, NoMsg}
+use Rattle.ll_rules.specs.declared.moves.Move.{Move}
+use Rattle.ll_rules.specs.declared.moves.Verdict.{Verdict}
+use Rattle.ll_rules.specs.declared.moves.Verdict.TheVariants as verdicts
+use Rattle.ll_rules.specs.Rulesets.{with_error, has_ports}
+use Rattle.ll_rights.specs.NetRights as network
+use Rattle.ll_rules.specs.Moves.{move_verdict}
+use Rattle.ll_tree.specs.declared.place.NodeId.{NodeId}
+use Rattle.ll_tree.specs.declared.place.Place.{Place}
+use Rattle.ll_tree.specs.declared.place.Place.TheVariants.{Node, Gap, Nowhere}
+use Rattle.ll_tree.specs.Paths.{Path, front, is_prefix, path_of}
+use Rattle.ll_tree.specs.Trees.{Entry, path_at, kind_at, is_dir, node_at, position_of, gap_in, place_or_gap, place_of, place}
+use Rattle.ll_tree.proofs.Positions.{at_position}
+use Rattle.ll_trace.specs.declared.op.Op.{Op}
+use Rattle.ll_trace.specs.declared.op.Op.TheVariants as calls
+use Rattle.ll_trace.specs.declared.op.Sort.{Sort}
+use Rattle.ll_trace.specs.declared.op.Sort.TheVariants.{Regular, Device, Other}
+use Rattle.ll_semantics.specs.declared.answer.Answer.{Answer}
+use Rattle.ll_semantics.specs.declared.answer.Answer.TheVariants.{Allowed, Moot, Refused}
+use Rattle.ll_semantics.specs.declared.descriptor.Descriptor.{Descriptor}
+use Rattle.ll_semantics.specs.Moves.{is_above, is_root, is_mixed, rename_move, rename_to, rename_into, rename_onto}
+use Rattle.ll_semantics.specs.States.{State, Layer}
+use Rattle.ll_semantics.specs.Answers as answers
+use Rattle.ll_trace.specs.declared.record.Record.{Record}
+use Rattle.ll_semantics.specs.Worlds.{World, answer_in}
+use Rattle.ll_semantics.specs.Situations.{world_at}
+use Rattle.ll_reasons.specs.Origins.{Origins}
+use Rattle.ll_reasons.specs.Explanations.{origins_at}
+use Rattle.ll_reasons.proofs.DescriptorsMade.{descriptor_open}
+use Rattle.ll_reasons.specs.Reasons.{Reason, absent, of_kind, root, unmoved, beneath_itself, over_itself, mixed, open_already, unopened, not_for_writing, held_already, unheld, spelt, beside, or_above, ends_at, nowhere, no_object, not_removed, no_gap, onto, moved_to, unrenamed, linked_to, unlinked, reason}
+use Rattle.ll_reasons.specs.ReasonsHold.{paths_of, are_spelt, is_at_root, is_at_one, names_one_twice, is_regular, Holds}
+use Rattle.ll_reasons.proofs.Enough.{and_both, or_left, or_right}
+use Rattle.ll_reasons.proofs.Gains.{prefix-trans, prefix-front}
+
+-- ---- the tree
+
+-- what a place says of the path that it is the place of
+unfoldable Placed : List Entry → Path → Place → Type 0
+Placed tree path (Node node) = node_at tree path ≡ Some node
+Placed tree path (Gap directory) = (node_at tree path ≡ None) × (node_at tree (front path) ≡ Some directory) × (is_dir (kind_at tree directory) ≡ true)
+Placed tree path Nowhere = node_at tree path ≡ None
+
+gap_placed : (tree : List Entry) (path : Path) (above : Option NodeId) → node_at tree path ≡ None → node_at tree (front path) ≡ above → Placed tree path (gap_in tree above)
+unfolding Placed gap_in
+gap_placed tree path None none is = none
+gap_placed tree path (Some directory) none is = elim (cases_Bool (is_dir (kind_at tree directory))) [
+  | inl holds ↦ rw holds (none, is, holds)
+  | inr fails ↦ rw fails none
+]
+
+node_placed : (tree : List Entry) (path : Path) (node : Option NodeId) → node_at tree path ≡ node → Placed tree path (place_or_gap tree path node)
+unfolding Placed place_or_gap
+node_placed tree path None none = gap_placed tree path (node_at tree (front path)) none refl
+node_placed tree path (Some node) is = is
+
+text_placed : (tree : List Entry) (text : List ℕ) (path : Option Path) → path_of text ≡ path → is_some path ≡ true → Placed tree (spelt text) (place tree text)
+unfolding place place_of
+text_placed tree text None is some = cc
+text_placed tree text (Some path) is some = rw is (node_placed tree path (node_at tree path) refl)
+
+node_path : (tree : List Entry) (path : Path) (node : NodeId) → node_at tree path ≡ Some node → path_at tree node ≡ path
+unfolding node_at path_at
+node_path tree path node is = by_position (position_of path tree) refl is
+  where
+    by_position : (o : Option ℕ) → position_of path tree ≡ o → ◌≡◌ {A = Option NodeId} (option_map (λ place. record { 0 = place }) o) (Some node) → path_at tree node ≡ path
+    by_position None at is = absurd (none-some node is)
+    by_position (Some place) at is = subst (λ (n : NodeId). path_at tree n ≡ path) (same_Some (record { 0 = place }) node is) (at_position path tree place at).1
+
+shorter : (path : Path) (n : ℕ) → length path ≤ suc n → length (front path) ≤ n
+unfolding front
+shorter [] n less = omega arith
+shorter (name ∷ []) n less = omega arith
+shorter (name ∷ next ∷ names) zero less = absurd (omega arith)
+shorter (name ∷ next ∷ names) (suc n) less = (let rest : length (front (next ∷ names)) ≤ n = shorter (next ∷ names) n (omega arith) in omega (arith, rest))
+
+beside_holds : (tree : List Entry) (s : State) (op : Op) (path : Path) (above : NodeId) → node_at tree path ≡ None → node_at tree (front path) ≡ Some above → Holds tree s op (beside tree path above)
+unfolding Holds
+beside_holds tree s op path above none is = elim (cases_Bool (is_dir (kind_at tree above))) [
+  | inl holds ↦ rw holds (none, (above, is, holds))
+  | inr fails ↦ rw fails (above, is, fails)
+]
+
+ends_hold : (tree : List Entry) (s : State) (op : Op) (n : ℕ) (path : Path) → is_some (node_at tree []) ≡ true → length path ≤ n → node_at tree path ≡ None → Holds tree s op (ends_at tree n path)
+unfolding ends_at
+ends_hold tree s op zero [] there less none = (let both : false ≡ true = sym (ap (λ (o : Option NodeId). is_some o) none) ∙ there in cc)
+ends_hold tree s op zero (name ∷ names) there less none = absurd (omega arith)
+ends_hold tree s op (suc n) path there less none =
+    by_above (node_at tree (front path)) refl (λ gone. ends_hold tree s op n (front path) there (shorter path n less) gone)
+  where
+    by_above : (above : Option NodeId) → node_at tree (front path) ≡ above → (node_at tree (front path) ≡ None → Holds tree s op (ends_at tree n (front path))) → Holds tree s op (or_above tree path above (ends_at tree n (front path)))
+    by_above None is rest = rest is
+    by_above (Some above) is rest = beside_holds tree s op path above none is
+
+module _ (tree : List Entry) (s : State) (op : Op) (there : is_some (node_at tree []) ≡ true) where
+  nowhere_holds : (path : Path) → node_at tree path ≡ None → Holds tree s op (nowhere tree path)
+  nowhere_holds path none = ends_hold tree s op (length path) path there (omega arith) none
+
+  gap_holds : (path : Path) (directory : NodeId) → Placed tree path (Gap directory) → Holds tree s op (absent path)
+  unfolding Placed Holds
+  gap_holds path directory is = (is.0, (directory, is.1, is.2))
+
+  no_object_holds : (path : Path) (at : Place) → Placed tree path at → Holds tree s op (no_object tree path at)
+  unfolding Placed Holds no_object
+  no_object_holds path (Node node) is = (node, is, refl)
+  no_object_holds path (Gap directory) is = gap_holds path directory is
+  no_object_holds path Nowhere is = nowhere_holds path is
+
+  no_gap_holds : (path : Path) (at : Place) → Placed tree path at → Holds tree s op (no_gap tree path at)
+  unfolding Placed Holds no_gap
+  no_gap_holds path (Node node) is = ap (λ (o : Option NodeId). is_some o) is
+  no_gap_holds path (Gap directory) is = gap_holds path directory is
+  no_gap_holds path Nowhere is = nowhere_holds path is
+
+  kind_holds : (path : Path) (node : NodeId) → node_at tree path ≡ Some node → Holds tree s op (of_kind path (kind_at tree node))
+  unfolding Holds
+  kind_holds path node is = (node, is, refl)
+
+  by_root : (b : Bool) (other : Reason) → (b ≡ true → Holds tree s op root) → Holds tree s op other → Holds tree s op (if b then root else other)
+  by_root true other of_root rest = of_root refl
+  by_root false other of_root rest = rest
+
+  not_removed_holds : (path : Path) (at : Place) → Placed tree path at → (is_at_root at ≡ true → Holds tree s op root) → Holds tree s op (not_removed tree path at)
+  unfolding Placed not_removed
+  not_removed_holds path (Node node) is of_root = by_root (is_root node) (of_kind path (kind_at tree node)) of_root (kind_holds path node is)
+  not_removed_holds path (Gap directory) is of_root = gap_holds path directory is
+  not_removed_holds path Nowhere is of_root = nowhere_holds path is
+
+  -- ---- moves
+
+  by_onto : (from to : Path) (r e a b x m : Bool) (one another : Move) → (r ≡ true → Holds tree s op root) → (e ≡ true → Holds tree s op (unmoved from)) → (a ≡ true → Holds tree s op (beneath_itself from to)) → (b ≡ true → Holds tree s op (over_itself from to)) → (m ≡ true → Holds tree s op (mixed from to))
+      → (if r then None else (if a then None else (if b then None else (if x then Some one else (if m then None else Some another))))) ≡ None
+      → Holds tree s op (if r then root else (if e then unmoved from else (if a then beneath_itself from to else (if b then over_itself from to else mixed from to))))
+  by_onto from to true e a b x m one another is_r is_e is_a is_b is_m moot = is_r refl
+  by_onto from to false true a b x m one another is_r is_e is_a is_b is_m moot = is_e refl
+  by_onto from to false false true b x m one another is_r is_e is_a is_b is_m moot = is_a refl
+  by_onto from to false false false true x m one another is_r is_e is_a is_b is_m moot = is_b refl
+  by_onto from to false false false false true m one another is_r is_e is_a is_b is_m moot = absurd (none-some one (sym moot))
+  by_onto from to false false false false false true one another is_r is_e is_a is_b is_m moot = is_m refl
+  by_onto from to false false false false false false one another is_r is_e is_a is_b is_m moot = absurd (none-some another (sym moot))
+
+  above_paths : (from to : Path) (a b : NodeId) → path_at tree a ≡ from → path_at tree b ≡ to → is_above tree a b ≡ true → is_prefix from to ≡ true
+  above_paths from to a b is_a is_b above = subst₂ (λ (x y : Path). is_prefix x y ≡ true) is_a is_b above
+
+  onto_holds : (from to : Path) (moved at : NodeId) (exchange : Bool) → node_at tree from ≡ Some moved → node_at tree to ≡ Some at → (is_root at ≡ true → Holds tree s op root) → ((moved.0 == at.0) ≡ true → Holds tree s op (unmoved from))
+      → rename_onto tree moved at exchange ≡ None → Holds tree s op (onto tree from moved to at)
+  unfolding onto rename_onto Holds
+  onto_holds from to moved at exchange is_from is_to of_root of_one moot =
+      by_onto from to (is_root at) (moved.0 == at.0) (is_above tree moved at) (is_above tree at moved) exchange (is_mixed tree moved at) _ _ of_root of_one
+      (λ above. above_paths from to moved at (node_path tree from moved is_from) (node_path tree to at is_to) above)
+      (λ above. above_paths to from at moved (node_path tree to at is_to) (node_path tree from moved is_from) above)
+      (λ both. (moved, at, is_from, is_to, both)) moot
+
+  by_gap : (from to : Path) (x a : Bool) (one : Move) → Holds tree s op (absent to) → (a ≡ true → Holds tree s op (beneath_itself from to)) → (if x then None else (if a then None else Some one)) ≡ None → Holds tree s op (if x then absent to else beneath_itself from to)
+  by_gap from to true a one gone is_a moot = gone
+  by_gap from to false true one gone is_a moot = is_a refl
+  by_gap from to false false one gone is_a moot = absurd (none-some one (sym moot))
+
+  into_holds : (from to : Path) (moved directory : NodeId) (exchange : Bool) → node_at tree from ≡ Some moved → Placed tree to (Gap directory) → rename_into tree moved directory exchange ≡ None → Holds tree s op (if exchange then absent to else beneath_itself from to)
+  unfolding rename_into Placed Holds
+  into_holds from to moved directory exchange is_from is_to moot =
+      by_gap from to exchange (is_above tree moved directory) _ (gap_holds to directory is_to)
+      (λ above. prefix-trans from (front to) to (above_paths from (front to) moved directory (node_path tree from moved is_from) (node_path tree (front to) directory is_to.1) above) (prefix-front to)) moot
+
+  moved_to_holds : (from to : Path) (moved : NodeId) (at : Place) (exchange : Bool) → node_at tree from ≡ Some moved → Placed tree to at → (is_at_root at ≡ true → Holds tree s op root) → (is_at_one (Node moved) at ≡ true → Holds tree s op (unmoved from))
+      → rename_to tree moved at exchange ≡ None → Holds tree s op (moved_to tree from moved to at exchange)
+  unfolding rename_to moved_to Placed
+  moved_to_holds from to moved (Node there) exchange is_from is_to of_root of_one moot = onto_holds from to moved there exchange is_from is_to of_root of_one moot
+  moved_to_holds from to moved (Gap directory) exchange is_from is_to of_root of_one moot = into_holds from to moved directory exchange is_from is_to moot
+  moved_to_holds from to moved Nowhere exchange is_from is_to of_root of_one moot = nowhere_holds to is_to
+
+  by_mover : (b : Bool) (asked : Option Move) (other : Reason) → (b ≡ true → Holds tree s op root) → (asked ≡ None → Holds tree s op other) → (if b then None else asked) ≡ None → Holds tree s op (if b then root else other)
+  by_mover true asked other of_root rest moot = of_root refl
+  by_mover false asked other of_root rest moot = rest moot
+
+  unrenamed_holds : (from to : Path) (at_from at_to : Place) (exchange : Bool) → Placed tree from at_from → Placed tree to at_to → (is_at_root at_from ≡ true → Holds tree s op root) → (is_at_root at_to ≡ true → Holds tree s op root) → (is_at_one at_from at_to ≡ true → Holds tree s op (unmoved from))
+      → rename_move tree at_from at_to exchange ≡ None → Holds tree s op (unrenamed tree from at_from to at_to exchange)
+  unfolding rename_move unrenamed Placed
+  unrenamed_holds from to (Node moved) at_to exchange is_from is_to root_from root_to of_one moot =
+      by_mover (is_root moved) (rename_to tree moved at_to exchange) (moved_to tree from moved to at_to exchange) root_from (λ none. moved_to_holds from to moved at_to exchange is_from is_to root_to of_one none) moot
+  unrenamed_holds from to (Gap directory) at_to exchange is_from is_to root_from root_to of_one moot = gap_holds from directory is_from
+  unrenamed_holds from to Nowhere at_to exchange is_from is_to root_from root_to of_one moot = nowhere_holds from is_from
+
+  linked_to_holds : (from to : Path) (moved : NodeId) (at : Place) → node_at tree from ≡ Some moved → Placed tree to at → Holds tree s op (linked_to tree from moved to at)
+  unfolding linked_to Placed Holds
+  linked_to_holds from to moved (Node there) is_from is_to = ap (λ (o : Option NodeId). is_some o) is_to
+  linked_to_holds from to moved (Gap directory) is_from is_to = (moved, is_from, refl)
+  linked_to_holds from to moved Nowhere is_from is_to = nowhere_holds to is_to
+
+  unlinked_holds : (from to : Path) (at_from at_to : Place) → Placed tree from at_from → Placed tree to at_to → (is_at_root at_from ≡ true → Holds tree s op root) → Holds tree s op (unlinked tree from at_from to at_to)
+  unfolding unlinked Placed
+  unlinked_holds from to (Node moved) at_to is_from is_to of_root = by_root (is_root moved) (linked_to tree from moved to at_to) of_root (linked_to_holds from to moved at_to is_from is_to)
+  unlinked_holds from to (Gap directory) at_to is_from is_to of_root = gap_holds from directory is_from
+  unlinked_holds from to Nowhere at_to is_from is_to of_root = nowhere_holds from is_from
+
+-- ---- which answers are moot
+
+is_moot : Answer → Bool
+is_moot Allowed = false
+is_moot Moot = true
+is_moot (Refused error numbers) = false
+
+not_moot : {P : Type 0} (a : Answer) → is_moot a ≡ false → a ≡ Moot → P
+unfolding is_moot
+not_moot a other is = (let both : true ≡ false = sym (ap (λ (x : Answer). is_moot x) is) ∙ other in absurd (cc))
+
+decided : is_moot Allowed ≡ false
+unfolding is_moot
+decided = refl
+
+moot-refused_by : (e : Errno) (numbers : List ℕ) → is_moot (answers.refused_by e numbers) ≡ false
+unfolding is_moot
+moot-refused_by e [] = refl
+moot-refused_by e (number ∷ numbers) = refl
+
+moot-unless : (e : Option Errno) → is_moot (answers.unless e) ≡ false
+unfolding is_moot
+moot-unless None = refl
+moot-unless (Some e) = refl
+
+moot-either : (b : Bool) (x y : Answer) → is_moot x ≡ false → is_moot y ≡ false → is_moot (if b then x else y) ≡ false
+moot-either true x y this that = this
+moot-either false x y this that = that
+
+moot-restrict : (s : State) (rules : Option Layer) → is_moot (answers.restrict_answer s rules) ≡ false
+unfolding answers.restrict_answer is_moot
+moot-restrict s None = moot-either (answers.may_restrict s) _ _ refl refl
+moot-restrict s (Some rules) = moot-either (answers.may_restrict s) _ _ (moot-either (nat_le 16 (length s.domain)) (answers.fails TooBig) Allowed refl refl) refl
+
+moot-tests : (a b c d : Bool) → is_moot (answers.of_rule_refusal (if a then Some (with_error Inval) else (if b then Some (with_error NoMsg) else (if c then Some (with_error Inval) else (if d then Some (with_error Inval) else None))))) ≡ false
+unfolding is_moot
+moot-tests true b c d = refl
+moot-tests false true c d = refl
+moot-tests false false true d = refl
+moot-tests false false false true = refl
+moot-tests false false false false = refl
+
+moot-add_port : (abi : Abi) (port : ℕ) (net : Net) (rules : Option Layer) → is_moot (answers.add_port_answer abi port net rules) ≡ false
+unfolding answers.add_port_answer is_moot
+moot-add_port abi port net None = refl
+moot-add_port abi port net (Some rules) = moot-tests (not (has_ports abi)) (network.is_empty net) (not (network.is_within net rules.handled_network)) (nat_lt 65535 port)
+
+verdict_decides : (v : Verdict) → is_moot (answers.of_verdict v) ≡ false
+unfolding is_moot
+verdict_decides verdicts.Passed = refl
+verdict_decides (verdicts.Refused error numbers) = refl
+
+no_move : (tree : List Entry) (domain : List Layer) (move : Option Move) → answers.of_move tree domain move ≡ Moot → move ≡ None
+no_move tree domain None moot = refl
+no_move tree domain (Some move) moot = not_moot _ (verdict_decides (move_verdict tree domain move)) moot
+
+-- ---- tables
+
+if_there-none : {A : Type 0} (o : Option A) → answers.if_there o ≡ Moot → o ≡ None
+if_there-none None moot = refl
+if_there-none (Some it) moot = not_moot Allowed decided moot
+
+if_free-some : {A : Type 0} (o : Option A) → answers.if_free o ≡ Moot → is_some o ≡ true
+if_free-some None moot = not_moot Allowed decided moot
+if_free-some (Some it) moot = refl
+
+create_taken : (abi : Abi) (fs : Fs) (net : Net) (o : Option ℕ) → answers.create_answer abi fs net o ≡ Moot → is_some o ≡ true
+unfolding answers.create_answer
+create_taken abi fs net None moot = not_moot _ (moot-unless _) moot
+create_taken abi fs net (Some place) moot = refl
+
+moot-ioctl : (sort : Sort) (numbers : List ℕ) (driver : Bool) → is_moot (answers.ioctl_kept sort numbers driver) ≡ false
+unfolding is_moot
+moot-ioctl Device numbers true = moot-refused_by Acces numbers
+moot-ioctl Device numbers false = refl
+moot-ioctl Regular numbers driver = refl
+moot-ioctl Other numbers driver = refl
+
+ioctl_closed : (o : Option Descriptor) (driver : Bool) → answers.ioctl_answer o driver ≡ Moot → o ≡ None
+unfolding answers.ioctl_answer
+ioctl_closed None driver moot = refl
+ioctl_closed (Some held) driver moot = not_moot _ (moot-ioctl held.sort held.kept driver) moot
+
+not_regular : (sort : Sort) (numbers : List ℕ) → answers.truncate_kept sort numbers ≡ Moot → is_regular sort ≡ false
+not_regular Regular numbers moot = not_moot _ (moot-refused_by Acces numbers) moot
+not_regular Device numbers moot = refl
+not_regular Other numbers moot = refl
+
+ftruncate_holds : (tree : List Entry) (s : State) (op : Op) (fd : ℕ) (opening : Bool) (o : Option Descriptor) → opening ≡ is_some o → s.descriptors fd ≡ o → answers.ftruncate_answer o ≡ Moot → Holds tree s op (if opening then not_for_writing fd else unopened fd)
+unfolding answers.ftruncate_answer Holds
+ftruncate_holds tree s op fd true None same is moot = cc
+ftruncate_holds tree s op fd false None same is moot = is
+ftruncate_holds tree s op fd true (Some held) same is moot = (held, is, not_regular held.sort held.kept moot)
+ftruncate_holds tree s op fd false (Some held) same is moot = cc
+
+open_holds : (tree : List Entry) (s : State) (op : Op) (fd : ℕ) (opening : Bool) (other : Reason) → opening ≡ is_some (s.descriptors fd) → Holds tree s op other → Holds tree s op (if opening then open_already fd else other)
+unfolding Holds
+open_holds tree s op fd true other same holds = sym same
+open_holds tree s op fd false other same holds = holds
+
+holds_held : (tree : List Entry) (s : State) (op : Op) (rs : ℕ) → is_some (s.held rs) ≡ true → Holds tree s op (held_already rs)
+unfolding Holds
+holds_held tree s op rs is = is
+
+holds_unheld : (tree : List Entry) (s : State) (op : Op) (rs : ℕ) → s.held rs ≡ None → Holds tree s op (unheld rs)
+unfolding Holds
+holds_unheld tree s op rs is = is
+
+holds_open : (tree : List Entry) (s : State) (op : Op) (fd : ℕ) → is_some (s.descriptors fd) ≡ true → Holds tree s op (open_already fd)
+unfolding Holds
+holds_open tree s op fd is = is
+
+holds_unopened : (tree : List Entry) (s : State) (op : Op) (fd : ℕ) → s.descriptors fd ≡ None → Holds tree s op (unopened fd)
+unfolding Holds
+holds_unopened tree s op fd is = is
+
+holds_root : (tree : List Entry) (s : State) (op : Op) → list_any (λ text. is_at_root (place tree text)) (paths_of op) ≡ true → Holds tree s op root
+unfolding Holds
+holds_root tree s op is = is
+
+holds_unmoved : (tree : List Entry) (s : State) (from to : List ℕ) (exchange : Bool) → is_at_one (place tree from) (place tree to) ≡ true → Holds tree s (calls.Rename from to exchange) (unmoved (spelt from))
+unfolding Holds names_one_twice
+holds_unmoved tree s from to exchange is = is
+
+-- ---- every call
+
+pub call_reason : (tree : List Entry) (abi : Abi) (rulesets : List Layer) (op : Op) (s : State) (o : Origins) → is_some (node_at tree []) ≡ true → are_spelt op ≡ true → ((fd : ℕ) → is_some (o.openings fd) ≡ is_some (s.descriptors fd))
+    → answers.answer tree abi rulesets op s ≡ Moot → IsSomeAnd (reason tree o op) (Holds tree s op)
+unfolding answers.answer reason are_spelt paths_of
+call_reason tree abi rulesets (calls.Create rs fs net) s o there are same moot = holds_held tree s (calls.Create rs fs net) rs (create_taken abi fs net (s.held rs) moot)
+call_reason tree abi rulesets (calls.AddPath rs path fs) s o there are same moot = no_object_holds tree s (calls.AddPath rs path fs) there (spelt path) (place tree path) (text_placed tree path (path_of path) refl (and_both (is_some (path_of path)) true are).0)
+call_reason tree abi rulesets (calls.AddPort rs port net) s o there are same moot = not_moot _ (moot-add_port abi port net (answers.named rulesets (s.held rs))) moot
+call_reason tree abi rulesets (calls.CloseRs rs) s o there are same moot = holds_unheld tree s (calls.CloseRs rs) rs (if_there-none (s.held rs) moot)
+call_reason tree abi rulesets (calls.Restrict rs) s o there are same moot = not_moot _ (moot-restrict s (answers.named rulesets (s.held rs))) moot
+call_reason tree abi rulesets (calls.OpenFile path fd mode create trunc) s o there are same moot =
+    open_holds tree s (calls.OpenFile path fd mode create trunc) fd (is_some (o.openings fd)) (no_object tree (spelt path) (place tree path)) (same fd)
+    (no_object_holds tree s (calls.OpenFile path fd mode create trunc) there (spelt path) (place tree path) (text_placed tree path (path_of path) refl (and_both (is_some (path_of path)) true are).0))
+call_reason tree abi rulesets (calls.Adopt fd kind) s o there are same moot = holds_open tree s (calls.Adopt fd kind) fd (if_free-some (s.descriptors fd) moot)
+call_reason tree abi rulesets (calls.Dup fd to) s o there are same moot = holds_unopened tree s (calls.Dup fd to) fd (if_there-none (s.descriptors fd) moot)
+call_reason tree abi rulesets (calls.Close fd) s o there are same moot = holds_unopened tree s (calls.Close fd) fd (if_there-none (s.descriptors fd) moot)
+call_reason tree abi rulesets (calls.Ftruncate fd) s o there are same moot = ftruncate_holds tree s (calls.Ftruncate fd) fd (is_some (o.openings fd)) (s.descriptors fd) (same fd) refl moot
+call_reason tree abi rulesets (calls.Ioctl fd driver) s o there are same moot = holds_unopened tree s (calls.Ioctl fd driver) fd (ioctl_closed (s.descriptors fd) driver moot)
+call_reason tree abi rulesets (calls.Truncate path) s o there are same moot = no_object_holds tree s (calls.Truncate path) there (spelt path) (place tree path) (text_placed tree path (path_of path) refl (and_both (is_some (path_of path)) true are).0)
+call_reason tree abi rulesets (calls.Exec path) s o there are same moot = no_object_holds tree s (calls.Exec path) there (spelt path) (place tree path) (text_placed tree path (path_of path) refl (and_both (is_some (path_of path)) true are).0)
+call_reason tree abi rulesets (calls.Mknod path kind) s o there are same moot = no_gap_holds tree s (calls.Mknod path kind) there (spelt path) (place tree path) (text_placed tree path (path_of path) refl (and_both (is_some (path_of path)) true are).0)
+call_reason tree abi rulesets (calls.Mkdir path) s o there are same moot = no_gap_holds tree s (calls.Mkdir path) there (spelt path) (place tree path) (text_placed tree path (path_of path) refl (and_both (is_some (path_of path)) true are).0)
+call_reason tree abi rulesets (calls.Symlink path) s o there are same moot = no_gap_holds tree s (calls.Symlink path) there (spelt path) (place tree path) (text_placed tree path (path_of path) refl (and_both (is_some (path_of path)) true are).0)
+call_reason tree abi rulesets (calls.Unlink path) s o there are same moot =
+    not_removed_holds tree s (calls.Unlink path) there (spelt path) (place tree path) (text_placed tree path (path_of path) refl (and_both (is_some (path_of path)) true are).0)
+    (λ here. holds_root tree s (calls.Unlink path) (or_left (is_at_root (place tree path)) false here))
+call_reason tree abi rulesets (calls.Rmdir path) s o there are same moot =
+    not_removed_holds tree s (calls.Rmdir path) there (spelt path) (place tree path) (text_placed tree path (path_of path) refl (and_both (is_some (path_of path)) true are).0)
+    (λ here. holds_root tree s (calls.Rmdir path) (or_left (is_at_root (place tree path)) false here))
+call_reason tree abi rulesets (calls.Rename from to exchange) s o there are same moot =
+    let op : Op = calls.Rename from to exchange in
+    let parts = and_both (is_some (path_of from)) _ are in
+    unrenamed_holds tree s op there (spelt from) (spelt to) (place tree from) (place tree to) exchange
+    (text_placed tree from (path_of from) refl parts.0) (text_placed tree to (path_of to) refl (and_both (is_some (path_of to)) true parts.1).0)
+    (λ here. holds_root tree s op (or_left (is_at_root (place tree from)) _ here))
+    (λ here. holds_root tree s op (or_right (is_at_root (place tree from)) _ (or_left (is_at_root (place tree to)) false here)))
+    (λ one. holds_unmoved tree s from to exchange one)
+    (no_move tree s.domain (rename_move tree (place tree from) (place tree to) exchange) moot)
+call_reason tree abi rulesets (calls.Link from to) s o there are same moot =
+    let op : Op = calls.Link from to in
+    let parts = and_both (is_some (path_of from)) _ are in
+    unlinked_holds tree s op there (spelt from) (spelt to) (place tree from) (place tree to)
+    (text_placed tree from (path_of from) refl parts.0) (text_placed tree to (path_of to) refl (and_both (is_some (path_of to)) true parts.1).0)
+    (λ here. holds_root tree s op (or_left (is_at_root (place tree from)) _ here))
+call_reason tree abi rulesets calls.Mount s o there are same moot = not_moot _ (moot-refused_by Perm _) moot
+call_reason tree abi rulesets (calls.Bind port) s o there are same moot = not_moot _ (moot-refused_by Acces _) moot
+call_reason tree abi rulesets (calls.Connect port) s o there are same moot = not_moot _ (moot-refused_by Acces _) moot
+call_reason tree abi rulesets op s o there are same moot = not_moot Allowed decided moot
+
+-- ---- a process at a place
+
+pub reason_at : (tree : List Entry) (abi : Abi) (records : List Record) (place process : ℕ) (op : Op) → is_some (node_at tree []) ≡ true → are_spelt op ≡ true → answer_in tree abi (world_at tree abi records place) process op ≡ Moot
+    → IsSomeAnd (reason tree (origins_at tree abi records place process) op) (Holds tree ((world_at tree abi records place).processes process) op)
+unfolding answer_in
+reason_at tree abi records place process op there are moot =
+    let w : World = world_at tree abi records place in
+    call_reason tree abi w.rulesets op (w.processes process) (origins_at tree abi records place process) there are (λ fd. descriptor_open tree abi records place process fd) moot

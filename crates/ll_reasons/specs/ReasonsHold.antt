@@ -1,0 +1,77 @@
+-- What each reason for a moot call says of the tree, of the call and of the state of its process.
+-- Source: docs/SEMANTICS.md, "Three answers", "What each call asks" and "Moving and linking"; path_resolution(7).
+use Rattle.std.specs.Prelude.{◌≡◌, ℕ, ◌==◌, Bool, true, false, List, [], ◌∷◌, Some, None, is_some}
+use Rattle.std.specs.List.{list_any, list_all}
+use Rattle.ll_tree.specs.declared.place.NodeId.{NodeId}
+use Rattle.ll_tree.specs.declared.place.Place.{Place}
+use Rattle.ll_tree.specs.declared.place.Place.TheVariants.{Node, Gap, Nowhere}
+use Rattle.ll_tree.specs.Paths.{Path, front, is_prefix, path_of}
+use Rattle.ll_tree.specs.Trees.{Entry, kind_at, is_dir, node_at, place}
+use Rattle.ll_trace.specs.declared.op.Op.{Op}
+use Rattle.ll_trace.specs.declared.op.Op.TheVariants as calls
+use Rattle.ll_trace.specs.declared.op.Sort.{Sort}
+use Rattle.ll_trace.specs.declared.op.Sort.TheVariants.{Regular, Device, Other}
+use Rattle.ll_semantics.specs.declared.descriptor.Descriptor.{Descriptor}
+use Rattle.ll_semantics.specs.Moves.{is_root, is_mixed}
+use Rattle.ll_semantics.specs.States.{State}
+use Rattle.ll_reasons.specs.Reasons.{Reason, absent, no_directory, present, of_kind, root, unmoved, beneath_itself, over_itself, mixed, open_already, unopened, not_for_writing, held_already, unheld}
+
+-- the texts of the paths that a call names
+unfoldable pub paths_of : Op → List (List ℕ)
+paths_of (calls.AddPath rs path fs) = path ∷ []
+paths_of (calls.OpenFile path fd mode create trunc) = path ∷ []
+paths_of (calls.Truncate path) = path ∷ []
+paths_of (calls.Exec path) = path ∷ []
+paths_of (calls.Mknod path kind) = path ∷ []
+paths_of (calls.Mkdir path) = path ∷ []
+paths_of (calls.Symlink path) = path ∷ []
+paths_of (calls.Unlink path) = path ∷ []
+paths_of (calls.Rmdir path) = path ∷ []
+paths_of (calls.Rename from to exchange) = from ∷ to ∷ []
+paths_of (calls.Link from to) = from ∷ to ∷ []
+paths_of op = []
+
+-- each of them spells a path
+unfoldable pub are_spelt : Op → Bool
+are_spelt op = list_all (λ text. is_some (path_of text)) (paths_of op)
+
+-- a place is the root
+abbrev pub is_at_root : Place → Bool
+is_at_root (Node node) = is_root node
+is_at_root (Gap directory) = false
+is_at_root Nowhere = false
+
+-- two places are that of one object
+abbrev pub is_at_one : Place → Place → Bool
+is_at_one (Node a) (Node b) = a.0 == b.0
+is_at_one a b = false
+
+-- a move names one object twice
+unfoldable pub names_one_twice : List Entry → Op → Bool
+names_one_twice tree (calls.Rename from to exchange) = is_at_one (place tree from) (place tree to)
+names_one_twice tree op = false
+
+abbrev pub is_regular : Sort → Bool
+is_regular Regular = true
+is_regular Device = false
+is_regular Other = false
+
+-- an object of the tree has the path, and stands for a directory or doesn't
+abbrev pub IsThere : List Entry → Path → Bool → Type 0
+IsThere tree path as_directory = (node : NodeId) × (node_at tree path ≡ Some node) × (is_dir (kind_at tree node) ≡ as_directory)
+
+unfoldable pub Holds : List Entry → State → Op → Reason → Type 0
+Holds tree s op (absent path) = (node_at tree path ≡ None) × IsThere tree (front path) true
+Holds tree s op (no_directory path) = IsThere tree path false
+Holds tree s op (present path) = is_some (node_at tree path) ≡ true
+Holds tree s op (of_kind path kind) = (node : NodeId) × (node_at tree path ≡ Some node) × (kind_at tree node ≡ kind)
+Holds tree s op root = list_any (λ text. is_at_root (place tree text)) (paths_of op) ≡ true
+Holds tree s op (unmoved path) = names_one_twice tree op ≡ true
+Holds tree s op (beneath_itself from to) = is_prefix from to ≡ true
+Holds tree s op (over_itself from to) = is_prefix to from ≡ true
+Holds tree s op (mixed from to) = (a b : NodeId) × (node_at tree from ≡ Some a) × (node_at tree to ≡ Some b) × (is_mixed tree a b ≡ true)
+Holds tree s op (open_already fd) = is_some (s.descriptors fd) ≡ true
+Holds tree s op (unopened fd) = s.descriptors fd ≡ None
+Holds tree s op (not_for_writing fd) = (held : Descriptor) × (s.descriptors fd ≡ Some held) × (is_regular held.sort ≡ false)
+Holds tree s op (held_already rs) = is_some (s.held rs) ≡ true
+Holds tree s op (unheld rs) = s.held rs ≡ None
