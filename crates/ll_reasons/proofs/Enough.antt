@@ -47,10 +47,6 @@ pub and_from : (a b : Bool) → a ≡ true → b ≡ true → (a && b) ≡ true
 and_from true b this that = that
 and_from false b this that = cc
 
-pub not_true : (b : Bool) → not b ≡ true → b ≡ false
-not_true true holds = cc
-not_true false holds = refl
-
 pub from_not : (b : Bool) → b ≡ false → not b ≡ true
 from_not true fails = cc
 from_not false fails = refl

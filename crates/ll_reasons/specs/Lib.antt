@@ -6,3 +6,4 @@ pub mod Conditions
 pub mod Reasons
 pub mod ReasonsHold
 pub mod Explanations
+pub mod WorkedExplanations

@@ -7,6 +7,7 @@ mod layers;
 mod origins;
 mod reasons;
 mod remedies;
+mod worked;
 
 pub use laws::allowed_records_need_no_explanation;
 pub use layers::refusing_layers_are_explained;
@@ -18,3 +19,4 @@ pub use reasons::reasons_hold;
 pub use remedies::{
     granting_what_is_named_is_enough, named_rights_are_needed, satisfied_layers_do_not_refuse,
 };
+pub use worked::{worked_reasons, worked_refusals};

@@ -1,0 +1,69 @@
+-- Records of small traces with their explanations.
+-- Source: docs/FORMATS.md, "Explanations"; the manual pages on Landlock.
+use Rattle.std.specs.Prelude.{◌≡◌, ℕ, List, [], ◌∷◌, map, codes, Option, Some, None, slice_get}
+use Rattle.ll_rights.specs.declared.abi.Abi.{Abi}
+use Rattle.ll_rights.specs.Rights.{execute, write_file, read_dir, refer, truncate}
+use Rattle.ll_rights.specs.NetRights.{bind_tcp, connect_tcp}
+use Rattle.ll_tree.specs.Paths.{Path}
+use Rattle.ll_tree.specs.WorkedTree.{worked_tree}
+use Rattle.ll_trace.specs.declared.record.Record.{Record}
+use Rattle.ll_semantics.specs.declared.answer.Answer.{Answer}
+use Rattle.ll_reasons.specs.Objections.{missing, closed, gained, kept}
+use Rattle.ll_reasons.specs.Conditions as conditions
+use Rattle.ll_reasons.specs.Reasons as reasons
+use Rattle.ll_reasons.specs.Explanations.{Explanation, nothing, objections, failure, mootness, explained_at}
+
+-- the explanation of a record and its answer at a place, if there is one there
+unfoldable pub explained_there : Abi → List Record → ℕ → Option (Record × Answer) → Explanation
+explained_there abi records place None = nothing
+explained_there abi records place (Some pair) = explained_at worked_tree abi records place pair.0 pair.1
+
+-- the record at a place of a trace is explained so
+abbrev pub IsExplained : Abi → List (Record × Answer) → ℕ → Explanation → Type 0
+IsExplained abi trace place why = explained_there abi (map (λ pair. pair.0) trace) place (slice_get trace place) ≡ why
+
+-- ---- paths
+
+abbrev pub a : Path
+a = codes "a" ∷ []
+
+abbrev pub b : Path
+b = codes "b" ∷ []
+
+abbrev pub a_f : Path
+a_f = codes "a" ∷ codes "f" ∷ []
+
+abbrev pub none : Path
+none = codes "none" ∷ []
+
+-- ---- explanations
+
+-- a move needs `refer` on both directories
+abbrev pub refer_on_both : Explanation
+refer_on_both = objections ((1, missing (refer ∷ []) a ∷ missing (refer ∷ []) b ∷ []) ∷ [])
+
+-- what is moved would gain a right, and so would what comes back for it
+abbrev pub would_gain : Explanation
+would_gain = objections ((1, gained a_f (execute ∷ []) b ∷ []) ∷ [])
+
+abbrev pub truncate_on_both_layers : Explanation
+truncate_on_both_layers = objections ((1, missing (truncate ∷ []) a_f ∷ []) ∷ (2, missing (truncate ∷ []) a_f ∷ []) ∷ [])
+
+-- the right was missing when the record at place 6 opened the file
+abbrev pub truncate_kept : Explanation
+truncate_kept = objections ((1, kept truncate 6 ∷ []) ∷ [])
+
+abbrev pub bind_to : ℕ → Explanation
+bind_to port = objections ((1, closed (bind_tcp ∷ []) port ∷ []) ∷ [])
+
+abbrev pub write_unhandled : Explanation
+write_unhandled = failure (conditions.unhandled (write_file ∷ []))
+
+abbrev pub connect_unhandled : Explanation
+connect_unhandled = failure (conditions.unhandled_on_ports (connect_tcp ∷ []))
+
+abbrev pub directories_alone : Explanation
+directories_alone = failure (conditions.only_for_directories (read_dir ∷ []) (codes "/a/f"))
+
+abbrev pub nothing_there : Explanation
+nothing_there = mootness (Some (reasons.absent none))
