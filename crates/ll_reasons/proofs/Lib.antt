@@ -9,3 +9,4 @@ pub mod Enough
 pub mod Gains
 pub mod InDomain
 pub mod ReasonsTrue
+pub mod ConditionsTrue

@@ -3,6 +3,7 @@ pub mod Remedies
 pub mod Origins
 pub mod Made
 pub mod Conditions
+pub mod ConditionsHold
 pub mod Reasons
 pub mod ReasonsHold
 pub mod Explanations

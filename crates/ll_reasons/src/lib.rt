@@ -15,7 +15,7 @@ pub use origins::{
     descriptors_come_from_their_openings, layers_come_from_their_restricts,
     rulesets_come_from_their_creations,
 };
-pub use reasons::reasons_hold;
+pub use reasons::{conditions_hold, reasons_hold};
 pub use remedies::{
     granting_what_is_named_is_enough, named_rights_are_needed, satisfied_layers_do_not_refuse,
 };

@@ -5,9 +5,12 @@ ghost use Rattle.ll_rights.specs.declared.abi.Abi.{Abi};
 ghost use Rattle.ll_tree.specs.Trees.{Entry, node_at};
 ghost use Rattle.ll_trace.specs.declared.record.Record.{Record};
 ghost use Rattle.ll_trace.specs.declared.op.Op.{Op};
-ghost use Rattle.ll_semantics.specs.declared.answer.Answer.TheVariants.{Moot};
+ghost use Rattle.ll_semantics.specs.declared.answer.Answer.TheVariants.{Moot, Refused};
 ghost use Rattle.ll_semantics.specs.Worlds.{answer_in};
 ghost use Rattle.ll_semantics.specs.Situations.{world_at};
+ghost use Rattle.ll_rules.specs.declared.errno.Errno.{Errno};
+ghost use Rattle.ll_reasons.specs.Conditions.{condition};
+ghost use Rattle.ll_reasons.specs.ConditionsHold.{IsCondition};
 ghost use Rattle.ll_reasons.specs.Reasons.{reason};
 ghost use Rattle.ll_reasons.specs.ReasonsHold.{Holds, are_spelt};
 ghost use Rattle.ll_reasons.specs.Explanations.{origins_at};
@@ -20,4 +23,13 @@ pub fn reasons_hold()
         → answer_in tree abi (world_at tree abi records place) process op ≡ Moot
         → IsSomeAnd (reason tree (origins_at tree abi records place process) op)
         (Holds tree ((world_at tree abi records place).processes process) op) }
+{}
+
+/// Where a call fails with an error that no layer gives, what the condition says of it holds.
+pub fn conditions_hold()
+    ensures { (tree : List Entry) (abi : Abi) (records : List Record) (place process : ℕ) (op : Op) (error : Errno)
+        → answer_in tree abi (world_at tree abi records place) process op ≡ Refused error []
+        → IsCondition abi (world_at tree abi records place).rulesets
+        ((world_at tree abi records place).processes process) op
+        (condition abi records (origins_at tree abi records place process) op error) }
 {}

@@ -1,0 +1,304 @@
+-- What the condition of an error without layers says is so.
+use Rattle.std.proofs.Common.{◌≡◌, ℕ, Bool, true, false, not, ◌&&◌, List, [], ◌∷◌, length, Option, Some, None, refl, sym, ap, ◌∙◌, subst, nat_le, nat_lt, if◌then◌else◌}
+use Rattle.ll_rights.specs.declared.abi.Abi.{Abi}
+use Rattle.ll_rights.specs.declared.fs.Fs.{Fs}
+use Rattle.ll_rights.specs.declared.net.Net.{Net}
+use Rattle.ll_rights.specs.Abis.{knows_fs}
+use Rattle.ll_rights.specs.Rights as files
+use Rattle.ll_rights.specs.NetRights as network
+use Rattle.ll_rules.specs.declared.errno.Errno.{Errno}
+use Rattle.ll_rules.specs.declared.errno.Errno.TheVariants.{Perm, Acces, BadFd, TooBig, Inval, NoMsg}
+use Rattle.ll_rules.specs.Rulesets.{has_ports, knows_all, are_file_rights, RuleRefusal, with_error, place_refusal}
+use Rattle.ll_tree.specs.declared.place.Place.{Place}
+use Rattle.ll_tree.specs.declared.place.Place.TheVariants.{Node, Gap, Nowhere}
+use Rattle.ll_tree.specs.Trees.{Entry, kind_at, is_dir, place}
+use Rattle.ll_trace.specs.declared.record.Record.{Record}
+use Rattle.ll_trace.specs.declared.op.Op.{Op}
+use Rattle.ll_trace.specs.declared.op.Op.TheVariants as calls
+use Rattle.ll_semantics.specs.declared.answer.Answer.{Answer}
+use Rattle.ll_semantics.specs.declared.answer.Answer.TheVariants.{Allowed, Moot, Refused}
+use Rattle.ll_semantics.specs.States.{State, Layer}
+use Rattle.ll_semantics.specs.Answers as answers
+use Rattle.ll_trace.specs.declared.op.Sort.{Sort}
+use Rattle.ll_trace.specs.declared.op.Sort.TheVariants.{Regular, Device, Other}
+use Rattle.ll_rules.specs.declared.errno.Errno.TheVariants.{XDev}
+use Rattle.ll_rules.specs.declared.moves.Move.{Move}
+use Rattle.ll_rules.specs.declared.moves.Verdict.{Verdict}
+use Rattle.ll_rules.specs.declared.moves.Verdict.TheVariants as verdicts
+use Rattle.ll_rules.specs.Moves.{move_verdict, refused_by, denies, holds_back, source_of, destination_of}
+use Rattle.ll_rules.specs.Checks.{numbers_where}
+use Rattle.ll_tree.specs.Paths.{path_eq}
+use Rattle.ll_semantics.specs.declared.request.Request.{Request}
+use Rattle.ll_semantics.specs.declared.descriptor.Descriptor.{Descriptor}
+use Rattle.ll_semantics.specs.Worlds.{World, answer_in}
+use Rattle.ll_semantics.specs.Situations.{world_at}
+use Rattle.ll_reasons.specs.Explanations.{origins_at}
+use Rattle.ll_reasons.proofs.RulesetsMade.{ruleset_handles}
+use Rattle.ll_reasons.specs.Origins.{Origins}
+use Rattle.ll_reasons.specs.Conditions.{handled, handled_on_ports, of_create, invalid_on_path, of_add_path, invalid_on_port, of_add_port, of_restrict, condition}
+use Rattle.ll_reasons.specs.ConditionsHold.{files_of, ports_of, ruleset_of, IsCondition}
+use Rattle.ll_reasons.proofs.Enough.{and_both, and_from}
+use Rattle.ll_reasons.proofs.Named.{rights_named, port_rights_named}
+
+not_true : (b : Bool) → not b ≡ true → b ≡ false
+not_true true holds = cc
+not_true false holds = refl
+
+-- the error of an answer is the one that was found
+by_error : (P : Errno → Type 0) (e error : Errno) → answers.fails e ≡ Refused error [] → P e → P error
+by_error P e error is holds = (let same : e ≡ error = cc in subst P same holds)
+
+-- ---- creating
+
+by_create : (P : Errno → Type 0) (a b c : Bool) (error : Errno) → answers.unless (if a then Some TooBig else (if b then Some Inval else (if c then Some NoMsg else None))) ≡ Refused error []
+    → (a ≡ true → P TooBig) → (b ≡ true → P Inval) → (c ≡ true → P NoMsg) → P error
+by_create P true b c error is too_big inval no_msg = by_error P TooBig error is (too_big refl)
+by_create P false true c error is too_big inval no_msg = by_error P Inval error is (inval refl)
+by_create P false false true error is too_big inval no_msg = by_error P NoMsg error is (no_msg refl)
+by_create P false false false error is too_big inval no_msg = absurd (cc)
+
+create_condition : (abi : Abi) (rulesets : List Layer) (s : State) (rs : ℕ) (fs : Fs) (net : Net) (held : Option ℕ) (error : Errno) → answers.create_answer abi fs net held ≡ Refused error [] → IsCondition abi rulesets s (calls.Create rs fs net) (of_create abi fs error)
+unfolding answers.create_answer of_create IsCondition files_of ports_of
+create_condition abi rulesets s rs fs net (Some place) error is = absurd (cc)
+create_condition abi rulesets s rs fs net None error is =
+    by_create (λ (e : Errno). IsCondition abi rulesets s (calls.Create rs fs net) (of_create abi fs e))
+    (not (network.is_empty net) && not (has_ports abi)) (not (knows_all abi fs net)) (files.is_empty fs && network.is_empty net) error is
+    (λ a. (refl, not_true (has_ports abi) (and_both (not (network.is_empty net)) (not (has_ports abi)) a).1))
+    (λ b. (refl, (λ right. rights_named (λ right. files.has fs right && not (knows_fs abi right)) right), not_true (knows_all abi fs net) b))
+    (λ c. c)
+
+-- ---- rules for files
+
+by_rule : (P : Errno → Type 0) (a b : Bool) (rest : Option RuleRefusal) (error : Errno) → answers.of_rule_refusal (if a then Some (with_error NoMsg) else (if b then Some (with_error Inval) else rest)) ≡ Refused error []
+    → (a ≡ true → P NoMsg) → (b ≡ true → P Inval) → (b ≡ false → answers.of_rule_refusal rest ≡ Refused error [] → P error) → P error
+by_rule P true b rest error is no_msg inval last = by_error P NoMsg error is (no_msg refl)
+by_rule P false true rest error is no_msg inval last = by_error P Inval error is (inval refl)
+by_rule P false false rest error is no_msg inval last = last refl is
+
+by_place : (P : Errno → Type 0) (tree : List Entry) (at : Place) (fs : Fs) (error : Errno) → answers.of_rule_refusal (place_refusal tree at fs) ≡ Refused error [] → (are_file_rights fs ≡ false → P Inval) → P error
+by_place P tree (Gap node) fs error is inval = absurd (cc)
+by_place P tree Nowhere fs error is inval = absurd (cc)
+by_place P tree (Node node) fs error is inval = by_test (is_dir (kind_at tree node)) (are_file_rights fs) is inval
+  where
+    by_test : (d f : Bool) → answers.of_rule_refusal (if not d && not f then Some (with_error Inval) else None) ≡ Refused error [] → (f ≡ false → P Inval) → P error
+    by_test true f is inval = absurd (cc)
+    by_test false true is inval = absurd (cc)
+    by_test false false is inval = by_error P Inval error is (inval refl)
+
+not_false : (b : Bool) → not b ≡ false → b ≡ true
+not_false true holds = refl
+not_false false holds = cc
+
+no_ports : network.is_empty network.no_right ≡ true
+unfolding network.has network.some_right network.all_rights
+no_ports = refl
+
+no_files : files.is_empty files.no_right ≡ true
+unfolding files.has files.some_right files.all_rights files.named_rights
+no_files = refl
+
+invalid_beyond : (abi : Abi) (rulesets : List Layer) (s : State) (rs : ℕ) (path : List ℕ) (fs : Fs) (layer : Layer) → answers.named rulesets (s.held rs) ≡ Some layer → files.is_within fs layer.handled_files ≡ false
+    → IsCondition abi rulesets s (calls.AddPath rs path fs) (invalid_on_path path fs layer.handled_files)
+unfolding IsCondition files_of ruleset_of
+invalid_beyond abi rulesets s rs path fs layer is beyond =
+    rw beyond (layer, is, (λ right. rights_named (λ right. files.has fs right && not (files.has layer.handled_files right)) right), beyond)
+
+invalid_for_directories : (abi : Abi) (rulesets : List Layer) (s : State) (rs : ℕ) (path : List ℕ) (fs : Fs) (layer : Layer) → files.is_within fs layer.handled_files ≡ true → are_file_rights fs ≡ false
+    → IsCondition abi rulesets s (calls.AddPath rs path fs) (invalid_on_path path fs layer.handled_files)
+unfolding IsCondition files_of
+invalid_for_directories abi rulesets s rs path fs layer within not_files =
+    rw within ((λ right. rights_named (λ right. files.has fs right && not (files.is_file_right right)) right), not_files)
+
+path_condition : (abi : Abi) (tree : List Entry) (rulesets : List Layer) (s : State) (rs : ℕ) (path : List ℕ) (fs whole : Fs) (rules : Option Layer) (error : Errno) → answers.named rulesets (s.held rs) ≡ rules → ((layer : Layer) → rules ≡ Some layer → whole ≡ layer.handled_files)
+    → answers.add_path_answer tree path fs rules ≡ Refused error [] → IsCondition abi rulesets s (calls.AddPath rs path fs) (of_add_path rs path fs whole error)
+unfolding answers.add_path_answer of_add_path IsCondition files_of ports_of ruleset_of
+path_condition abi tree rulesets s rs path fs whole None error is handles asked =
+    by_error (λ (e : Errno). IsCondition abi rulesets s (calls.AddPath rs path fs) (of_add_path rs path fs whole e)) BadFd error asked is
+path_condition abi tree rulesets s rs path fs whole (Some layer) error is handles asked =
+    subst (λ (w : Fs). IsCondition abi rulesets s (calls.AddPath rs path fs) (of_add_path rs path fs w error)) (sym (handles layer refl))
+    (by_rule (λ (e : Errno). IsCondition abi rulesets s (calls.AddPath rs path fs) (of_add_path rs path fs layer.handled_files e))
+    (files.is_empty fs) (not (files.is_within fs layer.handled_files)) (place_refusal tree (place tree path) fs) error asked
+    (λ a. and_from (files.is_empty fs) _ a no_ports)
+    (λ b. invalid_beyond abi rulesets s rs path fs layer is (not_true (files.is_within fs layer.handled_files) b))
+    (λ within refused. by_place (λ (e : Errno). IsCondition abi rulesets s (calls.AddPath rs path fs) (of_add_path rs path fs layer.handled_files e)) tree (place tree path) fs error refused
+    (λ not_files. invalid_for_directories abi rulesets s rs path fs layer (not_false (files.is_within fs layer.handled_files) within) not_files)))
+
+-- ---- rules for ports
+
+by_port : (P : Errno → Type 0) (a b c d : Bool) (error : Errno)
+    → answers.of_rule_refusal (if a then Some (with_error Inval) else (if b then Some (with_error NoMsg) else (if c then Some (with_error Inval) else (if d then Some (with_error Inval) else None)))) ≡ Refused error []
+    → (a ≡ true → P Inval) → (b ≡ true → P NoMsg) → (a ≡ false → c ≡ true → P Inval) → (a ≡ false → c ≡ false → d ≡ true → P Inval) → P error
+by_port P true b c d error is no_version no_msg beyond outside = by_error P Inval error is (no_version refl)
+by_port P false true c d error is no_version no_msg beyond outside = by_error P NoMsg error is (no_msg refl)
+by_port P false false true d error is no_version no_msg beyond outside = by_error P Inval error is (beyond refl refl)
+by_port P false false false true error is no_version no_msg beyond outside = by_error P Inval error is (outside refl refl refl)
+by_port P false false false false error is no_version no_msg beyond outside = absurd (cc)
+
+module _ (abi : Abi) (rulesets : List Layer) (s : State) (rs port : ℕ) (net : Net) where
+  invalid_version : (whole : Net) → not (has_ports abi) ≡ true → IsCondition abi rulesets s (calls.AddPort rs port net) (invalid_on_port abi port net whole)
+  unfolding IsCondition
+  invalid_version whole older = rw older (refl, not_true (has_ports abi) older)
+
+  invalid_beyond_ports : (layer : Layer) → answers.named rulesets (s.held rs) ≡ Some layer → not (has_ports abi) ≡ false → network.is_within net layer.handled_network ≡ false
+      → IsCondition abi rulesets s (calls.AddPort rs port net) (invalid_on_port abi port net layer.handled_network)
+  unfolding IsCondition ports_of ruleset_of
+  invalid_beyond_ports layer is newer beyond =
+      rw (newer, beyond) (layer, is, (λ right. port_rights_named (λ right. network.has net right && not (network.has layer.handled_network right)) right), beyond)
+
+  invalid_number : (whole : Net) → not (has_ports abi) ≡ false → network.is_within net whole ≡ true → nat_lt 65535 port ≡ true → IsCondition abi rulesets s (calls.AddPort rs port net) (invalid_on_port abi port net whole)
+  unfolding IsCondition
+  invalid_number whole newer within outside = rw (newer, within) outside
+
+  port_condition : (whole : Net) (rules : Option Layer) (error : Errno) → answers.named rulesets (s.held rs) ≡ rules → ((layer : Layer) → rules ≡ Some layer → whole ≡ layer.handled_network)
+      → answers.add_port_answer abi port net rules ≡ Refused error [] → IsCondition abi rulesets s (calls.AddPort rs port net) (of_add_port abi rs port net whole error)
+  unfolding answers.add_port_answer of_add_port IsCondition files_of ports_of
+  port_condition whole None error is handles asked =
+      by_error (λ (e : Errno). IsCondition abi rulesets s (calls.AddPort rs port net) (of_add_port abi rs port net whole e)) BadFd error asked is
+  port_condition whole (Some layer) error is handles asked =
+      subst (λ (w : Net). IsCondition abi rulesets s (calls.AddPort rs port net) (of_add_port abi rs port net w error)) (sym (handles layer refl))
+      (by_port (λ (e : Errno). IsCondition abi rulesets s (calls.AddPort rs port net) (of_add_port abi rs port net layer.handled_network e))
+      (not (has_ports abi)) (network.is_empty net) (not (network.is_within net layer.handled_network)) (nat_lt 65535 port) error asked
+      (λ older. invalid_version layer.handled_network older)
+      (λ none. and_from (files.is_empty files.no_right) _ no_files none)
+      (λ newer beyond. invalid_beyond_ports layer is newer (not_true (network.is_within net layer.handled_network) beyond))
+      (λ newer within outside. invalid_number layer.handled_network newer (not_false (network.is_within net layer.handled_network) within) outside))
+
+-- ---- restricting
+
+by_restrict : (P : Errno → Type 0) (may many : Bool) (error : Errno) → (if may then (if many then answers.fails TooBig else Allowed) else answers.fails Perm) ≡ Refused error [] → (may ≡ false → P Perm) → (many ≡ true → P TooBig) → P error
+by_restrict P true true error is perm too_big = by_error P TooBig error is (too_big refl)
+by_restrict P true false error is perm too_big = absurd (cc)
+by_restrict P false many error is perm too_big = by_error P Perm error is (perm refl)
+
+by_no_ruleset : (P : Errno → Type 0) (may : Bool) (error : Errno) → (if may then answers.fails BadFd else answers.fails Perm) ≡ Refused error [] → (may ≡ false → P Perm) → P BadFd → P error
+by_no_ruleset P true error is perm bad_fd = by_error P BadFd error is bad_fd
+by_no_ruleset P false error is perm bad_fd = by_error P Perm error is (perm refl)
+
+restrict_condition : (abi : Abi) (rulesets : List Layer) (s : State) (rs : ℕ) (rules : Option Layer) (error : Errno) → answers.named rulesets (s.held rs) ≡ rules → answers.restrict_answer s rules ≡ Refused error [] → IsCondition abi rulesets s (calls.Restrict rs) (of_restrict rs error)
+unfolding answers.restrict_answer of_restrict IsCondition
+restrict_condition abi rulesets s rs None error is asked =
+    by_no_ruleset (λ (e : Errno). IsCondition abi rulesets s (calls.Restrict rs) (of_restrict rs e)) (answers.may_restrict s) error asked (λ may. may) is
+restrict_condition abi rulesets s rs (Some rules) error is asked =
+    by_restrict (λ (e : Errno). IsCondition abi rulesets s (calls.Restrict rs) (of_restrict rs e)) (answers.may_restrict s) (nat_le 16 (length s.domain)) error asked (λ may. may) (λ many. many)
+
+-- ---- other calls fail by layers alone
+
+fails_alone : Answer → Bool
+fails_alone Allowed = false
+fails_alone Moot = false
+fails_alone (Refused error []) = true
+fails_alone (Refused error (number ∷ numbers)) = false
+
+never : {P : Type 0} (a : Answer) (error : Errno) → fails_alone a ≡ false → a ≡ Refused error [] → P
+unfolding fails_alone
+never a error decides is = (let both : true ≡ false = sym (ap (λ (x : Answer). fails_alone x) is) ∙ decides in absurd (cc))
+
+allowed_decided : fails_alone Allowed ≡ false
+unfolding fails_alone
+allowed_decided = refl
+
+alone-refused_by : (e : Errno) (numbers : List ℕ) → fails_alone (answers.refused_by e numbers) ≡ false
+unfolding fails_alone
+alone-refused_by e [] = refl
+alone-refused_by e (number ∷ numbers) = refl
+
+alone-request : (tree : List Entry) (domain : List Layer) (request : Option Request) → fails_alone (answers.of_request tree domain request) ≡ false
+unfolding fails_alone
+alone-request tree domain None = refl
+alone-request tree domain (Some request) = alone-refused_by Acces _
+
+alone-verdict : (e : Errno) (numbers : List ℕ) (next : Verdict) → fails_alone (answers.of_verdict next) ≡ false → fails_alone (answers.of_verdict (refused_by e numbers next)) ≡ false
+unfolding fails_alone
+alone-verdict e [] next decides = decides
+alone-verdict e (number ∷ numbers) next decides = refl
+
+alone-either : (b : Bool) (next : Verdict) → fails_alone (answers.of_verdict next) ≡ false → fails_alone (answers.of_verdict (if b then verdicts.Passed else next)) ≡ false
+unfolding fails_alone
+alone-either true next decides = refl
+alone-either false next decides = decides
+
+alone-move : (tree : List Entry) (domain : List Layer) (move : Option Move) → fails_alone (answers.of_move tree domain move) ≡ false
+unfolding fails_alone move_verdict
+alone-move tree domain None = refl
+alone-move tree domain (Some move) =
+    let crossing : Verdict = refused_by XDev (numbers_where (holds_back tree move) domain) verdicts.Passed in
+    alone-verdict Acces (numbers_where (denies tree move) domain) (if path_eq (source_of tree move) (destination_of tree move.target) then verdicts.Passed else crossing)
+    (alone-either (path_eq (source_of tree move) (destination_of tree move.target)) crossing (alone-verdict XDev (numbers_where (holds_back tree move) domain) verdicts.Passed refl))
+
+alone-open : (held : Option Descriptor) (asked : Answer) → fails_alone asked ≡ false → fails_alone (answers.open_answer held asked) ≡ false
+unfolding answers.open_answer fails_alone
+alone-open None asked decides = decides
+alone-open (Some held) asked decides = refl
+
+alone-there : {A : Type 0} (o : Option A) → fails_alone (answers.if_there o) ≡ false
+unfolding fails_alone
+alone-there None = refl
+alone-there (Some it) = refl
+
+alone-free : {A : Type 0} (o : Option A) → fails_alone (answers.if_free o) ≡ false
+unfolding fails_alone
+alone-free None = refl
+alone-free (Some it) = refl
+
+alone-truncate : (sort : Sort) (numbers : List ℕ) → fails_alone (answers.truncate_kept sort numbers) ≡ false
+unfolding fails_alone
+alone-truncate Regular numbers = alone-refused_by Acces numbers
+alone-truncate Device numbers = refl
+alone-truncate Other numbers = refl
+
+alone-ftruncate : (held : Option Descriptor) → fails_alone (answers.ftruncate_answer held) ≡ false
+unfolding answers.ftruncate_answer fails_alone
+alone-ftruncate None = refl
+alone-ftruncate (Some held) = alone-truncate held.sort held.kept
+
+alone-kept : (sort : Sort) (numbers : List ℕ) (driver : Bool) → fails_alone (answers.ioctl_kept sort numbers driver) ≡ false
+unfolding fails_alone
+alone-kept Device numbers true = alone-refused_by Acces numbers
+alone-kept Device numbers false = refl
+alone-kept Regular numbers driver = refl
+alone-kept Other numbers driver = refl
+
+alone-ioctl : (held : Option Descriptor) (driver : Bool) → fails_alone (answers.ioctl_answer held driver) ≡ false
+unfolding answers.ioctl_answer fails_alone
+alone-ioctl None driver = refl
+alone-ioctl (Some held) driver = alone-kept held.sort held.kept driver
+
+-- ---- every call
+
+call_condition : (tree : List Entry) (abi : Abi) (records : List Record) (rulesets : List Layer) (op : Op) (s : State) (o : Origins) (error : Errno)
+    → ((rs : ℕ) (layer : Layer) → answers.named rulesets (s.held rs) ≡ Some layer → (handled records o rs ≡ layer.handled_files) × (handled_on_ports records o rs ≡ layer.handled_network))
+    → answers.answer tree abi rulesets op s ≡ Refused error [] → IsCondition abi rulesets s op (condition abi records o op error)
+unfolding answers.answer condition
+call_condition tree abi records rulesets (calls.Create rs fs net) s o error handles is = create_condition abi rulesets s rs fs net (s.held rs) error is
+call_condition tree abi records rulesets (calls.AddPath rs path fs) s o error handles is =
+    path_condition abi tree rulesets s rs path fs (handled records o rs) (answers.named rulesets (s.held rs)) error refl (λ layer named. (handles rs layer named).0) is
+call_condition tree abi records rulesets (calls.AddPort rs port net) s o error handles is =
+    port_condition abi rulesets s rs port net (handled_on_ports records o rs) (answers.named rulesets (s.held rs)) error refl (λ layer named. (handles rs layer named).1) is
+call_condition tree abi records rulesets (calls.CloseRs rs) s o error handles is = never _ error (alone-there (s.held rs)) is
+call_condition tree abi records rulesets (calls.Restrict rs) s o error handles is = restrict_condition abi rulesets s rs (answers.named rulesets (s.held rs)) error refl is
+call_condition tree abi records rulesets (calls.OpenFile path fd mode create trunc) s o error handles is = never _ error (alone-open (s.descriptors fd) _ (alone-request tree s.domain _)) is
+call_condition tree abi records rulesets (calls.Adopt fd kind) s o error handles is = never _ error (alone-free (s.descriptors fd)) is
+call_condition tree abi records rulesets (calls.Dup fd to) s o error handles is = never _ error (alone-there (s.descriptors fd)) is
+call_condition tree abi records rulesets (calls.Close fd) s o error handles is = never _ error (alone-there (s.descriptors fd)) is
+call_condition tree abi records rulesets (calls.Ftruncate fd) s o error handles is = never _ error (alone-ftruncate (s.descriptors fd)) is
+call_condition tree abi records rulesets (calls.Ioctl fd driver) s o error handles is = never _ error (alone-ioctl (s.descriptors fd) driver) is
+call_condition tree abi records rulesets (calls.Truncate path) s o error handles is = never _ error (alone-request tree s.domain _) is
+call_condition tree abi records rulesets (calls.Exec path) s o error handles is = never _ error (alone-request tree s.domain _) is
+call_condition tree abi records rulesets (calls.Mknod path kind) s o error handles is = never _ error (alone-request tree s.domain _) is
+call_condition tree abi records rulesets (calls.Mkdir path) s o error handles is = never _ error (alone-request tree s.domain _) is
+call_condition tree abi records rulesets (calls.Symlink path) s o error handles is = never _ error (alone-request tree s.domain _) is
+call_condition tree abi records rulesets (calls.Unlink path) s o error handles is = never _ error (alone-request tree s.domain _) is
+call_condition tree abi records rulesets (calls.Rmdir path) s o error handles is = never _ error (alone-request tree s.domain _) is
+call_condition tree abi records rulesets (calls.Rename from to exchange) s o error handles is = never _ error (alone-move tree s.domain _) is
+call_condition tree abi records rulesets (calls.Link from to) s o error handles is = never _ error (alone-move tree s.domain _) is
+call_condition tree abi records rulesets calls.Mount s o error handles is = never _ error (alone-refused_by Perm _) is
+call_condition tree abi records rulesets (calls.Bind port) s o error handles is = never _ error (alone-refused_by Acces _) is
+call_condition tree abi records rulesets (calls.Connect port) s o error handles is = never _ error (alone-refused_by Acces _) is
+call_condition tree abi records rulesets op s o error handles is = never Allowed error allowed_decided is
+
+pub condition_at : (tree : List Entry) (abi : Abi) (records : List Record) (place process : ℕ) (op : Op) (error : Errno) → answer_in tree abi (world_at tree abi records place) process op ≡ Refused error []
+    → IsCondition abi (world_at tree abi records place).rulesets ((world_at tree abi records place).processes process) op (condition abi records (origins_at tree abi records place process) op error)
+unfolding answer_in
+condition_at tree abi records place process op error is =
+    let w : World = world_at tree abi records place in
+    call_condition tree abi records w.rulesets op (w.processes process) (origins_at tree abi records place process) error (λ rs layer named. ruleset_handles tree abi records place process rs layer named) is
