@@ -1,6 +1,7 @@
 //! The paths of records.
 
-ghost use Rattle.std.specs.Prelude.{◌≡◌};
+ghost use Rattle.std.specs.Prelude.{◌≡◌, IsTrue, is_some};
+ghost use Rattle.ll_tree.specs.Paths.{path_of};
 ghost use Rattle.ll_tree.specs.Readers.{Gives};
 ghost use Rattle.ll_trace.specs.Members.{path_in};
 
@@ -20,6 +21,11 @@ impl Model for PathText {
     ghost Value = { List ℕ };
 
     ghost view = { λ path. string_bytes path.text };
+
+    ghost use Rattle.std.specs.Prelude.{IsTrue, is_some};
+    ghost use Rattle.ll_tree.specs.Paths.{path_of};
+
+    ghost invariant = { λ path. IsTrue (is_some (path_of (string_bytes path.text))) };
 }
 
 impl PathText {
@@ -37,7 +43,8 @@ impl PathText {
 
     /// The path's text.
     pub fn as_str(&self) -> &str
-        ensures { result.now ≡ self.now }
+        ensures text { result.now ≡ self.now }
+        ensures shape { IsTrue (is_some (path_of self.now)) }
     {
         self.text.as_str()
     }

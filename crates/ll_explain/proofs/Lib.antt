@@ -1,0 +1,5 @@
+pub mod Trailing
+pub mod Listing
+pub mod RightPlaces
+pub mod PathTexts
+pub mod Appending
