@@ -6,3 +6,4 @@ pub mod Placing
 pub mod Answering
 pub mod Sharing
 pub mod FaultFree
+pub mod Crossing

@@ -11,3 +11,4 @@ pub mod KeptMore
 pub mod WalkSteps
 pub mod Descents
 pub mod Roots
+pub mod Crossing

@@ -130,15 +130,15 @@ impl Pass {
     }
 
     /// A process closes a ruleset that it holds.
-    fn close_rs(&mut self, process: usize, rs: u64) -> Note
+    fn close_rs(&mut self, process: usize, rs: u64) -> Result<Note, NoMemory>
         requires { process < length self.old.tables.held.items }
-        ensures { (tree : List Entry) (abi : Abi) → IsSound tree self.old → Settles tree abi process (Op.CloseRs rs) self.old self.new result }
+        ensures { IfOk result (λ note. (tree : List Entry) (abi : Abi) → IsSound tree self.old → Settles tree abi process (Op.CloseRs rs) self.old self.new note) }
     {
         if self.tables.place(process, rs).is_none() {
-            return Note::Answered(Answer::Moot);
+            return Ok(Note::Answered(Answer::Moot));
         }
-        self.tables.close(process, rs);
-        Note::Answered(Answer::Allowed)
+        self.tables.close(process, rs)?;
+        Ok(Note::Answered(Answer::Allowed))
     }
 
     /// The ruleset by which a process restricts itself is frozen to a layer, if the process holds it.
@@ -192,7 +192,7 @@ impl Pass {
             Op::Create { rs, fs, net } => self.create(alloc, abi, process, *rs, *fs, *net),
             Op::AddPath { rs, path, fs } => self.add_path(tree, process, *rs, path, *fs),
             Op::AddPort { rs, port, net } => self.add_port(abi, process, *rs, *port, *net),
-            Op::CloseRs { rs } => Ok(self.close_rs(process, *rs)),
+            Op::CloseRs { rs } => self.close_rs(process, *rs),
             Op::Restrict { rs } => self.restrict(alloc, process, *rs),
             Op::Exit
             | Op::Nnp

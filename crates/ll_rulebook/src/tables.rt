@@ -3,13 +3,13 @@
 ghost use Rattle.std.specs.Prelude.{◌≡◌, ◌<◌, ◌+◌, [], Some, None, length, OnOk};
 ghost use Rattle.ll_rulebook.specs.Tables.{held_by, Holds, Begins};
 
+use ll_shared::SharedMap;
 use std::alloc::{AllocError, Global};
-use std::collections::BTreeMap;
 
 /// For each process the places of the rulesets that it holds, by the numbers that it gives them.
 #[derive(Drop)]
 pub(crate) struct Tables {
-    pub(crate) held: Vec<BTreeMap<u64, usize>>,
+    pub(crate) held: Vec<SharedMap<usize>>,
 }
 
 impl Tables {
@@ -27,7 +27,7 @@ impl Tables {
         requires { process < length self.now.held.items }
         ensures { result ≡ held_by self.now.held.items process number }
     {
-        self.held[process].get(&number).copied()
+        self.held[process].get(number).copied()
     }
 
     /// Lets a process hold a ruleset under a number.
@@ -45,18 +45,19 @@ impl Tables {
     }
 
     /// Closes what a process holds under a number.
-    pub(crate) fn close(&mut self, process: usize, number: u64)
+    pub(crate) fn close(&mut self, process: usize, number: u64) -> Result<(), AllocError>
         requires { process < length self.old.held.items }
-        ensures { Holds self.old.held.items self.new.held.items process number None }
+        ensures { OnOk result (Holds self.old.held.items self.new.held.items process number None) }
     {
-        self.held[process].remove(&number);
+        self.held[process].remove(number)?;
+        Ok(())
     }
 
     /// One process more, which holds nothing.
     pub(crate) fn start(&mut self, alloc: Global) -> Result<(), AllocError>
         ensures { OnOk result (Begins self.old.held.items self.new.held.items (λ _. None)) }
     {
-        self.held.push(BTreeMap::new(alloc))?;
+        self.held.push(SharedMap::new(alloc))?;
         Ok(())
     }
 

@@ -2,8 +2,7 @@
 -- Source: landlock_restrict_self(2); the kernel's userspace document on Landlock, "Inheritance".
 use Rattle.std.specs.Prelude.{◌≡◌, ℕ, Bool, true, false, List, All}
 use Rattle.std.specs.List.{AllZip}
-use Rattle.std.specs.Ordering.{nat_cmp}
-use Rattle.std.specs.BTreeMap.{get}
+use Rattle.std.specs.FinMap.{get}
 use Rattle.ll_tree.specs.Trees.{Entry}
 use Rattle.ll_rules.specs.Layers.{RulesOn}
 use Rattle.ll_rules.specs.KeptLayers.{SameRules}
@@ -29,7 +28,7 @@ pub record Agrees (tree : List Entry) (layers : List (RulesOn ℕ)) (own : OwnSt
   pub admin : own.admin ≡ state.admin
   pub places : IsDomainOf layers own.domain
   pub domain : AllZip SameRules (all_in_tree tree (domain_of layers own.domain)) state.domain
-  pub descriptors : (fd : ℕ) → get nat_cmp own.descriptors fd ≡ state.descriptors fd
+  pub descriptors : (fd : ℕ) → get own.descriptors fd ≡ state.descriptors fd
 
 -- a call that leaves the state of its process and the rulesets as they are
 unfoldable pub is_still : Op → Bool

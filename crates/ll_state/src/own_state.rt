@@ -16,10 +16,10 @@ use crate::requests::{make_asks, regular_asks, rmdir_asks, unlink_asks};
 use ll_rights::{Fs, Net};
 use ll_rules::{Domain, Layer, NoMemory};
 use ll_semantics::{Answer, Descriptor, Note};
+use ll_shared::SharedMap;
 use ll_trace::Op;
 use ll_tree::Tree;
 use std::alloc::Global;
-use std::collections::BTreeMap;
 
 /// What one process has by itself: its flags, its domain and its open descriptors. The rulesets that it holds
 /// are settled before, for all processes together.
@@ -28,7 +28,7 @@ pub struct OwnState {
     no_new_privs: bool,
     admin: bool,
     domain: Domain,
-    descriptors: BTreeMap<u64, Descriptor>,
+    descriptors: SharedMap<Descriptor>,
 }
 
 /// The same domain once more.
@@ -38,11 +38,9 @@ fn domain_again(domain: &Domain) -> Result<Domain, NoMemory>
     Ok(domain.clone()?)
 }
 
-/// The same open descriptors once more.
-fn descriptors_again(
-    descriptors: &BTreeMap<u64, Descriptor>,
-) -> Result<BTreeMap<u64, Descriptor>, NoMemory>
-    ensures { IfOk result (λ again. again.entries ≡ descriptors.now.entries) }
+/// The same open descriptors once more; both share them.
+fn descriptors_again(descriptors: &SharedMap<Descriptor>) -> Result<SharedMap<Descriptor>, NoMemory>
+    ensures { IfOk result (λ again. again ≡ descriptors.now) }
 {
     Ok(descriptors.clone()?)
 }
@@ -57,7 +55,7 @@ impl OwnState {
             no_new_privs,
             admin,
             domain: Domain::new(),
-            descriptors: BTreeMap::new(alloc),
+            descriptors: SharedMap::new(alloc),
         }
     }
 
@@ -120,7 +118,7 @@ impl OwnState {
             } => self.open(tree, layers, path, *fd, *mode, *create, *trunc),
             Op::Adopt { fd, kind } => self.adopt(*fd, *kind),
             Op::Dup { fd, to } => self.dup(*fd, *to),
-            Op::Close { fd } => Ok(self.close(*fd)),
+            Op::Close { fd } => self.close(*fd),
             Op::Start { .. }
             | Op::Fork { .. }
             | Op::Exit

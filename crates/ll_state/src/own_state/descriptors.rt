@@ -11,7 +11,6 @@ use crate::own_state::OwnState;
 use ll_rules::{Errno, LayerSet, NoMemory};
 use ll_semantics::{Answer, Descriptor};
 use ll_trace::Sort;
-use std::alloc::AllocError;
 
 /// Refused with an error by the layers found, allowed if there are none.
 pub(crate) fn refused_by(error: Errno, layers: LayerSet) -> Answer
@@ -41,7 +40,7 @@ impl OwnState {
         requires { Agrees at.tree at.layers self.now at.state }
         ensures { result ≡ at.state.descriptors fd }
     {
-        self.descriptors.get(&fd).copied()
+        self.descriptors.get(fd).copied()
     }
 
     /// A number is open on something from now on, whatever it was open on.
@@ -51,9 +50,7 @@ impl OwnState {
         ensures ok { OnOk result (Agrees at.tree at.layers self.new (with_descriptor at.state fd (Some descriptor))) }
         ensures err { OnErr result (Agrees at.tree at.layers self.new at.state) }
     {
-        self.descriptors
-            .insert(fd, descriptor)
-            .map_err(AllocError::from)?;
+        self.descriptors.insert(fd, descriptor)?;
         Ok(())
     }
 
@@ -91,15 +88,16 @@ impl OwnState {
 
     /// close(2).
     #[tactic(auto, unfolding(ll_semantics::specs::Situations::answered, ll_semantics::specs::Situations::left, ll_semantics::specs::Situations::state_after, ll_semantics::specs::Answers::answer, ll_semantics::specs::Situations::change, ll_semantics::specs::Situations::state_by, ll_semantics::specs::Effects::effect))]
-    pub(crate) fn close(&mut self, fd: u64) -> Answer
+    pub(crate) fn close(&mut self, fd: u64) -> Result<Answer, NoMemory>
         ghost at: { Situation }
         requires { Agrees at.tree at.layers self.old at.state }
-        ensures answer { result ≡ answered at (Op.Close fd) }
-        ensures after { Agrees at.tree at.layers self.new (left at (Op.Close fd)) }
+        ensures answer { IfOk result (λ answer. answer ≡ answered at (Op.Close fd)) }
+        ensures ok { OnOk result (Agrees at.tree at.layers self.new (left at (Op.Close fd))) }
+        ensures err { OnErr result (Agrees at.tree at.layers self.new at.state) }
     {
-        match self.descriptors.remove(&fd) {
-            Some(_) => Answer::Allowed,
-            None => Answer::Moot,
+        match self.descriptors.remove(fd)? {
+            Some(_) => Ok(Answer::Allowed),
+            None => Ok(Answer::Moot),
         }
     }
 

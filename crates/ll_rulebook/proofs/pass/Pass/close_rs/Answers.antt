@@ -11,4 +11,4 @@ returns-then-is_none c = λ tree abi sound.
 pub returns : goal.returns
 returns c = λ tree abi sound.
     settles_closed tree abi c.args.process c.args.rs c.args.self.now (record { store = c.args.self.now.store; tables = c.close.new.self }) sound c.requires
-    (unwrap_or c.place.result 0) (sym c.place.ensures ∙ some_of c.place.result 0 c.if-is_none.ensures) refl c.close.ensures
+    (unwrap_or c.place.result 0) (sym c.place.ensures ∙ some_of c.place.result 0 c.if-is_none.ensures) refl c.in_ok-close.ensures

@@ -60,7 +60,9 @@ returns-in-AddPort c = rw c.in-AddPort.is
     _ c.add_port.result c.add_port.ensures (λ note settled. settled c.args.tree.now c.requires.sound))
 
 pub returns-in-CloseRs : goal.returns-in-CloseRs
-returns-in-CloseRs c = rw c.in-CloseRs.is (c.close_rs.ensures c.args.tree.now c.args.abi c.requires.sound)
+returns-in-CloseRs c = rw c.in-CloseRs.is
+    (if_ok_so (λ note. (tree : List Entry) (abi : Abi) → IsSound tree c.args.self.now → Settles tree abi c.args.record.now.process.0 (calls.CloseRs c.in-CloseRs.rs) c.args.self.now c.close_rs.new.self note)
+    _ c.close_rs.result c.close_rs.ensures (λ note settled. settled c.args.tree.now c.args.abi c.requires.sound))
 
 pub returns-in-Restrict : goal.returns-in-Restrict
 returns-in-Restrict c = rw c.in-Restrict.is

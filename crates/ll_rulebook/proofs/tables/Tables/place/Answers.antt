@@ -3,4 +3,4 @@ use Rattle.ll_rulebook.proofs.HeldNumbers.{place_is}
 use Rattle.ll_rulebook.proofs.tables.Tables.place.Goals as goal
 
 pub returns : goal.returns
-returns c = c.copied.ensures ∙ c.get.ensures.value ∙ place_is c.args.self.now.held.items c.args.process c.args.number c.index.result.now c.requires c.index.ensures
+returns c = c.copied.ensures ∙ c.get.ensures ∙ place_is c.args.self.now.held.items c.args.process c.args.number c.index.result.now c.requires c.index.ensures

@@ -1,0 +1,38 @@
+-- What the members of a crew hold may be handed to another thread.
+use denote.RattleType.{RattleType}
+use denote.Ref.{NamedLft}
+use denote.Param.Send.{IsSend, IsSync, sendable, recorded_sync, recorded_send, struct_sync, struct_send}
+use denote.Struct.Declared.{shape}
+use Rattle.std.proofs.Crossing.{crosses}
+use Rattle.std.proofs.option.Option.TheSendSync as option
+use Rattle.crossbeam_queue.proofs.array_queue.Slotted.TheSendSync as slotted
+use Rattle.crossbeam_queue.below.atomic_table.proofs.shared.Seat.TheSendSync as seat
+use Rattle.ll_process.proofs.Crossing.{job_send}
+use Rattle.ll_pool.specs.declared.rule.Naming.{Ghosts}
+use Rattle.ll_pool.specs.contracts.pool.Pool as Pool
+use Rattle.ll_pool.specs.contracts.member.Member as Member
+
+pub pool_sync : (a a' : NamedLft) (T T' T'' : RattleType) (g : Ghosts T.Denot) → IsSend T → IsSync T → IsSync T' → IsSync T'' → IsSync (Pool.the_row a a' T T' T'' g)
+pool_sync a a' T T' T'' g send sync sync' sync'' =
+    recorded_sync (Pool.the_field a a' T T' T'' g).row _ _ (Pool.the_type a a' T T' T'' g).to_one
+    (struct_sync (shape (Pool.the_type a a' T T' T'' g)) (
+      search sendable depth 20,
+      (
+        search (crosses, sendable) depth 20,
+        (
+          search sendable depth 20,
+          (
+            search sendable depth 20,
+            (search (slotted.the_field_sync, option.the_send, job_send, crosses, sendable) depth 40, (search (crosses, sendable) depth 40, tt)),
+          ),
+        ),
+      ),
+    ))
+
+pub member_send : (a a' a'' : NamedLft) (T T' T'' : RattleType) (g : Ghosts T.Denot) → IsSend T → IsSync T → IsSync T' → IsSync T'' → IsSend (Member.the_row a a' a'' T T' T'' g)
+member_send a a' a'' T T' T'' g send sync sync' sync'' =
+    recorded_send (Member.the_field a a' a'' T T' T'' g).row _ _ (Member.the_type a a' a'' T T' T'' g).to_one
+    (struct_send (shape (Member.the_type a a' a'' T T' T'' g)) (
+      search (pool_sync, sendable) depth 20,
+      (search (seat.the_send, option.the_send, job_send, crosses, sendable) depth 40, tt),
+    ))
