@@ -3,6 +3,7 @@ pub mod Alike
 pub mod LayersMade
 pub mod DescriptorsMade
 pub mod RulesetsMade
+pub mod Grown
 pub mod Numbers
 pub mod Named
 pub mod Enough

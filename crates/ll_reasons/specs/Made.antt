@@ -1,6 +1,6 @@
 -- What the record at a place of a trace made, where it is one that makes a layer, a descriptor or a ruleset.
 -- Source: landlock_restrict_self(2), landlock_create_ruleset(2); open(2); landlock(7), "Inheritance".
-use Rattle.std.specs.Prelude.{◌≡◌, ◌<◌, ℕ, List, [], Option, Some, None, Bool, true, false, slice_get}
+use Rattle.std.specs.Prelude.{◌≡◌, ◌<◌, ℕ, ◌++◌, List, [], Option, Some, None, Bool, true, false, slice_get}
 use Rattle.ll_rights.specs.declared.abi.Abi.{Abi}
 use Rattle.ll_rights.specs.declared.fs.Fs.{Fs}
 use Rattle.ll_rights.specs.declared.net.Net.{Net}
@@ -85,3 +85,17 @@ pub record IsCreate (tree : List Entry) (abi : Abi) (records : List Record) (k :
 
 abbrev pub IsEarlierCreate : List Entry → Abi → List Record → ℕ → ℕ → Type 0
 IsEarlierCreate tree abi records place k = (k < place) × IsCreate tree abi records k
+
+-- ---- domains
+
+unfoldable pub domain_by : World → Option Record → List Layer
+domain_by world None = []
+domain_by world (Some r) = (world.processes r.process.0).domain
+
+-- the domain that the process of the record at a place had before it
+unfoldable pub domain_there : List Entry → Abi → List Record → ℕ → List Layer
+domain_there tree abi records k = domain_by (world_at tree abi records k) (slice_get records k)
+
+-- a domain that began as another: each layer of this has its number still
+abbrev pub BeganAs : List Layer → List Layer → Type 0
+BeganAs domain before = (more : List Layer) × (domain ≡ before ++ more)

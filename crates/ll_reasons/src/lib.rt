@@ -13,7 +13,7 @@ pub use laws::allowed_records_need_no_explanation;
 pub use layers::refusing_layers_are_explained;
 pub use origins::{
     descriptors_come_from_their_openings, layers_come_from_their_restricts,
-    rulesets_come_from_their_creations,
+    layers_keep_their_numbers, rulesets_come_from_their_creations,
 };
 pub use reasons::{conditions_hold, reasons_hold};
 pub use remedies::{

@@ -7,7 +7,7 @@ ghost use Rattle.ll_trace.specs.declared.record.Record.{Record};
 ghost use Rattle.ll_semantics.specs.States.{Layer};
 ghost use Rattle.ll_semantics.specs.Answers.{named};
 ghost use Rattle.ll_semantics.specs.Situations.{world_at};
-ghost use Rattle.ll_reasons.specs.Made.{enforced_at, IsEarlierRestrict, opened_at, IsEarlierOpening, IsEarlierCreate};
+ghost use Rattle.ll_reasons.specs.Made.{enforced_at, IsEarlierRestrict, opened_at, IsEarlierOpening, IsEarlierCreate, domain_there, BeganAs};
 ghost use Rattle.ll_reasons.specs.Conditions.{handled, handled_on_ports};
 ghost use Rattle.ll_reasons.specs.Explanations.{domain_at, origins_at};
 
@@ -64,4 +64,11 @@ pub fn rulesets_come_from_their_creations()
     ensures creations { (tree : List Entry) (abi : Abi) (records : List Record) (place process rs : ℕ)
         → IfSome ((origins_at tree abi records place process).rulesets rs)
         (IsEarlierCreate tree abi records place) }
+{}
+
+/// A descriptor's process has in front the layers that it was opened with: layer k then is layer k now.
+pub fn layers_keep_their_numbers()
+    ensures { (tree : List Entry) (abi : Abi) (records : List Record) (place process fd : ℕ)
+        → IfSome ((origins_at tree abi records place process).openings fd)
+        (λ k. BeganAs (domain_at tree abi records place process) (domain_there tree abi records k)) }
 {}
