@@ -10,5 +10,3 @@ map_send V send sync = search (crosses_both, crosses, sendable) depth 40
 
 pub map_sync : (V : RattleType) → IsSend V → IsSync V → IsSync (the_row V)
 map_sync V send sync = search (crosses_both, crosses, sendable) depth 40
-
-pub ruleset shared = (map_send, map_sync)
