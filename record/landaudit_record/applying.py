@@ -139,12 +139,12 @@ def records(policy: Policy, layers: tuple[FittedLayer, ...], tree: Tree, rs: int
 
 
 def _of_layer(policy: Policy, layer: FittedLayer, tree: Tree, rs: int) -> Iterator[Record]:
-    origin = {"layer": layer.number}
+    origin: dict[str, Any] = {"layer": layer.number}
     yield {"op": "create", "rs": rs, "fs": layer.handled_fs, "net": layer.handled_net, "policy": origin}
     for rule in layer.path_rules:
         for parent in rule.parents:
             path = _resolved(tree, parent, f"{policy.path}: layer {layer.number}, {rule.place}, parent")
-            of_rule = {**origin, "rule": rule.place, "parent": parent}
+            of_rule: dict[str, Any] = {**origin, "rule": rule.place, "parent": parent}
             yield {"op": "add_path", "rs": rs, "path": path, "fs": rule.on(tree.kind(path)), "policy": of_rule}
     for port_rule in layer.port_rules:
         for port in port_rule.ports:

@@ -52,7 +52,7 @@ def main(words: Sequence[str] | None = None) -> int:
     """Runs one subcommand and gives the status of the program."""
     arguments = parse(sys.argv[1:] if words is None else words)
     try:
-        return arguments.run(arguments)
+        return int(arguments.run(arguments))
     except Problem as problem:
         print(f"landaudit-record: {problem}", file=sys.stderr)
         return problem.status

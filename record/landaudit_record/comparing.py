@@ -148,7 +148,7 @@ class Classes:
         """A character device that is made, removed or moved: of these, a kernel judges a whiteout in another way."""
         record = call.record
         if call.op == "mknod":
-            return record["kind"] == "char"
+            return str(record["kind"]) == "char"
         members = {"unlink": ("path",), "rename": ("from", "to"), "link": ("from",)}.get(call.op, ())
         return any(self._kind(record, member) == "char" for member in members)
 

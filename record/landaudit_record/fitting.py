@@ -70,7 +70,7 @@ def _layer(layer: Layer, abi: int, notes: list[str]) -> FittedLayer | None:
         FS.ordered(handled_fs),
         NET.ordered(handled_net),
         tuple(fitted for rule in layer.path_beneath if (fitted := _path_rule(rule, handled_fs, abi, where, notes))),
-        tuple(fitted for rule in layer.net_port if (fitted := _port_rule(rule, handled_net, abi, where, notes))),
+        tuple(port for rule in layer.net_port if (port := _port_rule(rule, handled_net, abi, where, notes))),
     )
 
 

@@ -52,12 +52,12 @@ class Call:
     @property
     def kernel(self) -> str:
         """What the kernel answered: `ok`, or the name of an error."""
-        return self.records[0]["kernel"]
+        return str(self.records[0]["kernel"])
 
     @property
     def op(self) -> str:
         """What the call is: an exec, whatever the kernel opens for it, else its record's operation."""
-        return "exec" if any(record["op"] == "exec" for record in self.records) else self.records[0]["op"]
+        return "exec" if any(record["op"] == "exec" for record in self.records) else str(self.records[0]["op"])
 
     @property
     def record(self) -> Record:

@@ -125,7 +125,9 @@ def _because(record: Record, process: Process, tree: Tree) -> tuple[str, str]:
     if kernel not in ASKED_LANDLOCK:
         return f"the call failed in the recording too: {kernel}", place
     why = why_moot(tree, record, process) or Moot(UNTOLD)
-    return why.why, place if why.at in (None, record.get("path"), record.get("to")) else why.at
+    if why.at is None or why.at in (record.get("path"), record.get("to")):
+        return why.why, place
+    return why.why, why.at
 
 
 def _rule_text(origin: dict[str, Any], record: Record) -> str:

@@ -7,6 +7,7 @@ import os
 import stat
 from dataclasses import dataclass
 from pathlib import Path
+from typing import Literal
 
 from .. import jsonl
 
@@ -94,7 +95,8 @@ def _loader(path: str) -> str | None:
     """The loader of an ELF file, by its program headers (elf(5))."""
     with open(path, "rb") as program:
         head = program.read(64)
-        wide, order = head[4] == 2, "little" if head[5] == 1 else "big"
+        wide = head[4] == 2
+        order: Literal["little", "big"] = "little" if head[5] == 1 else "big"
         at, size, count = (32, 54, 56) if wide else (28, 42, 44)
         table = int.from_bytes(head[at : at + (8 if wide else 4)], order)
         entry = int.from_bytes(head[size : size + 2], order)

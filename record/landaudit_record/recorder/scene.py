@@ -211,11 +211,11 @@ class Scene:
             self.names.put(own, Node("dir", origin=OWN_FILES))
         self.names.put(f"{own}/task/{thread.tid}", Node("dir", origin=OWN_FILES))
 
-    def start(self, thread: Thread, call: Call, **flags: bool) -> None:
-        """A process that is there when the trace begins."""
+    def start(self, thread: Thread, call: Call, *, nnp: bool, admin: bool) -> None:
+        """A process that is there when the trace begins: whether it has no_new_privs, and whether CAP_SYS_ADMIN."""
         self._join(thread)
         self.processes[thread.process.pid] = thread.process
-        self.recording.write("start", thread.process.pid, call.line, **flags)
+        self.recording.write("start", thread.process.pid, call.line, nnp=nnp, admin=admin)
         thread.process.in_trace = True
 
     def end(self, tid: int, line: int) -> None:
