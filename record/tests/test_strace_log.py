@@ -27,6 +27,11 @@ class Lines(unittest.TestCase):
         )
         self.assertEqual(call.note, "</w/a>")
 
+    def test_a_result_in_octal_digits(self) -> None:
+        (call,) = read("12  umask(022)                         = 077")
+        assert isinstance(call, Call)
+        self.assertEqual((call.value, call.error), (0o77, None))
+
     def test_a_failed_call_has_the_name_of_its_error(self) -> None:
         (call,) = read('12  unlink("x")                       = -1 ENOENT (No such file or directory)')
         assert isinstance(call, Call)

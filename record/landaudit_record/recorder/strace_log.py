@@ -220,7 +220,7 @@ def _said(text: str) -> _Said | None:
     if parts is None:
         return None
     name, arguments, result, note = parts
-    value = None if result == "?" else int(result, 0)
+    value = None if result == "?" else values.written(result)
     error = _ERROR.match(note) if value is None or value == -1 else None
     return _Said(name, arguments, value, error[1] if error is not None else None, note)
 

@@ -59,6 +59,11 @@ def text(argument: str) -> str | None:
     return unescaped(argument[1:-1])
 
 
+def written(digits: str) -> int:
+    """A number as C writes it: octal where it begins with 0."""
+    return int(digits, 8) if digits.startswith("0") and digits.isdigit() else int(digits, 0)
+
+
 @lru_cache(KEPT)
 def number(argument: str) -> int:
     """A number, or several joined by `|`, with names in comments beside them; NULL is 0."""
@@ -69,7 +74,7 @@ def number(argument: str) -> int:
             if part.strip() != "NULL":
                 raise ValueError(f"{argument} is no number")
             continue
-        total |= int(digits[1], 8) if digits[1].startswith("0") and digits[1].isdigit() else int(digits[1], 0)
+        total |= written(digits[1])
     return total
 
 
