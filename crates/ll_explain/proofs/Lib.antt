@@ -3,3 +3,5 @@ pub mod Listing
 pub mod RightPlaces
 pub mod PathTexts
 pub mod Appending
+pub mod Lacking
+pub mod SaidOfLayers

@@ -24,6 +24,10 @@ numbered bit_of rights none count counted same place there =
     let zero_more : 0 + place ≡ place = omega arith in
     sym (get_or-map bit_of rights place none 0 within) ∙ ap (λ ns. get_or ns place 0) same ∙ get_or-map-range_with_len (λ n. n) 0 count place place 0 there zero_more
 
+pub bit_of-at : (place : ℕ) → place < 17 → files.bit_of (get_or files.all_rights place files.other) ≡ place
+unfolding files.all_rights files.named_rights
+bit_of-at place there = numbered files.bit_of files.all_rights files.other 17 refl refl place there
+
 pub has-at : (set : Fs) (place : ℕ) → place < 17 → files.has set (get_or files.all_rights place files.other) ≡ has_place 16 set.0 place
 unfolding files.has files.all_rights files.named_rights
 has-at set place there = ap (λ n. has_place 16 set.0 n) (numbered files.bit_of files.all_rights files.other 17 refl refl place there)

@@ -3,6 +3,8 @@
 
 mod conditions;
 mod laws;
+mod layers;
+mod missing;
 mod reasons;
 mod rights;
 #[cfg(test)]

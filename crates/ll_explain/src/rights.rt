@@ -14,7 +14,7 @@ use std::alloc::AllocError;
 
 /// Whether a set of bits, of which so many have a name, has the right at a place of its table; all bits without a
 /// name are one right, behind the others.
-fn has_place(named: u32, bits: u32, place: u32) -> bool
+pub(crate) fn has_place(named: u32, bits: u32, place: u32) -> bool
     requires { named < 32 }
     ensures { result ≡ has_place named bits place }
 {

@@ -1,0 +1,15 @@
+use Rattle.std.proofs.Common.{◌≡◌, ◌++◌, take}
+use Rattle.std.specs.List.{flat_map}
+use Rattle.ll_rights.specs.Rights as files
+use Rattle.ll_tree.specs.Trees.{path_at}
+use Rattle.ll_rules.specs.InTree.{all_in_tree}
+use Rattle.ll_rules.specs.KeptLayers.{domain_of}
+use Rattle.ll_reasons.specs.Objections.{objecting_from, on_path}
+use Rattle.ll_explain.specs.Words.{layer_text}
+use Rattle.ll_explain.proofs.layers.push_request.Given as goal
+
+-- the lines of the layers before the next one are written
+abbrev pub invariant-loop-index : goal.invariant-loop-index
+invariant-loop-index l =
+    l.text.items ≡ l.fn.text.items ++ flat_map (layer_text l.records l.restricts)
+    (objecting_from (on_path (path_at l.tree l.node) (files.has l.wanted)) 1 (take l.index (all_in_tree l.tree (domain_of l.layers l.domain))))
