@@ -1,13 +1,11 @@
 -- What rules grant once one more is there. The rules on one node, or one port, are kept as one.
-use Rattle.std.proofs.Common.{◌≡◌, ℕ, ◌<◌, Bool, true, false, not, ◌&&◌, ◌||◌, eqb, ltb, List, [], ◌∷◌, map, length, refl, sym, ap, ◌∙◌, inl, inr}
-use Rattle.std.specs.Prelude.{All, Option, Some, None, MatchOption}
+use Rattle.std.proofs.Common.{◌≡◌, ℕ, ◌<◌, Bool, true, false, not, ◌&&◌, ◌||◌, eqb, ltb, List, [], ◌∷◌, map, length, refl, sym, ap, ◌∙◌}
+use Rattle.std.specs.Prelude.{All}
 use Rattle.std.specs.Option.{option_map_or}
-use Rattle.std.specs.List.{list_any, IsDistinct}
-use Rattle.std.specs.Cmp.{nat_eq_equiv}
-use Rattle.std.specs.List.Sorted.{IsPermutation}
-use Rattle.std.specs.Map.{lookup, set_value, keys_of}
-use Rattle.std.proofs.lemmas.Bool.{cases_Bool, eqb-true, ltb-true, lt-ltb, or_right, or_parts, not-false}
-use Rattle.std.proofs.lemmas.List.Sorted.{list_any-IsPermutation}
+use Rattle.std.specs.Ordering.{nat_cmp}
+use Rattle.std.specs.List.{list_any}
+use Rattle.std.specs.FinMap.{FinMap, entries, get, insert}
+use Rattle.std.proofs.lemmas.Bool.{ltb-true, lt-ltb, or_right, or_parts, not-false}
 use Rattle.std.proofs.lemmas.List.Elements.{All-head, All-tail, All-nil, All-cons}
 use Rattle.ll_rights.specs.declared.fs.Fs.{Fs}
 use Rattle.ll_rights.specs.declared.net.Net.{Net}
@@ -23,72 +21,35 @@ use Rattle.ll_rules.specs.Layers.{RulesOn, with_file_rule, granted_on_port, with
 use Rattle.ll_rules.specs.KeptLayers.{SameRules, granted_on, granted_on_node, GrantsOn}
 use Rattle.ll_rules.specs.InTree.{in_tree, rule_on_path, node, AreInTree}
 use Rattle.ll_rules.specs.InTree.{IsOfTree}
-use Rattle.ll_rules.proofs.Lookups.{any_at-lookup}
+use Rattle.ll_rules.proofs.Lookups.{any_at-get, any-insert}
 use Rattle.ll_rules.proofs.Booleans.{list_any-agree, list_any-map, and_true}
 
--- what stands first joins a list of tests
-joined_first : (f p q rest : Bool) → ((f && (p || q)) || rest) ≡ ((f && q) || ((f && p) || rest))
-joined_first true true true rest = refl
-joined_first true true false rest = refl
-joined_first true false true rest = refl
-joined_first true false false rest = refl
-joined_first false p q rest = refl
-
-past_first : (first fq rest : Bool) → (first || (fq || rest)) ≡ (fq || (first || rest))
-past_first true true rest = refl
-past_first true false rest = refl
-past_first false true rest = refl
-past_first false false rest = refl
-
--- the value of a key is replaced by one that passes more
-replaced : {X : Type 0} (key : ℕ) (value had : X) (picks : ℕ → Bool) (p : X → Bool) (q : Bool) (rules : List (ℕ × X)) → lookup (eqb key) rules ≡ Some had → p value ≡ (p had || q)
-    → list_any (λ rule. picks rule.0 && p rule.1) (set_value (eqb key) rules value) ≡ ((picks key && q) || list_any (λ rule. picks rule.0 && p rule.1) rules)
-replaced key value had picks p q [] found more = absurd cc
-replaced {X = X} key value had picks p q (rule ∷ rules) found more =
-    elim (cases_Bool (eqb key rule.0)) [
-      | inl here ↦
-          let same : rule.1 ≡ had = some_same rule.1 had (rw here at found) in
-          rw (here, ← eqb-true key rule.0 here, more, same)
-          (joined_first (picks key) (p had) q (list_any (λ rule. picks rule.0 && p rule.1) rules))
-      | inr elsewhere ↦
-          let later : lookup (eqb key) rules ≡ Some had = rw elsewhere at found in
-          rw (elsewhere, replaced key value had picks p q rules later more)
-          (past_first (picks rule.0 && p rule.1) (picks key && q) (list_any (λ rule. picks rule.0 && p rule.1) rules))
-    ]
-  where
-    some_same : (a b : X) → Some a ≡ Some b → a ≡ b
-    some_same a b same = cc
-
--- what is put at a key passes more than what was there
-put : {X : Type 0} (key : ℕ) (value : X) (picks : ℕ → Bool) (p : X → Bool) (q : Bool) (old new : List (ℕ × X)) (had : Option X) → had ≡ lookup (eqb key) old
-    → MatchOption had (IsPermutation ((key, value) ∷ old) new) (λ _. new ≡ set_value (eqb key) old value) → p value ≡ (option_map_or p had false || q)
-    → list_any (λ rule. picks rule.0 && p rule.1) new ≡ ((picks key && q) || list_any (λ rule. picks rule.0 && p rule.1) old)
-put key value picks p q old new None found puts more =
-    sym (list_any-IsPermutation (λ rule. picks rule.0 && p rule.1) ((key, value) ∷ old) new puts)
-    ∙ ap (λ (b : Bool). (picks key && b) || list_any (λ rule. picks rule.0 && p rule.1) old) more
-put {X = X} key value picks p q old new (Some had) found puts more =
-    ap (λ (rules : List (ℕ × X)). list_any (λ rule. picks rule.0 && p rule.1) rules) puts
-    ∙ replaced key value had picks p q old (sym found) more
-
 -- the rule of a node grants more
-pub rule_put : (old new : RulesOn ℕ) (here : NodeId) (set before after : Fs) (had : Option Fs) → new.handled_files ≡ old.handled_files → new.handled_network ≡ old.handled_network → new.port_rules ≡ old.port_rules
-    → had ≡ lookup (eqb here.0) old.file_rules → MatchOption had (IsPermutation ((here.0, after) ∷ old.file_rules) new.file_rules) (λ _. new.file_rules ≡ set_value (eqb here.0) old.file_rules after)
-    → IsDistinct eqb (keys_of old.file_rules) → ((right : FsRight) → has before right ≡ granted_on_node old here right) → after ≡ united before set
+pub rule_put : (old new : RulesOn ℕ) (before after : FinMap nat_cmp Fs) (here : NodeId) (set had now : Fs) → new.handled_files ≡ old.handled_files → new.handled_network ≡ old.handled_network → new.port_rules ≡ old.port_rules
+    → entries before ≡ old.file_rules → entries after ≡ new.file_rules → after ≡ insert before here.0 now → ((right : FsRight) → has had right ≡ granted_on_node old here right) → now ≡ united had set
     → GrantsOn old new here set
 unfolding granted_on_node
-rule_put old new here set before after had files network ports found puts distinct was joined = record {
+rule_put old new before after here set had now files network ports kept_old kept_new puts was joined = record {
   kept_files = files;
   kept_network = network;
   kept_ports = ports;
   grants = λ picks right.
-      put here.0 after picks (λ rule. has rule right) (has set right) old.file_rules new.file_rules had found puts
-      (ap (λ (rule : Fs). has rule right) joined ∙ fs_has-united before set right ∙ ap (λ (b : Bool). b || has set right) (was right ∙ any_at-lookup nat_eq_equiv here.0 (λ rule. has rule right) old.file_rules distinct ∙ ap (λ (rule : Option Fs). option_map_or (λ one. has one right) rule false) (sym found)));
+      more picks (λ rule. has rule right) (has set right)
+      (ap (λ (rule : Fs). has rule right) joined ∙ fs_has-united had set right ∙ ap (λ (b : Bool). b || has set right)
+      (was right ∙ ap (λ (es : List (ℕ × Fs)). list_any (λ rule. eqb here.0 rule.0 && has rule.1 right) es) (sym kept_old) ∙ any_at-get before here.0 (λ rule. has rule right)));
   places = λ picks.
       list_any-agree (λ rule. picks rule.0) (λ rule. picks rule.0 && true) (λ rule. sym (and_true (picks rule.0))) new.file_rules
-      ∙ put here.0 after picks (λ _. true) true old.file_rules new.file_rules had found puts (sym (or_right (option_map_or (λ _. true) had false) true refl))
+      ∙ more picks (λ _. true) true (sym (or_right (option_map_or (λ _. true) (get before here.0) false) true refl))
       ∙ ap (λ (b : Bool). b || list_any (λ rule. picks rule.0 && true) old.file_rules) (and_true (picks here.0))
       ∙ ap (λ (b : Bool). picks here.0 || b) (list_any-agree (λ rule. picks rule.0 && true) (λ rule. picks rule.0) (λ rule. and_true (picks rule.0)) old.file_rules);
 }
+  where
+    more : (picks : ℕ → Bool) (p : Fs → Bool) (q : Bool) → p now ≡ (option_map_or p (get before here.0) false || q)
+        → list_any (λ rule. picks rule.0 && p rule.1) new.file_rules ≡ ((picks here.0 && q) || list_any (λ rule. picks rule.0 && p rule.1) old.file_rules)
+    more picks p q passes =
+        ap (λ (es : List (ℕ × Fs)). list_any (λ rule. picks rule.0 && p rule.1) es) (sym kept_new ∙ ap (λ (kept : FinMap nat_cmp Fs). entries kept) puts)
+        ∙ any-insert here.0 now picks p q before passes
+        ∙ ap (λ (es : List (ℕ × Fs)). (picks here.0 && q) || list_any (λ rule. picks rule.0 && p rule.1) es) kept_old
 
 -- ---- in a tree
 

@@ -10,7 +10,7 @@ pub mod AskedRights
 pub mod Verdicts
 pub mod SameLayers
 pub mod Marks
-pub mod Recalled
 pub mod LaneSets
 pub mod DomainLanes
 pub mod MoveLanes
+pub mod Crossing

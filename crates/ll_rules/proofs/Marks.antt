@@ -1,13 +1,12 @@
 -- Which numbers are marked in a filter, and how a mark more changes that.
-use Rattle.std.proofs.Common.{◌≡◌, ℕ, ◌/◌, ◌%◌, ◌^◌, ◌*◌, ◌<◌, true, false, eqb, List, [], length, get_or, replicate, refl, ap, ◌∙◌, arith, inl, inr, bit_or, w64}
+use Rattle.std.proofs.Common.{◌≡◌, ℕ, ◌/◌, ◌%◌, ◌^◌, ◌*◌, ◌<◌, true, false, eqb, List, length, get_or, replicate, refl, ap, ◌∙◌, arith, inl, inr, bit_or, w64}
 use Rattle.std.specs.Int.{bit_at}
 use Rattle.std.proofs.lemmas.Bool.{cases_eq}
 use Rattle.std.proofs.lemmas.List.{get_or-set_same, get_or-set_other}
 use Rattle.std.proofs.lemmas.Nat.Bits.{bit_at-zero, bit_at_set_same, bit_at_set_other}
 use Rattle.std.proofs.lemmas.Simd.{get_or-replicate}
 use Rattle.std.proofs.Math.ListN.{set}
-use Rattle.ll_rights.specs.declared.fs.Fs.{Fs}
-use Rattle.ll_rules.specs.Filters.{is_marked, AreMarked}
+use Rattle.ll_rules.specs.Filters.{is_marked}
 
 pub none_marked : (number : ℕ) → is_marked (replicate 64 0) number ≡ false
 unfolding is_marked
@@ -41,7 +40,3 @@ module _ (words : List ℕ) (number : ℕ) (whole : length words ≡ 64) where
             ])
         | inr other_word ↦ rw (get_or-set_other words (number / 64 % 64) (other / 64 % 64) more 0 other_word) was
       ]
-
--- no rule needs no mark
-pub none_marked_yet : (rules : List (ℕ × Fs)) (words : List ℕ) → rules ≡ [] → AreMarked words rules
-none_marked_yet rules words empty number none = rw empty refl

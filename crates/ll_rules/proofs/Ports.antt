@@ -1,29 +1,24 @@
--- Rules on ports, which are kept in the order of the ports.
-use Rattle.std.proofs.Common.{◌≡◌, ℕ, Bool, false, cond, ◌&&◌, ◌||◌, eqb, refl, sym, ap, ◌∙◌, inl, inr}
+-- Rules on ports.
+use Rattle.std.proofs.Common.{◌≡◌, ℕ, Bool, false, ◌&&◌, ◌||◌, eqb, List, refl, sym, ap, ◌∙◌}
 use Rattle.std.specs.Prelude.{Option, Some, None}
+use Rattle.std.specs.List.{list_any}
+use Rattle.std.specs.Ordering.{nat_cmp}
 use Rattle.std.specs.Option.{option_map_or, unwrap_or}
-use Rattle.std.specs.List.Sorted.{IsStrictlySortedBy}
-use Rattle.std.specs.Map.{lookup, keys_of}
-use Rattle.std.specs.BTreeMap.{is_at}
-use Rattle.std.specs.Ordering.{nat_cmp, eq_by_cmp}
-use Rattle.std.specs.Cmp.{eq_by_cmp_equiv, nat_cmp_total, unsigned_ties}
-use Rattle.std.proofs.lemmas.Bool.{cases_eq, eq-eqb, ne_eqb}
-use Rattle.std.proofs.lemmas.Map.Keys.{IsDistinct-from_sorted}
+use Rattle.std.specs.FinMap.{FinMap, entries, get, insert}
 use Rattle.ll_rights.specs.declared.net.Net.{Net}
 use Rattle.ll_rights.specs.NetRights.{NetRight, bind_tcp, has, united, no_right}
 use Rattle.ll_rights.proofs.Sets.{net_has-united}
 use Rattle.ll_rules.specs.Layers.{RulesOn, granted_on_port, with_port_rule}
 use Rattle.ll_rules.specs.KeptLayers.{GrantsOnPort}
-use Rattle.ll_rules.proofs.Lookups.{any_at-lookup}
-use Rattle.ll_rules.proofs.Booleans.{or_comm, list_any-agree}
+use Rattle.ll_rules.proofs.Lookups.{any_at-get, any-insert}
 
 -- a look-up finds all that is granted on a port
-granted_by_lookup : {P : Type 0} (rules : RulesOn P) (port : ℕ) (right : NetRight) → IsStrictlySortedBy nat_cmp (keys_of rules.port_rules)
-    → granted_on_port rules port right ≡ option_map_or (λ set. has set right) (lookup (is_at (nat_cmp port)) rules.port_rules) false
+granted_by_get : {P : Type 0} (rules : RulesOn P) (kept : FinMap nat_cmp Net) (port : ℕ) (right : NetRight) → entries kept ≡ rules.port_rules
+    → granted_on_port rules port right ≡ option_map_or (λ set. has set right) (get kept port) false
 unfolding granted_on_port
-granted_by_lookup rules port right sorted =
-    list_any-agree (λ rule. eqb port rule.0 && has rule.1 right) (λ rule. eq_by_cmp nat_cmp port rule.0 && has rule.1 right) (λ rule. ap (λ (b : Bool). b && has rule.1 right) (unsigned_ties port rule.0)) rules.port_rules
-    ∙ any_at-lookup (eq_by_cmp_equiv nat_cmp_total) port (λ set. has set right) rules.port_rules (IsDistinct-from_sorted nat_cmp (keys_of rules.port_rules) sorted)
+granted_by_get rules kept port right same =
+    ap (λ (es : List (ℕ × Net)). list_any (λ rule. eqb port rule.0 && has rule.1 right) es) (sym same)
+    ∙ any_at-get kept port (λ set. has set right)
 
 has_nothing : (right : NetRight) → has no_right right ≡ false
 unfolding has
@@ -34,45 +29,30 @@ by_option : (rule : Option Net) (right : NetRight) → has (unwrap_or rule no_ri
 by_option None right = has_nothing right
 by_option (Some rule) right = refl
 
-pub port_rule_found : {P : Type 0} (rules : RulesOn P) (port : ℕ) (found : Net) → IsStrictlySortedBy nat_cmp (keys_of rules.port_rules) → found ≡ unwrap_or (lookup (is_at (nat_cmp port)) rules.port_rules) no_right
+pub port_rule_found : {P : Type 0} (rules : RulesOn P) (kept : FinMap nat_cmp Net) (port : ℕ) (found : Net) → entries kept ≡ rules.port_rules → found ≡ unwrap_or (get kept port) no_right
     → (right : NetRight) → has found right ≡ granted_on_port rules port right
-port_rule_found rules port found sorted is right =
+port_rule_found rules kept port found same is right =
     ap (λ (set : Net). has set right) is
-    ∙ by_option (lookup (is_at (nat_cmp port)) rules.port_rules) right
-    ∙ sym (granted_by_lookup rules port right sorted)
-
-first_rule : {P : Type 0} (rules : RulesOn P) (port : ℕ) (set : Net) (number : ℕ) (right : NetRight) → ((eqb number port && has set right) || granted_on_port rules number right) ≡ granted_on_port (with_port_rule rules port set) number right
-unfolding granted_on_port
-first_rule rules port set number right = refl
+    ∙ by_option (get kept port) right
+    ∙ sym (granted_by_get rules kept port right same)
 
 -- the rule of a port grants more
-pub port_rule_put : {P : Type 0} (old new : RulesOn P) (port : ℕ) (set before after : Net) → new.handled_files ≡ old.handled_files → new.handled_network ≡ old.handled_network → new.file_rules ≡ old.file_rules
-    → IsStrictlySortedBy nat_cmp (keys_of old.port_rules) → IsStrictlySortedBy nat_cmp (keys_of new.port_rules)
-    → ((number : ℕ) → lookup (is_at (nat_cmp number)) new.port_rules ≡ cond (is_at (nat_cmp port) number) (Some after) (lookup (is_at (nat_cmp number)) old.port_rules))
-    → ((right : NetRight) → has before right ≡ granted_on_port old port right) → after ≡ united before set
+pub port_rule_put : {P : Type 0} (old new : RulesOn P) (before after : FinMap nat_cmp Net) (port : ℕ) (set had now : Net) → new.handled_files ≡ old.handled_files → new.handled_network ≡ old.handled_network → new.file_rules ≡ old.file_rules
+    → entries before ≡ old.port_rules → entries after ≡ new.port_rules → after ≡ insert before port now → ((right : NetRight) → has had right ≡ granted_on_port old port right) → now ≡ united had set
     → GrantsOnPort old new port set
-port_rule_put old new port set before after files network rules old_sorted new_sorted updates was joined = record {
+unfolding granted_on_port
+port_rule_put old new before after port set had now files network rules kept_old kept_new puts was joined = record {
   kept_files = files;
   kept_network = network;
   kept_rules = rules;
-  grants = λ number right.
-      granted_by_lookup new number right new_sorted
-      ∙ ap (λ (rule : Option Net). option_map_or (λ set. has set right) rule false) (updates number)
-      ∙ by_port number right
-      ∙ first_rule old port set number right;
+  grants = grants;
 }
   where
-    put_here : (right : NetRight) → has after right ≡ (has set right || granted_on_port old port right)
-    put_here right = ap (λ (rule : Net). has rule right) joined ∙ net_has-united before set right ∙ ap (λ (b : Bool). b || has set right) (was right) ∙ or_comm (granted_on_port old port right) (has set right)
+    passes : (right : NetRight) → has now right ≡ (option_map_or (λ rule. has rule right) (get before port) false || has set right)
+    passes right = ap (λ (rule : Net). has rule right) joined ∙ net_has-united had set right ∙ ap (λ (b : Bool). b || has set right) (was right ∙ granted_by_get old before port right kept_old)
 
-    by_port : (number : ℕ) (right : NetRight)
-        → option_map_or (λ set. has set right) (cond (eq_by_cmp nat_cmp port number) (Some after) (lookup (is_at (nat_cmp number)) old.port_rules)) false ≡ ((eqb number port && has set right) || granted_on_port old number right)
-    by_port number right =
-        elim (cases_eq port number) [
-          | inl same ↦
-              rw (← unsigned_ties port number, eq-eqb port number same, eq-eqb number port (sym same))
-              (put_here right ∙ ap (λ (n : ℕ). has set right || granted_on_port old n right) same)
-          | inr differs ↦
-              rw (← unsigned_ties port number, ne_eqb port number differs, ne_eqb number port (λ same. differs (sym same)))
-              (sym (granted_by_lookup old number right old_sorted))
-        ]
+    grants : (other : ℕ) (right : NetRight) → granted_on_port new other right ≡ granted_on_port (with_port_rule old port set) other right
+    grants other right =
+        ap (λ (es : List (ℕ × Net)). list_any (λ rule. eqb other rule.0 && has rule.1 right) es) (sym kept_new ∙ ap (λ (kept : FinMap nat_cmp Net). entries kept) puts)
+        ∙ any-insert port now (λ number. eqb other number) (λ rule. has rule right) (has set right) before (passes right)
+        ∙ ap (λ (es : List (ℕ × Net)). (eqb other port && has set right) || list_any (λ rule. eqb other rule.0 && has rule.1 right) es) kept_old

@@ -93,7 +93,7 @@ granted_within a b same (suc bound) (first ∷ others) right within =
 pub granted-same : (a b : RulesOn Path) → SameRules a b → (path : Path) (right : FsRight) → granted a path right ≡ granted b path right
 granted-same a b same path right = granted_within a b same (length path) path right (omega arith)
 
-handles-same : (a b : RulesOn Path) → SameRules a b → (right : FsRight) → handles a right ≡ handles b right
+pub handles-same : (a b : RulesOn Path) → SameRules a b → (right : FsRight) → handles a right ≡ handles b right
 handles-same a b same refer = ap (λ (set : Fs). not (files.is_empty set)) same.same_files
 handles-same a b same right = ap (λ (set : Fs). has set right) same.same_files
 

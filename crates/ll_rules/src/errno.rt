@@ -44,6 +44,17 @@ impl<T: Drop> From<AllocFailed<T>> for RuleFault {
     }
 }
 
+impl From<AllocError> for RuleFault {
+    ghost use Rattle.std.specs.Prelude.{◌≡◌};
+    ghost use Rattle.ll_rules.specs.declared.errno.RuleFault.TheVariants.{Memory};
+
+    ghost from_gives = { λ _ e. e ≡ Memory };
+
+    fn from(_failed: AllocError) -> RuleFault {
+        RuleFault::Memory
+    }
+}
+
 /// There is no memory for what was asked.
 #[derive(Clone, Copy, Debug, PartialEq, Eq)]
 pub struct NoMemory;

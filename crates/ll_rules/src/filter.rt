@@ -1,7 +1,10 @@
 //! A small filter in front of the rules on nodes.
 
-ghost use Rattle.std.specs.Prelude.{◌≡◌, ℕ, true, false};
-ghost use Rattle.ll_rules.specs.Filters.{is_marked};
+ghost use Rattle.std.specs.Prelude.{◌≡◌, ℕ, true, false, IfOk, OnOk};
+ghost use Rattle.ll_rules.specs.Filters.{is_marked, has_mark};
+
+use std::alloc::{AllocError, Global};
+use std::sync::Arc;
 
 /// Marks of numbers, 4,096 bits of them: a number that isn't marked has no rule. Numbers whose difference is
 /// a multiple of 4,096 share a mark.
@@ -35,5 +38,65 @@ impl Filter {
     {
         let place = (number / 64 % 64) as usize;
         self.words[place] |= 1 << (number % 64);
+    }
+}
+
+/// The marks of a ruleset. There is no filter before the first mark, and rulesets that are frozen share theirs until
+/// one of them gets a mark more.
+#[derive(Drop)]
+pub(crate) struct Marks {
+    alloc: Global,
+    filter: Option<Arc<Filter>>,
+}
+
+impl Marks {
+    /// No mark. It takes no memory.
+    pub(crate) fn new(alloc: Global) -> Marks
+        ensures { (number : ℕ) → has_mark result number ≡ false }
+    {
+        Marks {
+            alloc,
+            filter: None,
+        }
+    }
+
+    /// Whether a number is marked.
+    pub(crate) fn has(&self, number: u32) -> bool
+        ensures { result ≡ has_mark self.now number }
+    {
+        match &self.filter {
+            Some(filter) => filter.has(number),
+            None => false,
+        }
+    }
+
+    /// Marks a number. A filter that others share is copied first; without memory no mark is lost.
+    pub(crate) fn mark(&mut self, number: u32) -> Result<(), AllocError>
+        ensures marked { OnOk result (has_mark self.new number ≡ true) }
+        ensures kept { (other : ℕ) → has_mark self.old other ≡ true → has_mark self.new other ≡ true }
+    {
+        match &mut self.filter {
+            Some(filter) => Arc::make_mut(filter)?.mark(number),
+            None => {
+                let mut filter = Filter::new();
+                filter.mark(number);
+                self.filter = Some(Arc::new(self.alloc, filter)?);
+            }
+        }
+        Ok(())
+    }
+
+    /// The same marks once more; both share the filter.
+    pub(crate) fn again(&self) -> Result<Marks, AllocError>
+        ensures { IfOk result (λ again. (number : ℕ) → has_mark again number ≡ has_mark self.now number) }
+    {
+        let filter = match &self.filter {
+            Some(filter) => Some(Arc::try_clone(filter)?),
+            None => None,
+        };
+        Ok(Marks {
+            alloc: self.alloc,
+            filter,
+        })
     }
 }

@@ -11,7 +11,6 @@ mod lanes;
 mod laws;
 mod layer_set;
 mod moves;
-mod recent;
 mod ruleset;
 mod sameness;
 #[cfg(test)]
@@ -25,6 +24,8 @@ pub use laws::{
     worked_ports_and_mounts, worked_rules_for_files, worked_rules_for_ports,
 };
 pub use layer_set::LayerSet;
-pub use moves::{How, Move, Target, Verdict, check_move, check_move_counted};
+pub use moves::{
+    Asked, How, Move, Target, Verdict, check_move, check_move_counted, entering, leaving,
+};
 pub use ruleset::{Layer, Ruleset};
 pub use sameness::{same_answers, same_rules};

@@ -65,9 +65,11 @@ pub enum Verdict {
 
 /// Rights that are asked of a directory.
 #[derive(Clone, Copy)]
-struct Asked {
-    directory: NodeId,
-    rights: Fs,
+pub struct Asked {
+    /// The directory.
+    pub directory: NodeId,
+    /// What is asked of it.
+    pub rights: Fs,
 }
 
 /// The directory that an object stands in; the root stands in itself.
@@ -134,7 +136,7 @@ fn asked_of_destination(moved: Kind, there: Option<Kind>) -> Fs
 }
 
 /// What a move asks of the directory that the object stands in, and of which.
-fn leaving(tree: &Tree, attempt: &Move) -> Asked
+pub fn leaving(tree: &Tree, attempt: &Move) -> Asked
     requires moved { IsNode tree.now attempt.now.moved }
     requires target { IsTargetIn tree.now attempt.now.target }
     ensures inside { IsNode tree.now result.directory }
@@ -151,7 +153,7 @@ fn leaving(tree: &Tree, attempt: &Move) -> Asked
 }
 
 /// What a move asks of the directory that it goes to, and of which.
-fn entering(tree: &Tree, attempt: &Move) -> Asked
+pub fn entering(tree: &Tree, attempt: &Move) -> Asked
     requires moved { IsNode tree.now attempt.now.moved }
     requires target { IsTargetIn tree.now attempt.now.target }
     ensures inside { IsNode tree.now result.directory }

@@ -2,7 +2,8 @@
 
 ghost use Rattle.std.specs.Prelude.{◌≡◌, ◌&&◌, ◌||◌, false, OnOk, OnErr, IfOk, MatchOption, IsOkUnless};
 ghost use Rattle.std.specs.Result.{result_err};
-ghost use Rattle.ll_rights.specs.Rights.{FsRight, has, other, is_file_right};
+ghost use Rattle.ll_rights.specs.Rights.{FsRight, has, other, is_file_right, no_right};
+ghost use Rattle.ll_rights.specs.NetRights as for_ports;
 ghost use Rattle.ll_tree.specs.Trees.{is_dir};
 ghost use Rattle.ll_rules.specs.Layers.{without_rules};
 ghost use Rattle.ll_rules.specs.KeptLayers.{SameRules, GrantsOnPort};
@@ -11,14 +12,13 @@ ghost use Rattle.ll_rules.specs.Rulesets.{has_ports, create_fault, are_file_righ
 ghost use Rattle.ll_rules.specs.InTree.{IsOfTree};
 ghost use Rattle.ll_rules.specs.RuleFaults.{add_path_fault, add_port_fault};
 
-use crate::filter::Filter;
-use crate::recent::Recent;
+use crate::filter::Marks;
 use crate::{Errno, NoMemory, RuleFault};
 use bitflags::Flags;
 use ll_rights::{Abi, Fs, Kind, Net};
+use ll_shared::SharedMap;
 use ll_tree::{NodeId, Place, Tree};
 use std::alloc::Global;
-use std::collections::{BTreeMap, HashMap};
 use std::marker::Model;
 
 /// A layer of a domain: a ruleset as it was when a process restricted itself by it.
@@ -26,30 +26,25 @@ use std::marker::Model;
 pub struct Layer {
     files: Fs,
     network: Net,
-    on_nodes: HashMap<u32, Fs>,
-    marks: Filter,
-    recent: Recent,
-    on_ports: BTreeMap<u16, Net>,
+    marks: Marks,
+    on_nodes: SharedMap<Fs>,
+    on_ports: SharedMap<Net>,
 }
 
 impl Model for Layer {
-    ghost use Rattle.std.specs.Prelude.{◌≡◌, ℕ, false, nat_eq, None};
-    ghost use Rattle.std.specs.Map.{lookup};
-    ghost use Rattle.std.specs.Ordering.{nat_cmp};
-    ghost use Rattle.std.specs.HashMap.{IsUnique};
-    ghost use Rattle.std.specs.BTreeMap.{IsOrdered};
+    ghost use Rattle.std.specs.Prelude.{◌≡◌, ℕ, false};
+    ghost use Rattle.std.specs.FinMap as finite;
     ghost use Rattle.ll_rights.specs.Rights as for_files;
     ghost use Rattle.ll_rights.specs.NetRights as for_ports;
     ghost use Rattle.ll_rules.specs.Layers.{RulesOn};
-    ghost use Rattle.ll_rules.specs.Filters.{AreMarked, AreRecalled};
+    ghost use Rattle.ll_rules.specs.Filters.{AreMarked};
 
     ghost Value = { RulesOn ℕ };
 
-    ghost view = { λ a. record { handled_files = a.files; handled_network = a.network; file_rules = a.on_nodes.entries; port_rules = a.on_ports.entries } };
+    ghost view = { λ a. record { handled_files = a.files; handled_network = a.network; file_rules = finite.entries a.on_nodes; port_rules = finite.entries a.on_ports } };
 
     ghost invariant = { λ a. (for_files.has a.files for_files.other ≡ false) × (for_ports.has a.network for_ports.other ≡ false)
-        × IsUnique nat_eq a.on_nodes × IsOrdered nat_cmp a.on_ports × AreMarked a.marks.words a.on_nodes.entries
-        × AreRecalled a.recent.numbers a.recent.rights a.on_nodes.entries };
+        × AreMarked a.marks a.on_nodes };
 }
 
 /// The rights that a process is about to give up, and the rules by which it keeps some of them
@@ -86,7 +81,10 @@ impl Layer {
     fn rule_in_map(&self, number: u32) -> Fs
         ensures { (right : FsRight) → has result right ≡ granted_on_node self.now (node number) right }
     {
-        self.on_nodes.get(&number).copied().unwrap_or(Fs::NONE)
+        self.on_nodes
+            .get(number as u64)
+            .copied()
+            .unwrap_or(Fs::NONE)
     }
 
     /// The rights that the rule on a node grants; none where there is no rule.
@@ -97,9 +95,6 @@ impl Layer {
         let number = node.index();
         if !self.marks.has(number) {
             return Fs::NONE;
-        }
-        if let Some(rights) = self.recent.find(number) {
-            return rights;
         }
         self.rule_in_map(number)
     }
@@ -130,7 +125,7 @@ impl Layer {
     fn rule_on_port(&self, port: u16) -> Net
         ensures { (right : for_ports.NetRight) → for_ports.has result right ≡ granted_on_port self.now port right }
     {
-        self.on_ports.get(&port).copied().unwrap_or(Net::NONE)
+        self.on_ports.get(port as u64).copied().unwrap_or(Net::NONE)
     }
 
     /// Whether the layer refuses something of what is wanted on a port.
@@ -169,9 +164,8 @@ impl Layer {
         ensures memory { IsOkUnless result RuleFault.Memory }
     {
         let granted = self.rule_at(node).union(files);
-        self.on_nodes.insert(node.index(), granted)?;
-        self.marks.mark(node.index());
-        self.recent.note(node.index(), granted);
+        self.marks.mark(node.index())?;
+        self.on_nodes.insert(node.index() as u64, granted)?;
         Ok(())
     }
 
@@ -182,20 +176,19 @@ impl Layer {
         ensures memory { IsOkUnless result RuleFault.Memory }
     {
         let granted = self.rule_on_port(port).union(network);
-        self.on_ports.insert(port, granted)?;
+        self.on_ports.insert(port as u64, granted)?;
         Ok(())
     }
 
-    /// The same layer once more.
+    /// The same layer once more; both share their rules.
     fn copied(&self) -> Result<Layer, NoMemory>
         ensures { IfOk result (λ layer. layer ≡ self.now) }
     {
         Ok(Layer {
             files: self.files,
             network: self.network,
+            marks: self.marks.again()?,
             on_nodes: self.on_nodes.clone()?,
-            marks: self.marks,
-            recent: self.recent,
             on_ports: self.on_ports.clone()?,
         })
     }
@@ -243,12 +236,28 @@ impl Ruleset {
             layer: Layer {
                 files,
                 network,
-                on_nodes: HashMap::new(alloc),
-                marks: Filter::new(),
-                recent: Recent::new(),
-                on_ports: BTreeMap::new(alloc),
+                marks: Marks::new(alloc),
+                on_nodes: SharedMap::new(alloc),
+                on_ports: SharedMap::new(alloc),
             },
         })
+    }
+
+    /// The ruleset that handles nothing and has no rule. No kernel makes it (`ENOMSG`); a program that does
+    /// without a ruleset is judged as if it had this one, whose layer refuses nothing, so that the layers
+    /// after it have the numbers that they would have had.
+    pub fn empty(alloc: Global) -> Ruleset
+        ensures { result ≡ without_rules no_right for_ports.no_right }
+    {
+        Ruleset {
+            layer: Layer {
+                files: Fs::NONE,
+                network: Net::NONE,
+                marks: Marks::new(alloc),
+                on_nodes: SharedMap::new(alloc),
+                on_ports: SharedMap::new(alloc),
+            },
+        }
     }
 
     /// The object that a rule for files stands on, or why there is no such rule.

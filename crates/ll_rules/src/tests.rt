@@ -10,6 +10,7 @@ use super::*;
 use ll_rights::{Abi, Fs, Net, fs_of_name, net_of_name};
 use ll_tree::{NodeId, Place, Tree};
 use std::alloc::Global;
+use std::slice;
 use std::test::*;
 
 /// The worked tree.
@@ -557,6 +558,20 @@ fn marks_are_shared(rt: HostRuntime) {
     }
 }
 
+#[test]
+fn marks_of_a_copy(rt: HostRuntime) -> Result<(), Fail> {
+    let mut marks = filter::Marks::new(rt.alloc());
+    assert!(rt; !marks.has(5));
+    marks.mark(5)?;
+    let copy = marks.again()?;
+    marks.mark(6)?;
+    for (number, is_marked, was_marked) in [(5, true, true), (6, true, false), (7, false, false)] {
+        assert_eq!(rt; marks.has(number), is_marked, "{number}");
+        assert_eq!(rt; copy.has(number), was_marked, "{number}");
+    }
+    Ok(())
+}
+
 /// Two directories, for the tests that hold whichever one request for memory is refused.
 const SMALL: &str = "{\"path\":\"/a\",\"kind\":\"dir\"}
 {\"path\":\"/b\",\"kind\":\"dir\"}
@@ -578,15 +593,6 @@ fn refuses_reading(
     let domain = stacked(&layers)?;
     let node = node_named(tree, path)?;
     let set = check_path(tree, &layers, &domain, node, Fs::READ_FILE);
-    Ok(Some(!set.is_empty()))
-}
-
-/// Whether the layer that a ruleset would become refuses binding to a port; nothing where there is no memory for it.
-fn refuses_binding(alloc: Global, rules: &Ruleset, port: u16) -> Result<Option<bool>, Fail> {
-    let Ok(layer) = rules.freeze(alloc) else {
-        return Ok(None);
-    };
-    let set = refused_on_port(&[layer], port, "bind_tcp")?;
     Ok(Some(!set.is_empty()))
 }
 
@@ -615,44 +621,154 @@ fn add_path_without_memory(rt: HostRuntime) -> Result<(), Fail> {
     Ok(())
 }
 
+/// A ruleset with a rule on each of two ports, where there is memory for it.
+fn rules_on_two_ports(alloc: Global) -> Option<Ruleset> {
+    let mut rules = Ruleset::create(alloc, Abi::V4, Fs::NONE, Net::BIND_TCP).ok()?;
+    rules.add_port(Abi::V4, 443, Net::BIND_TCP).ok()?;
+    rules.add_port(Abi::V4, 444, Net::BIND_TCP).ok()?;
+    Some(rules)
+}
+
+/// Whether a layer refuses binding to each of some ports.
+fn refuses_all(layer: &Layer, ports: &[u16]) -> bool {
+    ports
+        .iter()
+        .all(|port| layer.refuses_on_port(*port, Net::BIND_TCP))
+}
+
+/// Whether a layer refuses binding to any of some ports.
+fn refuses_any(layer: &Layer, ports: &[u16]) -> bool {
+    ports
+        .iter()
+        .any(|port| layer.refuses_on_port(*port, Net::BIND_TCP))
+}
+
+/// Where there is no memory for a rule, its ruleset is as it was, and a second try adds the rule.
+fn add_port_80(alloc: Global, rules: &mut Ruleset) -> Result<bool, Fail> {
+    let added = rules.add_port(Abi::V4, 80, Net::BIND_TCP);
+    if added == Ok(()) {
+        return Ok(true);
+    }
+    let kept = frozen(alloc, rules)?;
+    let again = rules.add_port(Abi::V4, 80, Net::BIND_TCP);
+    Ok(
+        added == Err(RuleFault::Memory)
+            && refuses_all(&kept, &[80, 22])
+            && !refuses_any(&kept, &[443, 444])
+            && again == Ok(()),
+    )
+}
+
+/// A layer shares the rules of its ruleset until one is added to it, and then stays as it was.
 #[test]
 fn add_port_without_memory(rt: HostRuntime) -> Result<(), Fail> {
     let alloc = rt.alloc();
-    let Ok(mut rules) = Ruleset::create(alloc, Abi::V4, Fs::NONE, Net::BIND_TCP) else {
-        return Err(Fail::from("the ruleset is created"));
-    };
-    let first = rules.add_port(Abi::V4, 80, Net::BIND_TCP);
-    let seen = refuses_binding(alloc, &rules, 80)?;
-    if first == Ok(()) {
-        assert_ne!(rt; seen, Some(true));
+    let Some(mut rules) = rules_on_two_ports(alloc) else {
         return Ok(());
-    }
-    assert_eq!(rt; first, Err(RuleFault::Memory));
-    assert_eq!(rt; seen, Some(true));
-    // A second try adds the rule, and just this one.
-    assert_eq!(rt; rules.add_port(Abi::V4, 80, Net::BIND_TCP), Ok(()));
-    assert_eq!(rt; refuses_binding(alloc, &rules, 80)?, Some(false));
-    assert_eq!(rt; refuses_binding(alloc, &rules, 443)?, Some(true));
+    };
+    let before = frozen(alloc, &rules)?;
+    assert!(rt; add_port_80(alloc, &mut rules)?);
+    let after = frozen(alloc, &rules)?;
+    assert!(rt; refuses_all(&before, &[80, 22]));
+    assert!(rt; !refuses_any(&before, &[443, 444]));
+    assert!(rt; refuses_all(&after, &[22]));
+    assert!(rt; !refuses_any(&after, &[80, 443, 444]));
     Ok(())
 }
 
+/// Whether a layer refuses reading on a path.
+fn layer_refuses_reading(tree: &Tree, layer: &Layer, path: &str) -> Result<bool, Fail>
+    requires { AreInTree tree.now layer.now }
+{
+    let layers = slice::from_ref(layer);
+    let domain = stacked(layers)?;
+    let node = node_named(tree, path)?;
+    let refusing = check_path(tree, layers, &domain, node, Fs::READ_FILE);
+    Ok(!refusing.is_empty())
+}
+
+/// The layer of a ruleset that lets reading under `/b`, and what came of a rule that was added afterwards.
+fn layer_before_a_rule(
+    alloc: Global,
+    tree: &Tree,
+) -> Result<Option<(Layer, Result<(), RuleFault>)>, Fail>
+    ensures { IfOk result (λ found. IfSome found (λ pair. AreInTree tree.now pair.0)) }
+{
+    let mut rules = rules_of(alloc, tree, &on_paths("read_file", &[]))?;
+    if add_path(&mut rules, tree, "/b", Fs::READ_FILE).is_err() {
+        return Ok(None);
+    }
+    let layer = frozen(alloc, &rules)?;
+    let added = add_path(&mut rules, tree, "/a", Fs::READ_FILE);
+    Ok(Some((layer, added)))
+}
+
+/// A layer is as it was frozen, whether its ruleset gets another rule or there is no memory for it.
 #[test]
-fn freeze_without_memory(rt: HostRuntime) -> Result<(), Fail> {
-    let alloc = rt.alloc();
-    let Ok(mut rules) = Ruleset::create(alloc, Abi::V4, Fs::NONE, Net::BIND_TCP) else {
-        return Err(Fail::from("the ruleset is created"));
+fn layer_stays_without_memory(rt: HostRuntime) -> Result<(), Fail> {
+    let Ok(tree) = Tree::read(rt.alloc(), SMALL.as_bytes()) else {
+        return Ok(());
     };
-    if rules.add_port(Abi::V4, 80, Net::BIND_TCP).is_err() {
+    let Some((layer, added)) = layer_before_a_rule(rt.alloc(), &tree)? else {
         return Ok(());
+    };
+    assert!(rt; matches!(added, Ok(()) | Err(RuleFault::Memory)));
+    assert!(rt; layer_refuses_reading(&tree, &layer, "/a")?);
+    assert!(rt; !layer_refuses_reading(&tree, &layer, "/b")?);
+    Ok(())
+}
+
+/// landlock(7), "Filesystem actions": a rename onto a file takes the right to remove a file of both directories, and
+/// the right to make one of the directory that it goes to.
+#[test]
+fn asked_of_both_directories(rt: HostRuntime) -> Result<(), Fail> {
+    let tree = worked_tree(rt.alloc())?;
+    let attempt = Move {
+        moved: node_named(&tree, "/a/f")?,
+        target: target_named(&tree, "/b/g")?,
+        how: How::Rename,
+    };
+    let from = leaving(&tree, &attempt);
+    let to = entering(&tree, &attempt);
+    assert_eq!(rt; from.directory, node_named(&tree, "/a")?);
+    assert_eq!(rt; from.rights, Fs::REMOVE_FILE);
+    assert_eq!(rt; to.directory, node_named(&tree, "/b")?);
+    assert_eq!(rt; to.rights, Fs::MAKE_REG.union(Fs::REMOVE_FILE));
+    Ok(())
+}
+
+/// A layer that handles nothing refuses nothing: not on a path, a port, a move between directories, or a mount. The
+/// layer after it is the second.
+#[test]
+fn a_ruleset_that_handles_nothing(rt: HostRuntime) -> Result<(), Fail> {
+    let alloc = rt.alloc();
+    let tree = worked_tree(alloc)?;
+    let every = fs("execute,write_file,read_file,read_dir,make_reg,refer,truncate,ioctl_dev");
+    let away = Move {
+        moved: node_named(&tree, "/a/f")?,
+        target: target_named(&tree, "/b/h")?,
+        how: How::Rename,
+    };
+    let mut layers = Vec::new(alloc);
+    freeze_onto(alloc, &tree, &Ruleset::empty(alloc), &mut layers)?;
+    let domain = stacked(&layers)?;
+    let file = node_named(&tree, "/a/f")?;
+    assert!(rt; check_path(&tree, &layers, &domain, file, every).is_empty());
+    for network in ["bind_tcp", "connect_tcp"] {
+        assert!(rt; refused_on_port(&layers, 80, network)?.is_empty());
     }
-    if let Ok(layer) = rules.freeze(alloc) {
-        assert!(rt; !layer.refuses_on_port(80, Net::BIND_TCP));
-        return Ok(());
-    }
-    // Another try gives the layer, and the ruleset takes rules as before.
-    assert_eq!(rt; refuses_binding(alloc, &rules, 80)?, Some(false));
-    assert_eq!(rt; refuses_binding(alloc, &rules, 443)?, Some(true));
-    assert_eq!(rt; rules.add_port(Abi::V4, 443, Net::BIND_TCP), Ok(()));
-    assert_eq!(rt; refuses_binding(alloc, &rules, 443)?, Some(false));
+    assert_eq!(rt; check_move(&tree, &layers, &domain, &away), Verdict::Passed);
+    assert!(rt; check_mount(&layers, &domain).is_empty());
+
+    let reading = rules_of(alloc, &tree, &on_paths("read_file", &[]))?;
+    freeze_onto(alloc, &tree, &reading, &mut layers)?;
+    let domain = stacked(&layers)?;
+    assert!(rt; has_just(check_path(&tree, &layers, &domain, file, every), &[2]));
+    let second = LayerSet::new().noted(2, true);
+    assert_eq!(rt;
+        check_move(&tree, &layers, &domain, &away),
+        Verdict::Refused(Errno::XDev, second)
+    );
+    assert!(rt; has_just(check_mount(&layers, &domain), &[2]));
     Ok(())
 }

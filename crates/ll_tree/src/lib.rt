@@ -13,7 +13,7 @@ pub mod reading;
 mod tree;
 
 pub use fault::{Cause, ReadFault};
-pub use path::{path_ok, path_texts};
+pub use path::{front_text, path_ok, path_texts};
 pub use place::{NodeId, Place};
 pub use tree::Tree;
 

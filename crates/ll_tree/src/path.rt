@@ -40,7 +40,7 @@ pub fn path_ok(text: &str) -> bool
 }
 
 /// The text of the path without its last name.
-pub(crate) fn front_text(text: &str) -> &str
+pub fn front_text(text: &str) -> &str
     ensures { (path : Path) → path_of text.now ≡ Some path → path_of result.now ≡ Some (front path) }
 {
     match text.rfind('/') {
