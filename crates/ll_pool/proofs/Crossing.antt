@@ -7,10 +7,11 @@ use Rattle.std.proofs.Crossing.{crosses}
 use Rattle.std.proofs.option.Option.TheSendSync as option
 use Rattle.crossbeam_queue.proofs.array_queue.Slotted.TheSendSync as slotted
 use Rattle.crossbeam_queue.below.atomic_table.proofs.shared.Seat.TheSendSync as seat
-use Rattle.ll_process.proofs.Crossing.{job_send}
+use Rattle.ll_process.proofs.Crossing.{job_send, piece_send}
 use Rattle.ll_pool.specs.declared.rule.Naming.{Ghosts}
 use Rattle.ll_pool.specs.contracts.pool.Pool as Pool
 use Rattle.ll_pool.specs.contracts.member.Member as Member
+use Rattle.ll_pool.specs.contracts.worker.Worked as Worked
 
 pub pool_sync : (a a' : NamedLft) (T T' T'' : RattleType) (g : Ghosts T.Denot) → IsSend T → IsSync T → IsSync T' → IsSync T'' → IsSync (Pool.the_row a a' T T' T'' g)
 pool_sync a a' T T' T'' g send sync sync' sync'' =
@@ -35,4 +36,12 @@ member_send a a' a'' T T' T'' g send sync sync' sync'' =
     (struct_send (shape (Member.the_type a a' a'' T T' T'' g)) (
       search (pool_sync, sendable) depth 20,
       (search (seat.the_send, option.the_send, job_send, crosses, sendable) depth 40, tt),
+    ))
+
+pub worked_send : (a : NamedLft) → IsSend (Worked.the_row a)
+worked_send a =
+    recorded_send (Worked.the_field a).row _ _ (Worked.the_type a).to_one
+    (struct_send (shape (Worked.the_type a)) (
+      search (seat.the_send, option.the_send, job_send, crosses, sendable) depth 40,
+      (search (piece_send, crosses, sendable) depth 40, tt),
     ))

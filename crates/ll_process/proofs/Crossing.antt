@@ -1,20 +1,39 @@
--- A job may be handed to another thread.
+-- A job and a piece may be handed to another thread.
 use denote.Ref.{NamedLft}
-use denote.Param.Send.{IsSend, sendable, recorded_send, struct_send}
+use denote.Param.Send.{IsSend, IsSync, sendable, recorded_send, struct_send}
 use denote.Struct.Declared.{shape}
 use Rattle.std.proofs.Crossing.{crosses}
-use Rattle.ll_shared.proofs.Crossing.{map_send, map_sync}
+use Rattle.ll_shared.proofs.Crossing.{map_send}
+use Rattle.ll_tree.proofs.tree.Tree.TheSendSync as tree
+use Rattle.ll_trace.proofs.trace.Trace.TheSendSync as trace
+use Rattle.ll_trace.proofs.record.ProcessId.TheSendSync as process
 use Rattle.ll_rules.proofs.domain.Domain.TheSendSync as domain
+use Rattle.ll_rules.proofs.Crossing.{layer_sync}
+use Rattle.ll_semantics.proofs.answer.Answer.TheSendSync as answer
 use Rattle.ll_semantics.proofs.descriptor.Descriptor.TheSendSync as descriptor
-use Rattle.ll_process.proofs.case.Case.TheSendSync as cases
+use Rattle.ll_semantics.proofs.note.Note.TheSendSync as note
 use Rattle.ll_state.specs.contracts.own_state.OwnState as OwnState
+use Rattle.ll_process.specs.contracts.case.Case as Case
 use Rattle.ll_process.specs.contracts.job.Job as Job
+use Rattle.ll_process.specs.contracts.piece.Piece as Piece
 
 own_send : IsSend (OwnState.the_field).row
-own_send = search (domain.the_send, descriptor.the_send, descriptor.the_sync, map_send, map_sync, sendable) depth 40
+own_send = search (domain.the_send, descriptor.the_send, descriptor.the_sync, map_send, sendable) depth 40
+
+-- a case may be seen by several threads
+pub case_sync : IsSync Case.the_row
+case_sync = search (note.the_sync, trace.the_sync, tree.the_sync, layer_sync, crosses, sendable) depth 40
 
 pub job_field_send : (a : NamedLft) → IsSend (Job.the_field a).row
-job_field_send a = struct_send (shape (Job.the_type a)) (search (cases.the_sync, sendable) depth 20, (search sendable depth 20, (own_send, tt)))
+job_field_send a = struct_send (shape (Job.the_type a)) (search (case_sync, sendable) depth 20, (search sendable depth 20, (own_send, tt)))
 
 pub job_send : (a : NamedLft) → IsSend (Job.the_row a)
 job_send a = recorded_send (Job.the_field a).row _ _ (Job.the_type a).to_one (job_field_send a)
+
+pub piece_send : (a : NamedLft) → IsSend (Piece.the_row a)
+piece_send a =
+    recorded_send (Piece.the_field a).row _ _ (Piece.the_type a).to_one
+    (struct_send (shape (Piece.the_type a)) (
+      search (case_sync, sendable) depth 20,
+      (search (process.the_send, crosses, sendable) depth 40, (search (answer.the_send, crosses, sendable) depth 40, tt)),
+    ))

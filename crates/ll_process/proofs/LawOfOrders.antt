@@ -3,7 +3,7 @@ use Rattle.std.proofs.Common.{◌≡◌, ℕ, true, false, List, refl, sym, ap, 
 use Rattle.ll_rights.specs.declared.abi.Abi.{Abi}
 use Rattle.ll_tree.specs.Trees.{Entry}
 use Rattle.ll_trace.specs.declared.op.Op.{Op}
-use Rattle.ll_trace.specs.declared.op.Op.TheVariants.{Start, Fork, Create, AddPath, AddPort}
+use Rattle.ll_trace.specs.declared.op.Op.TheVariants.{Start, Fork, Create, AddPath, AddPort, CreateEmpty}
 use Rattle.ll_semantics.specs.States.{State, Layer, fresh}
 use Rattle.ll_semantics.specs.Answers.{answer}
 use Rattle.ll_semantics.specs.Effects.{effect}
@@ -18,6 +18,7 @@ unfolding rules_of rulesets_by effect changes_rulesets
 rules-same tree rulesets (Create rs fs net) s fails = cc
 rules-same tree rulesets (AddPath rs path fs) s fails = cc
 rules-same tree rulesets (AddPort rs port net) s fails = cc
+rules-same tree rulesets (CreateEmpty rs) s fails = cc
 rules-same tree rulesets op s fails = refl
 
 rulesets_after-same : (tree : List Entry) (abi : Abi) (rulesets : List Layer) (op : Op) (s : State) → changes_rulesets op ≡ false → rulesets_after tree abi rulesets op s ≡ rulesets

@@ -4,7 +4,7 @@ use Rattle.std.specs.Prelude.{◌≡◌, ◌≢◌, ℕ, ◌<◌, Bool, true, fa
 use Rattle.ll_rights.specs.declared.abi.Abi.{Abi}
 use Rattle.ll_tree.specs.Trees.{Entry}
 use Rattle.ll_trace.specs.declared.op.Op.{Op}
-use Rattle.ll_trace.specs.declared.op.Op.TheVariants.{Create, AddPath, AddPort}
+use Rattle.ll_trace.specs.declared.op.Op.TheVariants.{Create, AddPath, AddPort, CreateEmpty}
 use Rattle.ll_trace.specs.Processes.{is_starting}
 use Rattle.ll_semantics.specs.Worlds.{World, answer_in, step}
 
@@ -13,6 +13,7 @@ unfoldable pub changes_rulesets : Op → Bool
 changes_rulesets (Create rs fs net) = true
 changes_rulesets (AddPath rs path fs) = true
 changes_rulesets (AddPort rs port net) = true
+changes_rulesets (CreateEmpty rs) = true
 changes_rulesets op = false
 
 -- A call changes the state of its own process, or of the process that it starts, which gets the next number, and of no other.

@@ -89,7 +89,7 @@ impl Case {
     }
 
     /// The layers that the trace enforces.
-    pub(crate) fn layers(&self) -> &[Layer]
+    pub fn layers(&self) -> &[Layer]
         ensures { result.now ≡ self.now.layers }
     {
         &self.layers
@@ -105,7 +105,7 @@ impl Case {
     }
 
     /// What the rulebook says of the record at a place.
-    pub(crate) fn note(&self, index: usize) -> &Note
+    pub fn note(&self, index: usize) -> &Note
         requires { index < length self.now.records }
         ensures { slice_get self.now.notes index ≡ Some result.now }
     {

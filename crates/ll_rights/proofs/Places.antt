@@ -1,10 +1,11 @@
 -- Members of a set of bits, place by place: what `|`, `&` and `!` make of them.
-use Rattle.std.proofs.Common.{◌≡◌, ◌≢◌, ℕ, zero, suc, ◌+◌, ◌-◌, ◌^◌, ◌<◌, ◌≤◌, min, max, Bool, true, false, not, ◌&&◌, ◌||◌, eqb, leb, List, [], ◌∷◌, length, get_or, refl, sym, ap, subst, ◌∙◌, arith, inl, inr, bit_and, bit_or}
+use Rattle.std.proofs.Common.{◌≡◌, ◌≢◌, ℕ, zero, suc, ◌+◌, ◌-◌, ◌*◌, ◌%◌, ◌^◌, ◌<◌, ◌≤◌, min, max, Bool, true, false, not, ◌&&◌, ◌||◌, eqb, leb, List, [], ◌∷◌, length, get_or, refl, sym, ap, subst, ◌∙◌, arith, inl, inr, bit_and, bit_or, bit_xor}
 use Rattle.std.specs.Int.{bit_at, w32, bit_not}
 use Rattle.std.specs.List.{list_any, list_all, range_with_len}
 use Rattle.std.proofs.lemmas.Bool.{cases_Bool, cases_lt, cases_eq, and_parts, leb-false, le-leb, lt-leb, lt-ltb, le-ltb, eqb-false, eq-eqb, ne_eqb, false≢true}
-use Rattle.std.proofs.lemmas.Nat.{pow_pos, pow_below, or_lt, le_or_l, le_or_r, and_le_l, and_le_r}
-use Rattle.std.proofs.lemmas.Nat.Bits.{bit_at_or, bit_at_and, bit_at_not, bit_at-lt, bit_at-zero, bit_at-pow_same, bit_at-pow_other, same_from_bits_below}
+use Rattle.std.specs.Int.Bits.{and_self, xor_assoc, xor_self, xor_add_and}
+use Rattle.std.proofs.lemmas.Nat.{pow_pos, pow_below, or_lt, xor_lt, le_or_l, le_or_r, and_le_l, and_le_r, and_assoc, and_comm, and-not}
+use Rattle.std.proofs.lemmas.Nat.Bits.{bit_at_or, bit_at_and, bit_at_xor, and_pow, bit_at_not, bit_at-lt, bit_at-zero, bit_at-pow_same, bit_at-pow_other, same_from_bits_below}
 use Rattle.std.proofs.lemmas.List.FromFn.{get_or-range_with_len, length-range_with_len}
 use Rattle.std.proofs.lemmas.List.Folds.{list_any-from_Any}
 use Rattle.ll_rights.specs.Bits.{has_place}
@@ -230,3 +231,74 @@ is_within_by_places named set whole known =
             | inr not_all ↦ sym not_all
           ])
     ]
+
+-- ---- one place taken out
+
+-- what lacks another's bits is the difference
+pub lacks_taken : (a taken : ℕ) → a < 2 ^ 32 → taken < 2 ^ 32 → bit_and a (4294967295 - taken) ≡ a - bit_and a taken
+lacks_taken a taken fits small =
+    let whole : bit_and (4294967295 - taken) a + bit_and taken a ≡ a = and-not 32 taken a small fits in
+    omega (arith, whole, and_comm a (4294967295 - taken), and_comm a taken)
+
+without-xor : (a k : ℕ) → a - bit_and a (2 ^ k) ≡ bit_xor a (bit_and a (2 ^ k))
+without-xor a k =
+    let own : bit_and a (bit_and a (2 ^ k)) ≡ bit_and a (2 ^ k) = sym (and_assoc (2 ^ k) a a) ∙ ap (λ (x : ℕ). bit_and x (2 ^ k)) (and_self a) in
+    omega (arith, xor_add_and a (bit_and a (2 ^ k)), own)
+
+bit_at-without : (a k i : ℕ) → bit_at (a - bit_and a (2 ^ k)) i ≡ (bit_at a i + min (bit_at a i) (bit_at (2 ^ k) i)) % 2
+bit_at-without a k i =
+    ap (λ (n : ℕ). bit_at n i) (without-xor a k) ∙ bit_at_xor a (bit_and a (2 ^ k)) i ∙ ap (λ (x : ℕ). (bit_at a i + x) % 2) (bit_at_and a (2 ^ k) i)
+
+one_taken : (x : ℕ) → x < 2 → eqb ((x + min x 1) % 2) 1 ≡ (eqb x 1 && false)
+one_taken zero p = refl
+one_taken (suc zero) p = refl
+one_taken (suc (suc x)) p = absurd (omega arith)
+
+one_left : (x : ℕ) → x < 2 → eqb ((x + min x 0) % 2) 1 ≡ (eqb x 1 && true)
+one_left zero p = refl
+one_left (suc zero) p = refl
+one_left (suc (suc x)) p = absurd (omega arith)
+
+and_true : (b : Bool) → b ≡ (b && true)
+and_true true = refl
+and_true false = refl
+
+xor_above : (named a b : ℕ) → b < 2 ^ named → leb (2 ^ named) (bit_xor a b) ≡ leb (2 ^ named) a
+xor_above named a b small =
+    elim (cases_lt a (2 ^ named)) [
+      | inl low ↦ rw (lt-leb (2 ^ named) (bit_xor a b) (xor_lt named a b low small), lt-leb (2 ^ named) a low) refl
+      | inr high ↦ elim (cases_lt (bit_xor a b) (2 ^ named)) [
+        | inl low ↦
+            let back : bit_xor (bit_xor a b) b ≡ a = xor_assoc a b b ∙ ap (bit_xor a) (xor_self b) ∙ xor_zero a in
+            absurd (omega (arith, xor_lt named (bit_xor a b) b low small, back))
+        | inr still ↦ rw (le-leb (2 ^ named) (bit_xor a b) still, le-leb (2 ^ named) a high) refl
+      ]
+    ]
+  where
+    xor_zero : (n : ℕ) → bit_xor n 0 ≡ n
+    xor_zero n = omega (arith, xor_add_and n 0, and_le_r n 0)
+
+-- what is left has all places but this one
+pub has_place-without : (named a k place : ℕ) → k < named → place ≤ named → has_place named (a - bit_and a (2 ^ k)) place ≡ (has_place named a place && not (eqb place k))
+has_place-without named a k place k_in place_in =
+    elim (cases_lt place named) [
+      | inl lt ↦
+          rw (has_place-named named (a - bit_and a (2 ^ k)) place lt, has_place-named named a place lt, bit_at-without a k place)
+          (elim (cases_eq place k) [
+            | inl same ↦ rw (eq-eqb place k same, same, bit_at-pow_same k) (one_taken (bit_at a k) (bit_at-lt a k))
+            | inr differs ↦ rw (ne_eqb place k differs, bit_at-pow_other k place differs) (one_left (bit_at a place) (bit_at-lt a place))
+          ])
+      | inr le ↦
+          let differs : place ≢ k = λ same. omega (arith, same) in
+          rw (has_place-other named (a - bit_and a (2 ^ k)) place le, has_place-other named a place le, ne_eqb place k differs, without-xor a k)
+          (xor_above named a (bit_and a (2 ^ k)) (omega (arith, and_le_r a (2 ^ k), pow_below k named k_in)) ∙ and_true (leb (2 ^ named) a))
+    ]
+
+-- what isn't there can't be taken out
+pub without-absent : (named a k : ℕ) → k < named → has_place named a k ≡ false → a - bit_and a (2 ^ k) ≡ a
+without-absent named a k lt none =
+    let off : eqb (bit_at a k) 1 ≡ false = sym (has_place-named named a k lt) ∙ none in
+    let not_one : bit_at a k ≢ 1 = eqb-false (bit_at a k) 1 off in
+    let clear : bit_at a k ≡ 0 = omega (arith, bit_at-lt a k) in
+    let nothing : bit_and a (2 ^ k) ≡ 0 * 2 ^ k = and_pow a k ∙ ap (λ (x : ℕ). x * 2 ^ k) clear in
+    omega (arith, nothing)

@@ -10,11 +10,11 @@ use Rattle.ll_rights.specs.Rights as files
 use Rattle.ll_rights.specs.NetRights as network
 use Rattle.ll_rights.proofs.Places.{has_place-or, has_place-power, is_zero_by_places, is_lacking_by_places, is_within_by_places}
 
-fs_narrow : (right : files.FsRight) → files.bit_of right ≤ 16
+pub fs_narrow : (right : files.FsRight) → files.bit_of right ≤ 16
 fs_narrow files.other = lit≤ tt
 fs_narrow right = lit≤ tt
 
-net_narrow : (right : network.NetRight) → network.bit_of right ≤ 2
+pub net_narrow : (right : network.NetRight) → network.bit_of right ≤ 2
 net_narrow network.other = lit≤ tt
 net_narrow right = lit≤ tt
 

@@ -1,8 +1,10 @@
 //! Sets of access rights for files.
 
-ghost use Rattle.std.specs.Prelude.{⊤, ◌≡◌, ◌∷◌, [], false, codes};
+ghost use Rattle.std.specs.Prelude.{⊤, ◌≡◌, ◌-◌, ◌∷◌, [], false, bit_and, codes};
 ghost use Rattle.ll_rights.specs.Rights as rights;
+ghost use Rattle.ll_rights.specs.Supported.{supported_fs};
 
+use crate::abi::Abi;
 use bitflags::{Flag, Flags, bitflag_items};
 
 /// A set of access rights for files (landlock(7), "Filesystem actions"; the kernel's userspace
@@ -87,6 +89,30 @@ impl Fs {
         ensures { result ≡ rights.united self other }
     {
         Fs(self.0 | other.0)
+    }
+
+    /// The rights of the set that another lacks.
+    fn without(self, taken: Fs) -> Fs
+        ensures { result.0 ≡ self.0 - bit_and self.0 taken.0 }
+    {
+        Fs(self.0 & !taken.0)
+    }
+
+    /// What a program keeps of the set that goes by its kernel's version: the rights that came with
+    /// a later version are taken out, and any other right stays.
+    #[tactic(auto, unfolding(crate::specs::Supported::without_fs, crate::specs::Supported::supported_fs))]
+    pub fn supported(self, abi: Abi) -> Fs
+        ensures { result ≡ supported_fs abi self }
+    {
+        match abi {
+            Abi::V1 => self
+                .without(Fs::IOCTL_DEV)
+                .without(Fs::TRUNCATE)
+                .without(Fs::REFER),
+            Abi::V2 => self.without(Fs::IOCTL_DEV).without(Fs::TRUNCATE),
+            Abi::V3 | Abi::V4 => self.without(Fs::IOCTL_DEV),
+            Abi::V5 => self,
+        }
     }
 
     /// Whether each right of the set is one of `whole`, a set of known rights.

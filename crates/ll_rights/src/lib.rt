@@ -11,7 +11,7 @@ mod net;
 pub use abi::Abi;
 pub use fs::{Fs, fs_of_name};
 pub use kind::Kind;
-pub use laws::{file_rights, sets_by_rights};
+pub use laws::{file_rights, sets_by_rights, supported_sets};
 pub use net::{Net, net_of_name};
 
 #[cfg(test)]

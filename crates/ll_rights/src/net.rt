@@ -1,8 +1,10 @@
 //! Sets of access rights for the network.
 
-ghost use Rattle.std.specs.Prelude.{⊤, ◌≡◌, ◌∷◌, [], false, codes};
+ghost use Rattle.std.specs.Prelude.{⊤, ◌≡◌, ◌-◌, ◌∷◌, [], false, bit_and, codes};
 ghost use Rattle.ll_rights.specs.NetRights as rights;
+ghost use Rattle.ll_rights.specs.Supported.{supported_net};
 
+use crate::abi::Abi;
 use bitflags::{Flag, Flags, bitflag_items};
 
 /// A set of access rights for TCP ports (the kernel's userspace document on Landlock, "Network
@@ -59,6 +61,25 @@ impl Net {
         ensures { result ≡ rights.united self other }
     {
         Net(self.0 | other.0)
+    }
+
+    /// The rights of the set that another lacks.
+    fn without(self, taken: Net) -> Net
+        ensures { result.0 ≡ self.0 - bit_and self.0 taken.0 }
+    {
+        Net(self.0 & !taken.0)
+    }
+
+    /// What a program keeps of the set that goes by its kernel's version: the rights that came with
+    /// a later version are taken out, and any other right stays.
+    #[tactic(auto, unfolding(crate::specs::Supported::without_net, crate::specs::Supported::supported_net))]
+    pub fn supported(self, abi: Abi) -> Net
+        ensures { result ≡ supported_net abi self }
+    {
+        match abi {
+            Abi::V1 | Abi::V2 | Abi::V3 => self.without(Net::CONNECT_TCP).without(Net::BIND_TCP),
+            Abi::V4 | Abi::V5 => self,
+        }
     }
 
     /// Whether each right of the set is one of `whole`, a set of known rights.

@@ -74,6 +74,34 @@ fn sets(rt: HostRuntime) {
 }
 
 #[test]
+fn supported(rt: HostRuntime) {
+    let asked = Fs::EXECUTE
+        .union(Fs::REFER)
+        .union(Fs::TRUNCATE)
+        .union(Fs::IOCTL_DEV);
+    for (number, bits) in [(1, 0x1), (2, 0x2001), (3, 0x6001), (4, 0x6001), (5, 0xe001)] {
+        if let Some(abi) = Abi::new(number) {
+            assert_eq!(rt; asked.supported(abi).bits(), bits, "{number}");
+            assert_eq!(rt; Fs::OTHER.supported(abi), Fs::OTHER);
+            assert_eq!(rt; Fs::NONE.supported(abi), Fs::NONE);
+            for (name, bit, since) in FILES {
+                assert!(rt; bit < 32);
+                assert_eq!(rt;
+                    fs_of_name(name).supported(abi).bits(),
+                    if since <= number { 1 << bit } else { 0 },
+                    "{name} at {number}"
+                );
+            }
+            let ports = Net::BIND_TCP.union(Net::CONNECT_TCP);
+            assert_eq!(rt; ports.supported(abi).bits(), if number < 4 { 0 } else { 3 });
+            assert_eq!(rt; Net::OTHER.supported(abi), Net::OTHER);
+        } else {
+            assert!(rt; false, "no ABI {number}");
+        }
+    }
+}
+
+#[test]
 fn kinds(rt: HostRuntime) {
     for (kind, make, remove) in [
         (Kind::Dir, "make_dir", "remove_dir"),

@@ -1,7 +1,7 @@
 //! Worked traces that a hand judges which keeps nothing.
 
-use crate::worked::Told::{Allowed, Moot, Refused};
-use crate::worked::expect;
+use crate::worked::Told::{self, Allowed, Moot, Refused};
+use crate::worked::{Line, expect, expect_at_best_effort};
 use ll_rules::Errno;
 use std::test::Fail;
 
@@ -285,4 +285,51 @@ fn making_and_removing_asks_the_directory(rt: HostRuntime) -> Result<(), Fail> {
         ),
     ];
     expect(&rt, 3, &lines)
+}
+
+/// A program that confines itself twice, first by a ruleset for ports alone, with the answers that its version gives
+/// to the rule for a port and to the use of another.
+fn ports_first(rule: Told, bound: Told) -> [Line; 13] {
+    [
+        (r#"{"op":"start","pid":10}"#, Allowed),
+        (r#"{"op":"nnp","pid":10}"#, Allowed),
+        (
+            r#"{"op":"create","pid":10,"rs":3,"net":["bind_tcp"]}"#,
+            Allowed,
+        ),
+        (
+            r#"{"op":"create","pid":10,"rs":3,"net":["connect_tcp"]}"#,
+            Moot,
+        ),
+        (
+            r#"{"op":"add_port","pid":10,"rs":3,"port":80,"net":["bind_tcp"]}"#,
+            rule,
+        ),
+        (r#"{"op":"restrict","pid":10,"rs":3}"#, Allowed),
+        (r#"{"op":"bind","pid":10,"port":8080}"#, bound),
+        (r#"{"op":"mount","pid":10}"#, Allowed),
+        (
+            r#"{"op":"create","pid":10,"rs":4,"fs":["read_file"]}"#,
+            Allowed,
+        ),
+        (r#"{"op":"restrict","pid":10,"rs":4}"#, Allowed),
+        (
+            r#"{"op":"open","pid":10,"path":"/a/f","fd":4,"mode":"r"}"#,
+            Refused(Errno::Acces, &[2]),
+        ),
+        (
+            r#"{"op":"rename","pid":10,"from":"/a/f","to":"/b/h"}"#,
+            Refused(Errno::XDev, &[2]),
+        ),
+        (r#"{"op":"mount","pid":10}"#, Refused(Errno::Perm, &[2])),
+    ]
+}
+
+/// At best effort a ruleset of which a version supports nothing refuses nothing, and its layer keeps its number.
+#[test]
+fn layers_keep_their_numbers_at_best_effort(rt: HostRuntime) -> Result<(), Fail> {
+    expect_at_best_effort(&rt, 3, &ports_first(Moot, Allowed))?;
+    let confined = ports_first(Allowed, Refused(Errno::Acces, &[1]));
+    expect_at_best_effort(&rt, 4, &confined)?;
+    expect(&rt, 4, &confined)
 }

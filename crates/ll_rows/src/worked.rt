@@ -77,6 +77,32 @@ pub(crate) fn case_of(alloc: Global, version: u64, trace: &[u8]) -> Result<Case,
     Ok(Case::new(alloc, tree, trace, abi)?)
 }
 
+/// The same of a program that goes by its kernel's version.
+fn case_at_best_effort(alloc: Global, version: u64, trace: &[u8]) -> Result<Case, Fail> {
+    let tree = Tree::read(alloc, TREE.as_bytes())?;
+    let trace = Trace::read(alloc, trace)?;
+    let abi = Abi::new(version).ok_or("a version")?;
+    Ok(Case::new(alloc, tree, trace.at_best_effort(abi), abi)?)
+}
+
+/// Judges the case of a worked trace with a hand that keeps what is wanted, and compares the answers. The
+/// result is the number of pieces.
+fn judge_case(
+    rt: &(impl AllocGlobal + Abort),
+    case: &Case,
+    lines: &[Line],
+    wanted: Wanted,
+) -> Result<usize, Fail> {
+    let pieces = judge_greatest_first(rt.alloc(), case, wanted)?;
+    let count = pieces.len();
+    let answers = collect(rt.alloc(), case, pieces)?;
+    assert_eq!(rt; answers.len(), lines.len());
+    for (answer, line) in answers.iter().zip(lines) {
+        assert!(rt; meets(answer, line.1), "{answer:?} at {}", line.0);
+    }
+    Ok(count)
+}
+
 /// Judges a worked trace with a hand that keeps what is wanted, and compares the answers. The result is
 /// the number of pieces.
 pub(crate) fn judge_worked(
@@ -87,14 +113,19 @@ pub(crate) fn judge_worked(
 ) -> Result<usize, Fail> {
     let bytes = bytes_of(rt.alloc(), lines)?;
     let case = case_of(rt.alloc(), version, &bytes)?;
-    let pieces = judge_greatest_first(rt.alloc(), &case, wanted)?;
-    let count = pieces.len();
-    let answers = collect(rt.alloc(), &case, pieces)?;
-    assert_eq!(rt; answers.len(), lines.len());
-    for (answer, line) in answers.iter().zip(lines) {
-        assert!(rt; meets(answer, line.1), "{answer:?} at {}", line.0);
-    }
-    Ok(count)
+    judge_case(rt, &case, lines, wanted)
+}
+
+/// Judges a worked trace at best effort with a hand that keeps nothing.
+pub(crate) fn expect_at_best_effort(
+    rt: &(impl AllocGlobal + Abort),
+    version: u64,
+    lines: &[Line],
+) -> Result<(), Fail> {
+    let bytes = bytes_of(rt.alloc(), lines)?;
+    let case = case_at_best_effort(rt.alloc(), version, &bytes)?;
+    let _pieces = judge_case(rt, &case, lines, Wanted::Nothing)?;
+    Ok(())
 }
 
 /// Judges a worked trace with a hand that keeps nothing.

@@ -10,6 +10,8 @@ use Rattle.ll_rules.specs.declared.errno.NoMemory.{NoMemory}
 use Rattle.ll_rights.specs.declared.abi.Abi.{Abi}
 use Rattle.ll_rights.specs.declared.fs.Fs.{Fs}
 use Rattle.ll_rights.specs.declared.net.Net.{Net}
+use Rattle.ll_rights.specs.Rights as files
+use Rattle.ll_rights.specs.NetRights as network
 use Rattle.ll_tree.specs.Trees.{Entry, place}
 use Rattle.ll_rules.specs.declared.errno.Errno.{Errno}
 use Rattle.ll_rules.specs.declared.errno.Errno.TheVariants.{BadFd}
@@ -26,7 +28,7 @@ use Rattle.ll_semantics.specs.declared.note.Note.{Note}
 use Rattle.ll_semantics.specs.declared.note.Note.TheVariants.{Answered, Frozen, Open}
 use Rattle.ll_semantics.specs.Answers.{answer, create_answer, add_path_answer, add_port_answer, fails, of_rule_refusal}
 use Rattle.ll_semantics.specs.Effects.{effect}
-use Rattle.ll_semantics.specs.Situations.{change, rules, state_by, rulesets_by}
+use Rattle.ll_semantics.specs.Situations.{change, rules, started, state_by, rulesets_by, begun_by}
 use Rattle.ll_semantics.specs.Notes.{is_on_rulesets, enforced}
 use Rattle.ll_semantics.specs.Worlds.{World}
 use Rattle.ll_rulebook.specs.declared.pass.Pass.{Pass}
@@ -34,7 +36,7 @@ use Rattle.ll_rulebook.specs.declared.tables.Tables.{Tables}
 use Rattle.ll_trace.specs.Processes.{is_starting}
 use Rattle.ll_rulebook.specs.Tables.{held_by}
 use Rattle.ll_rulebook.specs.Stores.{Extends, Replaces, AddsPathRule, AddsPortRule, IsAnswerTo}
-use Rattle.ll_rulebook.specs.Passes.{IsSound, Agrees, Settles}
+use Rattle.ll_rulebook.specs.Passes.{IsSound, Agrees, Creates, Settles}
 use Rattle.ll_rulebook.proofs.Places.{all_there}
 use Rattle.ll_rules.proofs.SameLayers.{SameRules-trans, SameRules-with_port_rule, SameRules-from_port}
 use Rattle.ll_rulebook.proofs.Sameness.{same_with_rule_at, other_of}
@@ -54,6 +56,28 @@ rule_failure without_object is = cc
 
 moot : Moot ≡ Allowed → ⊥
 moot is = cc
+
+-- which calls create a ruleset
+
+pub create_creates : (tree : List Entry) (abi : Abi) (rs : ℕ) (fs : Fs) (net : Net) → create_fault abi fs net ≡ None → Creates tree abi rs fs net (calls.Create rs fs net)
+unfolding is_on_rulesets answer create_answer change state_by rules rulesets_by effect started begun_by
+create_creates tree abi rs fs net no_fault = record {
+  on_rulesets = refl;
+  starts_none = λ rulesets s. refl;
+  allowed = λ rulesets s free. rw (free, no_fault) refl;
+  adds = λ rulesets s. refl;
+  holds = λ rulesets s. refl;
+}
+
+pub create_empty_creates : (tree : List Entry) (abi : Abi) (rs : ℕ) → Creates tree abi rs files.no_right network.no_right (calls.CreateEmpty rs)
+unfolding is_on_rulesets answer change state_by rules rulesets_by effect started begun_by
+create_empty_creates tree abi rs = record {
+  on_rulesets = refl;
+  starts_none = λ rulesets s. refl;
+  allowed = λ rulesets s free. rw free refl;
+  adds = λ rulesets s. refl;
+  holds = λ rulesets s. refl;
+}
 
 module _ (tree : List Entry) (abi : Abi) (process rs : ℕ) (old : Pass) (found : Option ℕ) (found_is : found ≡ held_by old.tables.held.items process rs)
     (sound : IsSound tree old) (there : process < length old.tables.held.items) where
@@ -86,6 +110,11 @@ module _ (tree : List Entry) (abi : Abi) (process rs : ℕ) (old : Pass) (found 
   unfolding is_on_rulesets
   settles_faulty fs net error free fault = settles_refused tree abi process (calls.Create rs fs net) old old (fails error) sound there (alike_same old) refl refl (failure error)
       (λ world agrees. sym (answer_create fs net world agrees ∙ faulty fs net error found free fault))
+
+  pub settles_taken_empty : (at : ℕ) → found ≡ Some at → Settles tree abi process (calls.CreateEmpty rs) old old (Answered Moot)
+  unfolding is_on_rulesets answer
+  settles_taken_empty at held = settles_refused tree abi process (calls.CreateEmpty rs) old old Moot sound there (alike_same old) refl refl moot
+      (λ world agrees. let it : (world.processes process).held rs ≡ Some at = held_in world agrees ∙ held in sym (rw it refl))
 
   -- ---- close_rs
 

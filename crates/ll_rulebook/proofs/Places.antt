@@ -1,5 +1,5 @@
 -- What stands at each place of a list after one write or one push.
-use Rattle.std.proofs.Common.{◌≡◌, ℕ, suc, zero, ◌<◌, List, [], ◌∷◌, ◌++◌, length, Some, cond, get_or, refl, sym, ◌∙◌, ap, arith, eqb, subst, All}
+use Rattle.std.proofs.Common.{◌≡◌, ℕ, suc, zero, ◌<◌, List, [], ◌∷◌, length, Some, cond, get_or, refl, sym, ◌∙◌, ap, arith, eqb, subst, All}
 use Rattle.std.proofs.Math.ListN.{set}
 use Rattle.std.proofs.Math.Dec.{eqb-suc-zero, eqb-zero-suc, eqb-suc-suc}
 use Rattle.std.specs.List.{slice_get}

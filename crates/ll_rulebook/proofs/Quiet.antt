@@ -38,6 +38,7 @@ unfolding is_on_rulesets rules rulesets_by effect
 rules_same tree rulesets (calls.Create rs fs net) s off = absurd (cc)
 rules_same tree rulesets (calls.AddPath rs path fs) s off = absurd (cc)
 rules_same tree rulesets (calls.AddPort rs port net) s off = absurd (cc)
+rules_same tree rulesets (calls.CreateEmpty rs) s off = absurd (cc)
 rules_same tree rulesets _ s off = refl
 
 -- only what is on rulesets changes the rulesets
@@ -53,6 +54,7 @@ change_held : (tree : List Entry) (rulesets : List Layer) (op : Op) (s : State) 
 unfolding is_on_rulesets change state_by effect
 change_held tree rulesets (calls.Create rs fs net) s off = absurd (cc)
 change_held tree rulesets (calls.CloseRs rs) s off = absurd (cc)
+change_held tree rulesets (calls.CreateEmpty rs) s off = absurd (cc)
 change_held tree rulesets (calls.Restrict rs) s off = layered_held s (named rulesets (s.held rs))
 change_held tree rulesets _ s off = refl
 
@@ -81,6 +83,7 @@ is_other (calls.AddPath rs path fs) = false
 is_other (calls.AddPort rs port net) = false
 is_other (calls.CloseRs rs) = false
 is_other (calls.Restrict rs) = false
+is_other (calls.CreateEmpty rs) = false
 is_other op = true
 
 pub other_is_quiet : (op : Op) → is_other op ≡ true → IsOther op
@@ -92,4 +95,5 @@ other_is_quiet (calls.AddPath rs path fs) other = absurd (cc)
 other_is_quiet (calls.AddPort rs port net) other = absurd (cc)
 other_is_quiet (calls.CloseRs rs) other = absurd (cc)
 other_is_quiet (calls.Restrict rs) other = absurd (cc)
+other_is_quiet (calls.CreateEmpty rs) other = absurd (cc)
 other_is_quiet _ other = record { off = refl; none = refl; goes_on = refl; unforced = λ rulesets s. refl }

@@ -15,7 +15,6 @@ use Rattle.ll_rules.specs.declared.domain.LayerId.{LayerId}
 use Rattle.ll_rules.specs.Layers.{RulesOn, without_rules}
 use Rattle.ll_rules.specs.KeptLayers.{SameRules}
 use Rattle.ll_rules.specs.InTree.{in_tree, AreInTree}
-use Rattle.ll_rules.specs.Rulesets.{create_fault}
 use Rattle.ll_rules.specs.KeptLayers.{layer_at}
 use Rattle.ll_trace.specs.declared.op.Op.{Op}
 use Rattle.ll_trace.specs.declared.op.Op.TheVariants as calls
@@ -23,7 +22,7 @@ use Rattle.ll_semantics.specs.declared.answer.Answer.{Answer}
 use Rattle.ll_semantics.specs.declared.answer.Answer.TheVariants.{Allowed, Moot, Refused}
 use Rattle.ll_semantics.specs.declared.note.Note.TheVariants.{Answered, Frozen, Open}
 use Rattle.ll_semantics.specs.States.{State, Layer}
-use Rattle.ll_semantics.specs.Answers.{answer, create_answer}
+use Rattle.ll_semantics.specs.Answers.{answer}
 use Rattle.ll_semantics.specs.Situations.{Situation, answered}
 use Rattle.ll_semantics.specs.Effects.{effect, with_held, changed_at}
 use Rattle.ll_semantics.specs.Situations.{change, rules, started, state_by, rulesets_by, begun_by}
@@ -35,7 +34,7 @@ use Rattle.ll_trace.specs.Processes.{is_starting}
 use Rattle.ll_rulebook.specs.Tables.{held_by, Holds, Begins}
 use Rattle.ll_rulebook.specs.Stores.{Extends}
 use Rattle.ll_rulebook.specs.Settled.{met_by}
-use Rattle.ll_rulebook.specs.Passes.{IsSound, Agrees, Settles}
+use Rattle.ll_rulebook.specs.Passes.{IsSound, Agrees, Creates, Settles}
 use Rattle.ll_rulebook.proofs.Sameness.{same_new, are_same_push, are_same_set, other_of}
 use Rattle.ll_rulebook.proofs.Quiet.{kept_unless, kept_if_same, on_rulesets_starts_none, rulesets_same, held_same}
 use Rattle.ll_semantics.proofs.Steps.{step-rulesets, step-unbegun, step-begun, count-unbegun, count-step, started-none}
@@ -180,13 +179,13 @@ held_changed tree process old world rs place agrees p q = elim (cases_eq p proce
 
 module _ (tree : List Entry) (abi : Abi) (process rs : ℕ) (old new : Pass) (sound : IsSound tree old) (there : process < length old.tables.held.items) where
   -- a ruleset is created, and held under a free number
-  pub settles_created : (fs : Fs) (net : Net) (made : RulesOn ℕ) (at : ℕ) →
-      held_by old.tables.held.items process rs ≡ None → create_fault abi fs net ≡ None → made ≡ without_rules fs net →
+  pub settles_created : (op : Op) (fs : Fs) (net : Net) (made : RulesOn ℕ) (at : ℕ) → Creates tree abi rs fs net op →
+      held_by old.tables.held.items process rs ≡ None → made ≡ without_rules fs net →
       new.store.rulesets ≡ old.store.rulesets ++ made ∷ [] → new.store.layers ≡ old.store.layers →
       at ≡ length old.store.rulesets → Holds old.tables.held.items new.tables.held.items process rs (Some at) →
-      Settles tree abi process (calls.Create rs fs net) old new (Answered Allowed)
-  unfolding NoteFits answered state_after rulesets_after answer create_answer change state_by rules rulesets_by effect is_on_rulesets started begun_by
-  settles_created fs net made at free no_fault plain pushed layers last holds = record {
+      Settles tree abi process op old new (Answered Allowed)
+  unfolding NoteFits answered state_after rulesets_after
+  settles_created op fs net made at creates free plain pushed layers last holds = record {
     sound = record {
       places = λ p q found is.
           let more : length new.store.rulesets ≡ length old.store.rulesets + 1 = rw pushed (simp length-append) in
@@ -200,29 +199,27 @@ module _ (tree : List Entry) (abi : Abi) (process rs : ℕ) (old new : Pass) (so
     layers = rw layers (extends_same old.store.layers);
     agrees = λ world agrees.
         let s : State = world.processes process in
-        let op : Op = calls.Create rs fs net in
-        let nothing : s.held rs ≡ None = sym (agrees.held process rs) ∙ free in
-        let allowed : answer tree abi world.rulesets op s ≡ Allowed = rw (nothing, no_fault) refl in
+        let allowed : answer tree abi world.rulesets op s ≡ Allowed = creates.allowed world.rulesets s (sym (agrees.held process rs) ∙ free) in
+        let none : started tree world.rulesets op s ≡ None = creates.starts_none world.rulesets s in
         let same_place : Some at ≡ Some (length world.rulesets) = ap (λ (n : ℕ). Some n) (last ∙ agrees.rulesets.same_count) in
         let held_then : (state_after tree abi world.rulesets op s).held ≡ (with_held s rs (Some (length world.rulesets))).held
-        = ap (λ (t : State). t.held) (if_allowed_is (answer tree abi world.rulesets op s) (change tree world.rulesets op s) s allowed) in
+        = ap (λ (t : State). t.held) (if_allowed_is (answer tree abi world.rulesets op s) (change tree world.rulesets op s) s allowed ∙ creates.holds world.rulesets s) in
         record {
           rulesets = rw (
             pushed,
             step-rulesets tree abi world process op,
             if_allowed_is (answer tree abi world.rulesets op s) (rules tree world.rulesets op s) world.rulesets allowed,
+            creates.adds world.rulesets s,
           )
               (are_same_push tree old.store.rulesets world.rulesets made (without_rules fs net) agrees.rulesets (rw plain (same_new tree fs net)));
-          count = holds.same_count ∙ count_next tree abi process op old world agrees there refl;
+          count = holds.same_count ∙ count_next tree abi process op old world agrees there none;
           held = λ p q.
               holds.holds p q
               ∙ held_changed tree process old world rs (Some at) agrees p q
               ∙ ap (λ (h : Option ℕ). cond (eqb p process) h (held_by old.tables.held.items p q)) (rw (held_then, same_place) refl)
-              ∙ held_next tree abi process op old world agrees there refl p q;
+              ∙ held_next tree abi process op old world agrees there none p q;
         };
-    fits = λ world agrees.
-        let nothing : (world.processes process).held rs ≡ None = sym (agrees.held process rs) ∙ free in
-        (refl, sym (rw (nothing, no_fault) refl));
+    fits = λ world agrees. (creates.on_rulesets, sym (creates.allowed world.rulesets (world.processes process) (sym (agrees.held process rs) ∙ free)));
   }
 
   -- what a number names is closed

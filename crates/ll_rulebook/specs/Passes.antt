@@ -1,18 +1,23 @@
 -- What a pass over the records of a trace keeps, against the world that the semantics has there.
 -- Source: landlock(7); the kernel's userspace document on Landlock, "Inheritance".
-use Rattle.std.specs.Prelude.{◌≡◌, ℕ, ◌<◌, ◌≤◌, List, [], ◌∷◌, ◌++◌, length, Some, All, slice_get}
+use Rattle.std.specs.Prelude.{◌≡◌, ℕ, ◌<◌, ◌≤◌, true, List, [], ◌∷◌, ◌++◌, length, Some, None, All, slice_get}
 use Rattle.ll_rights.specs.declared.abi.Abi.{Abi}
+use Rattle.ll_rights.specs.declared.fs.Fs.{Fs}
+use Rattle.ll_rights.specs.declared.net.Net.{Net}
 use Rattle.ll_tree.specs.Trees.{Entry}
-use Rattle.ll_rules.specs.Layers.{RulesOn}
+use Rattle.ll_rules.specs.Layers.{RulesOn, without_rules}
 use Rattle.ll_rules.specs.KeptLayers.{SameRules}
 use Rattle.ll_rules.specs.InTree.{in_tree, AreInTree}
 use Rattle.ll_trace.specs.declared.op.Op.{Op}
 use Rattle.ll_semantics.specs.declared.note.Note.{Note}
-use Rattle.ll_semantics.specs.States.{Layer}
+use Rattle.ll_semantics.specs.declared.answer.Answer.TheVariants.{Allowed}
+use Rattle.ll_semantics.specs.States.{State, Layer}
+use Rattle.ll_semantics.specs.Answers.{answer}
+use Rattle.ll_semantics.specs.Effects.{with_held}
 use Rattle.ll_trace.specs.declared.record.Record.{Record}
-use Rattle.ll_semantics.specs.Notes.{NoteFits}
+use Rattle.ll_semantics.specs.Notes.{NoteFits, is_on_rulesets}
 use Rattle.ll_semantics.specs.Worlds.{World, step}
-use Rattle.ll_semantics.specs.Situations.{world_at}
+use Rattle.ll_semantics.specs.Situations.{change, rules, started, world_at}
 use Rattle.ll_rulebook.specs.declared.pass.Pass.{Pass}
 use Rattle.ll_rulebook.specs.Tables.{held_by}
 use Rattle.ll_rulebook.specs.Stores.{Extends}
@@ -34,6 +39,14 @@ pub record Agrees (tree : List Entry) (pass : Pass) (world : World) : Type 0 whe
   pub rulesets : AreSame tree pass.store.rulesets world.rulesets
   pub count : length pass.tables.held.items ≡ world.count
   pub held : (process number : ℕ) → held_by pass.tables.held.items process number ≡ (world.processes process).held number
+
+-- A call creates a ruleset that handles two sets of rights and has no rule, and its process holds it under a number. It is allowed wherever the number is free.
+pub record Creates (tree : List Entry) (abi : Abi) (rs : ℕ) (fs : Fs) (net : Net) (op : Op) : Type 0 where
+  pub on_rulesets : is_on_rulesets op ≡ true
+  pub starts_none : (rulesets : List Layer) (s : State) → started tree rulesets op s ≡ None
+  pub allowed : (rulesets : List Layer) (s : State) → s.held rs ≡ None → answer tree abi rulesets op s ≡ Allowed
+  pub adds : (rulesets : List Layer) (s : State) → rules tree rulesets op s ≡ rulesets ++ without_rules fs net ∷ []
+  pub holds : (rulesets : List Layer) (s : State) → change tree rulesets op s ≡ with_held s rs (Some (length rulesets))
 
 -- After a call of a process the pass agrees with the next world, if it agreed with one before, and the note fits what the call met there.
 pub record Settles (tree : List Entry) (abi : Abi) (process : ℕ) (op : Op) (old new : Pass) (note : Note) : Type 0 where

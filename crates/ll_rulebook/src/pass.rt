@@ -1,11 +1,13 @@
 //! One pass over the records of a trace.
 
-ghost use Rattle.std.specs.Prelude.{◌≡◌, ℕ, ◌<◌, ◌^◌, Bool, false, List, [], length, IfOk, OnOk};
+ghost use Rattle.std.specs.Prelude.{◌≡◌, ℕ, ◌<◌, ◌^◌, Bool, false, List, [], length, None, IfOk, OnOk};
 ghost use Rattle.ll_tree.specs.Trees.{Entry};
+ghost use Rattle.ll_rules.specs.Layers.{without_rules};
 ghost use Rattle.ll_semantics.specs.Answers.{fails};
 ghost use Rattle.ll_trace.specs.Entries.{is_start};
 ghost use Rattle.ll_trace.specs.RecordFacts.{AreRecords};
 ghost use Rattle.ll_rulebook.specs.Stores.{IsAnswerTo};
+ghost use Rattle.ll_rulebook.specs.Tables.{held_by};
 
 use crate::store::Store;
 use crate::tables::Tables;
@@ -43,7 +45,7 @@ fn added(outcome: Result<(), RuleFault>) -> Result<Note, NoMemory>
 }
 
 impl Pass {
-    ghost use Rattle.ll_rulebook.specs.Passes.{IsSound, Settles, HasSettled, Adds};
+    ghost use Rattle.ll_rulebook.specs.Passes.{IsSound, Creates, Settles, HasSettled, Adds};
 
     /// No record yet.
     pub(crate) fn new(alloc: Global) -> Pass
@@ -64,6 +66,16 @@ impl Pass {
         self.store.into_layers()
     }
 
+    /// A ruleset that a call creates is held under a free number.
+    fn hold_created(&mut self, process: usize, rs: u64, created: Ruleset) -> Result<Note, NoMemory>
+        requires { process < length self.old.tables.held.items }
+        ensures { IfOk result (λ note. (tree : List Entry) (abi : Abi) (fs : Fs) (net : Net) (op : Op) → IsSound tree self.old → held_by self.old.tables.held.items process rs ≡ None → created ≡ without_rules fs net → Creates tree abi rs fs net op → Settles tree abi process op self.old self.new note) }
+    {
+        let place = self.store.add(created)?;
+        self.tables.hold(process, rs, place)?;
+        Ok(Note::Answered(Answer::Allowed))
+    }
+
     /// A ruleset is created, and held under its number if this is free.
     fn create(
         &mut self,
@@ -82,11 +94,19 @@ impl Pass {
         }
         match Ruleset::create(alloc, abi, fs, net) {
             Err(error) => Ok(failed(error)),
-            Ok(created) => {
-                let place = self.store.add(created)?;
-                self.tables.hold(process, rs, place)?;
-                Ok(Note::Answered(Answer::Allowed))
-            }
+            Ok(created) => self.hold_created(process, rs, created),
+        }
+    }
+
+    /// A ruleset that handles nothing stands for one that a program does without, and is held under its number
+    /// if this is free.
+    fn create_empty(&mut self, alloc: Global, process: usize, rs: u64) -> Result<Note, NoMemory>
+        requires { process < length self.old.tables.held.items }
+        ensures { IfOk result (λ note. (tree : List Entry) (abi : Abi) → IsSound tree self.old → Settles tree abi process (Op.CreateEmpty rs) self.old self.new note) }
+    {
+        match self.tables.place(process, rs) {
+            Some(_) => Ok(Note::Answered(Answer::Moot)),
+            None => self.hold_created(process, rs, Ruleset::empty(alloc)),
         }
     }
 
@@ -190,6 +210,7 @@ impl Pass {
             Op::Start { .. } => self.start(alloc),
             Op::Fork { .. } => self.fork(process),
             Op::Create { rs, fs, net } => self.create(alloc, abi, process, *rs, *fs, *net),
+            Op::CreateEmpty { rs } => self.create_empty(alloc, process, *rs),
             Op::AddPath { rs, path, fs } => self.add_path(tree, process, *rs, path, *fs),
             Op::AddPort { rs, port, net } => self.add_port(abi, process, *rs, *port, *net),
             Op::CloseRs { rs } => self.close_rs(process, *rs),
@@ -213,7 +234,8 @@ impl Pass {
             | Op::Link { .. }
             | Op::Mount
             | Op::Bind { .. }
-            | Op::Connect { .. } => Ok(Note::Open),
+            | Op::Connect { .. }
+            | Op::LeaveOut { .. } => Ok(Note::Open),
         }
     }
 

@@ -79,6 +79,17 @@ const SHARED: &str = "\
 {\"op\":\"create\",\"pid\":11,\"rs\":3,\"fs\":[\"read_file\"]}\n\
 {\"op\":\"restrict\",\"pid\":11,\"rs\":3}\n";
 
+/// A program confines itself twice, first by a ruleset for ports alone.
+const PORTS_FIRST: &str = "\
+{\"op\":\"start\",\"pid\":10}\n\
+{\"op\":\"nnp\",\"pid\":10}\n\
+{\"op\":\"create\",\"pid\":10,\"rs\":3,\"net\":[\"bind_tcp\"]}\n\
+{\"op\":\"create\",\"pid\":10,\"rs\":3,\"net\":[\"connect_tcp\"]}\n\
+{\"op\":\"add_port\",\"pid\":10,\"rs\":3,\"port\":80,\"net\":[\"bind_tcp\"]}\n\
+{\"op\":\"restrict\",\"pid\":10,\"rs\":3}\n\
+{\"op\":\"create\",\"pid\":10,\"rs\":4,\"fs\":[\"read_file\"]}\n\
+{\"op\":\"restrict\",\"pid\":10,\"rs\":4}\n";
+
 const ALLOWED: Note = Note::Answered(Answer::Allowed);
 
 const MOOT: Note = Note::Answered(Answer::Moot);
@@ -88,6 +99,20 @@ fn refused(error: Errno) -> Note {
 }
 
 /// Asserts the notes of a trace, and how many layers they name.
+fn expect_notes_of(
+    rt: &(impl AllocGlobal + Abort),
+    trace: &Trace,
+    abi: Abi,
+    notes: &[Note],
+    layers: usize,
+) -> Result<(), Fail> {
+    let tree = Tree::read(rt.alloc(), TREE.as_bytes())?;
+    let book = Rulebook::of(rt.alloc(), &tree, trace, abi)?;
+    assert_eq!(rt; book.notes.as_slice(), notes);
+    assert_eq!(rt; book.layers.len(), layers);
+    Ok(())
+}
+
 fn expect_notes(
     rt: &(impl AllocGlobal + Abort),
     trace: &str,
@@ -95,13 +120,9 @@ fn expect_notes(
     notes: &[Note],
     layers: usize,
 ) -> Result<(), Fail> {
-    let tree = Tree::read(rt.alloc(), TREE.as_bytes())?;
     let trace = Trace::read(rt.alloc(), trace.as_bytes())?;
     let abi = Abi::new(version).ok_or("a version")?;
-    let book = Rulebook::of(rt.alloc(), &tree, &trace, abi)?;
-    assert_eq!(rt; book.notes.as_slice(), notes);
-    assert_eq!(rt; book.layers.len(), layers);
-    Ok(())
+    expect_notes_of(rt, &trace, abi, notes, layers)
 }
 
 #[test]
@@ -203,5 +224,30 @@ fn later_rules_are_left_out(rt: HostRuntime) -> Result<(), Fail> {
     assert!(rt; is_unread(&tree, &book.layers, LayerId(0), "/a/f"));
     assert!(rt; !is_unread(&tree, &book.layers, LayerId(1), "/a/f"));
     assert!(rt; is_unread(&tree, &book.layers, LayerId(2), "/a/f"));
+    Ok(())
+}
+
+/// Where a version has no rights for ports, a program makes do with a ruleset that handles nothing, and its rule is
+/// left to its process alone.
+#[test]
+fn a_ruleset_at_best_effort(rt: HostRuntime) -> Result<(), Fail> {
+    let notes = [
+        Note::Open,
+        Note::Open,
+        ALLOWED,
+        MOOT,
+        Note::Open,
+        Note::Frozen(LayerId(0)),
+        ALLOWED,
+        Note::Frozen(LayerId(1)),
+    ];
+    let abi = Abi::new(3).ok_or("a version")?;
+    let trace = Trace::read(rt.alloc(), PORTS_FIRST.as_bytes())?.at_best_effort(abi);
+    expect_notes_of(&rt, &trace, abi, &notes, 2)?;
+    let tree = Tree::read(rt.alloc(), TREE.as_bytes())?;
+    let book = Rulebook::of(rt.alloc(), &tree, &trace, abi)?;
+    assert_eq!(rt; book.layers.len(), 2);
+    assert!(rt; !is_unread(&tree, &book.layers, LayerId(0), "/a/f"));
+    assert!(rt; is_unread(&tree, &book.layers, LayerId(1), "/a/f"));
     Ok(())
 }

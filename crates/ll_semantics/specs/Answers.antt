@@ -156,3 +156,5 @@ answer tree abi rulesets (calls.Link from to) s = of_move tree s.domain (link_mo
 answer tree abi rulesets calls.Mount s = refused_by Perm (refusing_mount s.domain)
 answer tree abi rulesets (calls.Bind port) s = refused_by Acces (refusing_port s.domain port (network.only network.bind_tcp))
 answer tree abi rulesets (calls.Connect port) s = refused_by Acces (refusing_port s.domain port (network.only network.connect_tcp))
+answer tree abi rulesets (calls.CreateEmpty rs) s = if_free (s.held rs)
+answer tree abi rulesets (calls.LeaveOut rule) s = Moot

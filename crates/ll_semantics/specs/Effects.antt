@@ -4,7 +4,8 @@ use Rattle.std.specs.Prelude.{ℕ, List, [], ◌∷◌, ◌++◌, length, true, 
 use Rattle.std.specs.Map.{update}
 use Rattle.ll_rights.specs.declared.kind.Kind.{Kind}
 use Rattle.ll_rights.specs.declared.kind.Kind.TheVariants.{Dir, Reg, Sym, Char, Block, Fifo, Sock}
-use Rattle.ll_rights.specs.Rights.{truncate, ioctl_dev, only}
+use Rattle.ll_rights.specs.Rights.{truncate, ioctl_dev, only, no_right}
+use Rattle.ll_rights.specs.NetRights as network
 use Rattle.ll_tree.specs.declared.place.NodeId.{NodeId}
 use Rattle.ll_tree.specs.declared.place.Place.{Place}
 use Rattle.ll_tree.specs.declared.place.Place.TheVariants.{Node, Gap, Nowhere}
@@ -106,3 +107,5 @@ effect tree rulesets (calls.Link from to) s = nothing
 effect tree rulesets calls.Mount s = nothing
 effect tree rulesets (calls.Bind port) s = nothing
 effect tree rulesets (calls.Connect port) s = nothing
+effect tree rulesets (calls.CreateEmpty rs) s = leaves_rulesets (rulesets ++ without_rules no_right network.no_right ∷ []) (with_held s rs (Some (length rulesets)))
+effect tree rulesets (calls.LeaveOut rule) s = nothing

@@ -19,6 +19,7 @@ is_on_rulesets (calls.Create rs fs net) = true
 is_on_rulesets (calls.AddPath rs path fs) = true
 is_on_rulesets (calls.AddPort rs port net) = true
 is_on_rulesets (calls.CloseRs rs) = true
+is_on_rulesets (calls.CreateEmpty rs) = true
 is_on_rulesets op = false
 
 -- the ruleset by which a call restricts its process, if it does and holds it

@@ -9,6 +9,7 @@ use Rattle.ll_trace.specs.declared.record.Record.{Record}
 use Rattle.ll_trace.specs.declared.op.Op.TheVariants as calls
 use Rattle.ll_trace.specs.declared.op.Mode.TheVariants.{Read, Write, Both}
 use Rattle.ll_trace.specs.declared.op.Sort.TheVariants.{Regular, Device}
+use Rattle.ll_trace.specs.declared.op.RuleType.TheVariants.{PathBeneath, NetPort}
 use Rattle.ll_semantics.specs.declared.answer.Answer.{Answer}
 use Rattle.ll_semantics.specs.WorkedWords.{begins, ok, moot, refused, start, creates, adds, adds_port, opens}
 
@@ -285,4 +286,34 @@ device_right_gaining =
     ∷ ok 0 (adds 3 (codes "/b") (refer ∷ make_reg ∷ ioctl_dev ∷ []))
     ∷ ok 0 (calls.Restrict 3)
     ∷ refused XDev (1 ∷ []) 0 (calls.Rename (codes "/a/f") (codes "/b/h") false)
+    ∷ []
+
+-- A program makes do with a ruleset that handles nothing, and leaves out a rule for it. The ruleset's number is held,
+-- its layer refuses nothing, and the layer after it is the second.
+abbrev pub makes_do : List (Record × Answer)
+makes_do =
+    begins
+    ++ ok 0 (calls.CreateEmpty 3)
+    ∷ moot 0 (calls.CreateEmpty 3)
+    ∷ moot 0 (creates 3 (read_file ∷ []) [])
+    ∷ moot 0 (calls.LeaveOut PathBeneath)
+    ∷ moot 0 (calls.LeaveOut NetPort)
+    ∷ refused Inval [] 0 (adds 3 (codes "/a") (read_file ∷ []))
+    ∷ ok 0 (calls.Restrict 3)
+    ∷ ok 0 (opens (codes "/a/f") 4 Both)
+    ∷ ok 0 (calls.Ftruncate 4)
+    ∷ ok 0 (calls.Rename (codes "/a/f") (codes "/b/h") false)
+    ∷ ok 0 calls.Mount
+    ∷ ok 0 (calls.Bind 80)
+    ∷ ok 0 (creates 4 (read_file ∷ truncate ∷ []) [])
+    ∷ ok 0 (calls.Restrict 4)
+    ∷ refused Acces (2 ∷ []) 0 (opens (codes "/a/f") 5 Read)
+    ∷ ok 0 (calls.Ftruncate 4)
+    ∷ ok 0 (opens (codes "/a/f") 6 Write)
+    ∷ refused Acces (2 ∷ []) 0 (calls.Ftruncate 6)
+    ∷ refused XDev (2 ∷ []) 0 (calls.Rename (codes "/a/f") (codes "/b/h") false)
+    ∷ refused Perm (2 ∷ []) 0 calls.Mount
+    ∷ ok 0 (calls.CloseRs 3)
+    ∷ moot 0 (calls.CloseRs 3)
+    ∷ ok 0 (calls.CreateEmpty 3)
     ∷ []

@@ -4,7 +4,7 @@
 ghost use Rattle.ll_rights.specs.declared.abi.Abi.TheVariants.{V1, V2, V3, V4, V5};
 ghost use Rattle.ll_semantics.specs.WorkedWords.{IsAnswered};
 ghost use Rattle.ll_semantics.specs.WorkedLayers.{confined, granted_together, each_layer, refer_unknown, truncate_unknown, ports_unknown, ports_known, rule_errors, port_rules_unknown, restricting, sixteen_layers, frozen_layers, shared_ruleset, late_rule, started_again, three_processes, twelve_processes};
-ghost use Rattle.ll_semantics.specs.WorkedCalls.{path_requests, moot_calls, truncating, driver_commands, device_descriptors, ioctl_dev_unknown, ports_and_mounts, port_zero, unreferred, ports_alone, gaining, not_gaining, denied_and_gaining, denied_first, link_removes_nothing, directory_gaining, device_right_gaining};
+ghost use Rattle.ll_semantics.specs.WorkedCalls.{path_requests, moot_calls, truncating, driver_commands, device_descriptors, ioctl_dev_unknown, ports_and_mounts, port_zero, unreferred, ports_alone, gaining, not_gaining, denied_and_gaining, denied_first, link_removes_nothing, directory_gaining, device_right_gaining, makes_do};
 
 /// What processes are answered that confine themselves.
 pub fn worked_confinements()
@@ -27,6 +27,7 @@ pub fn worked_rulesets()
     ensures rule_errors { IsAnswered V4 rule_errors }
     ensures port_rules_unknown { IsAnswered V3 port_rules_unknown }
     ensures ioctl_dev_unknown { IsAnswered V4 ioctl_dev_unknown }
+    ensures makes_do { IsAnswered V3 makes_do }
 {}
 
 /// What several processes are answered, one started by another or not.

@@ -27,6 +27,7 @@ left-still at (calls.AddPath rs path fs) still = absurd (false≢true still)
 left-still at (calls.AddPort rs port net) still = absurd (false≢true still)
 left-still at (calls.CloseRs rs) still = absurd (false≢true still)
 left-still at (calls.Restrict rs) still = absurd (false≢true still)
+left-still at (calls.CreateEmpty rs) still = absurd (false≢true still)
 left-still at (calls.OpenFile path fd mode create trunc) still = absurd (false≢true still)
 left-still at (calls.Adopt fd kind) still = absurd (false≢true still)
 left-still at (calls.Dup fd to) still = absurd (false≢true still)
@@ -52,6 +53,7 @@ Agrees-changed at own (calls.Create rs fs net) agrees on = Agrees-with_held at o
 Agrees-changed at own (calls.AddPath rs path fs) agrees on = agrees
 Agrees-changed at own (calls.AddPort rs port net) agrees on = agrees
 Agrees-changed at own (calls.CloseRs rs) agrees on = Agrees-with_held at own at.state rs None agrees
+Agrees-changed at own (calls.CreateEmpty rs) agrees on = Agrees-with_held at own at.state rs _ agrees
 Agrees-changed at own op agrees on = absurd (false≢true on)
 
 pub Agrees-on_rulesets : (at : Situation) (own : OwnState) (op : Op) → Agrees at.tree at.layers own at.state → is_on_rulesets op ≡ true → Agrees at.tree at.layers own (left at op)

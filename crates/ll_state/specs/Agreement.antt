@@ -38,6 +38,7 @@ is_still (calls.AddPath rs path fs) = false
 is_still (calls.AddPort rs port net) = false
 is_still (calls.CloseRs rs) = false
 is_still (calls.Restrict rs) = false
+is_still (calls.CreateEmpty rs) = false
 is_still (calls.OpenFile path fd mode create trunc) = false
 is_still (calls.Adopt fd kind) = false
 is_still (calls.Dup fd to) = false

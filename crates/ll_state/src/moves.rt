@@ -79,7 +79,7 @@ fn rename_onto(tree: &Tree, from: NodeId, to: NodeId, exchange: bool) -> Option<
 
 /// What rename(2) asks: nothing where no object is there to be moved, or where the tree itself decides the call.
 #[tactic(auto, unfolding(ll_semantics::specs::Moves::rename_move, ll_semantics::specs::Moves::rename_to))]
-pub(crate) fn rename_move(tree: &Tree, from: Place, to: Place, exchange: bool) -> Option<Move>
+pub fn rename_move(tree: &Tree, from: Place, to: Place, exchange: bool) -> Option<Move>
     requires from_place { IsPlace tree.now from }
     requires to_place { IsPlace tree.now to }
     ensures exact { result ≡ rename_move tree.now from to exchange }
@@ -100,7 +100,7 @@ pub(crate) fn rename_move(tree: &Tree, from: Place, to: Place, exchange: bool) -
 
 /// What link(2) asks: an object that isn't a directory gets one more name, in a gap.
 #[tactic(auto, unfolding(ll_semantics::specs::Moves::link_move, ll_semantics::specs::Moves::link_to))]
-pub(crate) fn link_move(tree: &Tree, from: Place, to: Place) -> Option<Move>
+pub fn link_move(tree: &Tree, from: Place, to: Place) -> Option<Move>
     requires from_place { IsPlace tree.now from }
     requires to_place { IsPlace tree.now to }
     ensures exact { result ≡ link_move tree.now from to }

@@ -135,10 +135,13 @@ impl OwnState {
             | Op::Link { .. }
             | Op::Mount
             | Op::Bind { .. }
-            | Op::Connect { .. } => Ok(self.answer(tree, layers, op)),
-            Op::Create { .. } | Op::AddPath { .. } | Op::AddPort { .. } | Op::CloseRs { .. } => {
-                unreachable!()
-            }
+            | Op::Connect { .. }
+            | Op::LeaveOut { .. } => Ok(self.answer(tree, layers, op)),
+            Op::Create { .. }
+            | Op::AddPath { .. }
+            | Op::AddPort { .. }
+            | Op::CloseRs { .. }
+            | Op::CreateEmpty { .. } => unreachable!(),
         }
     }
 
@@ -171,6 +174,7 @@ impl OwnState {
             Op::Mount => self.mount(layers),
             Op::Bind { port } => self.ask_port(layers, *port, Net::BIND_TCP),
             Op::Connect { port } => self.ask_port(layers, *port, Net::CONNECT_TCP),
+            Op::LeaveOut { .. } => Answer::Moot,
             Op::Nnp
             | Op::Create { .. }
             | Op::AddPath { .. }
@@ -180,7 +184,8 @@ impl OwnState {
             | Op::OpenFile { .. }
             | Op::Adopt { .. }
             | Op::Dup { .. }
-            | Op::Close { .. } => unreachable!(),
+            | Op::Close { .. }
+            | Op::CreateEmpty { .. } => unreachable!(),
         }
     }
 }

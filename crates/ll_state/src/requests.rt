@@ -63,7 +63,7 @@ fn open_kind(kind: Kind, node: NodeId, mode: Mode, create: bool, trunc: bool) ->
 
 /// What open(2) asks at a place: rights on the object there, or the making of a file in a gap.
 #[tactic(auto, unfolding(ll_semantics::specs::Requests::open_asks))]
-pub(crate) fn open_asks(
+pub fn open_asks(
     tree: &Tree,
     place: Place,
     mode: Mode,
@@ -86,7 +86,7 @@ pub(crate) fn open_asks(
 
 /// What a call asks that wants rights on a regular file itself.
 #[tactic(auto, unfolding(ll_semantics::specs::Requests::regular_asks, ll_semantics::specs::Requests::regular_kind))]
-pub(crate) fn regular_asks(tree: &Tree, path: &PathText, rights: Fs) -> Option<Request>
+pub fn regular_asks(tree: &Tree, path: &PathText, rights: Fs) -> Option<Request>
     ensures exact { result ≡ regular_asks tree.now (place tree.now path.now) rights }
     ensures fit { IfSome result (IsFit tree.now) }
 {
@@ -101,7 +101,7 @@ pub(crate) fn regular_asks(tree: &Tree, path: &PathText, rights: Fs) -> Option<R
 
 /// What a call asks that makes an object: rights on the directory of a gap.
 #[tactic(auto, unfolding(ll_semantics::specs::Requests::make_asks))]
-pub(crate) fn make_asks(tree: &Tree, path: &PathText, rights: Fs) -> Option<Request>
+pub fn make_asks(tree: &Tree, path: &PathText, rights: Fs) -> Option<Request>
     ensures exact { result ≡ make_asks (place tree.now path.now) rights }
     ensures fit { IfSome result (IsFit tree.now) }
 {
@@ -126,7 +126,7 @@ fn remove_from(tree: &Tree, kind: Kind, node: NodeId) -> Option<Request>
 
 /// What unlink(2) asks, which removes all but directories.
 #[tactic(auto, unfolding(ll_semantics::specs::Requests::unlink_asks))]
-pub(crate) fn unlink_asks(tree: &Tree, path: &PathText) -> Option<Request>
+pub fn unlink_asks(tree: &Tree, path: &PathText) -> Option<Request>
     ensures exact { result ≡ unlink_asks tree.now (place tree.now path.now) }
     ensures fit { IfSome result (IsFit tree.now) }
 {
@@ -141,7 +141,7 @@ pub(crate) fn unlink_asks(tree: &Tree, path: &PathText) -> Option<Request>
 
 /// What rmdir(2) asks, which removes directories, but not the root.
 #[tactic(auto, unfolding(ll_semantics::specs::Requests::rmdir_asks))]
-pub(crate) fn rmdir_asks(tree: &Tree, path: &PathText) -> Option<Request>
+pub fn rmdir_asks(tree: &Tree, path: &PathText) -> Option<Request>
     ensures exact { result ≡ rmdir_asks tree.now (place tree.now path.now) }
     ensures fit { IfSome result (IsFit tree.now) }
 {

@@ -11,3 +11,5 @@ pub mod TableLemmas
 pub mod LawLemmas
 pub mod OnLiterals
 pub mod SetLemmas
+pub mod BestEffort
+pub mod Versions

@@ -9,3 +9,4 @@ pub mod Kept
 pub mod Indexed
 pub mod Traces
 pub mod SingleUse
+pub mod BestEffort

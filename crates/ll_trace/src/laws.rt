@@ -1,10 +1,12 @@
 //! What holds of traces by their definitions.
 
-ghost use Rattle.std.specs.Prelude.{◌≡◌, ◌⊎◌, ◌<◌, ℕ, List, [], map, Some, Ok};
+ghost use Rattle.std.specs.Prelude.{◌≡◌, ◌⊎◌, ◌<◌, ◌≤◌, ℕ, All, List, [], map, Some, Ok};
 ghost use Rattle.std.specs.List.{list_any, slice_get};
 ghost use Rattle.serde_json.specs.Data.{Items};
+ghost use Rattle.ll_rights.specs.declared.abi.Abi.{Abi};
 ghost use Rattle.ll_rights.specs.declared.fs.Fs.{Fs};
 ghost use Rattle.ll_rights.specs.declared.net.Net.{Net};
+ghost use Rattle.ll_rights.specs.Abis.{number_of};
 ghost use Rattle.ll_rights.specs.Rights as files;
 ghost use Rattle.ll_rights.specs.NetRights as network;
 ghost use Rattle.ll_tree.specs.declared.fault.ReadFault.{ReadFault};
@@ -18,6 +20,7 @@ ghost use Rattle.ll_trace.specs.Entries.{trace_file};
 ghost use Rattle.ll_trace.specs.RecordFacts.{ArePlaced};
 ghost use Rattle.ll_trace.specs.Records.{entry_of, records_after, IsTrace};
 ghost use Rattle.ll_trace.specs.Processes.{process_count, parent_of, forked_by, started_at, IsNumbered};
+ghost use Rattle.ll_trace.specs.BestEffort.{records_at_best_effort, IsSupported};
 ghost use Rattle.ll_trace.specs.SingleUse.{IsStrictTrace};
 
 /// A file reads as one trace and has no fault, or has one first fault, with its line and its cause, and reads
@@ -66,4 +69,13 @@ pub fn sets_are_their_names()
     ensures net { (names : Items) (set : Net) (right : network.NetRight)
         → fold_texts with_net network.no_right names ≡ Ok set → network.has set right
         ≡ list_any (λ name. network.is_right right (network.right_named name)) (texts_of names) }
+{}
+
+/// Best effort changes no record at a version that supports all rights that the records name. At an older version it
+/// makes the same of what a newer one left as of the records themselves.
+pub fn best_effort_by_version()
+    ensures supported { (abi : Abi) (records : List Record) → All (λ of. IsSupported abi of.op) records
+        → records_at_best_effort abi records ≡ records }
+    ensures older { (older newer : Abi) (records : List Record) → number_of older ≤ number_of newer
+        → records_at_best_effort older (records_at_best_effort newer records) ≡ records_at_best_effort older records }
 {}

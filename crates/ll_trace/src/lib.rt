@@ -13,12 +13,13 @@ mod tables;
 mod trace;
 
 pub use laws::{
-    files_read_as_one_trace, processes_are_numbered, sets_are_their_names, traces_of_single_pids,
+    best_effort_by_version, files_read_as_one_trace, processes_are_numbered, sets_are_their_names,
+    traces_of_single_pids,
 };
-pub use op::{Mode, Op, Sort};
+pub use op::{Mode, Op, RuleType, Sort};
 pub use path_text::PathText;
 pub use record::{ProcessId, Record};
-pub use rows::{faulty_traces, whole_traces};
+pub use rows::{calls_at_best_effort, faulty_traces, whole_traces};
 pub use trace::Trace;
 
 #[cfg(test)]

@@ -1,10 +1,12 @@
 //! The operations of records.
 
 ghost use Rattle.std.specs.Prelude.{◌≡◌};
+ghost use Rattle.ll_rights.specs.Supported.{supported_fs, supported_net};
+ghost use Rattle.ll_trace.specs.BestEffort.{at_best_effort, creates, adds_port};
 
 use crate::path_text::PathText;
 use crate::record::ProcessId;
-use ll_rights::{Fs, Kind, Net};
+use ll_rights::{Abi, Fs, Kind, Net};
 
 /// What a file is opened for.
 #[derive(Clone, Copy, Debug, PartialEq, Eq)]
@@ -26,6 +28,15 @@ pub enum Sort {
     Device,
     /// Anything else, as a pipe or a socket.
     Other,
+}
+
+/// A kind of rule (`enum landlock_rule_type` of landlock_add_rule(2)).
+#[derive(Clone, Copy, Debug, PartialEq, Eq)]
+pub enum RuleType {
+    /// Rights on an object and on all beneath it.
+    PathBeneath,
+    /// Rights on one TCP port.
+    NetPort,
 }
 
 /// What a record says that its process did. Each variant has the members of its line; `rs` is a
@@ -152,6 +163,18 @@ pub enum Op {
         fd: u64,
         driver: bool,
     },
+    /// A program makes do with a ruleset that handles nothing, as its kernel supports none of the
+    /// rights that it would have handled. No line of a file says this: best effort makes it of a
+    /// `create`.
+    CreateEmpty {
+        rs: u64,
+    },
+    /// A program leaves out a call of landlock_add_rule(2), as its kernel supports none of the
+    /// rights that the rule would have granted. No line of a file says this: best effort makes it of
+    /// an `add_path` or `add_port`.
+    LeaveOut {
+        rule: RuleType,
+    },
 }
 
 impl Op {
@@ -200,6 +223,90 @@ impl Op {
         match self {
             Op::Fork { .. } => Some(own),
             _ => None,
+        }
+    }
+
+    /// Makes of a call what a program calls in its place that goes by its kernel's version of Landlock:
+    /// rights that this version lacks are taken out.
+    #[tactic(auto, unfolding(crate::specs::BestEffort::at_best_effort))]
+    pub(crate) fn go_by(&mut self, abi: Abi)
+        ensures { self.new ≡ at_best_effort abi self.old }
+    {
+        match self {
+            Op::Create { rs, fs, net } => *self = created(*rs, *fs, *net, abi),
+            Op::AddPath { fs, .. } => {
+                let supported = fs.supported(abi);
+                if supported.is_empty() && !fs.is_empty() {
+                    *self = Op::LeaveOut {
+                        rule: RuleType::PathBeneath,
+                    };
+                } else {
+                    *fs = supported;
+                }
+            }
+            Op::AddPort { rs, port, net } => *self = port_added(*rs, *port, *net, abi),
+            Op::Start { .. }
+            | Op::Fork { .. }
+            | Op::Exit
+            | Op::Nnp
+            | Op::CloseRs { .. }
+            | Op::Restrict { .. }
+            | Op::OpenFile { .. }
+            | Op::Adopt { .. }
+            | Op::Dup { .. }
+            | Op::Close { .. }
+            | Op::Ftruncate { .. }
+            | Op::Truncate { .. }
+            | Op::Exec { .. }
+            | Op::Mknod { .. }
+            | Op::Mkdir { .. }
+            | Op::Symlink { .. }
+            | Op::Unlink { .. }
+            | Op::Rmdir { .. }
+            | Op::Rename { .. }
+            | Op::Link { .. }
+            | Op::Mount
+            | Op::Bind { .. }
+            | Op::Connect { .. }
+            | Op::Ioctl { .. }
+            | Op::CreateEmpty { .. }
+            | Op::LeaveOut { .. } => {}
+        }
+    }
+}
+
+/// What a program calls for a `create`: one of whose rights none is supported makes do with a
+/// ruleset that handles nothing.
+fn created(rs: u64, fs: Fs, net: Net, abi: Abi) -> Op
+    ensures { result ≡ creates rs fs net (supported_fs abi fs) (supported_net abi net) }
+{
+    let supported = fs.supported(abi);
+    let ports = net.supported(abi);
+    if supported.is_empty() && ports.is_empty() && !(fs.is_empty() && net.is_empty()) {
+        Op::CreateEmpty { rs }
+    } else {
+        Op::Create {
+            rs,
+            fs: supported,
+            net: ports,
+        }
+    }
+}
+
+/// What a program calls for an `add_port`: one of whose rights none is supported is left out.
+fn port_added(rs: u64, port: u64, net: Net, abi: Abi) -> Op
+    ensures { result ≡ adds_port rs port net (supported_net abi net) }
+{
+    let supported = net.supported(abi);
+    if supported.is_empty() && !net.is_empty() {
+        Op::LeaveOut {
+            rule: RuleType::NetPort,
+        }
+    } else {
+        Op::AddPort {
+            rs,
+            port,
+            net: supported,
         }
     }
 }

@@ -6,8 +6,14 @@ ghost use Rattle.ll_tree.specs.declared.fault.Cause.TheVariants.{Json, Field, Ba
 ghost use Rattle.ll_tree.specs.Reading.{IsBad};
 ghost use Rattle.ll_trace.specs.Entries.{trace_file};
 ghost use Rattle.ll_trace.specs.Records.{IsTrace};
+ghost use Rattle.std.specs.Prelude.{◌≡◌};
+ghost use Rattle.ll_rights.specs.declared.abi.Abi.{Abi as Version};
+ghost use Rattle.ll_rights.specs.Rights as files;
+ghost use Rattle.ll_rights.specs.NetRights as network;
+ghost use Rattle.ll_trace.specs.BestEffort.{at_best_effort};
 
-use crate::op::Op;
+use crate::op::{Op, RuleType};
+use ll_rights::Abi;
 
 /// Files with a fault, their first faulty lines and the causes.
 pub fn faulty_traces()
@@ -79,4 +85,25 @@ pub fn whole_traces()
         ∷ record { line = 2; process = record { 0 = 0 }; pid = 10; op = Op.Create 3 (record { 0 = 6 }) (record { 0 = 0 }) }
         ∷ record { line = 3; process = record { 0 = 0 }; pid = 10; op = Op.AddPath 3 (codes "/a/f") (record { 0 = 65536 }) }
         ∷ record { line = 4; process = record { 0 = 0 }; pid = 10; op = Op.Rename (codes "/a") (codes "/b") false } ∷ []) }
+{}
+
+/// Calls of a program that goes by its kernel's version (landlock(7), "VERSIONS").
+#[tactic(auto, unfolding(crate::specs::BestEffort::at_best_effort, ll_rights::specs::Supported::supported_fs, ll_rights::specs::Supported::supported_net, ll_rights::specs::Supported::without_fs, ll_rights::specs::Supported::without_net, ll_rights::specs::Rights::united, ll_rights::specs::Rights::only, ll_rights::specs::Rights::has, ll_rights::specs::Rights::some_right, ll_rights::specs::Rights::all_rights, ll_rights::specs::Rights::named_rights, ll_rights::specs::NetRights::only, ll_rights::specs::NetRights::has, ll_rights::specs::NetRights::some_right, ll_rights::specs::NetRights::all_rights))]
+pub fn calls_at_best_effort()
+    ensures refer_is_of_2 { at_best_effort Abi.V1 (Op.Create 3 (files.united (files.only files.execute) (files.only files.refer)) network.no_right)
+        ≡ Op.Create 3 (files.only files.execute) network.no_right }
+    ensures ports_are_of_4 { at_best_effort Abi.V3 (Op.Create 3 files.no_right (network.only network.bind_tcp)) ≡ Op.CreateEmpty 3 }
+    ensures one_vocabulary_is_left { at_best_effort Abi.V3 (Op.Create 3 (files.only files.execute) (network.only network.bind_tcp))
+        ≡ Op.Create 3 (files.only files.execute) network.no_right }
+    ensures no_right_named { at_best_effort Abi.V1 (Op.Create 3 files.no_right network.no_right) ≡ Op.Create 3 files.no_right network.no_right }
+    ensures other_name { (abi : Version) → at_best_effort abi (Op.Create 3 (files.only files.other) network.no_right) ≡ Op.Create 3 (files.only files.other) network.no_right }
+    ensures other_name_of_ports { (abi : Version) → at_best_effort abi (Op.Create 3 files.no_right (network.only network.other)) ≡ Op.Create 3 files.no_right (network.only network.other) }
+    ensures truncate_is_of_3 { at_best_effort Abi.V2 (Op.AddPath 3 (codes "/a") (files.only files.truncate)) ≡ Op.LeaveOut RuleType.PathBeneath }
+    ensures less_on_a_path { at_best_effort Abi.V2 (Op.AddPath 3 (codes "/a") (files.united (files.only files.execute) (files.only files.truncate)))
+        ≡ Op.AddPath 3 (codes "/a") (files.only files.execute) }
+    ensures nothing_on_a_path { at_best_effort Abi.V1 (Op.AddPath 3 (codes "/a") files.no_right) ≡ Op.AddPath 3 (codes "/a") files.no_right }
+    ensures bind_tcp_is_of_4 { at_best_effort Abi.V3 (Op.AddPort 3 80 (network.only network.bind_tcp)) ≡ Op.LeaveOut RuleType.NetPort }
+    ensures nothing_on_a_port { at_best_effort Abi.V3 (Op.AddPort 3 80 network.no_right) ≡ Op.AddPort 3 80 network.no_right }
+    ensures ioctl_dev_is_of_5 { at_best_effort Abi.V4 (Op.Create 3 (files.only files.ioctl_dev) network.no_right) ≡ Op.CreateEmpty 3 }
+    ensures all_is_of_5 { at_best_effort Abi.V5 (Op.Create 3 (files.only files.ioctl_dev) network.no_right) ≡ Op.Create 3 (files.only files.ioctl_dev) network.no_right }
 {}

@@ -6,11 +6,13 @@ ghost use Rattle.ll_tree.specs.Reading.{IsBad};
 ghost use Rattle.ll_trace.specs.Entries.{trace_file};
 ghost use Rattle.ll_trace.specs.RecordFacts.{AreRecords};
 ghost use Rattle.ll_trace.specs.Records.{IsTrace};
+ghost use Rattle.ll_trace.specs.BestEffort.{records_at_best_effort};
 ghost use Rattle.ll_trace.specs.Processes.{process_count, parent_of, own_records, started_at};
 
 use crate::reader::read_records;
 use crate::record::{ProcessId, Record};
 use crate::tables::{Tables, index};
+use ll_rights::Abi;
 use ll_tree::{Cause, ReadFault};
 use std::alloc::Global;
 use std::marker::Model;
@@ -53,6 +55,22 @@ impl Trace {
             },
             Err(fault) => Err(fault),
         }
+    }
+
+    /// The trace of a program that first asks its kernel for the version of Landlock's interface, and
+    /// then uses those of its rights that this version supports. Lines and processes stay, and so
+    /// does each record that names no right which the version lacks.
+    pub fn at_best_effort(self, abi: Abi) -> Trace
+        ensures { result ≡ records_at_best_effort abi self }
+    {
+        let Trace {
+            mut records,
+            tables,
+        } = self;
+        for record in records.iter_mut() {
+            record.op.go_by(abi);
+        }
+        Trace { records, tables }
     }
 
     /// The records, in the order of the file.

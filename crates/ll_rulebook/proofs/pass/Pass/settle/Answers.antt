@@ -18,6 +18,10 @@ pub create-requires : goal.create-requires
 unfolding is_start
 create-requires c = c.requires.there (ap (λ (op : Op). is_start op) c.in-Create.is)
 
+pub create_empty-requires : goal.create_empty-requires
+unfolding is_start
+create_empty-requires c = c.requires.there (ap (λ (op : Op). is_start op) c.in-CreateEmpty.is)
+
 pub add_path-requires-clause-there : goal.add_path-requires-clause-there
 unfolding is_start
 add_path-requires-clause-there c = c.requires.there (ap (λ (op : Op). is_start op) c.in-AddPath.is)
@@ -48,6 +52,11 @@ pub returns-in-Create : goal.returns-in-Create
 returns-in-Create c = rw c.in-Create.is
     (if_ok_so (λ note. (tree : List Entry) → IsSound tree c.args.self.now → Settles tree c.args.abi c.args.record.now.process.0 (calls.Create c.in-Create.rs c.in-Create.fs c.in-Create.net) c.args.self.now c.create.new.self note)
     _ c.create.result c.create.ensures (λ note settled. settled c.args.tree.now c.requires.sound))
+
+pub returns-in-CreateEmpty : goal.returns-in-CreateEmpty
+returns-in-CreateEmpty c = rw c.in-CreateEmpty.is
+    (if_ok_so (λ note. (tree : List Entry) (abi : Abi) → IsSound tree c.args.self.now → Settles tree abi c.args.record.now.process.0 (calls.CreateEmpty c.in-CreateEmpty.rs) c.args.self.now c.create_empty.new.self note)
+    _ c.create_empty.result c.create_empty.ensures (λ note settled. settled c.args.tree.now c.args.abi c.requires.sound))
 
 pub returns-in-AddPath : goal.returns-in-AddPath
 returns-in-AddPath c = rw c.in-AddPath.is

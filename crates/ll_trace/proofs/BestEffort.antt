@@ -1,0 +1,201 @@
+-- What best effort leaves of the records of a trace: their lines, pids and processes, and which of them start or end a process.
+use Rattle.std.proofs.Common.{◌≡◌, ℕ, zero, suc, ◌+◌, ◌≤◌, Bool, true, false, not, ◌&&◌, List, [], ◌∷◌, ◌++◌, length, map, take, drop, Option, Some, None, cond, refl, sym, ap, ◌∙◌, if◌then◌else◌}
+use Rattle.std.specs.Prelude.{slice_get}
+use Rattle.std.proofs.lemmas.List.{append-nil, drop_all, length-map, take-map, take_all}
+use Rattle.ll_rights.specs.declared.abi.Abi.{Abi}
+use Rattle.ll_rights.specs.declared.fs.Fs.{Fs}
+use Rattle.ll_rights.specs.declared.net.Net.{Net}
+use Rattle.ll_rights.specs.Supported.{supported_fs, supported_net}
+use Rattle.ll_rights.specs.Rights as files
+use Rattle.ll_rights.specs.NetRights as network
+use Rattle.ll_trace.specs.declared.op.Op.{Op}
+use Rattle.ll_trace.specs.declared.op.Op.TheVariants as calls
+use Rattle.ll_trace.specs.declared.op.RuleType.TheVariants.{PathBeneath, NetPort}
+use Rattle.ll_trace.specs.declared.record.ProcessId.{ProcessId}
+use Rattle.ll_trace.specs.declared.record.Record.{Record}
+use Rattle.ll_trace.specs.declared.tables.Tables.{Tables}
+use Rattle.ll_trace.specs.Entries.{Entry, is_start, is_exit, pid_started, is_live, process_named, misplacement}
+use Rattle.ll_trace.specs.Entries as entries
+use Rattle.ll_trace.specs.Records.{entry_of, record_of, records_after, process_of}
+use Rattle.ll_trace.specs.RecordFacts.{ArePlaced, AreRecords}
+use Rattle.ll_trace.specs.Processes.{is_starting, process_count, number_if, started_at, own_from, own_records, forked_by, parents}
+use Rattle.ll_trace.specs.Indexed.{Indexes}
+use Rattle.ll_trace.specs.BestEffort.{at_best_effort, record_at_best_effort, records_at_best_effort}
+use Rattle.ll_trace.proofs.Numbering.{are_numbered}
+use Rattle.ll_trace.proofs.Numbers.{process_count-cons}
+
+-- ---- one call
+
+-- what is so of both of two calls
+of_both : {X : Type 0} (says : Op → X) (b : Bool) (x y : Op) (what : X) → says x ≡ what → says y ≡ what → says (if b then x else y) ≡ what
+of_both says true x y what first second = first
+of_both says false x y what first second = second
+
+module _ (abi : Abi) where
+  -- what is so of all that a call can become is so of what it becomes
+  of_create : {X : Type 0} (says : Op → X) (what : X) (rs : ℕ) (fs : Fs) (net : Net) → says (calls.CreateEmpty rs) ≡ what → says (calls.Create rs (supported_fs abi fs) (supported_net abi net)) ≡ what
+      → says (at_best_effort abi (calls.Create rs fs net)) ≡ what
+  unfolding at_best_effort
+  of_create says what rs fs net =
+      of_both says (files.is_empty (supported_fs abi fs) && network.is_empty (supported_net abi net) && not (files.is_empty fs && network.is_empty net)) (calls.CreateEmpty rs) (calls.Create rs (supported_fs abi fs) (supported_net abi net)) what
+
+  of_add_path : {X : Type 0} (says : Op → X) (what : X) (rs : ℕ) (path : List ℕ) (fs : Fs) → says (calls.LeaveOut PathBeneath) ≡ what → says (calls.AddPath rs path (supported_fs abi fs)) ≡ what
+      → says (at_best_effort abi (calls.AddPath rs path fs)) ≡ what
+  unfolding at_best_effort
+  of_add_path says what rs path fs = of_both says (files.is_empty (supported_fs abi fs) && not (files.is_empty fs)) (calls.LeaveOut PathBeneath) (calls.AddPath rs path (supported_fs abi fs)) what
+
+  of_add_port : {X : Type 0} (says : Op → X) (what : X) (rs port : ℕ) (net : Net) → says (calls.LeaveOut NetPort) ≡ what → says (calls.AddPort rs port (supported_net abi net)) ≡ what
+      → says (at_best_effort abi (calls.AddPort rs port net)) ≡ what
+  unfolding at_best_effort
+  of_add_port says what rs port net = of_both says (network.is_empty (supported_net abi net) && not (network.is_empty net)) (calls.LeaveOut NetPort) (calls.AddPort rs port (supported_net abi net)) what
+
+  is_start-kept : (op : Op) → is_start (at_best_effort abi op) ≡ is_start op
+  unfolding is_start at_best_effort
+  is_start-kept (calls.Create rs fs net) = of_create is_start false rs fs net refl refl
+  is_start-kept (calls.AddPath rs path fs) = of_add_path is_start false rs path fs refl refl
+  is_start-kept (calls.AddPort rs port net) = of_add_port is_start false rs port net refl refl
+  is_start-kept op = refl
+
+  is_exit-kept : (op : Op) → is_exit (at_best_effort abi op) ≡ is_exit op
+  unfolding is_exit at_best_effort
+  is_exit-kept (calls.Create rs fs net) = of_create is_exit false rs fs net refl refl
+  is_exit-kept (calls.AddPath rs path fs) = of_add_path is_exit false rs path fs refl refl
+  is_exit-kept (calls.AddPort rs port net) = of_add_port is_exit false rs port net refl refl
+  is_exit-kept op = refl
+
+  pid_started-kept : (op : Op) (pid : ℕ) → pid_started (at_best_effort abi op) pid ≡ pid_started op pid
+  unfolding pid_started at_best_effort
+  pid_started-kept (calls.Create rs fs net) pid = of_create (λ op. pid_started op pid) None rs fs net refl refl
+  pid_started-kept (calls.AddPath rs path fs) pid = of_add_path (λ op. pid_started op pid) None rs path fs refl refl
+  pid_started-kept (calls.AddPort rs port net) pid = of_add_port (λ op. pid_started op pid) None rs port net refl refl
+  pid_started-kept op pid = refl
+
+  is_starting-kept : (op : Op) → is_starting (at_best_effort abi op) ≡ is_starting op
+  unfolding is_starting at_best_effort
+  is_starting-kept (calls.Create rs fs net) = of_create is_starting false rs fs net refl refl
+  is_starting-kept (calls.AddPath rs path fs) = of_add_path is_starting false rs path fs refl refl
+  is_starting-kept (calls.AddPort rs port net) = of_add_port is_starting false rs port net refl refl
+  is_starting-kept op = refl
+
+  forked_by-kept : (op : Op) (own : ProcessId) → forked_by (at_best_effort abi op) own ≡ forked_by op own
+  unfolding forked_by at_best_effort
+  forked_by-kept (calls.Create rs fs net) own = of_create (λ op. forked_by op own) None rs fs net refl refl
+  forked_by-kept (calls.AddPath rs path fs) own = of_add_path (λ op. forked_by op own) None rs path fs refl refl
+  forked_by-kept (calls.AddPort rs port net) own = of_add_port (λ op. forked_by op own) None rs port net refl refl
+  forked_by-kept op own = refl
+
+  -- ---- entries
+
+  entry_kept : Entry → Entry
+  entry_kept entry = record entry { op = at_best_effort abi entry.op }
+
+  is_live-kept : (past : List Entry) (pid : ℕ) → is_live (map entry_kept past) pid ≡ is_live past pid
+  unfolding entry_kept
+  is_live-kept [] pid = refl
+  is_live-kept (entry ∷ past) pid = rw (pid_started-kept entry.op entry.pid, is_exit-kept entry.op, is_live-kept past pid) refl
+
+  count-kept : (past : List Entry) → entries.process_count (map entry_kept past) ≡ entries.process_count past
+  unfolding entry_kept
+  count-kept [] = refl
+  count-kept (entry ∷ past) = rw (pid_started-kept entry.op entry.pid, count-kept past) refl
+
+  named-kept : (past : List Entry) (pid : ℕ) → process_named (map entry_kept past) pid ≡ process_named past pid
+  unfolding entry_kept
+  named-kept [] pid = refl
+  named-kept (entry ∷ past) pid = rw (pid_started-kept entry.op entry.pid, named-kept past pid, count-kept past) refl
+
+  twice-kept : (past : List Entry) (started : Option ℕ) → entries.is_live_pid (map entry_kept past) started ≡ entries.is_live_pid past started
+  twice-kept past None = refl
+  twice-kept past (Some pid) = is_live-kept past pid
+
+  misplacement-kept : (past : List Entry) (entry : Entry) → misplacement (map entry_kept past) (entry_kept entry) ≡ misplacement past entry
+  unfolding entry_kept
+  misplacement-kept past entry =
+      rw (is_start-kept entry.op, pid_started-kept entry.op entry.pid, is_live-kept past entry.pid, twice-kept past (pid_started entry.op entry.pid), count-kept past, length-map past entry_kept) refl
+
+  placed-kept : (past es : List Entry) → ArePlaced past es → ArePlaced (map entry_kept past) (map entry_kept es)
+  placed-kept past [] placed = tt
+  placed-kept past (entry ∷ es) placed = (misplacement-kept past entry ∙ placed.0, placed-kept (entry ∷ past) es placed.1)
+
+  -- ---- records
+
+  process-kept : (past : List Entry) (entry : Entry) → process_of (map entry_kept past) (entry_kept entry) ≡ process_of past entry
+  unfolding entry_kept
+  process-kept past entry = rw (is_start-kept entry.op, count-kept past, named-kept past entry.pid) refl
+
+  record-kept : (past : List Entry) (entry : Entry) → record_of (map entry_kept past) (entry_kept entry) ≡ record_at_best_effort abi (record_of past entry)
+  unfolding entry_kept
+  record-kept past entry =
+      ap (λ (process : ℕ). record { line = entry.line; process = record { 0 = process }; pid = entry.pid; op = at_best_effort abi entry.op }) (process-kept past entry)
+
+  records-kept : (past es : List Entry) → records_after (map entry_kept past) (map entry_kept es) ≡ records_at_best_effort abi (records_after past es)
+  records-kept past [] = refl
+  records-kept past (entry ∷ es) =
+      ap (λ (r : Record). r ∷ records_after (map entry_kept (entry ∷ past)) (map entry_kept es)) (record-kept past entry)
+      ∙ ap (λ (rs : List Record). record_at_best_effort abi (record_of past entry) ∷ rs) (records-kept (entry ∷ past) es)
+
+  entries-kept : (records : List Record) → map entry_of (records_at_best_effort abi records) ≡ map entry_kept (map entry_of records)
+  unfolding entry_kept
+  entries-kept [] = refl
+  entries-kept (r ∷ rs) = ap (λ (es : List Entry). entry_kept (entry_of r) ∷ es) (entries-kept rs)
+
+  pub are_records-kept : (records : List Record) → AreRecords records → AreRecords (records_at_best_effort abi records)
+  are_records-kept records are =
+      let placed : ArePlaced [] (map entry_of (records_at_best_effort abi records)) = rw (entries-kept records) (placed-kept [] (map entry_of records) are.placed) in
+      let processes : records_at_best_effort abi records ≡ records_after [] (map entry_of (records_at_best_effort abi records)) =
+      ap (records_at_best_effort abi) are.processes ∙ sym (records-kept [] (map entry_of records)) ∙ ap (records_after []) (sym (entries-kept records)) in
+      record { placed = placed; processes = processes; numbered = are_numbered (records_at_best_effort abi records) placed processes }
+
+  -- ---- tables
+
+  parents-kept : (records : List Record) → parents (records_at_best_effort abi records) ≡ parents records
+  unfolding parents
+  parents-kept [] = refl
+  parents-kept (r ∷ rs) = rw (is_starting-kept r.op, forked_by-kept r.op r.process, parents-kept rs) refl
+
+  starting-kept : (records : List Record) → process_count (records_at_best_effort abi records) ≡ process_count records
+  starting-kept [] = refl
+  starting-kept (r ∷ rs) =
+      process_count-cons (record_at_best_effort abi r) (records_at_best_effort abi rs)
+      ∙ ap (λ (b : Bool). cond b 1 0 + process_count (records_at_best_effort abi rs)) (is_starting-kept r.op)
+      ∙ ap (λ (n : ℕ). cond (is_starting r.op) 1 0 + n) (starting-kept rs)
+      ∙ sym (process_count-cons r rs)
+
+  own-kept : (process k : ℕ) (records : List Record) → own_from process k (records_at_best_effort abi records) ≡ own_from process k records
+  unfolding own_from
+  own-kept process k [] = refl
+  own-kept process k (r ∷ rs) = rw (own-kept process (k + 1) rs) refl
+
+  kept_there : Option Record → Option Record
+  kept_there None = None
+  kept_there (Some r) = Some (record_at_best_effort abi r)
+
+  number-kept : (records : List Record) (k : ℕ) (r : Option Record) → number_if is_starting (records_at_best_effort abi records) k (kept_there r) ≡ number_if is_starting records k r
+  unfolding number_if kept_there
+  number-kept records k None = refl
+  number-kept records k (Some r) = rw (is_starting-kept r.op, take-map (record_at_best_effort abi) k records, starting-kept (take k records)) refl
+
+  there-kept : (records : List Record) (k : ℕ) → slice_get (records_at_best_effort abi records) k ≡ kept_there (slice_get records k)
+  unfolding kept_there
+  there-kept [] k = refl
+  there-kept (r ∷ rs) zero = refl
+  there-kept (r ∷ rs) (suc k) = there-kept rs k
+
+  started-kept : (records : List Record) (k : ℕ) → started_at (records_at_best_effort abi records) k ≡ started_at records k
+  unfolding started_at
+  started-kept records k = ap (number_if is_starting (records_at_best_effort abi records) k) (there-kept records k) ∙ number-kept records k (slice_get records k)
+
+  pub indexes-kept : (tables : Tables) (records : List Record) → Indexes tables records → Indexes tables (records_at_best_effort abi records)
+  unfolding own_records
+  indexes-kept tables records indexes = record {
+    by_process = indexes.by_process ∙ sym (parents-kept records);
+    size = indexes.size ∙ sym (starting-kept records);
+    places = λ process. indexes.places process ∙ sym (own-kept process 0 records);
+    rows = indexes.rows ∙ sym (length-map records (record_at_best_effort abi));
+    by_record = λ place. indexes.by_record place ∙ sym (started-kept records place);
+  }
+
+  -- all records were looked at
+  pub all_done : (records done : List Record) (k : ℕ) → length records ≤ k → done ≡ map (record_at_best_effort abi) (take k records) ++ drop k records → done ≡ records_at_best_effort abi records
+  all_done records done k all is =
+      is ∙ ap (λ (rs : List Record). map (record_at_best_effort abi) rs ++ drop k records) (take_all k records all) ∙ ap (λ (rs : List Record). map (record_at_best_effort abi) records ++ rs) (drop_all k records all) ∙ append-nil (map (record_at_best_effort abi) records)

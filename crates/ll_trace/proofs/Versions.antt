@@ -1,0 +1,150 @@
+-- Best effort at a version that supports all rights, and at one version after another.
+use Rattle.std.proofs.Common.{◌≡◌, ℕ, ◌≤◌, Bool, true, false, not, ◌&&◌, List, [], ◌∷◌, refl, sym, ap, ◌∙◌, if◌then◌else◌}
+use Rattle.std.specs.Prelude.{All}
+use Rattle.std.specs.List.{AllByRecursion}
+use Rattle.std.proofs.lemmas.Bool.{eqb-true}
+use Rattle.std.proofs.lemmas.List.Elements.{recursion_from_All}
+use Rattle.ll_rights.specs.declared.abi.Abi.{Abi}
+use Rattle.ll_rights.specs.declared.abi.Abi.TheVariants.{V1, V2, V3, V4, V5}
+use Rattle.ll_rights.specs.declared.fs.Fs.{Fs}
+use Rattle.ll_rights.specs.declared.net.Net.{Net}
+use Rattle.ll_rights.specs.Abis.{number_of}
+use Rattle.ll_rights.specs.Supported.{supported_fs, supported_net, without_fs, without_net}
+use Rattle.ll_rights.specs.Rights as files
+use Rattle.ll_rights.specs.NetRights as network
+use Rattle.ll_rights.proofs.Sets.{fs_is_empty, net_is_empty}
+use Rattle.ll_rights.proofs.Supported.{fs_supported-older, net_supported-older}
+use Rattle.ll_trace.specs.declared.op.Op.{Op}
+use Rattle.ll_trace.specs.declared.op.Op.TheVariants as calls
+use Rattle.ll_trace.specs.declared.op.RuleType.TheVariants.{PathBeneath, NetPort}
+use Rattle.ll_trace.specs.declared.record.Record.{Record}
+use Rattle.ll_trace.specs.BestEffort.{creates, adds_path, adds_port, at_best_effort, record_at_best_effort, records_at_best_effort, IsSupported}
+
+-- ---- all rights are supported
+
+never : (b : Bool) → (b && not b) ≡ false
+never true = refl
+never false = refl
+
+second : (b : Bool) (x y : Op) → b ≡ false → (if b then x else y) ≡ y
+second true x y e = absurd cc
+second false x y e = refl
+
+call-supported : (abi : Abi) (op : Op) → IsSupported abi op → at_best_effort abi op ≡ op
+unfolding IsSupported at_best_effort
+call-supported abi (calls.Create rs fs net) is =
+    ap (λ (s : Fs). creates rs fs net s (supported_net abi net)) is.0 ∙ ap (creates rs fs net fs) is.1
+    ∙ second (files.is_empty fs && network.is_empty net && not (files.is_empty fs && network.is_empty net)) (calls.CreateEmpty rs) (calls.Create rs fs net) (never (files.is_empty fs && network.is_empty net))
+call-supported abi (calls.AddPath rs path fs) is =
+    ap (adds_path rs path fs) is ∙ second (files.is_empty fs && not (files.is_empty fs)) (calls.LeaveOut PathBeneath) (calls.AddPath rs path fs) (never (files.is_empty fs))
+call-supported abi (calls.AddPort rs port net) is =
+    ap (adds_port rs port net) is ∙ second (network.is_empty net && not (network.is_empty net)) (calls.LeaveOut NetPort) (calls.AddPort rs port net) (never (network.is_empty net))
+call-supported abi op is = refl
+
+each-supported : (abi : Abi) (records : List Record) → AllByRecursion (λ (of : Record). IsSupported abi of.op) records → records_at_best_effort abi records ≡ records
+each-supported abi [] all = refl
+each-supported abi (r ∷ rs) all =
+    ap (λ (op : Op). record r { op = op } ∷ records_at_best_effort abi rs) (call-supported abi r.op all.0) ∙ ap (λ (others : List Record). r ∷ others) (each-supported abi rs all.1)
+
+pub records-supported : (abi : Abi) (records : List Record) → All (λ (of : Record). IsSupported abi of.op) records → records_at_best_effort abi records ≡ records
+records-supported abi records all = each-supported abi records (recursion_from_All (λ (of : Record). IsSupported abi of.op) records all)
+
+-- ---- a name that is no right's
+
+pub other_name-stays : (abi : Abi) (rs : ℕ) → at_best_effort abi (calls.Create rs (files.only files.other) network.no_right) ≡ calls.Create rs (files.only files.other) network.no_right
+unfolding at_best_effort supported_fs supported_net without_fs files.only files.has files.some_right files.all_rights files.named_rights without_net network.only network.has network.some_right network.all_rights
+other_name-stays V1 rs = refl
+other_name-stays V2 rs = refl
+other_name-stays V3 rs = refl
+other_name-stays V4 rs = refl
+other_name-stays V5 rs = refl
+
+pub other_port_name-stays : (abi : Abi) (rs : ℕ) → at_best_effort abi (calls.Create rs files.no_right (network.only network.other)) ≡ calls.Create rs files.no_right (network.only network.other)
+unfolding at_best_effort supported_fs supported_net without_fs files.only files.has files.some_right files.all_rights files.named_rights without_net network.only network.has network.some_right network.all_rights
+other_port_name-stays V1 rs = refl
+other_port_name-stays V2 rs = refl
+other_port_name-stays V3 rs = refl
+other_port_name-stays V4 rs = refl
+other_port_name-stays V5 rs = refl
+
+-- ---- one version after another
+
+none_of : (abi : Abi) → supported_fs abi files.no_right ≡ files.no_right
+unfolding supported_fs without_fs
+none_of V1 = refl
+none_of V2 = refl
+none_of V3 = refl
+none_of V4 = refl
+none_of V5 = refl
+
+no_port_of : (abi : Abi) → supported_net abi network.no_right ≡ network.no_right
+unfolding supported_net without_net
+no_port_of V1 = refl
+no_port_of V2 = refl
+no_port_of V3 = refl
+no_port_of V4 = refl
+no_port_of V5 = refl
+
+-- of nothing nothing is supported
+fs_empty : (abi : Abi) (set : Fs) → files.is_empty set ≡ true → files.is_empty (supported_fs abi set) ≡ true
+fs_empty abi set empty =
+    let none : set ≡ files.no_right = ap (λ bits. record { 0 = bits }) (eqb-true set.0 0 (fs_is_empty set ∙ empty)) in
+    ap (λ (s : Fs). files.is_empty (supported_fs abi s)) none ∙ ap files.is_empty (none_of abi) ∙ sym (fs_is_empty files.no_right)
+
+net_empty : (abi : Abi) (set : Net) → network.is_empty set ≡ true → network.is_empty (supported_net abi set) ≡ true
+net_empty abi set empty =
+    let none : set ≡ network.no_right = ap (λ bits. record { 0 = bits }) (eqb-true set.0 0 (net_is_empty set ∙ empty)) in
+    ap (λ (s : Net). network.is_empty (supported_net abi s)) none ∙ ap network.is_empty (no_port_of abi) ∙ sym (net_is_empty network.no_right)
+
+both : (a b c d : Bool) → (a ≡ true → c ≡ true) → (b ≡ true → d ≡ true) → (a && b) ≡ true → (c && d) ≡ true
+both true true c d first last is = rw (first refl, last refl) refl
+both true false c d first last is = absurd cc
+both false b c d first last is = absurd cc
+
+-- What is left out is left out at an older version too; what is kept with less is left out there if nothing is left.
+down : (f : Op → Op) (left kept last : Op) (all newer older : Bool) → (all ≡ true → newer ≡ true) → (newer ≡ true → older ≡ true) → f left ≡ left → f kept ≡ (if older && not newer then left else last)
+    → f (if newer && not all then left else kept) ≡ (if older && not all then left else last)
+down f left kept last true true older less still lasts keeps = keeps
+down f left kept last true false older less still lasts keeps = absurd (let no : false ≡ true = less refl in cc)
+down f left kept last false true older less still lasts keeps = rw (still refl) lasts
+down f left kept last false false older less still lasts keeps = keeps
+
+call-older : (older newer : Abi) → number_of older ≤ number_of newer → (op : Op) → at_best_effort older (at_best_effort newer op) ≡ at_best_effort older op
+unfolding at_best_effort
+call-older older newer le (calls.Create rs fs net) =
+    let fewer : supported_fs older (supported_fs newer fs) ≡ supported_fs older fs = fs_supported-older older newer fs le in
+    let fewer_ports : supported_net older (supported_net newer net) ≡ supported_net older net = net_supported-older older newer net le in
+    down (at_best_effort older) (calls.CreateEmpty rs) (calls.Create rs (supported_fs newer fs) (supported_net newer net)) (calls.Create rs (supported_fs older fs) (supported_net older net))
+    (files.is_empty fs && network.is_empty net)
+    (files.is_empty (supported_fs newer fs) && network.is_empty (supported_net newer net))
+    (files.is_empty (supported_fs older fs) && network.is_empty (supported_net older net))
+    (both (files.is_empty fs) (network.is_empty net) (files.is_empty (supported_fs newer fs)) (network.is_empty (supported_net newer net)) (fs_empty newer fs) (net_empty newer net))
+    (both (files.is_empty (supported_fs newer fs)) (network.is_empty (supported_net newer net)) (files.is_empty (supported_fs older fs)) (network.is_empty (supported_net older net))
+    (λ empty. ap files.is_empty (sym fewer) ∙ fs_empty older (supported_fs newer fs) empty)
+    (λ empty. ap network.is_empty (sym fewer_ports) ∙ net_empty older (supported_net newer net) empty))
+    refl
+    (ap (λ (s : Fs). creates rs (supported_fs newer fs) (supported_net newer net) s (supported_net older (supported_net newer net))) fewer
+    ∙ ap (creates rs (supported_fs newer fs) (supported_net newer net) (supported_fs older fs)) fewer_ports)
+call-older older newer le (calls.AddPath rs path fs) =
+    let fewer : supported_fs older (supported_fs newer fs) ≡ supported_fs older fs = fs_supported-older older newer fs le in
+    down (at_best_effort older) (calls.LeaveOut PathBeneath) (calls.AddPath rs path (supported_fs newer fs)) (calls.AddPath rs path (supported_fs older fs))
+    (files.is_empty fs) (files.is_empty (supported_fs newer fs)) (files.is_empty (supported_fs older fs))
+    (fs_empty newer fs)
+    (λ empty. ap files.is_empty (sym fewer) ∙ fs_empty older (supported_fs newer fs) empty)
+    refl
+    (ap (adds_path rs path (supported_fs newer fs)) fewer)
+call-older older newer le (calls.AddPort rs port net) =
+    let fewer_ports : supported_net older (supported_net newer net) ≡ supported_net older net = net_supported-older older newer net le in
+    down (at_best_effort older) (calls.LeaveOut NetPort) (calls.AddPort rs port (supported_net newer net)) (calls.AddPort rs port (supported_net older net))
+    (network.is_empty net) (network.is_empty (supported_net newer net)) (network.is_empty (supported_net older net))
+    (net_empty newer net)
+    (λ empty. ap network.is_empty (sym fewer_ports) ∙ net_empty older (supported_net newer net) empty)
+    refl
+    (ap (adds_port rs port (supported_net newer net)) fewer_ports)
+call-older older newer le op = refl
+
+pub records-older : (older newer : Abi) (records : List Record) → number_of older ≤ number_of newer → records_at_best_effort older (records_at_best_effort newer records) ≡ records_at_best_effort older records
+records-older older newer [] le = refl
+records-older older newer (r ∷ rs) le =
+    ap (λ (op : Op). record r { op = op } ∷ records_at_best_effort older (records_at_best_effort newer rs)) (call-older older newer le r.op)
+    ∙ ap (λ (others : List Record). record_at_best_effort older r ∷ others) (records-older older newer rs le)
