@@ -1,7 +1,6 @@
 -- What a layer lacks, right by right.
-use Rattle.std.proofs.Common.{◌≡◌, ◌∙◌, ℕ, ◌+◌, ◌<◌, ◌≤◌, Bool, true, false, List, [], ◌∷◌, length, get_or, eqb, refl, sym, ap, arith, inl, inr, lit<}
+use Rattle.std.proofs.Common.{◌≡◌, ◌∙◌, ℕ, ◌+◌, ◌<◌, ◌≤◌, Bool, true, false, [], ◌∷◌, length, refl, sym, ap, arith, inl, inr, lit<}
 use Rattle.std.specs.Prelude.{not, ◌==◌, ◌&&◌, ◌||◌, if◌then◌else◌}
-use Rattle.std.specs.List.{list_any}
 use Rattle.std.proofs.lemmas.Bool.{cases_Bool, cases_eq, eq-eqb, ne_eqb}
 use Rattle.ll_rights.specs.declared.fs.Fs.{Fs}
 use Rattle.ll_rights.specs.Rights as files
@@ -9,7 +8,7 @@ use Rattle.ll_rights.proofs.Sets.{fs_has-only, fs_has-united}
 use Rattle.ll_tree.specs.Paths.{Path}
 use Rattle.ll_rules.specs.Layers.{RulesOn, handles, granted}
 use Rattle.ll_rules.specs.Checks.{lacks, refusing, numbers_from}
-use Rattle.ll_rules.proofs.Booleans.{or_false, and_none, list_any-agree}
+use Rattle.ll_rules.proofs.Booleans.{or_false, list_any-agree}
 use Rattle.ll_reasons.proofs.Named.{same_right}
 use Rattle.ll_explain.specs.Lacked.{lacked}
 

@@ -1,5 +1,5 @@
 -- Names of rights, written one after another.
-use Rattle.std.proofs.Common.{◌≡◌, ◌∙◌, ℕ, suc, ◌+◌, ◌<◌, Bool, true, false, cond, List, [], ◌∷◌, ◌++◌, length, take, map, get_or, codes, refl, sym, ap, append_assoc, arith}
+use Rattle.std.proofs.Common.{◌≡◌, ◌∙◌, ℕ, suc, ◌+◌, ◌<◌, Bool, true, false, cond, List, [], ◌∷◌, ◌++◌, length, take, map, get_or, refl, sym, ap, append_assoc, arith}
 use Rattle.std.specs.Prelude.{filter}
 use Rattle.std.specs.List.{flat_map}
 use Rattle.std.proofs.Math.Seq.{take-suc, take-length}
@@ -73,16 +73,16 @@ module _ {R : Type 0} (has : R → Bool) (name : R → List ℕ) (rights : List 
       ∙ append-nil (filter has (take place rights))))
 
   -- the text and the flag behind one name more
-  pub written_with : (place : ℕ) (start text after : List ℕ) (is_first : Bool) → place < length rights → has (get_or rights place none) ≡ true →
-      text ≡ start ++ joined (codes ", ") (names_upto place) → is_first ≡ is_none_yet (names_upto place) →
-      after ≡ text ++ cond is_first (name (get_or rights place none)) (behind (codes ", ") (name (get_or rights place none))) →
-      (after ≡ start ++ joined (codes ", ") (names_upto (place + 1))) × (false ≡ is_none_yet (names_upto (place + 1)))
-  written_with place start text after is_first there is so_far first written =
+  pub written_with : (separator : List ℕ) (place : ℕ) (start text after : List ℕ) (is_first : Bool) → place < length rights → has (get_or rights place none) ≡ true →
+      text ≡ start ++ joined separator (names_upto place) → is_first ≡ is_none_yet (names_upto place) →
+      after ≡ text ++ cond is_first (name (get_or rights place none)) (behind separator (name (get_or rights place none))) →
+      (after ≡ start ++ joined separator (names_upto (place + 1))) × (false ≡ is_none_yet (names_upto (place + 1)))
+  written_with separator place start text after is_first there is so_far first written =
       let sofar : List (List ℕ) = names_upto place in
       let this : List ℕ = name (get_or rights place none) in
       let next = names_upto-with place there is in
-      let more : List ℕ = cond (is_none_yet sofar) this (behind (codes ", ") this) in (
-        written ∙ (ap (λ b. text ++ cond b this (behind (codes ", ") this)) first ∙ (ap (λ t. t ++ more) so_far
-            ∙ (append_assoc start (joined (codes ", ") sofar) more ∙ ap (λ t. start ++ t) (sym (ap (joined (codes ", ")) next ∙ joined-push (codes ", ") sofar this))))),
+      let more : List ℕ = cond (is_none_yet sofar) this (behind separator this) in (
+        written ∙ (ap (λ b. text ++ cond b this (behind separator this)) first ∙ (ap (λ t. t ++ more) so_far
+            ∙ (append_assoc start (joined separator sofar) more ∙ ap (λ t. start ++ t) (sym (ap (joined separator) next ∙ joined-push separator sofar this))))),
         sym (ap is_none_yet next ∙ is_none_yet-push sofar this),
       )

@@ -1,23 +1,28 @@
 -- The line of a layer that objects to one thing or to nothing.
-use Rattle.std.proofs.Common.{◌≡◌, ◌∙◌, ℕ, suc, ◌+◌, ◌<◌, Bool, true, false, List, [], ◌∷◌, ◌++◌, length, take, get_or, codes, refl, sym, ap, append_assoc, arith, inl, inr}
+use Rattle.std.proofs.Common.{◌≡◌, ◌∙◌, ℕ, suc, ◌+◌, ◌<◌, ◌≤◌, Bool, true, false, List, [], ◌∷◌, ◌++◌, length, take, get_or, refl, sym, ap, append_assoc, arith, inl, inr}
 use Rattle.std.specs.Prelude.{filter, not, ◌&&◌}
 use Rattle.std.specs.List.{flat_map, list_any}
 use Rattle.std.proofs.lemmas.Bool.{cases_Bool, true≢false}
-use Rattle.std.proofs.Math.Seq.{take-suc}
-use Rattle.std.proofs.lemmas.List.{append-nil, length-take-le}
+use Rattle.std.proofs.Math.Seq.{take-suc, take-length}
+use Rattle.std.proofs.lemmas.List.{append-nil, get_or-map, length-map, length-take-le}
 use Rattle.std.proofs.lemmas.Grind.{flat_map-append}
 use Rattle.std.proofs.lemmas.List.Elements.{filter_agree}
 use Rattle.ll_rights.specs.declared.fs.Fs.{Fs}
 use Rattle.ll_rights.specs.Rights as files
+use Rattle.ll_rights.specs.NetRights as network
+use Rattle.ll_tree.specs.Trees.{Entry}
 use Rattle.ll_tree.specs.Paths.{Path}
 use Rattle.ll_trace.specs.declared.record.Record.{Record}
 use Rattle.ll_rules.proofs.Booleans.{and_true}
 use Rattle.ll_reasons.specs.Conditions.{rights_beyond}
-use Rattle.ll_rules.specs.Layers.{granted, handles}
+use Rattle.ll_rules.specs.Layers.{RulesOn, granted, handles, without_rules}
+use Rattle.ll_rules.specs.InTree.{all_in_tree, in_tree}
+use Rattle.ll_rules.specs.KeptLayers.{domain_of, layer_at}
+use Rattle.ll_rules.specs.declared.domain.LayerId.{LayerId}
 use Rattle.ll_semantics.specs.States.{Layer}
 use Rattle.ll_reasons.specs.Objections.{Objection, if_any, missing, objecting_from, of_layer, on_path}
 use Rattle.ll_explain.specs.Lacked.{lacked}
-use Rattle.ll_explain.specs.Words.{joined, layer_head, layer_text, objection_text, path_text, rights_text}
+use Rattle.ll_explain.specs.Words.{layer_text}
 use Rattle.ll_explain.proofs.Lacking.{none}
 use Rattle.ll_explain.proofs.Listing.{is_none_yet}
 
@@ -48,18 +53,6 @@ module _ {X : Type 0} (test : X → Bool) where
 
   pub filter-some : (xs : List X) → not (list_any test xs) ≡ false → is_none_yet (filter test xs) ≡ false
   filter-some xs is = not_not (is_none_yet (filter test xs)) false (ap not (sym (found xs)) ∙ is)
-
-module _ (records : List Record) (layers : List ℕ) (number : ℕ) (path : Path) where
-  pub nothing_said : (rights : List files.FsRight) (start : List ℕ) → rights ≡ [] → start ≡ start ++ flat_map (layer_text records layers) (of_layer number (if_any rights (missing rights path)))
-  nothing_said rights start is = rw is (sym (append-nil start))
-
-  pub one_said : (rights : List files.FsRight) → is_none_yet rights ≡ false →
-      flat_map (layer_text records layers) (of_layer number (if_any rights (missing rights path))) ≡ layer_head records layers number ++ (rights_text rights ++ codes " on " ++ path_text path) ++ codes "\n"
-  unfolding layer_text objection_text joined
-  one_said [] some = absurd (true≢false some)
-  one_said (right ∷ rights) some =
-      append-nil (layer_head records layers number ++ ((rights_text (right ∷ rights) ++ codes " on " ++ path_text path) ++ []) ++ codes "\n")
-      ∙ ap (λ text. layer_head records layers number ++ text ++ codes "\n") (append-nil (rights_text (right ∷ rights) ++ codes " on " ++ path_text path))
 
 -- ---- layer after layer
 
@@ -98,3 +91,44 @@ pub missing_is : (layer : Layer) (path : Path) (asked set : Fs) → ((right : fi
 unfolding on_path lacked
 missing_is layer path asked set same =
     ap (λ rights. if_any rights (missing rights path)) (filter_agree (files.has set) (λ right. files.has asked right && handles layer right && not (granted layer path right)) same files.all_rights)
+
+-- ---- layers of a domain as they are kept
+
+module _ (records : List Record) (made : List ℕ) (objections : Layer → List Objection) (tree : List Entry) (kept : List (RulesOn ℕ)) (ids : List LayerId) where
+  layer_none : RulesOn ℕ
+  layer_none = without_rules files.no_right network.no_right
+
+  counted : length (all_in_tree tree (domain_of kept ids)) ≡ length ids
+  counted = length-map (domain_of kept ids) (in_tree tree) ∙ length-map ids (layer_at kept)
+
+  here_is : (k : ℕ) (id : LayerId) → k < length ids → get_or ids k (record { 0 = 0 }) ≡ id →
+      get_or (all_in_tree tree (domain_of kept ids)) k (in_tree tree layer_none) ≡ in_tree tree (layer_at kept id)
+  here_is k id there is =
+      let count : length (domain_of kept ids) ≡ length ids = length-map ids (layer_at kept) in
+      get_or-map (in_tree tree) (domain_of kept ids) k layer_none (in_tree tree layer_none) (omega (arith, there, count))
+      ∙ ap (in_tree tree) (get_or-map (layer_at kept) ids k (record { 0 = 0 }) layer_none there) ∙ ap (λ one. in_tree tree (layer_at kept one)) is
+
+  -- nothing is written yet
+  pub domain_none : (start : List ℕ) → start ≡ start ++ flat_map (layer_text records made) (objecting_from objections 1 (take 0 (all_in_tree tree (domain_of kept ids))))
+  unfolding objecting_from
+  domain_none start = sym (append-nil start)
+
+  -- the line of one layer more
+  pub domain_more : (k : ℕ) (start text after : List ℕ) → k < length ids →
+      text ≡ start ++ flat_map (layer_text records made) (objecting_from objections 1 (take k (all_in_tree tree (domain_of kept ids)))) →
+      after ≡ text ++ flat_map (layer_text records made) (of_layer (k + 1) (objections (in_tree tree (layer_at kept (get_or ids k (record { 0 = 0 })))))) →
+      after ≡ start ++ flat_map (layer_text records made) (objecting_from objections 1 (take (k + 1) (all_in_tree tree (domain_of kept ids))))
+  domain_more k start text after there so_far written =
+      let same : length (all_in_tree tree (domain_of kept ids)) ≡ length ids = counted in
+      layers_more records made objections (all_in_tree tree (domain_of kept ids)) k (in_tree tree layer_none) start text after (omega (arith, there, same)) so_far
+      (written ∙ ap (λ layer. text ++ flat_map (layer_text records made) (of_layer (k + 1) (objections layer))) (sym (here_is k _ there refl)))
+
+  -- the lines of all layers
+  pub domain_end : (k : ℕ) (start text : List ℕ) → k ≤ length ids → length ids ≤ k →
+      text ≡ start ++ flat_map (layer_text records made) (objecting_from objections 1 (take k (all_in_tree tree (domain_of kept ids)))) →
+      text ≡ start ++ flat_map (layer_text records made) (objecting_from objections 1 (all_in_tree tree (domain_of kept ids)))
+  domain_end k start text within end so_far =
+      let same : length (all_in_tree tree (domain_of kept ids)) ≡ length ids = counted in
+      let last : k ≡ length (all_in_tree tree (domain_of kept ids)) = omega (arith, within, end, same) in
+      so_far ∙ ap (λ n. start ++ flat_map (layer_text records made) (objecting_from objections 1 (take n (all_in_tree tree (domain_of kept ids))))) last
+      ∙ ap (λ layers. start ++ flat_map (layer_text records made) (objecting_from objections 1 layers)) (take-length (all_in_tree tree (domain_of kept ids)))

@@ -1,12 +1,18 @@
--- Which rights of a set a layer lacks on a path, as a test of each right.
+-- Which rights of a set a layer lacks on a path, and which an object would gain in a directory, as tests of each right.
 -- Source: landlock(7), "Landlock rules".
-use Rattle.std.specs.Prelude.{Bool, not, ◌&&◌}
+use Rattle.std.specs.Prelude.{Bool, not, ◌&&◌, ◌||◌}
 use Rattle.ll_rights.specs.declared.fs.Fs.{Fs}
-use Rattle.ll_rights.specs.Rights.{FsRight, has}
+use Rattle.ll_rights.specs.declared.kind.Kind.{Kind}
+use Rattle.ll_rights.specs.Rights.{FsRight, has, is_file_right}
 use Rattle.ll_tree.specs.Paths.{Path}
+use Rattle.ll_tree.specs.Trees.{is_dir}
 use Rattle.ll_rules.specs.Layers.{granted, handles}
 use Rattle.ll_semantics.specs.States.{Layer}
 
 -- a right is in a set, and a layer handles it and doesn't grant it on a path
 unfoldable pub lacked : Layer → Path → Fs → FsRight → Bool
 lacked layer path asked right = has asked right && handles layer right && not (granted layer path right)
+
+-- a right counts for an object of a kind, and a layer handles it, grants it on a directory and doesn't grant it on the object
+unfoldable pub gainable : Layer → Kind → Path → Path → FsRight → Bool
+gainable layer kind object directory right = granted layer directory right && (handles layer right && (is_dir kind || is_file_right right)) && not (granted layer object right)

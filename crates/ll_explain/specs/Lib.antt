@@ -1,3 +1,10 @@
 pub mod Words
-pub mod Trails
 pub mod Lacked
+pub mod Parts
+pub mod PortRights
+pub mod Named
+pub mod Kept
+pub mod Followed
+pub mod Moved
+pub mod Route
+pub mod Explained

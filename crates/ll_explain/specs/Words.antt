@@ -3,7 +3,6 @@
 use Rattle.std.specs.Prelude.{ℕ, ◌-◌, List, [], ◌∷◌, ◌++◌, map, Option, Some, None, option_and_then, slice_get, codes, decimal}
 use Rattle.std.specs.List.{flat_map}
 use Rattle.json.specs.Print.{escape}
-use Rattle.ll_rights.specs.declared.abi.Abi.{Abi}
 use Rattle.ll_rights.specs.declared.kind.Kind.{Kind}
 use Rattle.ll_rights.specs.declared.kind.Kind.TheVariants.{Dir, Reg, Sym, Char, Block, Fifo, Sock}
 use Rattle.ll_rights.specs.Abis.{number_of}
@@ -31,12 +30,21 @@ joined separator (text ∷ texts) = text ++ flat_map (behind separator) texts
 unfoldable pub path_text : Path → List ℕ
 path_text path = escape (text_of path)
 
--- names of rights, separated by commas
+-- the word for a right: its name, or one word for all that have none
+abbrev pub word_of : files.FsRight → List ℕ
+word_of files.other = codes "a right of another name"
+word_of right = files.name_of right
+
+abbrev pub port_word_of : network.NetRight → List ℕ
+port_word_of network.other = codes "a right of another name"
+port_word_of right = network.name_of right
+
+-- rights, separated by commas
 unfoldable pub rights_text : List files.FsRight → List ℕ
-rights_text rights = joined (codes ", ") (map files.name_of rights)
+rights_text rights = joined (codes ", ") (map word_of rights)
 
 unfoldable pub port_rights_text : List network.NetRight → List ℕ
-port_rights_text rights = joined (codes ", ") (map network.name_of rights)
+port_rights_text rights = joined (codes ", ") (map port_word_of rights)
 
 -- ---- objections
 
@@ -59,7 +67,7 @@ objection_text records (closed rights port) = port_rights_text rights ++ codes "
 objection_text records (gained object rights directory) = path_text object ++ codes " would gain " ++ rights_text rights ++ codes " in " ++ path_text directory
 objection_text records mounting = codes "it handles rights for files"
 objection_text records (kept right place) =
-    files.name_of right ++ codes " on " ++ escape (path_opened (slice_get records place)) ++ codes ", opened at line " ++ decimal (line_of (slice_get records place))
+    word_of right ++ codes " on " ++ escape (path_opened (slice_get records place)) ++ codes ", opened at line " ++ decimal (line_of (slice_get records place))
 
 -- a layer by its number, with the line of the record that made it, and what it objects to
 unfoldable pub layer_head : List Record → List ℕ → ℕ → List ℕ
@@ -71,8 +79,13 @@ layer_text records layers said = layer_head records layers said.0 ++ joined (cod
 
 -- ---- conditions
 
+-- rights that a version doesn't know; where all of those for files are known, one for ports isn't
+unfoldable pub unknown_text : List files.FsRight → List ℕ
+unknown_text [] = codes "a right for ports"
+unknown_text (right ∷ rights) = rights_text (right ∷ rights)
+
 unfoldable pub condition_text : Condition → List ℕ
-condition_text (unknown abi rights) = codes "ABI " ++ decimal (number_of abi) ++ codes " does not know " ++ rights_text rights
+condition_text (unknown abi rights) = codes "ABI " ++ decimal (number_of abi) ++ codes " does not know " ++ unknown_text rights
 condition_text (portless abi) = codes "ABI " ++ decimal (number_of abi) ++ codes " has no rules for ports"
 condition_text rightless = codes "no right is named"
 condition_text (unheld rs) = codes "ruleset " ++ decimal rs ++ codes " is not held"
@@ -110,6 +123,7 @@ reason_text (unopened fd) = codes "descriptor " ++ decimal fd ++ codes " is not 
 reason_text (not_for_writing fd) = codes "descriptor " ++ decimal fd ++ codes " is not a regular file open for writing"
 reason_text (held_already rs) = codes "ruleset " ++ decimal rs ++ codes " is held already"
 reason_text (reasons.unheld rs) = codes "ruleset " ++ decimal rs ++ codes " is not held"
+reason_text reasons.unsupported = codes "left out, as this ABI supports none of the rule's rights"
 
 -- ---- explanations
 

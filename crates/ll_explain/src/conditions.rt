@@ -6,23 +6,34 @@ ghost use Rattle.ll_reasons.specs.Conditions as conditions;
 ghost use Rattle.ll_reasons.specs.Conditions.{directory_rights, port_rights_beyond, rights_beyond, unknown_rights};
 ghost use Rattle.ll_reasons.specs.Conditions.{handled, handled_on_ports};
 ghost use Rattle.ll_reasons.specs.Origins.{Origins};
-ghost use Rattle.ll_explain.specs.Trails.{Follows};
-ghost use Rattle.ll_explain.specs.Words.{condition_text};
+ghost use Rattle.ll_trails.specs.Trails.{Follows};
+ghost use Rattle.ll_explain.specs.Words.{condition_text, unknown_text};
 
 use crate::rights::{is_within, is_within_on_ports, push_port_rights_beyond, push_rights_beyond};
-use crate::trail::Trail;
 use crate::words::{push_escaped, push_numbered};
 use ll_rights::{Abi, Fs, Net};
 use ll_rules::Errno;
 use ll_trace::{Op, Record};
+use ll_trails::Trail;
 use std::alloc::AllocError;
+
+/// Adds the rights that a version doesn't know, which has some: if none of those for files is, it is one for ports.
+fn push_unknown_rights(text: &mut Vec<u8>, rights: Fs, known: Fs) -> Result<(), AllocError>
+    ensures { OnOk result (text.new.items ≡ text.old.items ++ unknown_text (rights_beyond rights known)) }
+{
+    if is_within(rights, known) {
+        text.extend_from_slice(b"a right for ports")
+    } else {
+        push_rights_beyond(text, rights, known)
+    }
+}
 
 /// Says which rights a version doesn't know.
 fn push_unknown(text: &mut Vec<u8>, abi: Abi, rights: Fs) -> Result<(), AllocError>
     ensures { OnOk result (text.new.items ≡ text.old.items ++ condition_text (conditions.unknown abi (unknown_rights abi rights))) }
 {
     push_numbered(text, "ABI ", abi.number(), " does not know ")?;
-    push_rights_beyond(text, rights, abi.fs())?;
+    push_unknown_rights(text, rights, abi.fs())?;
     Ok(())
 }
 
@@ -264,6 +275,8 @@ pub(crate) fn push_condition(
         | Op::Link { .. }
         | Op::Mount
         | Op::Bind { .. }
-        | Op::Connect { .. } => push_other(text),
+        | Op::Connect { .. }
+        | Op::CreateEmpty { .. }
+        | Op::LeaveOut { .. } => push_other(text),
     }
 }

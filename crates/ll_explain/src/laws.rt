@@ -1,18 +1,19 @@
 //! What some explanations say.
 
 ghost use Rattle.std.specs.Prelude.{◌≡◌, ◌∷◌, [], Some, codes, false};
-ghost use Rattle.ll_rights.specs.Rights.{execute, read_file, refer, truncate, write_file};
+ghost use Rattle.ll_rights.specs.declared.abi.Abi.TheVariants.{V3, V4};
+ghost use Rattle.ll_rights.specs.Rights.{execute, other, read_file, refer, truncate, write_file};
 ghost use Rattle.ll_rights.specs.NetRights.{bind_tcp};
 ghost use Rattle.ll_trace.specs.declared.op.Op.TheVariants.{Nnp, OpenFile};
 ghost use Rattle.ll_trace.specs.declared.op.Mode.TheVariants.{Write};
-ghost use Rattle.ll_reasons.specs.Conditions.{unhandled};
+ghost use Rattle.ll_reasons.specs.Conditions.{unhandled, unknown};
 ghost use Rattle.ll_reasons.specs.Explanations.{failure, mootness, nothing, objections};
 ghost use Rattle.ll_reasons.specs.Objections.{closed, gained, kept, missing};
-ghost use Rattle.ll_reasons.specs.Reasons.{absent};
+ghost use Rattle.ll_reasons.specs.Reasons.{absent, unsupported};
 ghost use Rattle.ll_explain.specs.Words.{explanation_text};
 
 /// The text of some explanations, in a trace whose first record stands on line 5 and opens a file.
-#[tactic(auto, unfolding(crate::specs::Words::explanation_text, crate::specs::Words::layer_text, crate::specs::Words::layer_head, crate::specs::Words::objection_text, crate::specs::Words::rights_text, crate::specs::Words::port_rights_text, crate::specs::Words::condition_text, crate::specs::Words::reason_text, crate::specs::Words::path_text, crate::specs::Words::joined, crate::specs::Words::behind, ll_tree::specs::PathTexts::text_of, json::specs::Print::escape_byte))]
+#[tactic(auto, unfolding(crate::specs::Words::explanation_text, crate::specs::Words::layer_text, crate::specs::Words::layer_head, crate::specs::Words::objection_text, crate::specs::Words::rights_text, crate::specs::Words::port_rights_text, crate::specs::Words::condition_text, crate::specs::Words::unknown_text, crate::specs::Words::reason_text, crate::specs::Words::path_text, crate::specs::Words::joined, crate::specs::Words::behind, ll_tree::specs::PathTexts::text_of, json::specs::Print::escape_byte))]
 pub fn worked_words()
     ensures nothing { explanation_text [] [] nothing ≡ [] }
     ensures missing { explanation_text (record { line = 5; process = record { 0 = 0 }; pid = 10; op = Nnp } ∷ []) (0 ∷ [])
@@ -30,6 +31,12 @@ pub fn worked_words()
         ≡ codes "    layer 1 (line 5): bind_tcp on port 7\n" }
     ensures unhandled { explanation_text [] [] (failure (unhandled (write_file ∷ [])))
         ≡ codes "    the ruleset does not handle write_file\n" }
+    ensures nameless { explanation_text [] [] (failure (unknown V3 (read_file ∷ other ∷ [])))
+        ≡ codes "    ABI 3 does not know read_file, a right of another name\n" }
+    ensures for_ports { explanation_text [] [] (failure (unknown V4 []))
+        ≡ codes "    ABI 4 does not know a right for ports\n" }
     ensures moot { explanation_text [] [] (mootness (Some (absent (codes "none" ∷ []))))
         ≡ codes "    /none is not in the tree\n" }
+    ensures left_out { explanation_text [] [] (mootness (Some unsupported))
+        ≡ codes "    left out, as this ABI supports none of the rule's rights\n" }
 {}

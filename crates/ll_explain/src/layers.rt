@@ -1,25 +1,42 @@
 //! The lines that say what each layer objects to.
 
-ghost use Rattle.std.specs.Prelude.{◌≡◌, ◌++◌, ◌<◌, ◌-◌, All, IsTrue, OnOk, codes, filter, is_some, option_and_then, slice_get};
+ghost use Rattle.std.specs.Prelude.{◌≡◌, ◌++◌, ◌<◌, ◌-◌, ◌∷◌, [], All, IfSome, IsTrue, OnOk, is_some, length, option_and_then, slice_get};
 ghost use Rattle.std.specs.List.{flat_map};
 ghost use Rattle.ll_rights.specs.Rights as files;
 ghost use Rattle.ll_tree.specs.Paths.{path_of};
 ghost use Rattle.ll_tree.specs.Trees.{IsNode, path_at};
-ghost use Rattle.ll_rules.specs.InTree.{AreInTree, all_in_tree};
-ghost use Rattle.ll_rules.specs.KeptLayers.{IsDomainOf, domain_of};
-ghost use Rattle.ll_reasons.specs.Objections.{if_any, missing as lacking, objecting, of_layer, on_path};
+ghost use Rattle.ll_rules.specs.InTree.{AreInTree, all_in_tree, in_tree};
+ghost use Rattle.ll_rules.specs.KeptLayers.{IsDomainOf, domain_of, layer_at};
+ghost use Rattle.ll_semantics.specs.Fits.{IsFit};
+ghost use Rattle.ll_reasons.specs.Objections.{objecting, on_path, to_request};
 ghost use Rattle.ll_reasons.specs.Reasons.{spelt};
-ghost use Rattle.ll_explain.specs.Words.{layer_head, layer_text, line_of, path_text, rights_text};
+ghost use Rattle.ll_explain.specs.Parts.{IsSpelt, said_of};
+ghost use Rattle.ll_explain.specs.Words.{layer_head, layer_text, line_of};
 
 use crate::missing::missing;
-use crate::reasons::push_path;
-use crate::rights::push_rights_beyond;
+use crate::parts::{Part, push_line};
 use crate::words::{push_number, push_numbered};
 use ll_rights::Fs;
 use ll_rules::{Layer, LayerId};
+use ll_semantics::Request;
 use ll_trace::Record;
 use ll_tree::{NodeId, Tree};
 use std::alloc::AllocError;
+
+/// The layers of a process, the records that they come from, and the tree that they have rules on.
+#[derive(Clone, Copy)]
+pub(crate) struct Confinement<'a> {
+    /// The records of the trace.
+    pub(crate) records: &'a [Record],
+    /// The places of the records that made the layers.
+    pub(crate) restricts: &'a [u32],
+    /// The file tree.
+    pub(crate) tree: &'a Tree,
+    /// All layers of the case.
+    pub(crate) layers: &'a [Layer],
+    /// The places of the process's own among them, the oldest first.
+    pub(crate) domain: &'a [LayerId],
+}
 
 /// The line of the record that made a layer, or 0 where there is none.
 fn line_at(records: &[Record], layers: &[u32], number: u64) -> u64
@@ -36,7 +53,7 @@ fn line_at(records: &[Record], layers: &[u32], number: u64) -> u64
 }
 
 /// Begins the line of a layer, which says where the layer comes from.
-fn push_head(
+pub(crate) fn push_head(
     text: &mut Vec<u8>,
     records: &[Record],
     layers: &[u32],
@@ -51,63 +68,69 @@ fn push_head(
     Ok(())
 }
 
-/// Adds names of rights, and the path on which they are missing.
-fn push_rights_on(text: &mut Vec<u8>, rights: Fs, path: &str) -> Result<(), AllocError>
-    requires { IsTrue (is_some (path_of path.now)) }
-    ensures { OnOk result (text.new.items ≡ text.old.items ++ (rights_text (filter (files.has rights) files.all_rights) ++ codes " on " ++ path_text (spelt path.now))) }
-{
-    push_rights_beyond(text, rights, Fs::NONE)?;
-    text.extend_from_slice(b" on ")?;
-    push_path(text, path)?;
-    Ok(())
-}
-
-/// Adds the line of a layer that lacks rights on a path, where it lacks some.
-fn push_missing(
-    text: &mut Vec<u8>,
-    records: &[Record],
-    layers: &[u32],
-    number: u64,
-    rights: Fs,
-    path: &str,
-) -> Result<(), AllocError>
-    requires number { 0 < number }
+/// What a layer lacks of what is wanted on a node, by the node's path.
+pub(crate) fn part_on_path<'p>(
+    of: &Confinement,
+    id: LayerId,
+    node: NodeId,
+    path: &'p str,
+    wanted: Fs,
+) -> Part<'p>
+    requires layer { id.0 < length of.now.layers.now }
+    requires rules { All (AreInTree of.now.tree.now) of.now.layers.now }
+    requires node { IsNode of.now.tree.now node }
     requires shape { IsTrue (is_some (path_of path.now)) }
-    ensures { OnOk result (text.new.items ≡ text.old.items ++ flat_map (layer_text records.now layers.now)
-        (of_layer number (if_any (filter (files.has rights) files.all_rights) (lacking (filter (files.has rights) files.all_rights) (spelt path.now))))) }
+    requires path { spelt path.now ≡ path_at of.now.tree.now node }
+    ensures said { said_of (result ∷ []) ≡ on_path (path_at of.now.tree.now node) (files.has wanted) (in_tree of.now.tree.now (layer_at of.now.layers.now id)) }
+    ensures spelt { IsSpelt result }
 {
-    if rights.is_empty() {
-        return Ok(());
+    Part::Missing {
+        rights: missing(of.tree, of.layers, id, node, wanted),
+        path,
     }
-    push_head(text, records, layers, number)?;
-    push_rights_on(text, rights, path)?;
-    text.push(b'\n')?;
-    Ok(())
 }
 
 /// Adds the lines of the layers of a domain that lack something of what is wanted on a node, by its path.
 fn push_request(
     text: &mut Vec<u8>,
-    records: &[Record],
-    restricts: &[u32],
-    tree: &Tree,
-    layers: &[Layer],
-    domain: &[LayerId],
+    of: &Confinement,
     node: NodeId,
     path: &str,
     wanted: Fs,
 ) -> Result<(), AllocError>
-    requires domain { IsDomainOf layers.now domain.now }
-    requires rules { All (AreInTree tree.now) layers.now }
-    requires node { IsNode tree.now node }
+    requires domain { IsDomainOf of.now.layers.now of.now.domain.now }
+    requires rules { All (AreInTree of.now.tree.now) of.now.layers.now }
+    requires node { IsNode of.now.tree.now node }
     requires shape { IsTrue (is_some (path_of path.now)) }
-    requires path { spelt path.now ≡ path_at tree.now node }
-    ensures { OnOk result (text.new.items ≡ text.old.items ++ flat_map (layer_text records.now restricts.now)
-        (objecting (on_path (path_at tree.now node) (files.has wanted)) (all_in_tree tree.now (domain_of layers.now domain.now)))) }
+    requires path { spelt path.now ≡ path_at of.now.tree.now node }
+    ensures { OnOk result (text.new.items ≡ text.old.items ++ flat_map (layer_text of.now.records.now of.now.restricts.now)
+        (objecting (on_path (path_at of.now.tree.now node) (files.has wanted)) (all_in_tree of.now.tree.now (domain_of of.now.layers.now of.now.domain.now)))) }
 {
-    for (index, id) in domain.iter().enumerate() {
-        let rights = missing(tree, layers, *id, node, wanted);
-        push_missing(text, records, restricts, index as u64 + 1, rights, path)?;
+    for (index, id) in of.domain.iter().enumerate() {
+        let part = part_on_path(of, *id, node, path, wanted);
+        push_line(text, of.records, of.restricts, index as u64 + 1, &[part])?;
     }
     Ok(())
+}
+
+/// Adds the lines for what a call asks on a node, by the node's path, if it asks anything.
+#[tactic(auto, unfolding(ll_reasons::specs::Objections::to_request))]
+pub(crate) fn push_asked(
+    text: &mut Vec<u8>,
+    of: &Confinement,
+    path: &str,
+    request: Option<Request>,
+) -> Result<(), AllocError>
+    requires domain { IsDomainOf of.now.layers.now of.now.domain.now }
+    requires rules { All (AreInTree of.now.tree.now) of.now.layers.now }
+    requires fit { IfSome request (IsFit of.now.tree.now) }
+    requires shape { IsTrue (is_some (path_of path.now)) }
+    requires path { IfSome request (λ request. spelt path.now ≡ path_at of.now.tree.now request.node) }
+    ensures { OnOk result (text.new.items ≡ text.old.items ++ flat_map (layer_text of.now.records.now of.now.restricts.now)
+        (to_request of.now.tree.now (all_in_tree of.now.tree.now (domain_of of.now.layers.now of.now.domain.now)) request)) }
+{
+    match request {
+        None => Ok(()),
+        Some(request) => push_request(text, of, request.node, path, request.rights),
+    }
 }

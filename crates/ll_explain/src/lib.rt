@@ -1,15 +1,25 @@
 //! Says why calls are refused or not asked, record after record of a trace that was judged.
 #![tactic(auto)]
 
+mod asked;
 mod conditions;
+mod explanation;
+mod gains;
+mod kept;
 mod laws;
 mod layers;
 mod missing;
+mod mootness;
+mod moved;
+mod objections;
+mod parts;
+mod ports;
 mod reasons;
 mod rights;
+mod route;
 #[cfg(test)]
 mod tests;
-mod trail;
 mod words;
 
+pub use explanation::push_explanation;
 pub use laws::worked_words;

@@ -18,7 +18,7 @@ use ll_tree::{NodeId, Tree};
 
 /// The set of the one right at a place of the table.
 #[tactic(auto, unfolding(ll_rights::specs::Rights::all_rights, ll_rights::specs::Rights::named_rights, ll_rights::specs::Rights::only))]
-fn right_at(place: u32) -> Fs
+pub(crate) fn right_at(place: u32) -> Fs
     requires { place < 17 }
     ensures { result ≡ files.only (get_or files.all_rights place files.other) }
 {
@@ -44,7 +44,7 @@ fn right_at(place: u32) -> Fs
 }
 
 /// Whether a layer handles a right of a set and doesn't grant it on a node.
-fn lacks(tree: &Tree, layers: &[Layer], id: LayerId, node: NodeId, rights: Fs) -> bool
+pub(crate) fn lacks(tree: &Tree, layers: &[Layer], id: LayerId, node: NodeId, rights: Fs) -> bool
     requires layer { id.0 < length layers.now }
     requires rules { All (AreInTree tree.now) layers.now }
     requires node { IsNode tree.now node }

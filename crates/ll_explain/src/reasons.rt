@@ -5,10 +5,12 @@ ghost use Rattle.ll_tree.specs.Paths.{path_of};
 ghost use Rattle.ll_tree.specs.Trees.{IsNode};
 ghost use Rattle.ll_tree.specs.TreeFacts.{IsPlace};
 ghost use Rattle.ll_explain.specs.Words.{path_text, reason_text};
+ghost use Rattle.ll_reasons.specs.Meant.{meant};
 ghost use Rattle.ll_reasons.specs.Reasons as reasons;
 ghost use Rattle.ll_reasons.specs.Reasons.{absent, beneath_itself, mixed, no_directory, of_kind, over_itself, present, spelt, unmoved};
 
 use crate::words::{kind_name, push_escaped, push_numbered};
+use ll_reasons::Why;
 use ll_rights::Kind;
 use std::alloc::AllocError;
 
@@ -163,4 +165,36 @@ fn push_unheld(text: &mut Vec<u8>, rs: u64) -> Result<(), AllocError>
     ensures { OnOk result (text.new.items ≡ text.old.items ++ reason_text (reasons.unheld rs)) }
 {
     push_numbered(text, "ruleset ", rs, " is not held")
+}
+
+/// Says that a program leaves out a rule.
+#[tactic(auto, unfolding(crate::specs::Words::reason_text))]
+fn push_unsupported(text: &mut Vec<u8>) -> Result<(), AllocError>
+    ensures { OnOk result (text.new.items ≡ text.old.items ++ reason_text reasons.unsupported) }
+{
+    text.extend_from_slice(b"left out, as this ABI supports none of the rule's rights")
+}
+
+/// Says why the policy isn't asked.
+#[tactic(auto, unfolding(ll_reasons::specs::Meant::meant))]
+pub(crate) fn push_reason(text: &mut Vec<u8>, why: &Why) -> Result<(), AllocError>
+    ensures { OnOk result (text.new.items ≡ text.old.items ++ reason_text (meant why.now)) }
+{
+    match why {
+        Why::Absent(path) => push_absent(text, path.as_str()),
+        Why::NoDirectory(path) => push_no_directory(text, path.as_str()),
+        Why::Present(path) => push_present(text, path.as_str()),
+        Why::OfKind(path, kind) => push_kind(text, path.as_str(), *kind),
+        Why::Root => push_root(text),
+        Why::Unmoved(path) => push_unmoved(text, path.as_str()),
+        Why::BeneathItself(from, to) => push_beneath_itself(text, from.as_str(), to.as_str()),
+        Why::OverItself(from, to) => push_over_itself(text, from.as_str(), to.as_str()),
+        Why::Mixed(from, to) => push_mixed(text, from.as_str(), to.as_str()),
+        Why::OpenAlready(fd) => push_open_already(text, *fd),
+        Why::Unopened(fd) => push_unopened(text, *fd),
+        Why::NotForWriting(fd) => push_not_for_writing(text, *fd),
+        Why::HeldAlready(rs) => push_held_already(text, *rs),
+        Why::Unheld(rs) => push_unheld(text, *rs),
+        Why::Unsupported => push_unsupported(text),
+    }
 }

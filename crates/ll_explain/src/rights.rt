@@ -6,7 +6,7 @@ ghost use Rattle.ll_rights.specs.Bits.{has_place};
 ghost use Rattle.ll_rights.specs.Rights as files;
 ghost use Rattle.ll_rights.specs.NetRights as network;
 ghost use Rattle.ll_reasons.specs.Conditions.{port_rights_beyond, rights_beyond};
-ghost use Rattle.ll_explain.specs.Words.{behind, port_rights_text, rights_text};
+ghost use Rattle.ll_explain.specs.Words.{behind, port_rights_text, port_word_of, rights_text, word_of};
 
 use bitflags::Flags;
 use ll_rights::{Fs, Net};
@@ -33,11 +33,11 @@ fn is_beyond(named: u32, bits: u32, whole: u32, place: u32) -> bool
     has_place(named, bits, place) && !has_place(named, whole, place)
 }
 
-/// The name of the right at a place of the table.
+/// The word for the right at a place of the table.
 #[tactic(auto, unfolding(ll_rights::specs::Rights::all_rights, ll_rights::specs::Rights::named_rights))]
-fn file_right_name(place: u32) -> &'static str
+pub(crate) fn file_right_word(place: u32) -> &'static str
     requires { place < 17 }
-    ensures { result.now ≡ files.name_of (get_or files.all_rights place files.other) }
+    ensures { result.now ≡ word_of (get_or files.all_rights place files.other) }
 {
     match place {
         0 => "execute",
@@ -56,20 +56,20 @@ fn file_right_name(place: u32) -> &'static str
         13 => "refer",
         14 => "truncate",
         15 => "ioctl_dev",
-        _ => "",
+        _ => "a right of another name",
     }
 }
 
-/// The name of the right for ports at a place of the table.
+/// The word for the right for ports at a place of the table.
 #[tactic(auto, unfolding(ll_rights::specs::NetRights::all_rights))]
-fn port_right_name(place: u32) -> &'static str
+fn port_right_word(place: u32) -> &'static str
     requires { place < 3 }
-    ensures { result.now ≡ network.name_of (get_or network.all_rights place network.other) }
+    ensures { result.now ≡ port_word_of (get_or network.all_rights place network.other) }
 {
     match place {
         0 => "bind_tcp",
         1 => "connect_tcp",
-        _ => "",
+        _ => "a right of another name",
     }
 }
 
@@ -96,7 +96,7 @@ pub(crate) fn push_rights_beyond(
     let mut is_first = true;
     for place in 0..17 {
         if is_beyond(16, rights.bits(), whole.bits(), place) {
-            push_name(text, file_right_name(place), is_first)?;
+            push_name(text, file_right_word(place), is_first)?;
             is_first = false;
         }
     }
@@ -115,7 +115,7 @@ pub(crate) fn push_port_rights_beyond(
     let mut is_first = true;
     for place in 0..3 {
         if is_beyond(2, rights.bits(), whole.bits(), place) {
-            push_name(text, port_right_name(place), is_first)?;
+            push_name(text, port_right_word(place), is_first)?;
             is_first = false;
         }
     }

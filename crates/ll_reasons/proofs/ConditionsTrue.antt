@@ -197,6 +197,10 @@ allowed_decided : fails_alone Allowed ≡ false
 unfolding fails_alone
 allowed_decided = refl
 
+moot_decided : fails_alone Moot ≡ false
+unfolding fails_alone
+moot_decided = refl
+
 alone-refused_by : (e : Errno) (numbers : List ℕ) → fails_alone (answers.refused_by e numbers) ≡ false
 unfolding fails_alone
 alone-refused_by e [] = refl
@@ -294,6 +298,8 @@ call_condition tree abi records rulesets (calls.Link from to) s o error handles 
 call_condition tree abi records rulesets calls.Mount s o error handles is = never _ error (alone-refused_by Perm _) is
 call_condition tree abi records rulesets (calls.Bind port) s o error handles is = never _ error (alone-refused_by Acces _) is
 call_condition tree abi records rulesets (calls.Connect port) s o error handles is = never _ error (alone-refused_by Acces _) is
+call_condition tree abi records rulesets (calls.CreateEmpty rs) s o error handles is = never _ error (alone-free (s.held rs)) is
+call_condition tree abi records rulesets (calls.LeaveOut rule) s o error handles is = never Moot error moot_decided is
 call_condition tree abi records rulesets op s o error handles is = never Allowed error allowed_decided is
 
 pub condition_at : (tree : List Entry) (abi : Abi) (records : List Record) (place process : ℕ) (op : Op) (error : Errno) → answer_in tree abi (world_at tree abi records place) process op ≡ Refused error []

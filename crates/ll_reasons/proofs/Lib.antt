@@ -11,3 +11,5 @@ pub mod Gains
 pub mod InDomain
 pub mod ReasonsTrue
 pub mod ConditionsTrue
+pub mod SpeltTexts
+pub mod Upward

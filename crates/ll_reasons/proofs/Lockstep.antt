@@ -68,7 +68,7 @@ counts_kept Allowed s processes = refl
 counts_kept Moot s processes = refl
 counts_kept (Refused error numbers) s processes = refl
 
-count-sources_by : (k : ℕ) (op : Op) (p : ℕ) (a : Answer) (s : Sources) → (sources_by k op p a s).count ≡ s.count + cond (is_starting op) 1 0
+pub count-sources_by : (k : ℕ) (op : Op) (p : ℕ) (a : Answer) (s : Sources) → (sources_by k op p a s).count ≡ s.count + cond (is_starting op) 1 0
 unfolding sources_by is_starting
 count-sources_by k (Start nnp admin) p a s = refl
 count-sources_by k (Fork child) p a s = refl

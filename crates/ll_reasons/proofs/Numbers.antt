@@ -345,6 +345,7 @@ call_numbers tree abi rulesets (calls.Link from to) s o error number numbers sam
 call_numbers tree abi rulesets calls.Mount s o error number numbers same is = mount_numbers s.domain error number numbers is
 call_numbers tree abi rulesets (calls.Bind port) s o error number numbers same is = port_numbers s.domain port (network.only network.bind_tcp) error number numbers is
 call_numbers tree abi rulesets (calls.Connect port) s o error number numbers same is = port_numbers s.domain port (network.only network.connect_tcp) error number numbers is
+call_numbers tree abi rulesets (calls.CreateEmpty rs) s o error number numbers same is = absurd (contradicts _ error number numbers (free_by_none (s.held rs)) is)
 call_numbers tree abi rulesets op s o error number numbers same is = cc
 
 -- ---- a process at a place, and the record there

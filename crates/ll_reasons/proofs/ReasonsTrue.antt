@@ -23,6 +23,7 @@ use Rattle.ll_tree.specs.Trees.{Entry, path_at, kind_at, is_dir, node_at, positi
 use Rattle.ll_tree.proofs.Positions.{at_position}
 use Rattle.ll_trace.specs.declared.op.Op.{Op}
 use Rattle.ll_trace.specs.declared.op.Op.TheVariants as calls
+use Rattle.ll_trace.specs.declared.op.RuleType.{RuleType}
 use Rattle.ll_trace.specs.declared.op.Sort.{Sort}
 use Rattle.ll_trace.specs.declared.op.Sort.TheVariants.{Regular, Device, Other}
 use Rattle.ll_semantics.specs.declared.answer.Answer.{Answer}
@@ -37,15 +38,15 @@ use Rattle.ll_semantics.specs.Situations.{world_at}
 use Rattle.ll_reasons.specs.Origins.{Origins}
 use Rattle.ll_reasons.specs.Explanations.{origins_at}
 use Rattle.ll_reasons.proofs.DescriptorsMade.{descriptor_open}
-use Rattle.ll_reasons.specs.Reasons.{Reason, absent, of_kind, root, unmoved, beneath_itself, over_itself, mixed, open_already, unopened, not_for_writing, held_already, unheld, spelt, beside, or_above, ends_at, nowhere, no_object, not_removed, no_gap, onto, moved_to, unrenamed, linked_to, unlinked, reason}
-use Rattle.ll_reasons.specs.ReasonsHold.{paths_of, are_spelt, is_at_root, is_at_one, names_one_twice, is_regular, Holds}
+use Rattle.ll_reasons.specs.Reasons.{Reason, absent, of_kind, root, unmoved, beneath_itself, over_itself, mixed, open_already, unopened, not_for_writing, held_already, unheld, unsupported, spelt, beside, or_above, ends_at, nowhere, no_object, not_removed, no_gap, onto, moved_to, unrenamed, linked_to, unlinked, reason}
+use Rattle.ll_reasons.specs.ReasonsHold.{paths_of, are_spelt, is_left_out, is_at_root, is_at_one, names_one_twice, is_regular, Holds}
 use Rattle.ll_reasons.proofs.Enough.{and_both, or_left, or_right}
 use Rattle.ll_reasons.proofs.Gains.{prefix-trans, prefix-front}
 
 -- ---- the tree
 
 -- what a place says of the path that it is the place of
-unfoldable Placed : List Entry → Path → Place → Type 0
+unfoldable pub Placed : List Entry → Path → Place → Type 0
 Placed tree path (Node node) = node_at tree path ≡ Some node
 Placed tree path (Gap directory) = (node_at tree path ≡ None) × (node_at tree (front path) ≡ Some directory) × (is_dir (kind_at tree directory) ≡ true)
 Placed tree path Nowhere = node_at tree path ≡ None
@@ -63,7 +64,7 @@ unfolding Placed place_or_gap
 node_placed tree path None none = gap_placed tree path (node_at tree (front path)) none refl
 node_placed tree path (Some node) is = is
 
-text_placed : (tree : List Entry) (text : List ℕ) (path : Option Path) → path_of text ≡ path → is_some path ≡ true → Placed tree (spelt text) (place tree text)
+pub text_placed : (tree : List Entry) (text : List ℕ) (path : Option Path) → path_of text ≡ path → is_some path ≡ true → Placed tree (spelt text) (place tree text)
 unfolding place place_of
 text_placed tree text None is some = cc
 text_placed tree text (Some path) is some = rw is (node_placed tree path (node_at tree path) refl)
@@ -314,6 +315,10 @@ holds_open : (tree : List Entry) (s : State) (op : Op) (fd : ℕ) → is_some (s
 unfolding Holds
 holds_open tree s op fd is = is
 
+holds_left_out : (tree : List Entry) (s : State) (rule : RuleType) → Holds tree s (calls.LeaveOut rule) unsupported
+unfolding Holds is_left_out
+holds_left_out tree s rule = refl
+
 holds_unopened : (tree : List Entry) (s : State) (op : Op) (fd : ℕ) → s.descriptors fd ≡ None → Holds tree s op (unopened fd)
 unfolding Holds
 holds_unopened tree s op fd is = is
@@ -373,6 +378,8 @@ call_reason tree abi rulesets (calls.Link from to) s o there are same moot =
 call_reason tree abi rulesets calls.Mount s o there are same moot = not_moot _ (moot-refused_by Perm _) moot
 call_reason tree abi rulesets (calls.Bind port) s o there are same moot = not_moot _ (moot-refused_by Acces _) moot
 call_reason tree abi rulesets (calls.Connect port) s o there are same moot = not_moot _ (moot-refused_by Acces _) moot
+call_reason tree abi rulesets (calls.CreateEmpty rs) s o there are same moot = holds_held tree s (calls.CreateEmpty rs) rs (if_free-some (s.held rs) moot)
+call_reason tree abi rulesets (calls.LeaveOut rule) s o there are same moot = holds_left_out tree s rule
 call_reason tree abi rulesets op s o there are same moot = not_moot Allowed decided moot
 
 -- ---- a process at a place

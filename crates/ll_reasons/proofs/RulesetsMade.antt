@@ -5,6 +5,8 @@ use Rattle.std.proofs.lemmas.Option.{none-some, same_Some}
 use Rattle.ll_rights.specs.declared.abi.Abi.{Abi}
 use Rattle.ll_rights.specs.declared.fs.Fs.{Fs}
 use Rattle.ll_rights.specs.declared.net.Net.{Net}
+use Rattle.ll_rights.specs.Rights as files
+use Rattle.ll_rights.specs.NetRights as network
 use Rattle.ll_tree.specs.declared.place.Place.{Place}
 use Rattle.ll_tree.specs.declared.place.Place.TheVariants.{Node, Gap, Nowhere}
 use Rattle.ll_tree.specs.Trees.{Entry, place}
@@ -12,7 +14,7 @@ use Rattle.ll_rules.specs.Layers.{without_rules, with_port_rule}
 use Rattle.ll_rules.specs.Rulesets.{with_rule_at}
 use Rattle.ll_trace.specs.declared.record.Record.{Record}
 use Rattle.ll_trace.specs.declared.op.Op.{Op}
-use Rattle.ll_trace.specs.declared.op.Op.TheVariants.{Create, AddPath, AddPort, CloseRs}
+use Rattle.ll_trace.specs.declared.op.Op.TheVariants.{Create, CreateEmpty, AddPath, AddPort, CloseRs}
 use Rattle.ll_semantics.specs.declared.answer.Answer.{Answer}
 use Rattle.ll_semantics.specs.declared.answer.Answer.TheVariants.{Allowed, Moot, Refused}
 use Rattle.ll_semantics.specs.States.{State, Layer, fresh}
@@ -23,7 +25,7 @@ use Rattle.ll_semantics.specs.Situations.{change, state_by, rules, rulesets_by, 
 use Rattle.ll_semantics.proofs.Steps.{step-rulesets}
 use Rattle.ll_semantics.proofs.Worlds.{judged-at}
 use Rattle.ll_reasons.specs.Origins.{Origins, no_origins, traced}
-use Rattle.ll_reasons.specs.Made.{IsCreate, IsEarlierCreate}
+use Rattle.ll_reasons.specs.Made.{is_create, IsCreate, IsEarlierCreate}
 use Rattle.ll_reasons.specs.Conditions.{handled_by, handled_on_ports_by, call_of, handled, handled_on_ports}
 use Rattle.ll_reasons.specs.Explanations.{origins_at}
 use Rattle.ll_reasons.proofs.Lockstep.{Keeps, holds_at, world_at-more, world_at-past}
@@ -80,6 +82,7 @@ with_rule-ports tree Nowhere fs old = refl
 by_call : (tree : List Entry) (rulesets : List Layer) (op : Op) (s : State) (fs : Fs) (net : Net) (j : ℕ) → HandlesJust fs net (slice_get rulesets j) → HandlesJust fs net (slice_get (rules tree rulesets op s) j)
 unfolding rules rulesets_by effect
 by_call tree rulesets (Create rs fs2 net2) s fs net j just = appended fs net rulesets (without_rules fs2 net2 ∷ []) j just
+by_call tree rulesets (CreateEmpty rs) s fs net j just = appended fs net rulesets (without_rules files.no_right network.no_right ∷ []) j just
 by_call tree rulesets (AddPath rs path fs2) s fs net j just =
     changed_kept fs net rulesets (s.held rs) (λ old. with_rule_at tree old (place tree path) fs2) j (λ old. with_rule-files tree (place tree path) fs2 old) (λ old. with_rule-ports tree (place tree path) fs2 old) just
 by_call tree rulesets (AddPort rs port net2) s fs net j just =
@@ -111,17 +114,17 @@ by_record tree abi records k fs net j just = by_get (slice_get records k) refl
         (in_step tree abi w.rulesets (w.processes r.process.0) r.op fs net j just)
 
 -- what is created is the last
-rules_last : (tree : List Entry) (rulesets : List Layer) (s : State) (rs : ℕ) (fs : Fs) (net : Net) → HandlesJust fs net (slice_get (rules tree rulesets (Create rs fs net) s) (length rulesets))
-unfolding rules rulesets_by effect
-rules_last tree rulesets s rs fs net = just_new fs net rulesets
+rules_last : (tree : List Entry) (rulesets : List Layer) (s : State) (op : Op) → is_create op ≡ true → HandlesJust (handled_by op) (handled_on_ports_by op) (slice_get (rules tree rulesets op s) (length rulesets))
+unfolding is_create rules rulesets_by effect
+rules_last tree rulesets s (Create rs fs net) creates = just_new fs net rulesets
+rules_last tree rulesets s (CreateEmpty rs) creates = just_new files.no_right network.no_right rulesets
+rules_last tree rulesets s op creates = absurd cc
 
-created_last : (tree : List Entry) (abi : Abi) (rulesets : List Layer) (s : State) (op : Op) (rs : ℕ) (fs : Fs) (net : Net) → op ≡ Create rs fs net → answer tree abi rulesets op s ≡ Allowed → HandlesJust fs net (slice_get (rulesets_after tree abi rulesets op s) (length rulesets))
+created_last : (tree : List Entry) (abi : Abi) (rulesets : List Layer) (s : State) (op : Op) → answer tree abi rulesets op s ≡ Allowed → is_create op ≡ true
+    → HandlesJust (handled_by op) (handled_on_ports_by op) (slice_get (rulesets_after tree abi rulesets op s) (length rulesets))
 unfolding rulesets_after
-created_last tree abi rulesets s op rs fs net is allowed =
-    subst (λ (a : Answer). HandlesJust fs net (slice_get (if_allowed a (rules tree rulesets op s) rulesets) (length rulesets))) (sym allowed) (by_op op is)
-  where
-    by_op : (op : Op) → op ≡ Create rs fs net → HandlesJust fs net (slice_get (rules tree rulesets op s) (length rulesets))
-    by_op op is = subst (λ (o : Op). HandlesJust fs net (slice_get (rules tree rulesets o s) (length rulesets))) (sym is) (rules_last tree rulesets s rs fs net)
+created_last tree abi rulesets s op allowed creates =
+    subst (λ (a : Answer). HandlesJust (handled_by op) (handled_on_ports_by op) (slice_get (if_allowed a (rules tree rulesets op s) rulesets) (length rulesets))) (sym allowed) (rules_last tree rulesets s op creates)
 
 -- ---- what a number names
 
@@ -129,7 +132,7 @@ created_last tree abi rulesets s op rs fs net is allowed =
 record Holds (tree : List Entry) (abi : Abi) (records : List Record) (at j k : ℕ) : Type 0 where
   before : k < at
   created : IsCreate tree abi records k
-  just : HandlesJust created.fs created.net (slice_get (world_at tree abi records at).rulesets j)
+  just : HandlesJust (handled_by created.of.op) (handled_on_ports_by created.of.op) (slice_get (world_at tree abi records at).rulesets j)
 
 -- so do all that are held
 abbrev AllHeld : List Entry → Abi → List Record → ℕ → State → Origins → Type 0
@@ -138,20 +141,25 @@ AllHeld tree abi records at s o = (rs : ℕ) → Alike (Holds tree abi records a
 later : (tree : List Entry) (abi : Abi) (records : List Record) (k : ℕ) (x y : Option ℕ) → Alike (Holds tree abi records k) x y → Alike (Holds tree abi records (suc k)) x y
 later tree abi records k x y fits =
     alike-weaker (Holds tree abi records k) (Holds tree abi records (suc k))
-    (λ j i is. record { before = omega (arith, is.before); created = is.created; just = by_record tree abi records k is.created.fs is.created.net j is.just }) x y fits
+    (λ j i is. record { before = omega (arith, is.before); created = is.created; just = by_record tree abi records k (handled_by is.created.of.op) (handled_on_ports_by is.created.of.op) j is.just }) x y fits
 
-changed : (tree : List Entry) (abi : Abi) (records : List Record) (k : ℕ) (r : Record) (op : Op) (rulesets : List Layer) (s : State) (o : Origins) → r.op ≡ op → slice_get records k ≡ Some r → slice_get (judged tree abi records) k ≡ Some Allowed
-    → ((rs : ℕ) (fs : Fs) (net : Net) → op ≡ Create rs fs net → HandlesJust fs net (slice_get (world_at tree abi records (suc k)).rulesets (length rulesets))) → AllHeld tree abi records k s o
+-- the ruleset that a record at a place creates
+created_here : (tree : List Entry) (abi : Abi) (records : List Record) (k j : ℕ) (r : Record) → slice_get records k ≡ Some r → slice_get (judged tree abi records) k ≡ Some Allowed → is_create r.op ≡ true
+    → HandlesJust (handled_by r.op) (handled_on_ports_by r.op) (slice_get (world_at tree abi records (suc k)).rulesets j) → Holds tree abi records (suc k) j k
+created_here tree abi records k j r at allowed creates just = record { before = omega arith; created = record { of = r; at = at; creates = creates; allowed = allowed }; just = just }
+
+changed : (tree : List Entry) (abi : Abi) (records : List Record) (k : ℕ) (op : Op) (rulesets : List Layer) (s : State) (o : Origins)
+    → (is_create op ≡ true → Holds tree abi records (suc k) (length rulesets) k) → AllHeld tree abi records k s o
     → AllHeld tree abi records (suc k) (change tree rulesets op s) (traced k op o)
-unfolding change state_by effect traced Alike
-changed tree abi records k r (Create rs fs net) rulesets s o is at allowed makes all q =
-    alike-update (Holds tree abi records (suc k)) s.held o.rulesets rs q (Some (length rulesets)) (Some k)
-    (record { before = omega arith; created = record { of = r; rs = rs; fs = fs; net = net; at = at; creates = is; allowed = allowed }; just = makes rs fs net refl })
-    (later tree abi records k (s.held q) (o.rulesets q) (all q))
-changed tree abi records k r (CloseRs rs) rulesets s o is at allowed makes all q =
+unfolding change state_by effect traced Alike is_create
+changed tree abi records k (Create rs fs net) rulesets s o makes all q =
+    alike-update (Holds tree abi records (suc k)) s.held o.rulesets rs q (Some (length rulesets)) (Some k) (makes refl) (later tree abi records k (s.held q) (o.rulesets q) (all q))
+changed tree abi records k (CreateEmpty rs) rulesets s o makes all q =
+    alike-update (Holds tree abi records (suc k)) s.held o.rulesets rs q (Some (length rulesets)) (Some k) (makes refl) (later tree abi records k (s.held q) (o.rulesets q) (all q))
+changed tree abi records k (CloseRs rs) rulesets s o makes all q =
     alike-update (Holds tree abi records (suc k)) s.held o.rulesets rs q None None tt
     (later tree abi records k (s.held q) (o.rulesets q) (all q))
-changed tree abi records k r op rulesets s o is at allowed makes all q = later tree abi records k (s.held q) (o.rulesets q) (all q)
+changed tree abi records k op rulesets s o makes all q = later tree abi records k (s.held q) (o.rulesets q) (all q)
 
 keeps : (tree : List Entry) (abi : Abi) (records : List Record) → Keeps tree abi records (AllHeld tree abi records)
 unfolding fresh no_origins answer_in Alike
@@ -161,8 +169,9 @@ keeps tree abi records = record {
   changes = λ k r o at allowed all.
       (let w : World = world_at tree abi records k in
       let s : State = w.processes r.process.0 in
-      changed tree abi records k r r.op w.rulesets s o refl at (judged-at tree abi records k r at ∙ ap Some allowed)
-      (λ rs fs net is. subst (λ (rulesets : List Layer). HandlesJust fs net (slice_get rulesets (length w.rulesets))) (sym (next_rulesets tree abi records k r at)) (created_last tree abi w.rulesets s r.op rs fs net is allowed))
+      changed tree abi records k r.op w.rulesets s o
+      (λ creates. created_here tree abi records k (length w.rulesets) r at (judged-at tree abi records k r at ∙ ap Some allowed) creates
+      (subst (λ (rulesets : List Layer). HandlesJust (handled_by r.op) (handled_on_ports_by r.op) (slice_get rulesets (length w.rulesets))) (sym (next_rulesets tree abi records k r at)) (created_last tree abi w.rulesets s r.op allowed creates)))
       all);
 }
 
@@ -179,7 +188,7 @@ some_just fs net (Some rules) just = refl
 is_named : (tree : List Entry) (abi : Abi) (records : List Record) (at : ℕ) (x y : Option ℕ) → Alike (Holds tree abi records at) x y → is_some (named (world_at tree abi records at).rulesets x) ≡ is_some x
 unfolding Alike
 is_named tree abi records at None None fits = refl
-is_named tree abi records at (Some j) (Some k) fits = some_just fits.created.fs fits.created.net (slice_get (world_at tree abi records at).rulesets j) fits.just
+is_named tree abi records at (Some j) (Some k) fits = some_just (handled_by fits.created.of.op) (handled_on_ports_by fits.created.of.op) (slice_get (world_at tree abi records at).rulesets j) fits.just
 is_named tree abi records at None (Some k) fits = absurd fits
 is_named tree abi records at (Some j) None fits = absurd fits
 
@@ -203,8 +212,8 @@ unfolding Alike handled_there handled_on_ports_there
 as_created tree abi records at None None rules fits is = absurd (none-some rules is)
 as_created tree abi records at (Some j) (Some k) rules fits is =
     let created = fits.created in
-    let same = handles_named created.fs created.net (slice_get (world_at tree abi records at).rulesets j) rules is fits.just in
-    rw (created.at, created.creates) same
+    let same = handles_named (handled_by created.of.op) (handled_on_ports_by created.of.op) (slice_get (world_at tree abi records at).rulesets j) rules is fits.just in
+    rw created.at same
 as_created tree abi records at None (Some k) rules fits is = absurd fits
 as_created tree abi records at (Some j) None rules fits is = absurd fits
 

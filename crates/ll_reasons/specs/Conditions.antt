@@ -42,10 +42,12 @@ pub data Condition : Type 0 where
 
 abbrev pub handled_by : Op → Fs
 handled_by (calls.Create rs fs net) = fs
+handled_by (calls.CreateEmpty rs) = files.no_right
 handled_by op = files.no_right
 
 abbrev pub handled_on_ports_by : Op → Net
 handled_on_ports_by (calls.Create rs fs net) = net
+handled_on_ports_by (calls.CreateEmpty rs) = network.no_right
 handled_on_ports_by op = network.no_right
 
 -- the call of the record at a place, if there is one

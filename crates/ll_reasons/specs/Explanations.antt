@@ -61,6 +61,8 @@ objections_to tree domain o (calls.Link from to) error numbers = to_move tree do
 objections_to tree domain o calls.Mount error numbers = objecting on_mount domain
 objections_to tree domain o (calls.Bind port) error numbers = objecting (on_port port (network.only network.bind_tcp)) domain
 objections_to tree domain o (calls.Connect port) error numbers = objecting (on_port port (network.only network.connect_tcp)) domain
+objections_to tree domain o (calls.CreateEmpty rs) error numbers = []
+objections_to tree domain o (calls.LeaveOut rule) error numbers = []
 
 -- the explanation of an answer to a call, by the domain and the origins of its process
 unfoldable pub explained : List Entry → Abi → List Record → List Layer → Origins → Op → Answer → Explanation

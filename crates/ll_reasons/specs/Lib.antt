@@ -6,5 +6,6 @@ pub mod Conditions
 pub mod ConditionsHold
 pub mod Reasons
 pub mod ReasonsHold
+pub mod Meant
 pub mod Explanations
 pub mod WorkedExplanations

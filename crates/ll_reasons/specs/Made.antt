@@ -2,8 +2,6 @@
 -- Source: landlock_restrict_self(2), landlock_create_ruleset(2); open(2); landlock(7), "Inheritance".
 use Rattle.std.specs.Prelude.{◌≡◌, ◌<◌, ℕ, ◌++◌, List, [], Option, Some, None, Bool, true, false, slice_get}
 use Rattle.ll_rights.specs.declared.abi.Abi.{Abi}
-use Rattle.ll_rights.specs.declared.fs.Fs.{Fs}
-use Rattle.ll_rights.specs.declared.net.Net.{Net}
 use Rattle.ll_tree.specs.Trees.{Entry, place}
 use Rattle.ll_trace.specs.declared.record.Record.{Record}
 use Rattle.ll_trace.specs.declared.op.Op.{Op}
@@ -73,14 +71,17 @@ IsEarlierOpening tree abi records place k = (k < place) × IsOpening tree abi re
 
 -- ---- rulesets
 
+-- the call creates a ruleset, be it one that handles nothing
+unfoldable pub is_create : Op → Bool
+is_create (calls.Create rs fs net) = true
+is_create (calls.CreateEmpty rs) = true
+is_create op = false
+
 -- the record at a place of the trace creates a ruleset, and is allowed
 pub record IsCreate (tree : List Entry) (abi : Abi) (records : List Record) (k : ℕ) : Type 0 where
   pub of : Record
-  pub rs : ℕ
-  pub fs : Fs
-  pub net : Net
   pub at : slice_get records k ≡ Some of
-  pub creates : of.op ≡ calls.Create rs fs net
+  pub creates : is_create of.op ≡ true
   pub allowed : slice_get (judged tree abi records) k ≡ Some Allowed
 
 abbrev pub IsEarlierCreate : List Entry → Abi → List Record → ℕ → ℕ → Type 0

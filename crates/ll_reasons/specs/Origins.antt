@@ -55,6 +55,8 @@ traced place (calls.Link from to) o = o
 traced place calls.Mount o = o
 traced place (calls.Bind port) o = o
 traced place (calls.Connect port) o = o
+traced place (calls.CreateEmpty rs) o = with_ruleset o rs (Some place)
+traced place (calls.LeaveOut rule) o = o
 
 -- the origins of all processes by their numbers, and how many processes were started
 pub record Sources : Type 0 where

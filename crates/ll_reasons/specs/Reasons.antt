@@ -39,6 +39,8 @@ pub data Reason : Type 0 where
   -- a ruleset's number is held already, or isn't held
   held_already : ℕ → Reason
   unheld : ℕ → Reason
+  -- the program leaves the call out: the ABI supports none of the rights that the rule would grant
+  unsupported : Reason
 
 -- ---- the tree
 
@@ -147,3 +149,5 @@ reason tree o (calls.Link from to) = Some (unlinked tree (spelt from) (place tre
 reason tree o calls.Mount = None
 reason tree o (calls.Bind port) = None
 reason tree o (calls.Connect port) = None
+reason tree o (calls.CreateEmpty rs) = Some (held_already rs)
+reason tree o (calls.LeaveOut rule) = Some unsupported

@@ -14,7 +14,7 @@ use Rattle.ll_trace.specs.declared.op.Sort.TheVariants.{Regular, Device, Other}
 use Rattle.ll_semantics.specs.declared.descriptor.Descriptor.{Descriptor}
 use Rattle.ll_semantics.specs.Moves.{is_root, is_mixed}
 use Rattle.ll_semantics.specs.States.{State}
-use Rattle.ll_reasons.specs.Reasons.{Reason, absent, no_directory, present, of_kind, root, unmoved, beneath_itself, over_itself, mixed, open_already, unopened, not_for_writing, held_already, unheld}
+use Rattle.ll_reasons.specs.Reasons.{Reason, absent, no_directory, present, of_kind, root, unmoved, beneath_itself, over_itself, mixed, open_already, unopened, not_for_writing, held_already, unheld, unsupported}
 
 -- the texts of the paths that a call names
 unfoldable pub paths_of : Op → List (List ℕ)
@@ -51,6 +51,11 @@ unfoldable pub names_one_twice : List Entry → Op → Bool
 names_one_twice tree (calls.Rename from to exchange) = is_at_one (place tree from) (place tree to)
 names_one_twice tree op = false
 
+-- the program leaves the call out
+unfoldable pub is_left_out : Op → Bool
+is_left_out (calls.LeaveOut rule) = true
+is_left_out op = false
+
 abbrev pub is_regular : Sort → Bool
 is_regular Regular = true
 is_regular Device = false
@@ -75,3 +80,4 @@ Holds tree s op (unopened fd) = s.descriptors fd ≡ None
 Holds tree s op (not_for_writing fd) = (held : Descriptor) × (s.descriptors fd ≡ Some held) × (is_regular held.sort ≡ false)
 Holds tree s op (held_already rs) = is_some (s.held rs) ≡ true
 Holds tree s op (unheld rs) = s.held rs ≡ None
+Holds tree s op unsupported = is_left_out op ≡ true

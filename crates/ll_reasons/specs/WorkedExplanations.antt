@@ -1,13 +1,17 @@
 -- Records of small traces with their explanations.
 -- Source: docs/FORMATS.md, "Explanations"; the manual pages on Landlock.
-use Rattle.std.specs.Prelude.{◌≡◌, ℕ, List, [], ◌∷◌, map, codes, Option, Some, None, slice_get}
+use Rattle.std.specs.Prelude.{◌≡◌, ℕ, List, [], ◌∷◌, ◌++◌, map, codes, Option, Some, None, slice_get}
 use Rattle.ll_rights.specs.declared.abi.Abi.{Abi}
 use Rattle.ll_rights.specs.Rights.{execute, write_file, read_dir, refer, truncate}
 use Rattle.ll_rights.specs.NetRights.{bind_tcp, connect_tcp}
+use Rattle.ll_rules.specs.declared.errno.Errno.TheVariants.{Acces, Inval}
 use Rattle.ll_tree.specs.Paths.{Path}
 use Rattle.ll_tree.specs.WorkedTree.{worked_tree}
 use Rattle.ll_trace.specs.declared.record.Record.{Record}
+use Rattle.ll_trace.specs.declared.op.Op.TheVariants as calls
+use Rattle.ll_trace.specs.declared.op.RuleType.TheVariants.{PathBeneath, NetPort}
 use Rattle.ll_semantics.specs.declared.answer.Answer.{Answer}
+use Rattle.ll_semantics.specs.WorkedWords.{begins, ok, moot, refused, creates, adds}
 use Rattle.ll_reasons.specs.Objections.{missing, closed, gained, kept}
 use Rattle.ll_reasons.specs.Conditions as conditions
 use Rattle.ll_reasons.specs.Reasons as reasons
@@ -67,3 +71,28 @@ directories_alone = failure (conditions.only_for_directories (read_dir ∷ []) (
 
 abbrev pub nothing_there : Explanation
 nothing_there = mootness (Some (reasons.absent none))
+
+-- ---- a program at best effort
+
+-- It makes do with a ruleset that handles nothing, to which no rule can be added, and leaves out what its version
+-- doesn't support. The layer of this ruleset refuses nothing, and the next layer is the second.
+abbrev pub best_effort : List (Record × Answer)
+best_effort =
+    begins
+    ++ ok 0 (calls.CreateEmpty 3)
+    ∷ moot 0 (calls.LeaveOut NetPort)
+    ∷ moot 0 (calls.CreateEmpty 3)
+    ∷ refused Inval [] 0 (adds 3 (codes "/a") (execute ∷ []))
+    ∷ moot 0 (calls.LeaveOut PathBeneath)
+    ∷ ok 0 (calls.Restrict 3)
+    ∷ ok 0 (calls.Exec (codes "/a/f"))
+    ∷ ok 0 (creates 4 (execute ∷ []) [])
+    ∷ ok 0 (calls.Restrict 4)
+    ∷ refused Acces (2 ∷ []) 0 (calls.Exec (codes "/a/f"))
+    ∷ []
+
+abbrev pub execute_unhandled : Explanation
+execute_unhandled = failure (conditions.unhandled (execute ∷ []))
+
+abbrev pub execute_on_the_second : Explanation
+execute_on_the_second = objections ((2, missing (execute ∷ []) a_f ∷ []) ∷ [])

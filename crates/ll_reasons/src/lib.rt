@@ -1,16 +1,22 @@
-//! Why calls are refused or not asked: definitions over the one fold of the semantics, which stand in `specs/`, and
-//! the laws that hold of them.
+//! Why calls are refused or not asked: definitions over the one fold of the semantics, which stand in `specs/`, the
+//! laws that hold of them, and which reason the tree gives for a moot call.
 #![tactic(auto)]
 
 mod laws;
 mod layers;
+mod moves;
+mod objects;
 mod origins;
 mod reasons;
 mod remedies;
+mod spelt_path;
+mod why;
 mod worked;
 
 pub use laws::allowed_records_need_no_explanation;
 pub use layers::refusing_layers_are_explained;
+pub use moves::{unlinked, unrenamed};
+pub use objects::{no_gap, no_object, not_removed};
 pub use origins::{
     descriptors_come_from_their_openings, layers_come_from_their_restricts,
     layers_keep_their_numbers, rulesets_come_from_their_creations,
@@ -19,4 +25,9 @@ pub use reasons::{conditions_hold, reasons_hold};
 pub use remedies::{
     granting_what_is_named_is_enough, named_rights_are_needed, satisfied_layers_do_not_refuse,
 };
-pub use worked::{worked_reasons, worked_refusals};
+pub use spelt_path::SpeltPath;
+pub use why::Why;
+pub use worked::{worked_best_effort, worked_reasons, worked_refusals};
+
+#[cfg(test)]
+mod tests;

@@ -44,7 +44,7 @@ pub fn descriptors_come_from_their_openings()
 {}
 
 /// A number is that of a ruleset just where its origins name a creation; this is an earlier `create` that was
-/// allowed, and the ruleset handles just the rights that it names.
+/// allowed, and the ruleset handles just the rights that it names, which at best effort may be none.
 pub fn rulesets_come_from_their_creations()
     ensures held { (tree : List Entry) (abi : Abi) (records : List Record) (place process rs : ℕ)
         → is_some ((origins_at tree abi records place process).rulesets rs)

@@ -3,12 +3,13 @@
 
 ghost use Rattle.std.specs.Prelude.{[], ◌∷◌, Some};
 ghost use Rattle.ll_rights.specs.declared.abi.Abi.TheVariants.{V1, V2, V3, V4};
+ghost use Rattle.ll_semantics.specs.WorkedWords.{IsAnswered};
 ghost use Rattle.ll_semantics.specs.WorkedLayers.{rule_errors};
 ghost use Rattle.ll_semantics.specs.WorkedCalls.{unreferred, gaining, truncating, port_zero, moot_calls};
 ghost use Rattle.ll_reasons.specs.Conditions as conditions;
 ghost use Rattle.ll_reasons.specs.Reasons as reasons;
 ghost use Rattle.ll_reasons.specs.Explanations.{nothing, failure, mootness};
-ghost use Rattle.ll_reasons.specs.WorkedExplanations.{IsExplained, a_f, refer_on_both, would_gain, truncate_on_both_layers, truncate_kept, bind_to, write_unhandled, connect_unhandled, directories_alone, nothing_there};
+ghost use Rattle.ll_reasons.specs.WorkedExplanations.{IsExplained, a_f, refer_on_both, would_gain, truncate_on_both_layers, truncate_kept, bind_to, write_unhandled, connect_unhandled, directories_alone, nothing_there, best_effort, execute_unhandled, execute_on_the_second};
 
 /// How records are explained that layers refuse: with the missing right, `refer` on both directories, what an object
 /// would gain, and the opening of a descriptor, also after a fork and a duplicate.
@@ -36,4 +37,14 @@ pub fn worked_reasons()
     ensures absent_above { IsExplained V4 moot_calls 2 nothing_there }
     ensures unmoved { IsExplained V4 moot_calls 7 (mootness (Some (reasons.unmoved a_f))) }
     ensures unopened { IsExplained V4 moot_calls 5 (mootness (Some (reasons.unopened 4))) }
+{}
+
+/// How records of a program at best effort are explained.
+pub fn worked_best_effort()
+    ensures answered { IsAnswered V3 best_effort }
+    ensures port_left_out { IsExplained V3 best_effort 3 (mootness (Some reasons.unsupported)) }
+    ensures held_already { IsExplained V3 best_effort 4 (mootness (Some (reasons.held_already 3))) }
+    ensures handles_nothing { IsExplained V3 best_effort 5 execute_unhandled }
+    ensures path_left_out { IsExplained V3 best_effort 6 (mootness (Some reasons.unsupported)) }
+    ensures second_layer { IsExplained V3 best_effort 11 execute_on_the_second }
 {}

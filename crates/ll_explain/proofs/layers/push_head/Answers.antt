@@ -1,4 +1,4 @@
-use Rattle.std.proofs.Common.{◌≡◌, ◌∙◌, ◌++◌, ap, decimal}
+use Rattle.std.proofs.Common.{◌∙◌, ◌++◌, ap, decimal}
 use Rattle.ll_explain.specs.Words.{layer_head}
 use Rattle.ll_explain.proofs.Appending.{appended_3}
 use Rattle.ll_explain.proofs.layers.push_head.Goals as goal

@@ -11,5 +11,5 @@ use Rattle.ll_explain.proofs.layers.push_request.Given as goal
 -- the lines of the layers before the next one are written
 abbrev pub invariant-loop-index : goal.invariant-loop-index
 invariant-loop-index l =
-    l.text.items ≡ l.fn.text.items ++ flat_map (layer_text l.records l.restricts)
-    (objecting_from (on_path (path_at l.tree l.node) (files.has l.wanted)) 1 (take l.index (all_in_tree l.tree (domain_of l.layers l.domain))))
+    l.text.items ≡ l.fn.text.items ++ flat_map (layer_text l.of.records.now l.of.restricts.now)
+    (objecting_from (on_path (path_at l.of.tree.now l.node) (files.has l.wanted)) 1 (take l.index (all_in_tree l.of.tree.now (domain_of l.of.layers.now l.of.domain.now))))

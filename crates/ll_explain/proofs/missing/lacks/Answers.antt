@@ -1,7 +1,6 @@
-use Rattle.std.proofs.Common.{◌≡◌, ◌∙◌, ◌++◌, ◌∷◌, [], List, length, ap}
+use Rattle.std.proofs.Common.{◌≡◌, ◌∙◌, ◌++◌, ◌∷◌, [], length, ap}
 use Rattle.std.specs.Prelude.{not, ◌==◌}
 use Rattle.ll_tree.specs.Trees.{path_at}
-use Rattle.ll_rules.specs.declared.domain.LayerId.{LayerId}
 use Rattle.ll_rules.specs.Checks.{refusing}
 use Rattle.ll_rules.specs.InTree.{all_in_tree, in_tree}
 use Rattle.ll_rules.specs.KeptLayers.{domain_of, layer_at}

@@ -1,11 +1,11 @@
 use Rattle.std.proofs.Common.{◌≡◌, ◌++◌, ◌&&◌, not, codes}
 use Rattle.ll_rights.specs.Rights as files
-use Rattle.ll_explain.specs.Words.{joined}
+use Rattle.ll_explain.specs.Words.{joined, word_of}
 use Rattle.ll_explain.proofs.Listing.{is_none_yet, names_upto}
 use Rattle.ll_explain.proofs.rights.push_rights_beyond.Given as goal
 
 -- the names of the rights before the place are written
 abbrev pub invariant-loop-place : goal.invariant-loop-place
 invariant-loop-place l =
-    (l.text.items ≡ l.fn.text.items ++ joined (codes ", ") (names_upto (λ right. files.has l.rights right && not (files.has l.whole right)) files.name_of files.all_rights files.other l.place))
-    × (l.is_first ≡ is_none_yet (names_upto (λ right. files.has l.rights right && not (files.has l.whole right)) files.name_of files.all_rights files.other l.place))
+    (l.text.items ≡ l.fn.text.items ++ joined (codes ", ") (names_upto (λ right. files.has l.rights right && not (files.has l.whole right)) word_of files.all_rights files.other l.place))
+    × (l.is_first ≡ is_none_yet (names_upto (λ right. files.has l.rights right && not (files.has l.whole right)) word_of files.all_rights files.other l.place))

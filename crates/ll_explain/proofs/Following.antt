@@ -1,0 +1,31 @@
+-- Layers object to the same by what a trail keeps as by the origins that it follows.
+use Rattle.std.proofs.Common.{◌≡◌, ◌∙◌, ℕ, List, ◌++◌, refl, ap}
+use Rattle.std.specs.List.{flat_map}
+use Rattle.ll_rights.specs.Rights.{truncate, ioctl_dev}
+use Rattle.ll_tree.specs.Trees.{Entry}
+use Rattle.ll_trace.specs.declared.op.Op.{Op}
+use Rattle.ll_trace.specs.declared.op.Op.TheVariants as calls
+use Rattle.ll_trace.specs.declared.record.Record.{Record}
+use Rattle.ll_rules.specs.declared.errno.Errno.{Errno}
+use Rattle.ll_semantics.specs.States.{Layer}
+use Rattle.ll_reasons.specs.Explanations.{kept_by, objections_to}
+use Rattle.ll_reasons.specs.Objections.{Objection}
+use Rattle.ll_reasons.specs.Origins.{Origins}
+use Rattle.ll_trails.specs.Trails.{Follows}
+use Rattle.ll_trails.specs.declared.trail.Trail.{Trail}
+use Rattle.ll_explain.specs.Followed.{followed}
+use Rattle.ll_explain.specs.Words.{layer_text}
+
+module _ (tree : List Entry) (domain : List Layer) (trail : Trail) (o : Origins) (follows : Follows trail o) (error : Errno) (numbers : List ℕ) where
+  same : (op : Op) → objections_to tree domain (followed trail) op error numbers ≡ objections_to tree domain o op error numbers
+  unfolding objections_to
+  same (calls.Ftruncate fd) = ap (kept_by truncate numbers) (follows.openings fd)
+  same (calls.Ioctl fd driver) = ap (kept_by ioctl_dev numbers) (follows.openings fd)
+  same op = refl
+
+  pub objected : (records : List Record) (made : List ℕ) (op : Op) (start text : List ℕ) → made ≡ trail.layers.items →
+      text ≡ start ++ flat_map (layer_text records made) (objections_to tree domain (followed trail) op error numbers) →
+      text ≡ start ++ flat_map (layer_text records o.layers) (objections_to tree domain o op error numbers)
+  objected records made op start text is written =
+      written ∙ ap (λ (said : List (ℕ × List Objection)). start ++ flat_map (layer_text records made) said) (same op)
+      ∙ ap (λ layers. start ++ flat_map (layer_text records layers) (objections_to tree domain o op error numbers)) (is ∙ follows.layers)

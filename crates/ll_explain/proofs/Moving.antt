@@ -1,0 +1,126 @@
+-- What is said of a layer in a move.
+use Rattle.std.proofs.Common.{◌≡◌, ◌∙◌, ℕ, Bool, true, false, Bor, List, [], ◌∷◌, ◌++◌, refl, sym, ap, append_assoc, inl, inr, ◌⊎◌}
+use Rattle.std.specs.Prelude.{not, ◌&&◌, ◌||◌}
+use Rattle.std.proofs.lemmas.List.Elements.{filter_agree}
+use Rattle.std.proofs.lemmas.List.Folds.{list_any-append}
+use Rattle.ll_rights.specs.declared.fs.Fs.{Fs}
+use Rattle.ll_rights.specs.Rights as files
+use Rattle.ll_rights.proofs.Sets.{fs_has-only, fs_has-united}
+use Rattle.ll_tree.specs.declared.place.NodeId.{NodeId}
+use Rattle.ll_tree.specs.Paths.{Path, front, path_eq}
+use Rattle.ll_tree.specs.Trees.{Entry, kind_at, path_at}
+use Rattle.ll_rules.specs.declared.moves.How.{How}
+use Rattle.ll_rules.specs.declared.moves.How.TheVariants.{Rename, Exchange, Link}
+use Rattle.ll_rules.specs.declared.moves.Move.{Move}
+use Rattle.ll_rules.specs.declared.moves.Target.{Target}
+use Rattle.ll_rules.specs.declared.moves.Target.TheVariants.{New, Over}
+use Rattle.ll_rules.specs.Layers.{granted, handles}
+use Rattle.ll_rules.specs.Moves.{asked_of_destination, asked_of_source, destination_of, kind_there, source_of}
+use Rattle.ll_rules.proofs.Booleans.{or_false}
+use Rattle.ll_semantics.specs.States.{Layer}
+use Rattle.ll_reasons.specs.Objections.{Objection, if_any, missing, on_crossing, on_directories, on_gain, on_other_gain, on_path, one_of}
+use Rattle.ll_explain.specs.Moved.{IsTo}
+use Rattle.ll_explain.specs.Parts.{said_of}
+use Rattle.ll_explain.specs.declared.parts.Part.{Part}
+use Rattle.ll_explain.specs.declared.parts.Part.TheVariants.{Gained}
+use Rattle.ll_explain.proofs.Saying.{said_more}
+
+-- nothing is gained
+pub nothing_said : (path into : Bor (List ℕ)) → said_of (Gained path (record { 0 = 0 }) into ∷ []) ≡ []
+unfolding said_of files.some_right files.all_rights files.named_rights files.has
+nothing_said path into = refl
+
+-- ---- part by part
+
+pub said_two : (a b : Part) (first second : List Objection) → said_of (a ∷ []) ≡ first → said_of (b ∷ []) ≡ second → said_of (a ∷ b ∷ []) ≡ first ++ second
+said_two a b first second is also = said_more a (b ∷ []) ∙ ap (λ os. os ++ said_of (b ∷ [])) is ∙ ap (λ os. first ++ os) also
+
+said_four : (a b g o : Part) (first second third fourth : List Objection) →
+    said_of (a ∷ []) ≡ first → said_of (b ∷ []) ≡ second → said_of (g ∷ []) ≡ third → said_of (o ∷ []) ≡ fourth →
+    said_of (a ∷ b ∷ g ∷ o ∷ []) ≡ first ++ second ++ third ++ fourth
+said_four a b g o first second third fourth is also gains other =
+    said_more a (b ∷ g ∷ o ∷ []) ∙ ap (λ os. os ++ said_of (b ∷ g ∷ o ∷ [])) is
+    ∙ ap (λ os. first ++ os) (said_more b (g ∷ o ∷ []) ∙ ap (λ os. os ++ said_of (g ∷ o ∷ [])) also ∙ ap (λ os. second ++ os) (said_two g o third fourth gains other))
+    ∙ sym (append_assoc first second (third ++ fourth)) ∙ sym (append_assoc (first ++ second) third fourth)
+
+refer_asked : (right : files.FsRight) → files.has (files.only files.refer) right ≡ one_of (files.refer ∷ []) right
+refer_asked right = fs_has-only right files.refer ∙ sym (or_false (files.is_right right files.refer))
+
+module _ (layer : Layer) where
+  -- tests that agree name the same rights
+  on_path-agree : (path : Path) (asked other : files.FsRight → Bool) → ((right : files.FsRight) → asked right ≡ other right) → on_path path asked layer ≡ on_path path other layer
+  unfolding on_path
+  on_path-agree path asked other same =
+      ap (λ rights. if_any rights (missing rights path))
+      (filter_agree (λ right. asked right && handles layer right && not (granted layer path right)) (λ right. other right && handles layer right && not (granted layer path right))
+      (λ right. ap (λ b. b && handles layer right && not (granted layer path right)) (same right)) files.all_rights)
+
+  on_refer : (here path : Path) (said : List Objection) → here ≡ path → said ≡ on_path here (files.has (files.only files.refer)) layer → said ≡ on_path path (one_of (files.refer ∷ [])) layer
+  on_refer here path said at is = is ∙ ap (λ p. on_path p (files.has (files.only files.refer)) layer) at ∙ on_path-agree path (files.has (files.only files.refer)) (one_of (files.refer ∷ [])) refer_asked
+
+module _ (tree : List Entry) (move : Move) where
+  abbrev leave : List files.FsRight
+  leave = asked_of_source move.how (kind_at tree move.moved) (kind_there tree move.target)
+
+  abbrev enter : List files.FsRight
+  enter = asked_of_destination (kind_at tree move.moved) (kind_there tree move.target)
+
+module _ (layer : Layer) (tree : List Entry) (move : Move) (here there : NodeId) (from to : Fs) (at : path_at tree here ≡ source_of tree move)
+    (leaves : (right : files.FsRight) → files.has from right ≡ one_of (leave tree move) right) (enters : (right : files.FsRight) → files.has to right ≡ one_of (enter tree move) right) where
+  both : (right : files.FsRight) → files.has (files.united from to) right ≡ one_of (leave tree move ++ enter tree move) right
+  both right =
+      fs_has-united from to right ∙ ap (λ b. b || files.has to right) (leaves right) ∙ ap (λ b. one_of (leave tree move) right || b) (enters right)
+      ∙ sym (list_any-append (files.is_right right) (leave tree move) (enter tree move))
+
+  pub within_one : (said : List Objection) → said ≡ on_path (path_at tree here) (files.has (files.united from to)) layer →
+      path_eq (source_of tree move) (destination_of tree move.target) ≡ true → said ≡ on_directories tree move layer
+  unfolding on_directories
+  within_one said is one =
+      is ∙ ap (λ p. on_path p (files.has (files.united from to)) layer) at
+      ∙ on_path-agree layer (source_of tree move) (files.has (files.united from to)) (one_of (leave tree move ++ enter tree move)) both ∙ rw one refl
+
+  pub between_two : (a b : Part) → path_at tree there ≡ destination_of tree move.target →
+      said_of (a ∷ []) ≡ on_path (path_at tree here) (files.has from) layer → said_of (b ∷ []) ≡ on_path (path_at tree there) (files.has to) layer →
+      path_eq (source_of tree move) (destination_of tree move.target) ≡ false → said_of (a ∷ b ∷ []) ≡ on_directories tree move layer
+  unfolding on_directories
+  between_two a b goes is also two =
+      said_two a b (on_path (source_of tree move) (one_of (leave tree move)) layer) (on_path (destination_of tree move.target) (one_of (enter tree move)) layer)
+      (is ∙ ap (λ p. on_path p (files.has from) layer) at ∙ on_path-agree layer (source_of tree move) (files.has from) (one_of (leave tree move)) leaves)
+      (also ∙ ap (λ p. on_path p (files.has to) layer) goes ∙ on_path-agree layer (destination_of tree move.target) (files.has to) (one_of (enter tree move)) enters)
+      ∙ rw two refl
+
+module _ (layer : Layer) (tree : List Entry) (move : Move) where
+  pub crossing_said : (a b g o : Part) (here there : Path) → here ≡ source_of tree move → there ≡ destination_of tree move.target →
+      said_of (a ∷ []) ≡ on_path here (files.has (files.only files.refer)) layer → said_of (b ∷ []) ≡ on_path there (files.has (files.only files.refer)) layer →
+      said_of (g ∷ []) ≡ on_gain (kind_at tree move.moved) (path_at tree move.moved) there layer → said_of (o ∷ []) ≡ on_other_gain tree move move.how move.target layer →
+      said_of (a ∷ b ∷ g ∷ o ∷ []) ≡ on_crossing tree move layer
+  unfolding on_crossing
+  crossing_said a b g o here there at goes is also gains other =
+      said_four a b g o _ _ _ _ (on_refer layer here (source_of tree move) (said_of (a ∷ [])) at is) (on_refer layer there (destination_of tree move.target) (said_of (b ∷ [])) goes also)
+      (gains ∙ ap (λ p. on_gain (kind_at tree move.moved) (path_at tree move.moved) p layer) goes) other
+
+-- paths that are the same are told apart or not as these
+pub same_eq : {a b one other : Path} {same : Bool} → a ≡ one → b ≡ other → path_eq a b ≡ same → path_eq one other ≡ same
+same_eq is also eq = rw (← is, ← also) eq
+
+-- ---- what the other object would gain
+
+module _ (tree : List Entry) (move : Move) (layer : Layer) (said : List Objection) where
+  pub other_over : (how : How) (target : Target) (there : NodeId) (here : Path) → how ≡ Exchange → target ≡ Over there → here ≡ source_of tree move →
+      said ≡ on_gain (kind_at tree there) (path_at tree there) here layer → said ≡ on_other_gain tree move how target layer
+  unfolding on_other_gain
+  other_over how target there here is goes at gains = rw (is, goes) (gains ∙ ap (λ p. on_gain (kind_at tree there) (path_at tree there) p layer) at)
+
+  pub other_new : (how : How) (target : Target) (directory : NodeId) → how ≡ Exchange → target ≡ New directory → said ≡ [] → said ≡ on_other_gain tree move how target layer
+  unfolding on_other_gain
+  other_new how target directory is goes none = rw (is, goes) none
+
+  pub other_none : (how : How) (target : Target) → (how ≡ Rename) ⊎ (how ≡ Link) → said ≡ [] → said ≡ on_other_gain tree move how target layer
+  unfolding on_other_gain
+  other_none how target (inl is) none = rw is none
+  other_none how target (inr is) none = rw is none
+
+-- the directory that a move goes to is that of the path that it goes to
+pub goes_to : (tree : List Entry) (to : Path) (target : Target) → IsTo tree to target → front to ≡ destination_of tree target
+goes_to tree to (New directory) is = sym is
+goes_to tree to (Over there) is = ap front (sym is)

@@ -1,0 +1,20 @@
+use Rattle.std.proofs.Common.{◌∙◌, get_or, ap}
+use Rattle.ll_rights.specs.declared.fs.Fs.{Fs}
+use Rattle.ll_rights.specs.Rights as files
+use Rattle.ll_tree.specs.Trees.{kind_at, path_at}
+use Rattle.ll_rules.specs.Checks.{lacks}
+use Rattle.ll_rules.specs.InTree.{in_tree}
+use Rattle.ll_rules.specs.KeptLayers.{layer_at}
+use Rattle.ll_explain.proofs.Gaining.{gainable-by}
+use Rattle.ll_explain.proofs.gains.is_gained.Goals as goal
+
+pub returns : goal.returns
+returns c =
+    let tree = c.args.of.now.tree.now in
+    let layer = in_tree tree (layer_at c.args.of.now.layers.now c.args.id) in
+    let object = path_at tree c.args.object in
+    let directory = path_at tree c.args.directory in
+    c.is_won.ensures ∙ gainable-by layer (kind_at tree c.args.object) object directory (get_or files.all_rights c.args.place files.other) _ _ _ _
+    (c.lacks-lacking.ensures ∙ ap (λ (set : Fs). lacks layer object set) c.right_at-right.ensures)
+    c.is_directory-holder.ensures c.is_file_right.ensures
+    (c.lacks-lacking_there.ensures ∙ ap (λ (set : Fs). lacks layer directory set) c.right_at-right.ensures)

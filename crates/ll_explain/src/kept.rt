@@ -1,0 +1,129 @@
+//! The lines for calls that descriptors decide: what was missing when they were opened.
+
+ghost use Rattle.std.specs.Prelude.{◌≡◌, ◌++◌, ◌<◌, OnOk, Some, slice_get};
+ghost use Rattle.std.specs.List.{flat_map};
+ghost use Rattle.json.specs.Print.{escape};
+ghost use Rattle.ll_rights.specs.Rights as files;
+ghost use Rattle.std.proofs.Common.{get_or};
+ghost use Rattle.ll_reasons.specs.Explanations.{kept_by};
+ghost use Rattle.ll_trails.specs.Opened.{opened};
+ghost use Rattle.ll_explain.specs.Kept.{kept_entry, kept_text};
+ghost use Rattle.ll_explain.specs.Words.{layer_text, line_of, path_opened};
+
+use crate::layers::push_head;
+use crate::rights::file_right_word;
+use crate::words::{push_escaped, push_number};
+use ll_rules::LayerSet;
+use ll_trace::{Op, Record};
+use ll_trails::Trail;
+use std::alloc::AllocError;
+
+/// Adds the path that the record at a place opens, if it opens one.
+#[tactic(auto, unfolding(crate::specs::Words::path_opened))]
+fn push_path_opened(text: &mut Vec<u8>, records: &[Record], place: u32) -> Result<(), AllocError>
+    ensures { OnOk result (text.new.items ≡ text.old.items ++ escape (path_opened (slice_get records.now place))) }
+{
+    match records.get(place as usize) {
+        None => Ok(()),
+        Some(record) => match &record.op {
+            Op::OpenFile { path, .. } => push_escaped(text, path.as_str()),
+            _ => Ok(()),
+        },
+    }
+}
+
+/// The line of the record at a place, or 0 where there is none.
+fn line_opened(records: &[Record], place: u32) -> u64
+    ensures { result ≡ line_of (slice_get records.now place) }
+{
+    match records.get(place as usize) {
+        None => 0,
+        Some(record) => record.line,
+    }
+}
+
+/// Says which right was missing, on which path, and where it was opened.
+fn push_opened(
+    text: &mut Vec<u8>,
+    records: &[Record],
+    name: &str,
+    place: u32,
+) -> Result<(), AllocError>
+    ensures { OnOk result (text.new.items ≡ text.old.items ++ kept_text records.now name.now place) }
+{
+    text.extend_from_slice(name.as_bytes())?;
+    text.extend_from_slice(b" on ")?;
+    push_path_opened(text, records, place)?;
+    text.extend_from_slice(b", opened at line ")?;
+    push_number(text, line_opened(records, place))?;
+    Ok(())
+}
+
+/// Adds the line of a layer under which the right at a place of the table was missing when the record at a place of the
+/// trace opened a file.
+fn push_kept_line(
+    text: &mut Vec<u8>,
+    records: &[Record],
+    restricts: &[u32],
+    number: u64,
+    right: u32,
+    place: u32,
+) -> Result<(), AllocError>
+    requires number { 0 < number }
+    requires right { right < 17 }
+    ensures { OnOk result (text.new.items ≡ text.old.items ++ layer_text records.now restricts.now (kept_entry (get_or files.all_rights right files.other) place number)) }
+{
+    push_head(text, records, restricts, number)?;
+    push_opened(text, records, file_right_word(right), place)?;
+    text.push(b'\n')?;
+    Ok(())
+}
+
+/// Adds the lines of some layers under which the right at a place of the table was missing when the record at a place of
+/// the trace opened a file.
+fn push_kept_lines(
+    text: &mut Vec<u8>,
+    records: &[Record],
+    restricts: &[u32],
+    right: u32,
+    numbers: LayerSet,
+    place: u32,
+) -> Result<(), AllocError>
+    requires right { right < 17 }
+    ensures { OnOk result (text.new.items ≡ text.old.items ++ flat_map (layer_text records.now restricts.now) (kept_by (get_or files.all_rights right files.other) numbers (Some place))) }
+{
+    if numbers.is_empty() {
+        return Ok(());
+    }
+    for index in 0..16 {
+        if numbers.has(index + 1) {
+            push_kept_line(text, records, restricts, index as u64 + 1, right, place)?;
+        }
+    }
+    Ok(())
+}
+
+/// Adds the lines for a call on a descriptor that some layers refuse, by the record that opened it.
+pub(crate) fn push_kept(
+    text: &mut Vec<u8>,
+    records: &[Record],
+    trail: &Trail,
+    right: u32,
+    numbers: LayerSet,
+    fd: u64,
+) -> Result<(), AllocError>
+    requires right { right < 17 }
+    ensures { OnOk result (text.new.items ≡ text.old.items ++ flat_map (layer_text records.now trail.now.layers.items) (kept_by (get_or files.all_rights right files.other) numbers (opened trail.now.openings fd))) }
+{
+    match trail.openings.get(fd) {
+        None => Ok(()),
+        Some(place) => push_kept_lines(
+            text,
+            records,
+            trail.layers.as_slice(),
+            right,
+            numbers,
+            place,
+        ),
+    }
+}

@@ -1,0 +1,5 @@
+pub mod Waiting
+pub mod Trailing
+pub mod AtPlaces
+pub mod Frozen
+pub mod SameObjections

@@ -1,0 +1,27 @@
+-- What is kept of the origins of a case's processes, before one of its records.
+-- Source: landlock_restrict_self(2); landlock(7), "Inheritance".
+use Rattle.std.specs.Prelude.{◌≡◌, ℕ, List, Some, slice_get}
+use Rattle.std.specs.List.{AllZip}
+use Rattle.ll_rules.specs.declared.domain.LayerId.{LayerId}
+use Rattle.ll_rules.specs.KeptLayers.{SameRules, domain_of, IsDomainOf}
+use Rattle.ll_rules.specs.InTree.{all_in_tree}
+use Rattle.ll_semantics.specs.declared.answer.Answer.{Answer}
+use Rattle.ll_semantics.specs.Worlds.{judged}
+use Rattle.ll_process.specs.Cases.{Matter}
+use Rattle.ll_reasons.specs.Explanations.{domain_at}
+use Rattle.ll_reasons.specs.Origins.{sources_at}
+use Rattle.ll_trails.specs.declared.trail.Trails.{Trails}
+use Rattle.ll_trails.specs.Trails.{AreTrails}
+
+-- what is kept says where all that the processes of a case have before the record at a place comes from
+abbrev pub AreTrailsAt : Matter → ℕ → Trails → Type 0
+AreTrailsAt of place trails = AreTrails trails.trails.items (sources_at of.tree of.abi of.records place)
+
+-- an answer is that to the record at a place
+abbrev pub IsAnswerAt : Matter → ℕ → Answer → Type 0
+IsAnswerAt of place answer = slice_get (judged of.tree of.abi of.records) place ≡ Some answer
+
+-- layers of a case that are one by one the same as those of a process before the record at a place
+pub record IsDomainAt (of : Matter) (place process : ℕ) (ids : List LayerId) : Type 0 where
+  pub places : IsDomainOf of.layers ids
+  pub same : AllZip SameRules (all_in_tree of.tree (domain_of of.layers ids)) (domain_at of.tree of.abi of.records place process)

@@ -1,0 +1,48 @@
+//! The domain of a process, as its case keeps it.
+
+ghost use Rattle.std.specs.Prelude.{ℕ, IfOk};
+ghost use Rattle.ll_rulebook.specs.Settled.{met_by};
+ghost use Rattle.ll_semantics.specs.Notes.{IsFrozen};
+ghost use Rattle.ll_semantics.specs.Situations.{world_at};
+ghost use Rattle.ll_reasons.specs.Explanations.{origins_at};
+ghost use Rattle.ll_reasons.specs.Made.{enforced_at};
+ghost use Rattle.ll_trails.specs.CaseTrails.{IsDomainAt};
+ghost use Rattle.ll_trails.specs.Trails.{Follows};
+
+use crate::trail::Trail;
+use ll_process::Case;
+use ll_rules::LayerId;
+use ll_semantics::Note;
+use std::alloc::{AllocError, Global};
+
+/// The layer of a case that the record at a place restricts its process by, if it does.
+fn layer_by(case: &Case, place: u32) -> Option<LayerId>
+    ensures { (process : ℕ) → IsFrozen (met_by case.now.tree case.now.abi case.now.layers (world_at case.now.tree case.now.abi case.now.records place) process)
+        result (enforced_at case.now.tree case.now.abi case.now.records place) }
+{
+    let place = place as usize;
+    if place >= case.trace().records().len() {
+        return None;
+    }
+    match case.note(place) {
+        Note::Frozen(id) => Some(*id),
+        Note::Answered(_) => None,
+        Note::Open => None,
+    }
+}
+
+/// The layers of a process in the case that its records are of: those that the rulesets were frozen to which its
+/// `restrict` records named, the oldest first. An error says that there is no memory.
+pub fn domain_of(alloc: Global, case: &Case, trail: &Trail) -> Result<Vec<LayerId>, AllocError>
+    ensures { IfOk result (λ ids. (place process : ℕ)
+        → Follows trail.now (origins_at case.now.tree case.now.abi case.now.records place process)
+        → IsDomainAt case.now place process ids.items) }
+{
+    let mut ids = Vec::new(alloc);
+    for place in &trail.layers {
+        if let Some(id) = layer_by(case, *place) {
+            ids.push(id)?;
+        }
+    }
+    Ok(ids)
+}

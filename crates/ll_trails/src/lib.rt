@@ -1,0 +1,15 @@
+//! Where the layers, open descriptors and rulesets of each process come from, record after record of a trace that was
+//! judged.
+#![tactic(auto)]
+
+mod domain;
+mod laws;
+mod openings;
+#[cfg(test)]
+mod tests;
+mod trail;
+
+pub use domain::domain_of;
+pub use laws::{same_layers_object_to_the_same, trails_begin};
+pub use openings::Openings;
+pub use trail::{Trail, Trails};

@@ -1,0 +1,184 @@
+//! Where the layers, open descriptors and rulesets of processes come from.
+
+ghost use Rattle.std.specs.Prelude.{◌≡◌, ◌<◌, ◌+◌, ◌++◌, ◌∷◌, ℕ, [], Some, false, length, slice_get, IfOk, OnOk};
+ghost use Rattle.ll_trace.specs.Entries.{is_start};
+ghost use Rattle.ll_reasons.specs.Origins.{Origins, Sources, no_origins, no_sources, sources_by, traced, with_next};
+ghost use Rattle.ll_trails.specs.CaseTrails.{AreTrailsAt, IsAnswerAt};
+ghost use Rattle.ll_trails.specs.Trails.{AreTrails, Follows};
+
+use crate::openings::Openings;
+use ll_process::Case;
+use ll_rules::NoMemory;
+use ll_semantics::Answer;
+use ll_shared::SharedMap;
+use ll_trace::{Op, ProcessId, Record};
+use std::alloc::{AllocError, Global};
+
+/// Where the layers, open descriptors and rulesets of one process come from: the records that made them, by their
+/// places in the trace. A child shares with its parent what neither of them changes.
+#[derive(Drop)]
+pub struct Trail {
+    pub layers: Vec<u32>,
+    pub openings: Openings,
+    pub rulesets: SharedMap<u32>,
+}
+
+impl Trail {
+    /// That of a process with which a trace begins.
+    #[tactic(auto, unfolding(ll_reasons::specs::Origins::no_origins))]
+    pub fn new(alloc: Global) -> Trail
+        ensures { Follows result no_origins }
+    {
+        Trail {
+            layers: Vec::new(alloc),
+            openings: Openings::new(alloc),
+            rulesets: SharedMap::new(alloc),
+        }
+    }
+
+    /// That of a child, which begins with all that its parent has.
+    fn forked(&mut self) -> Result<Trail, NoMemory>
+        ensures child { IfOk result (λ child. (o : Origins) → Follows self.old o → Follows child o) }
+        ensures parent { OnOk result ((o : Origins) → Follows self.old o → Follows self.new o) }
+    {
+        Ok(Trail {
+            layers: self.layers.clone()?,
+            openings: self.openings.forked()?,
+            rulesets: self.rulesets.clone()?,
+        })
+    }
+
+    /// One layer more, which the record at a place makes.
+    fn restrict(&mut self, place: u32) -> Result<(), AllocError>
+        ensures layers { OnOk result (self.new.layers.items ≡ self.old.layers.items ++ place ∷ []) }
+        ensures openings { OnOk result (self.new.openings ≡ self.old.openings) }
+        ensures rulesets { OnOk result (self.new.rulesets ≡ self.old.rulesets) }
+    {
+        self.layers.push(place)?;
+        Ok(())
+    }
+
+    /// Follows an allowed call, the record at a place of the trace.
+    #[tactic(auto, unfolding(ll_reasons::specs::Origins::traced))]
+    fn follow(&mut self, place: u32, op: &Op) -> Result<(), NoMemory>
+        ensures { OnOk result ((o : Origins) → Follows self.old o → Follows self.new (traced place op.now o)) }
+    {
+        match op {
+            Op::Create { rs, .. } | Op::CreateEmpty { rs } => {
+                self.rulesets.insert(*rs, place)?;
+            }
+            Op::CloseRs { rs } => {
+                self.rulesets.remove(*rs)?;
+            }
+            Op::Restrict { .. } => self.restrict(place)?,
+            Op::OpenFile { fd, .. } | Op::Adopt { fd, .. } => {
+                self.openings.put(*fd, Some(place))?;
+            }
+            Op::Dup { fd, to } => {
+                let opening = self.openings.get(*fd);
+                self.openings.put(*to, opening)?;
+            }
+            Op::Close { fd } => self.openings.put(*fd, None)?,
+            Op::Start { .. }
+            | Op::Fork { .. }
+            | Op::Exit
+            | Op::Nnp
+            | Op::AddPath { .. }
+            | Op::AddPort { .. }
+            | Op::Ftruncate { .. }
+            | Op::Ioctl { .. }
+            | Op::Truncate { .. }
+            | Op::Exec { .. }
+            | Op::Mknod { .. }
+            | Op::Mkdir { .. }
+            | Op::Symlink { .. }
+            | Op::Unlink { .. }
+            | Op::Rmdir { .. }
+            | Op::Rename { .. }
+            | Op::Link { .. }
+            | Op::Mount
+            | Op::Bind { .. }
+            | Op::Connect { .. }
+            | Op::LeaveOut { .. } => {}
+        }
+        Ok(())
+    }
+}
+
+/// The trails of all processes, by their numbers.
+#[derive(Drop)]
+pub struct Trails {
+    pub trails: Vec<Trail>,
+}
+
+impl Trails {
+    /// No process.
+    pub fn new(alloc: Global) -> Trails
+        ensures { AreTrails result.trails.items no_sources }
+    {
+        Trails {
+            trails: Vec::new(alloc),
+        }
+    }
+
+    /// One process more.
+    fn begin(&mut self, trail: Trail) -> Result<(), AllocError>
+        ensures { OnOk result ((sources : Sources) (o : Origins) → AreTrails self.old.trails.items sources → Follows trail o → AreTrails self.new.trails.items (with_next sources o)) }
+    {
+        self.trails.push(trail)?;
+        Ok(())
+    }
+
+    /// What is kept of a process.
+    pub fn of(&self, process: ProcessId) -> &Trail
+        requires { process.0 < length self.now.trails.items }
+        ensures { slice_get self.now.trails.items process.0 ≡ Some result.now }
+    {
+        &self.trails[process.0 as usize]
+    }
+
+    /// Follows the record at a place of a case and its answer. Where there is no memory, what is kept serves no more.
+    pub fn follow(
+        &mut self,
+        alloc: Global,
+        case: &Case,
+        place: usize,
+        answer: Answer,
+    ) -> Result<(), NoMemory>
+        requires place { place < length case.now.records }
+        requires answer { IsAnswerAt case.now place answer }
+        requires trails { AreTrailsAt case.now place self.old }
+        ensures { OnOk result (AreTrailsAt case.now (place + 1) self.new) }
+    {
+        let record = &case.trace().records()[place];
+        self.follow_by(alloc, place as u32, record, answer)?;
+        Ok(())
+    }
+
+    /// Follows a record at a place and its answer.
+    #[tactic(auto, unfolding(ll_reasons::specs::Origins::sources_by))]
+    fn follow_by(
+        &mut self,
+        alloc: Global,
+        place: u32,
+        record: &Record,
+        answer: Answer,
+    ) -> Result<(), NoMemory>
+        requires { is_start «record».now.op ≡ false → «record».now.process.0 < length self.old.trails.items }
+        ensures { OnOk result ((sources : Sources) → AreTrails self.old.trails.items sources → AreTrails self.new.trails.items (sources_by place «record».now.op «record».now.process.0 answer sources)) }
+    {
+        let process = record.process.0 as usize;
+        match record.op {
+            Op::Start { .. } => self.begin(Trail::new(alloc))?,
+            Op::Fork { .. } => {
+                let child = self.trails[process].forked()?;
+                self.begin(child)?;
+            }
+            _ => match answer {
+                Answer::Allowed => self.trails[process].follow(place, &record.op)?,
+                Answer::Moot | Answer::Refused(_, _) => {}
+            },
+        }
+        Ok(())
+    }
+}
