@@ -3,13 +3,13 @@ use Rattle.std.proofs.Common.{◌≡◌, ◌∙◌, ℕ, List, Option, None, ref
 use Rattle.std.specs.Prelude.{◌⊎◌}
 use Rattle.std.proofs.lemmas.Option.{none-some, same_Some}
 use Rattle.clap.specs.Words.{Text}
-use Rattle.clap.specs.declared.error.kind.ErrorKind.TheVariants.{DisplayHelp}
+use Rattle.clap.specs.declared.error.kind.ErrorKind.TheVariants.{DisplayHelp, DisplayVersion}
 use Rattle.ll_audit.specs.declared.lines.Failure.{Failure}
 use Rattle.ll_audit.specs.declared.lines.Failure.TheVariants as failure
 use Rattle.ll_audit.specs.declared.outcome.Ending.{Ending}
 use Rattle.ll_audit.specs.declared.outcome.Outcome.{Outcome}
 use Rattle.ll_audit.specs.declared.outcome.Outcome.TheVariants as outcome
-use Rattle.ll_audit.specs.Command.{Request, request_of}
+use Rattle.ll_audit.specs.Command.{AskForText, Request, request_of}
 use Rattle.ll_audit.specs.FaultLines.{failure_status}
 use Rattle.ll_audit.specs.Files.{Files}
 use Rattle.ll_audit.specs.Fronts.{EndsWithoutRun, HasFailure, HasReason, HasWrongWords, IsOutcomeOf, IsWhy, Reports, StaysQuiet, TellsWhy, WritesNothing, WritesReport}
@@ -72,20 +72,25 @@ four_wrong : (status : ℕ) → status ≡ 4 → (status ≡ 2) ⊎ (status ≡ 
 four_wrong status a (inl b) = omega (arith, a, b)
 four_wrong status a (inr b) = omega (arith, a, b)
 
+-- words that ask for help or the version ask for no run
+asks_for_no_run : (words : List Text) → AskForText words → request_of words ≡ None
+asks_for_no_run words (inl help) = request_of-fault words DisplayHelp help
+asks_for_no_run words (inr version) = request_of-fault words DisplayVersion version
+
 module _ {Output Errors : Type 0} (contents : Output → Option (List ℕ)) (lines : Errors → Option (List ℕ)) (ending : Ending) (old new : Output) (errors_old errors_new : Errors) where
   pub bounded : (of : Outcome) → EndsWith contents lines of ending old new errors_old errors_new → ending.status ≤ 4
   bounded (outcome.Report report) (inl (why, _)) = high_bounded ending.status (inr why.0)
   bounded (outcome.Report report) (inr written) = low_bounded ending.status (reporting report.refused ending.status written.0)
-  bounded (outcome.Help error) (inl why) = high_bounded ending.status (inr why.0)
-  bounded (outcome.Help error) (inr written) = omega (arith, written.0)
+  bounded (outcome.Text error) (inl why) = high_bounded ending.status (inr why.0)
+  bounded (outcome.Text error) (inr written) = omega (arith, written.0)
   bounded (outcome.Usage error) ends = omega (arith, ends.0)
   bounded (outcome.Failure of) ends = high_bounded ending.status (failing of ending.status ends.0.0)
 
   pub stays_quiet : (of : Outcome) → EndsWith contents lines of ending old new errors_old errors_new → StaysQuiet ending.status errors_old errors_new
   stays_quiet (outcome.Report report) (inl (why, _)) low = absurd (low_high ending.status low (inr why.0))
   stays_quiet (outcome.Report report) (inr written) low = written.2
-  stays_quiet (outcome.Help error) (inl why) low = absurd (low_high ending.status low (inr why.0))
-  stays_quiet (outcome.Help error) (inr written) low = written.1
+  stays_quiet (outcome.Text error) (inl why) low = absurd (low_high ending.status low (inr why.0))
+  stays_quiet (outcome.Text error) (inr written) low = written.1
   stays_quiet (outcome.Usage error) ends low = absurd (low_two ending.status low ends.0)
   stays_quiet (outcome.Failure of) ends low = absurd (low_high ending.status low (failing of ending.status ends.0.0))
 
@@ -96,7 +101,7 @@ module _ {Output Errors : Type 0} (contents : Output → Option (List ℕ)) (lin
   writes_report (outcome.Report report) has (inr written) low request asked =
       let same : has.request ≡ request = same_Some has.request request (sym has.asked ∙ asked) in
       (report, subst (λ (r : Request). Reports files r report) same has.reports, written.1, written.0)
-  writes_report (outcome.Help error) help ends low request asked = absurd (none-some request (sym (request_of-fault words DisplayHelp help) ∙ asked))
+  writes_report (outcome.Text error) help ends low request asked = absurd (none-some request (sym (asks_for_no_run words help) ∙ asked))
   writes_report (outcome.Usage error) wrong ends low request asked = absurd (low_two ending.status low ends.0)
   writes_report (outcome.Failure of) has ends low request asked = absurd (low_high ending.status low (failing of ending.status ends.0.0))
 
@@ -104,8 +109,8 @@ module _ {Output Errors : Type 0} (contents : Output → Option (List ℕ)) (lin
       → HasWrongWords words ending.status
   wrong_words (outcome.Report report) has (inl (why, _)) two = absurd (two_high ending.status two (inr why.0))
   wrong_words (outcome.Report report) has (inr written) two = absurd (low_two ending.status (reporting report.refused ending.status written.0) two)
-  wrong_words (outcome.Help error) help (inl why) two = absurd (two_high ending.status two (inr why.0))
-  wrong_words (outcome.Help error) help (inr written) two = absurd (low_two ending.status (inl written.0) two)
+  wrong_words (outcome.Text error) help (inl why) two = absurd (two_high ending.status two (inr why.0))
+  wrong_words (outcome.Text error) help (inr written) two = absurd (low_two ending.status (inl written.0) two)
   wrong_words (outcome.Usage error) wrong ends two = wrong
   wrong_words (outcome.Failure of) has ends two = absurd (two_high ending.status two (failing of ending.status ends.0.0))
 
@@ -116,8 +121,8 @@ module _ {Output Errors : Type 0} (contents : Output → Option (List ℕ)) (lin
   pub ends_without_run : (of : Outcome) → IsOutcomeOf words files before after of → EndsWith contents lines of ending old new errors_old errors_new
       → EndsWithoutRun words ending.status
   ends_without_run (outcome.Report report) has ends none = absurd (none-some has.request (sym none ∙ has.asked))
-  ends_without_run (outcome.Help error) help (inl why) none = inr (inr why.0)
-  ends_without_run (outcome.Help error) help (inr written) none = inr (inl (written.0, help))
+  ends_without_run (outcome.Text error) help (inl why) none = inr (inr why.0)
+  ends_without_run (outcome.Text error) help (inr written) none = inr (inl (written.0, help))
   ends_without_run (outcome.Usage error) wrong ends none = inl ends.0
   ends_without_run (outcome.Failure of) has ends none = inr (inr (no_run_failing of has ends.0.0 none))
 
@@ -129,8 +134,8 @@ module _ {Output Errors : Type 0} (contents : Output → Option (List ℕ)) (lin
     λ wrong. absurd (low_wrong ending.status (reporting report.refused ending.status written.0) wrong),
     λ four. absurd (low_high ending.status (reporting report.refused ending.status written.0) (inr four)),
   )
-  writes_nothing (outcome.Help error) help (inl why) = (λ wrong. absurd (four_wrong ending.status why.0 wrong), λ _. inr (inl help))
-  writes_nothing (outcome.Help error) help (inr written) = (λ wrong. absurd (low_wrong ending.status (inl written.0) wrong), λ _. inr (inl help))
+  writes_nothing (outcome.Text error) help (inl why) = (λ wrong. absurd (four_wrong ending.status why.0 wrong), λ _. inr (inl help))
+  writes_nothing (outcome.Text error) help (inr written) = (λ wrong. absurd (low_wrong ending.status (inl written.0) wrong), λ _. inr (inl help))
   writes_nothing (outcome.Usage error) wrong ends = (λ _. ends.1, λ _. inl ends.1)
   writes_nothing (outcome.Failure of) has ends = (λ _. ends.1, λ _. inl ends.1)
 
@@ -138,8 +143,8 @@ module _ {Output Errors : Type 0} (contents : Output → Option (List ℕ)) (lin
       → TellsWhy words files before after ending (lines errors_old) (lines errors_new)
   tells_why (outcome.Report report) has (inl (why, _)) high = (failure.Unwritten, inr (refl, inr (report, has)), why)
   tells_why (outcome.Report report) has (inr written) high = absurd (low_high ending.status (reporting report.refused ending.status written.0) high)
-  tells_why (outcome.Help error) help (inl why) high = (failure.Unwritten, inr (refl, inl help), why)
-  tells_why (outcome.Help error) help (inr written) high = absurd (low_high ending.status (inl written.0) high)
+  tells_why (outcome.Text error) help (inl why) high = (failure.Unwritten, inr (refl, inl help), why)
+  tells_why (outcome.Text error) help (inr written) high = absurd (low_high ending.status (inl written.0) high)
   tells_why (outcome.Usage error) wrong ends high = absurd (two_high ending.status ends.0 high)
   tells_why (outcome.Failure of) has ends high = (of, inl has, ends.0)
 

@@ -13,9 +13,9 @@ use Rattle.clap.proofs.ValueTestLemmas.{accepts-Accepts, Accepts-accepts}
 use Rattle.ll_rights.specs.declared.abi.Abi.{Abi}
 use Rattle.ll_rights.specs.declared.abi.Abi.TheVariants.{V1, V2, V3, V4, V5}
 use Rattle.ll_audit.proofs.CommandLine.{request_of-matches}
-use Rattle.ll_audit.specs.Command.{Request, command, crew_of, faults, number_at, request_if, request_in, request_of, version_of}
+use Rattle.ll_audit.specs.Command.{Request, command, crew_of, faults, number_at, request_if, request_in, request_of, options_in, version_of}
 use Rattle.clap.specs.declared.builder.action.ArgAction.{ArgAction}
-use Rattle.clap.specs.declared.builder.action.ArgAction.TheVariants.{Help, Set}
+use Rattle.clap.specs.declared.builder.action.ArgAction.TheVariants.{Help, Set, SetTrue, Version}
 use Rattle.clap.specs.declared.parser.matches.ValueSource.{ValueSource}
 use Rattle.clap.specs.declared.parser.matches.ValueSource.TheVariants.{CommandLine, DefaultValue}
 use Rattle.clap.specs.declared.builder.value_parser.Reading.{Reading}
@@ -27,7 +27,7 @@ use Rattle.clap.specs.Simple.{Shape, argument_words, built, matches_of, names_of
 use Rattle.clap.specs.Takes.{is_given}
 use Rattle.clap.specs.ValueTests.{accepts, is_unsigned_in}
 use Rattle.clap.specs.Values.{read_as, refused_kind}
-use Rattle.clap.specs.declared.error.kind.ErrorKind.TheVariants.{DisplayHelp, InvalidValue, MissingRequiredArgument, TooManyValues}
+use Rattle.clap.specs.declared.error.kind.ErrorKind.TheVariants.{DisplayHelp, DisplayVersion, InvalidValue, MissingRequiredArgument, TooManyValues}
 use Rattle.clap.specs.Walk.{Held, Names, Outcome, Row, Rule, Step, Text, Waiting, Walk, action_of, after_flag, after_step, arg_by_id, arg_by_index, arg_by_long, arg_by_short, attached_value, bundle_met, bundle_step, default_rows, done, finished, first_of, flag_met, has_row, idle, is_empty, is_pending, long_met, long_or_other, most_values, more_values, next, nothing_held, one_of, option, option_met, option_word, plain, plain_word, positional, reacted, reading_by, refused, row_text, settled, settled_rows, short_met, short_or_plain, subcommand, subcommand_met, subcommand_or_other, takes_several, takes_values, to_positional, trailing, used, used_as, value, values_or_missing, waits, walk, walk_from, walked, walked_from, with_default, with_values, without, word_met}
 
 -- ---- what a row holds
@@ -41,11 +41,15 @@ abbrev pub AllFit : List Rule → List Row → Type 0
 AllFit rules [] = Unit {0}
 AllFit rules (row ∷ rows) = ((rule : Rule) → arg_by_id rules row.id ≡ Some rule → Fits rule row) × AllFit rules rows
 
--- the rule is the one of its id, and takes a value or asks for help
+-- it takes a value, or is a flag, which stands for a value, or asks for help or the version
+abbrev pub IsUsable : Rule → Type 0
+IsUsable rule =
+    ((action_of rule ≡ Set) × (0 < (unwrap_or_range rule.range).start_inclusive))
+    ⊎ (((action_of rule ≡ SetTrue) × (0 < length rule.missing)) ⊎ ((action_of rule ≡ Help) ⊎ (action_of rule ≡ Version)))
+
+-- the rule is the one of its id, and can be used
 abbrev pub IsKnown : List Rule → Rule → Type 0
-IsKnown rules rule =
-    (arg_by_id rules rule.id ≡ Some rule)
-    × (((action_of rule ≡ Set) × (0 < (unwrap_or_range rule.range).start_inclusive)) ⊎ (action_of rule ≡ Help))
+IsKnown rules rule = (arg_by_id rules rule.id ≡ Some rule) × IsUsable rule
 
 abbrev pub AreKnown : List Rule → List Rule → Type 0
 AreKnown rules [] = Unit {0}
@@ -123,10 +127,31 @@ set_passes action again rule values rows same none =
     (both_empty (repeat_fault again rule.id rows) (values_fault rule values)
     (subst (λ (a : ArgAction). action_fault a again rule values rows ≡ []) same none)).1
 
+used_flag : (action : ArgAction) (rule : Rule) (values : List Text) (rows : List Row) → action ≡ SetTrue
+    → used_as action rule.id (reading_by rule) values rows ≡ with_values rule.id (reading_by rule) CommandLine values (without rule.id rows)
+used_flag action rule values rows same = ap (λ (a : ArgAction). used_as a rule.id (reading_by rule) values rows) same
+
+flag_passes : (action : ArgAction) (again : Bool) (rule : Rule) (values : List Text) (rows : List Row) → action ≡ SetTrue
+    → action_fault action again rule values rows ≡ [] → values_fault rule values ≡ []
+flag_passes action again rule values rows same none =
+    (both_empty (repeat_fault again rule.id rows) (values_fault rule values)
+    (subst (λ (a : ArgAction). action_fault a again rule values rows ≡ []) same none)).1
+
+-- a rule that stands for a value has one
+some_missing : (rule : Rule) (values : List Text) → 0 < length rule.missing → 0 < length (values_or_missing rule values)
+some_missing rule [] some = some
+some_missing rule (text ∷ others) some = omega arith
+
 never_help : (action : ArgAction) (again : Bool) (rule : Rule) (values : List Text) (rows : List Row) → action ≡ Help
     → action_fault action again rule values rows ≡ [] → ⊥
 never_help action again rule values rows same none =
     let bad : DisplayHelp ∷ [] ≡ [] = subst (λ (a : ArgAction). action_fault a again rule values rows ≡ []) same none in
+    omega (arith, ap length bad)
+
+never_version : (action : ArgAction) (again : Bool) (rule : Rule) (values : List Text) (rows : List Row) → action ≡ Version
+    → action_fault action again rule values rows ≡ [] → ⊥
+never_version action again rule values rows same none =
+    let bad : DisplayVersion ∷ [] ≡ [] = subst (λ (a : ArgAction). action_fault a again rule values rows ≡ []) same none in
     omega (arith, ap length bad)
 
 use_fits : (rules : List Rule) (again : Bool) (rule : Rule) (values : List Text) (rows : List Row) → IsKnown rules rule
@@ -147,10 +172,19 @@ use_fits rules again rule values rows known none fit = by_action known.1
         (with_values_fits rules rule CommandLine first more (without rule.id rows) known.0
         (set_passes (action_of rule) again rule (first ∷ more) rows set acts) (without_fits rules rule.id rows fit))
 
-    by_action : ((action_of rule ≡ Set) × (0 < (unwrap_or_range rule.range).start_inclusive)) ⊎ (action_of rule ≡ Help)
-        → AllFit rules (used rule values rows)
+    by_flag : (vs : List Text) → action_of rule ≡ SetTrue → 0 < length vs → action_fault (action_of rule) again rule vs rows ≡ []
+        → AllFit rules (used_as (action_of rule) rule.id (reading_by rule) vs rows)
+    by_flag [] flag some acts = absurd (omega (arith, some))
+    by_flag (first ∷ more) flag some acts =
+        subst (AllFit rules) (sym (used_flag (action_of rule) rule (first ∷ more) rows flag))
+        (with_values_fits rules rule CommandLine first more (without rule.id rows) known.0
+        (flag_passes (action_of rule) again rule (first ∷ more) rows flag acts) (without_fits rules rule.id rows fit))
+
+    by_action : IsUsable rule → AllFit rules (used rule values rows)
     by_action (inl set) = by_values values set.0 set.1 parts.0 parts.1
-    by_action (inr help) = absurd (never_help (action_of rule) again rule (values_or_missing rule values) rows help parts.1)
+    by_action (inr (inl flag)) = by_flag (values_or_missing rule values) flag.0 (some_missing rule values flag.1) parts.1
+    by_action (inr (inr (inl help))) = absurd (never_help (action_of rule) again rule (values_or_missing rule values) rows help parts.1)
+    by_action (inr (inr (inr version))) = absurd (never_version (action_of rule) again rule (values_or_missing rule values) rows version parts.1)
 
 -- ---- the walk over the words
 
@@ -491,7 +525,8 @@ are_known : AreKnown top.rules top.rules
 unfolding command
 are_known =
     let sets = inl (refl, omega arith) in
-    ((refl, sets), ((refl, sets), ((refl, sets), ((refl, sets), ((refl, sets), ((refl, inr refl), tt))))))
+    let flags = inr (inl (refl, omega arith)) in
+    ((refl, sets), ((refl, sets), ((refl, sets), ((refl, flags), ((refl, flags), ((refl, flags), ((refl, sets), ((refl, sets), ((refl, inr (inr (inl refl))), ((refl, inr (inr (inr refl))), tt))))))))))
 
 -- the rows of words in which nothing is wrong
 record IsWhole (rows : List Row) : Type 0 where
@@ -576,7 +611,7 @@ named rows is =
     let many = number_found 1 64 (codes "workers") rows workers.0 (omega arith) workers.2 workers.3 in
     let crew = crew_found many.0 many.2 many.3 in
     let size = number_found 0 18446744073709551615 (codes "grain") rows grain.0 (omega arith) grain.2 grain.3 in (
-      record { abi = version.0; workers = many.0; grain = size.0; tree = tree.0; trace = trace.0 },
+      record { options = options_in version.0 rows; workers = many.0; grain = size.0; tree = tree.0; trace = trace.0 },
       rw (number.1, version.1, many.1, crew, size.1, tree.1, trace.1) refl,
     )
 

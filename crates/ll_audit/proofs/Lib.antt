@@ -8,3 +8,5 @@ pub mod Wants
 pub mod OneReport
 pub mod SameWords
 pub mod Beginnings
+pub mod Explaining
+pub mod BlocksLeft

@@ -1,18 +1,24 @@
--- The command line: `landaudit --abi N [--workers N] [--grain N] TREE TRACE`, and what it asks for.
+-- The command line: `landaudit --abi N [--workers N] [--grain N] [--best-effort] [--refused] [--explain] TREE TRACE`, and what it asks for.
 -- Source: docs/FORMATS.md, "The command line".
-use Rattle.std.specs.Prelude.{◌≡◌, ◌≢◌, ◌==◌, ◌&&◌, ⊤, nat_lt, ℕ, true, List, [], ◌∷◌, Option, Some, None, codes, find, if◌then◌else◌, option_and_then}
+use Rattle.std.specs.Prelude.{◌≡◌, ◌≢◌, ◌⊎◌, ◌==◌, ◌&&◌, ⊤, nat_lt, ℕ, Bool, true, false, List, [], ◌∷◌, Option, Some, None, codes, find, if◌then◌else◌, option_and_then}
+use Rattle.std.specs.Str.{bytes_eq}
 use Rattle.std.specs.Str.Parse.{digits_value, without_leading_plus}
-use Rattle.clap.specs.declared.builder.action.ArgAction.TheVariants.{Set}
+use Rattle.clap.specs.declared.builder.action.ArgAction.TheVariants.{Set, SetTrue}
 use Rattle.clap.specs.declared.builder.value_parser.ValueParser.TheVariants.{Unsigned}
-use Rattle.clap.specs.declared.error.kind.ErrorKind.TheVariants.{DisplayHelp}
+use Rattle.clap.specs.declared.error.kind.ErrorKind.TheVariants.{DisplayHelp, DisplayVersion}
 use Rattle.clap.specs.declared.error.kind.ErrorKind.{ErrorKind}
 use Rattle.clap.specs.Words.{App, IsAmong, Kinds, Row, Rule, Text, fault_of, first_of, matches_of, new_app, new_rule, one_of, with_rule}
+use Rattle.clap.specs.Simple.{on_top}
 use Rattle.clap.specs.ValueTests.{is_unsigned_in}
 use Rattle.ll_rights.specs.declared.abi.Abi.{Abi}
 use Rattle.ll_rights.specs.declared.abi.Abi.TheVariants.{V1, V2, V3, V4, V5}
 use Rattle.ll_rights.specs.Abis.{number_of}
 use Rattle.ll_audit.specs.Audits.{IsCrew}
 use Rattle.ll_audit.specs.declared.command.Run.{Run}
+use Rattle.ll_audit.specs.declared.options.Effort.{Effort}
+use Rattle.ll_audit.specs.declared.options.Effort.TheVariants.{AsRecorded, Best}
+use Rattle.ll_audit.specs.declared.options.Options.{Options}
+use Rattle.ll_audit.specs.declared.shown.Shown.{Shown}
 use Rattle.ll_audit.specs.declared.command.Plan.{Plan}
 use Rattle.ll_audit.specs.declared.command.Plan.TheVariants as plan
 
@@ -32,21 +38,35 @@ required rule = record rule { required = true }
 abbrev pub with_default : Text → Rule → Rule
 with_default value rule = record rule { defaults = value ∷ [] }
 
+-- `--name`, which has no value
+abbrev pub flag : Text → Rule
+flag name = record (new_rule name) {
+  long = Some name;
+  action = Some SetTrue;
+}
+
 -- a file's name
 abbrev pub file_argument : Text → Rule
 file_argument name = record (required (new_rule name)) { action = Some Set }
 
+-- `-V` and `--version` ask for the version
+abbrev pub with_version : App → App
+with_version app = on_top (λ shape. record shape { has_version = true }) app
+
 unfoldable pub command : App
-command = with_rule (with_rule (with_rule (with_rule (with_rule (new_app (codes "landaudit"))
+command = with_rule (with_rule (with_rule (with_rule (with_rule (with_rule (with_rule (with_rule (with_version (new_app (codes "landaudit")))
     (required (number_option (codes "abi") 1 5)))
     (with_default (codes "1") (number_option (codes "workers") 1 64)))
     (with_default (codes "64") (number_option (codes "grain") 0 18446744073709551615)))
+    (flag (codes "best-effort")))
+    (flag (codes "refused")))
+    (flag (codes "explain")))
     (file_argument (codes "TREE")))
     (file_argument (codes "TRACE"))
 
 -- what a run is asked to do
 pub record Request : Type 0 where
-  pub abi : Abi
+  pub options : Options
   pub workers : ℕ
   pub grain : ℕ
   pub tree : Text
@@ -68,6 +88,26 @@ number_in text = if is_unsigned_in 0 18446744073709551615 text then Some (digits
 abbrev pub number_at : Text → List Row → Option ℕ
 number_at name rows = option_and_then number_in (one_of name rows)
 
+-- whether the matches have a flag, whose value is then `true`, and else `false`
+abbrev pub is_true : Option Text → Bool
+is_true (Some text) = bytes_eq text (codes "true")
+is_true None = false
+
+abbrev pub flag_at : Text → List Row → Bool
+flag_at name rows = is_true (first_of name rows)
+
+-- what the matches ask to show
+abbrev pub shown_in : List Row → Shown
+shown_in rows = record { explanations = flag_at (codes "explain") rows; refused_alone = flag_at (codes "refused") rows }
+
+-- how the matches ask to take rulesets
+abbrev pub effort_in : List Row → Effort
+effort_in rows = if flag_at (codes "best-effort") rows then Best else AsRecorded
+
+-- what the matches ask of an audit under a version
+abbrev pub options_in : Abi → List Row → Options
+options_in abi rows = record { abi = abi; effort = effort_in rows; shown = shown_in rows }
+
 infixl 10 ◌>>=◌
 abbrev pub ◌>>=◌ : {A B : Type 0} → Option A → (A → Option B) → Option B
 found >>= next = option_and_then next found
@@ -82,9 +122,9 @@ request_in rows = do
   grain ← number_at (codes "grain") rows
   tree ← first_of (codes "TREE") rows
   trace ← first_of (codes "TRACE") rows
-  Some (record { abi = abi; workers = workers; grain = grain; tree = tree; trace = trace })
+  Some (record { options = options_in abi rows; workers = workers; grain = grain; tree = tree; trace = trace })
 
--- the faults of the words: none, help that is asked for, or what is wrong with them
+-- the faults of the words: none, help or the version that is asked for, or what is wrong with them
 unfoldable pub faults : List Text → Kinds
 faults words = fault_of command words
 
@@ -96,17 +136,22 @@ request_if (kind ∷ kinds) rows = None
 unfoldable pub request_of : List Text → Option Request
 request_of words = request_if (faults words) (matches_of command words)
 
--- the words have a fault that is no call for help
+-- the words ask for help or the version
+abbrev pub AskForText : List Text → Type 0
+AskForText words = IsAmong DisplayHelp (faults words) ⊎ IsAmong DisplayVersion (faults words)
+
+-- the words have a fault that is no call for help or the version
 abbrev pub AreWrong : List Text → Type 0
-AreWrong words = (kind : ErrorKind) × IsAmong kind (faults words) × (kind ≢ DisplayHelp)
+AreWrong words = (kind : ErrorKind) × IsAmong kind (faults words) × (kind ≢ DisplayHelp) × (kind ≢ DisplayVersion)
 
 -- a run, as it was asked for
 abbrev pub request_by : Run → Request
-request_by run = record { abi = run.abi; workers = run.workers; grain = run.grain; tree = run.tree.now; trace = run.trace.now }
+request_by run =
+    record { options = run.options; workers = run.workers; grain = run.grain; tree = run.tree.now; trace = run.trace.now }
 
 -- what a plan says of the words that it was made from
 abbrev pub IsPlanFor : List Text → Plan → Type 0
 IsPlanFor words (plan.Run run) = (request_of words ≡ Some (request_by run)) × IsCrew run.workers
-IsPlanFor words (plan.Help error) = IsAmong DisplayHelp (faults words)
+IsPlanFor words (plan.Text error) = AskForText words
 IsPlanFor words (plan.Usage error) = AreWrong words
 IsPlanFor words plan.Memory = ⊤

@@ -2,8 +2,7 @@
 -- Source: docs/FORMATS.md, "The command line" and "Statuses".
 use Rattle.std.specs.Prelude.{◌≡◌, ◌⊎◌, ◌<◌, ℕ, List, ⊤, Option, Some, None, IfSome}
 use Rattle.std.specs.Io.KnownBytes.{Appends}
-use Rattle.clap.specs.Words.{IsAmong, Text}
-use Rattle.clap.specs.declared.error.kind.ErrorKind.TheVariants.{DisplayHelp}
+use Rattle.clap.specs.Words.{Text}
 use Rattle.ll_tree.specs.Reading.{Format, IsBad}
 use Rattle.ll_tree.specs.TreeReading.{tree_format}
 use Rattle.ll_tree.specs.declared.fault.ReadFault.{ReadFault}
@@ -14,8 +13,9 @@ use Rattle.ll_audit.specs.declared.outcome.Ending.{Ending}
 use Rattle.ll_audit.specs.declared.outcome.Outcome.{Outcome}
 use Rattle.ll_audit.specs.declared.outcome.Outcome.TheVariants as outcome
 use Rattle.ll_audit.specs.declared.report.Report.{Report}
-use Rattle.ll_audit.specs.Audits.{IsReport, ReadsAsTrace, ReadsAsTree}
-use Rattle.ll_audit.specs.Command.{AreWrong, Request, faults, request_of}
+use Rattle.ll_audit.specs.Audits.{ReadsAsTrace, ReadsAsTree}
+use Rattle.ll_audit.specs.ShownReports.{IsReportWith}
+use Rattle.ll_audit.specs.Command.{AreWrong, AskForText, Request, request_of}
 use Rattle.ll_audit.specs.FaultLines.{failure_status}
 use Rattle.ll_audit.specs.Files.{Files, bytes_of}
 use Rattle.ll_audit.specs.Outcomes.{AppendsBeginning, Complains, report_status}
@@ -24,13 +24,13 @@ use Rattle.ll_audit.specs.Outcomes.{AppendsBeginning, Complains, report_status}
 abbrev pub AreBytesOf : Option Files → Text → List ℕ → Type 0
 AreBytesOf files name bytes = IfSome files (λ known. bytes_of known name ≡ Some bytes)
 
--- the report on the files that a request names
+-- the report on the files that a request names, with the options that it asks for
 pub record Reports (files : Option Files) (request : Request) (report : Report) : Type 0 where
   pub tree_bytes : List ℕ
   pub trace_bytes : List ℕ
   pub tree_file : AreBytesOf files request.tree tree_bytes
   pub trace_file : AreBytesOf files request.trace trace_bytes
-  pub is_report : IsReport request.abi tree_bytes trace_bytes report
+  pub is_report : IsReportWith request.options tree_bytes trace_bytes report
 
 -- the words ask for a run, and this is its report
 pub record HasReport (words : List Text) (files : Option Files) (report : Report) : Type 0 where
@@ -72,13 +72,13 @@ HasFailure words files before after of =
 -- what an outcome says of the words and of the files
 abbrev pub IsOutcomeOf : List Text → Option Files → ℕ → ℕ → Outcome → Type 0
 IsOutcomeOf words files before after (outcome.Report report) = HasReport words files report
-IsOutcomeOf words files before after (outcome.Help error) = IsAmong DisplayHelp (faults words)
+IsOutcomeOf words files before after (outcome.Text error) = AskForText words
 IsOutcomeOf words files before after (outcome.Usage error) = AreWrong words
 IsOutcomeOf words files before after (outcome.Failure of) = HasFailure words files before after of
 
--- there is help or a report to be written
+-- there is help, the version or a report to be written
 abbrev pub HasOutput : List Text → Option Files → Type 0
-HasOutput words files = IsAmong DisplayHelp (faults words) ⊎ ((report : Report) × HasReport words files report)
+HasOutput words files = AskForText words ⊎ ((report : Report) × HasReport words files report)
 
 -- With status 0 or 1 words that ask for a run have its report appended to what the output held, and the status is 1
 -- exactly where some record is refused.
@@ -87,23 +87,23 @@ WritesReport words files status old new =
     (status ≡ 0) ⊎ (status ≡ 1) → (request : Request) → request_of words ≡ Some request →
     (report : Report) × Reports files request report × Appends old new report.bytes.items × (status ≡ report_status report.refused)
 
--- With status 2 the words have a fault that is no call for help.
+-- With status 2 the words have a fault that is no call for help or the version.
 abbrev pub HasWrongWords : List Text → ℕ → Type 0
 HasWrongWords words status = status ≡ 2 → AreWrong words
 
--- Words that ask for no run end with status 2, or with 0 where they ask for help, or with 4.
+-- Words that ask for no run end with status 2, or with 0 where they ask for help or the version, or with 4.
 abbrev pub EndsWithoutRun : List Text → ℕ → Type 0
 EndsWithoutRun words status =
     request_of words ≡ None →
-    (status ≡ 2) ⊎ ((status ≡ 0) × IsAmong DisplayHelp (faults words)) ⊎ (status ≡ 4)
+    (status ≡ 2) ⊎ ((status ≡ 0) × AskForText words) ⊎ (status ≡ 4)
 
--- help is asked for, or known bytes grow by a beginning of the report that the words ask for
+-- help or the version is asked for, or known bytes grow by a beginning of the report that the words ask for
 abbrev pub IsCutShort : List Text → Option Files → Option (List ℕ) → Option (List ℕ) → Type 0
 IsCutShort words files old new =
-    IsAmong DisplayHelp (faults words)
+    AskForText words
     ⊎ ((report : Report) × HasReport words files report × AppendsBeginning old new report.bytes.items)
 
--- With status 2 or 3 nothing is written to the output. Nor is it with status 4, unless writing the report or help failed:
+-- With status 2 or 3 nothing is written to the output. Nor is it with status 4, unless writing the report, help or the version failed:
 -- then a beginning of the report may be there.
 abbrev pub WritesNothing : {Output : Type 0} → (Output → Option (List ℕ)) → List Text → Option Files → ℕ → Output → Output → Type 0
 WritesNothing contents words files status old new =
@@ -114,7 +114,7 @@ WritesNothing contents words files status old new =
 abbrev pub StaysQuiet : {Errors : Type 0} → ℕ → Errors → Errors → Type 0
 StaysQuiet status old new = (status ≡ 0) ⊎ (status ≡ 1) → new ≡ old
 
--- why a run ends with status 3 or 4: it fails, or the help or the report that there is can't be written
+-- why a run ends with status 3 or 4: it fails, or the help, the version or the report that there is can't be written
 abbrev pub IsWhy : List Text → Option Files → ℕ → ℕ → Failure → Type 0
 IsWhy words files before after of =
     HasFailure words files before after of ⊎ ((of ≡ failure.Unwritten) × HasOutput words files)

@@ -9,3 +9,6 @@ pub mod Fronts
 pub mod Outcomes
 pub mod Names
 pub mod Cuts
+pub mod Shown
+pub mod ShownReports
+pub mod ShownSoFar

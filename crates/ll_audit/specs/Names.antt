@@ -8,6 +8,7 @@ use Rattle.ll_rules.specs.declared.errno.Errno.{Errno}
 use Rattle.ll_rules.specs.declared.errno.Errno.TheVariants as errno
 use Rattle.ll_trace.specs.declared.op.Op.{Op}
 use Rattle.ll_trace.specs.declared.op.Op.TheVariants as op
+use Rattle.ll_trace.specs.declared.op.RuleType.TheVariants.{PathBeneath, NetPort}
 
 -- the name of an operation, as the trace spells it
 unfoldable pub op_name : Op → List ℕ
@@ -38,6 +39,9 @@ op_name op.Mount = codes "mount"
 op_name (op.Bind port) = codes "bind"
 op_name (op.Connect port) = codes "connect"
 op_name (op.Ioctl fd driver) = codes "ioctl"
+op_name (op.CreateEmpty rs) = codes "create"
+op_name (op.LeaveOut PathBeneath) = codes "add_path"
+op_name (op.LeaveOut NetPort) = codes "add_port"
 
 -- a line of a trace says its operation by this word, its object's member "op"
 pub record SaysOperation (line : Line) (word : List ℕ) : Type 0 where

@@ -31,7 +31,7 @@ EndsWith contents lines (outcome.Report report) ending old new errors_old errors
     × AppendsBeginning (contents old) (contents new) report.bytes.items)
     ⊎ ((ending.status ≡ report_status report.refused) × Appends (contents old) (contents new) report.bytes.items
     × (errors_new ≡ errors_old))
-EndsWith contents lines (outcome.Help error) ending old new errors_old errors_new =
+EndsWith contents lines (outcome.Text error) ending old new errors_old errors_new =
     Complains Unwritten ending (lines errors_old) (lines errors_new) ⊎ ((ending.status ≡ 0) × (errors_new ≡ errors_old))
 EndsWith contents lines (outcome.Usage error) ending old new errors_old errors_new = (ending.status ≡ 2) × (new ≡ old)
 EndsWith contents lines (outcome.Failure of) ending old new errors_old errors_new =

@@ -4,12 +4,15 @@ ghost use Rattle.std.specs.Prelude.{◌≡◌, ◌++◌, IfOk, IfErr};
 ghost use Rattle.ll_tree.specs.TreeReading.{IsTreeOf};
 ghost use Rattle.ll_trace.specs.Records.{IsTrace};
 ghost use Rattle.ll_semantics.specs.Worlds.{judged};
-ghost use Rattle.ll_audit.specs.Audits.{IsCrew, IsFaultOf, IsReport, IsReportOn};
+ghost use Rattle.ll_audit.specs.Audits.{IsCrew, IsFaultOf, IsReport};
+ghost use Rattle.ll_audit.specs.ShownReports.{IsReportWith, IsShownReportOn, taken};
 ghost use Rattle.ll_audit.specs.Causes.{IsTraceFault, IsTreeFault, IsWant};
 
 use crate::cut::{Cut, cuts_of};
 use crate::fault::Fault;
+use crate::options::{Effort, Options};
 use crate::report::Report;
+use crate::shown::{ALL_LINES, Shown};
 use ll_pool::{CollectFault, Gate, collect, run};
 use ll_process::{Answer, Case};
 use ll_rights::Abi;
@@ -37,13 +40,49 @@ pub fn audit<R: Threads + Wait + Sync, G: Gate + Sync>(
     ensures crew { IfOk result (λ _. IsCrew workers) }
     ensures fault { IfErr result (IsFaultOf workers tree.now trace.now) }
 {
+    let options = Options {
+        abi,
+        effort: Effort::AsRecorded,
+        shown: ALL_LINES,
+    };
+    audit_with(rt, alloc, tree, trace, &options, workers, cut, gate)
+}
+
+/// Audits a trace against a tree as `audit` does, with options: rulesets may be taken at best effort, and
+/// as much of the report is shown as is asked for, explanations behind the lines of records, or refused
+/// records alone. The totals are those of all records.
+pub fn audit_with<R: Threads + Wait + Sync, G: Gate + Sync>(
+    rt: &R,
+    alloc: Global,
+    tree: &[u8],
+    trace: &[u8],
+    options: &Options,
+    workers: u64,
+    cut: Cut,
+    gate: &G,
+) -> Result<Report, Fault>
+    ensures report { IfOk result (IsReportWith options.now tree.now trace.now) }
+    ensures crew { IfOk result (λ _. IsCrew workers) }
+    ensures fault { IfErr result (IsFaultOf workers tree.now trace.now) }
+{
     if workers == 0 || workers > 64 {
         return Err(Fault::Workers);
     }
     let tree = tree_of(alloc, tree)?;
     let trace = trace_of(alloc, trace)?;
-    let case = Case::new(alloc, tree, trace, abi)?;
-    report_on(rt, alloc, &case, workers, cut, gate)
+    let trace = taken(trace, options);
+    let case = Case::new(alloc, tree, trace, options.abi)?;
+    report_on(rt, alloc, &case, workers, cut, gate, options.shown)
+}
+
+/// A trace as its rulesets are to be taken.
+fn taken(trace: Trace, options: &Options) -> Trace
+    ensures { result ≡ taken options.now.effort options.now.abi trace }
+{
+    match options.effort {
+        Effort::AsRecorded => trace,
+        Effort::Best => trace.at_best_effort(options.abi),
+    }
 }
 
 /// The tree that a file reads as.
@@ -74,7 +113,7 @@ fn trace_of(alloc: Global, bytes: &[u8]) -> Result<Trace, Fault>
     }
 }
 
-/// The report on a case.
+/// The report on a case, as much as is shown of it.
 fn report_on<R: Threads + Wait + Sync, G: Gate + Sync>(
     rt: &R,
     alloc: Global,
@@ -82,13 +121,14 @@ fn report_on<R: Threads + Wait + Sync, G: Gate + Sync>(
     workers: u64,
     cut: Cut,
     gate: &G,
+    shown: Shown,
 ) -> Result<Report, Fault>
     requires { IsCrew workers }
-    ensures report { IfOk result (IsReportOn case.now.tree case.now.abi case.now.records) }
+    ensures report { IfOk result (IsShownReportOn shown case.now.tree case.now.abi case.now.records) }
     ensures fault { IfErr result IsWant }
 {
     let answers = answers_of(rt, alloc, case, workers, cut, gate)?;
-    Ok(Report::of(alloc, case.trace().records(), &answers)?)
+    Ok(Report::of(alloc, case, &answers, shown)?)
 }
 
 /// The answers to all records, judged by this many workers.

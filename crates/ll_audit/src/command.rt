@@ -6,6 +6,8 @@ ghost use Rattle.clap.specs.declared.error.kind.ErrorKind.TheVariants.{OutOfMemo
 ghost use Rattle.ll_audit.specs.Audits.{IsCrew};
 ghost use Rattle.ll_audit.specs.Command as spec;
 
+use crate::options::{Effort, Options};
+use crate::shown::Shown;
 use clap::builder::ValueParser;
 use clap::error::ErrorKind;
 use clap::{Arg, ArgAction, ArgMatches, Command, Error};
@@ -15,8 +17,8 @@ use std::alloc::{AllocError, Global};
 /// What a run is asked to do.
 #[derive(Clone, Copy, Debug)]
 pub(crate) struct Run<'a> {
-    /// The version of Landlock's interface that answers.
-    pub(crate) abi: Abi,
+    /// What is asked of the audit.
+    pub(crate) options: Options,
     /// How many threads judge.
     pub(crate) workers: u64,
     /// From how many records on a forked process may go to another thread.
@@ -32,13 +34,16 @@ pub(crate) struct Run<'a> {
 pub(crate) enum Plan<'a> {
     /// A run.
     Run(Run<'a>),
-    /// Help, which is the text of the error.
-    Help(Error),
+    /// Help or the version, which is the text of the error.
+    Text(Error),
     /// Nothing: the words are at fault, and the error's text says why.
     Usage(Error),
     /// No memory was left while the words were read.
     Memory,
 }
+
+/// The version that `--version` prints.
+const VERSION: &str = "0.1";
 
 const ABOUT: &str = "Says for each call of a trace what Landlock answers";
 
@@ -48,13 +53,25 @@ const TREE_HELP: &str =
 const TRACE_HELP: &str =
     "File with the calls, one a line: {\"op\":\"open\",\"pid\":10,\"path\":\"/a/f\",\"fd\":4,\"mode\":\"r\"}";
 
-const STATUSES: &str = "\
+const EFFORT_HELP: &str =
+    "Drop the rights that the version lacks, as a program does that asks its kernel";
+
+const REFUSED_HELP: &str = "Print only the refused records; the totals count all";
+
+const EXPLAIN_HELP: &str = "Print behind each refused or moot record why it is so";
+
+const MORE_HELP: &str = "\
+Example: what ABI 4 refuses of a recording, and why
+  landaudit --abi 4 --explain --refused rec/tree.jsonl rec/trace.jsonl
+
 Status:
-  0  no call is refused, or this help was asked for
+  0  no call is refused, or this help or the version was asked for
   1  some call is refused
   2  the command line is wrong
   3  a file can't be read, or a line of it is wrong
-  4  no memory or no thread is left, or the report can't be written";
+  4  no memory or no thread is left, or the report can't be written
+
+The files and the report are described in landaudit(5) and docs/FORMATS.md.";
 
 /// An option `--name N`.
 fn number_option<'a>(alloc: Global, name: &'a str, least: u64, most: u64, help: &'a str) -> Arg<'a>
@@ -66,6 +83,17 @@ fn number_option<'a>(alloc: Global, name: &'a str, least: u64, most: u64, help: 
         .action(ArgAction::Set)
         .value_name("N")
         .value_parser(ValueParser::unsigned(least, most))
+        .help(help)
+}
+
+/// An option `--name`, which has no value.
+fn flag_option<'a>(alloc: Global, name: &'a str, help: &'a str) -> Arg<'a>
+    ensures rule { rule_of result ≡ spec.flag name.entry.now }
+    ensures local { result.global ≡ false }
+{
+    Arg::new(alloc, name)
+        .long(name)
+        .action(ArgAction::SetTrue)
         .help(help)
 }
 
@@ -101,11 +129,15 @@ fn command<'a>(alloc: Global) -> Result<Command<'a>, AllocError>
         "Fewest records of a forked process that may go to another thread",
     );
     Command::new(alloc, "landaudit")
+        .version(VERSION)
         .about(ABOUT)
-        .after_help(STATUSES)
+        .after_help(MORE_HELP)
         .arg(abi.required(true))?
         .arg(workers.default_value("1"))?
         .arg(grain.default_value("64"))?
+        .arg(flag_option(alloc, "best-effort", EFFORT_HELP))?
+        .arg(flag_option(alloc, "refused", REFUSED_HELP))?
+        .arg(flag_option(alloc, "explain", EXPLAIN_HELP))?
         .arg(file_argument(alloc, "TREE", TREE_HELP))?
         .arg(file_argument(alloc, "TRACE", TRACE_HELP))
 }
@@ -144,6 +176,48 @@ fn text<'a>(matches: &ArgMatches<'a>, name: &str) -> Option<&'a str>
     matches.get_str(name)
 }
 
+/// Whether the matches have a flag.
+fn flag(matches: &ArgMatches<'_>, name: &str) -> bool
+    ensures { result ≡ spec.flag_at name.now (rows_of (found_of matches.now)) }
+{
+    match text(matches, name) {
+        Some(value) => value == "true",
+        None => false,
+    }
+}
+
+/// What the matches ask to show.
+fn shown(matches: &ArgMatches<'_>) -> Shown
+    ensures { result ≡ spec.shown_in (rows_of (found_of matches.now)) }
+{
+    Shown {
+        explanations: flag(matches, "explain"),
+        refused_alone: flag(matches, "refused"),
+    }
+}
+
+/// How the matches ask to take rulesets.
+fn effort(matches: &ArgMatches<'_>) -> Effort
+    ensures { result ≡ spec.effort_in (rows_of (found_of matches.now)) }
+{
+    if flag(matches, "best-effort") {
+        Effort::Best
+    } else {
+        Effort::AsRecorded
+    }
+}
+
+/// What the matches ask of an audit under a version.
+fn options(abi: Abi, matches: &ArgMatches<'_>) -> Options
+    ensures { result ≡ spec.options_in abi (rows_of (found_of matches.now)) }
+{
+    Options {
+        abi,
+        effort: effort(matches),
+        shown: shown(matches),
+    }
+}
+
 /// What the matches ask for.
 #[tactic(auto, unfolding(crate::specs::Command::request_in))]
 fn run_of<'a>(matches: &ArgMatches<'a>) -> Option<Run<'a>>
@@ -152,7 +226,7 @@ fn run_of<'a>(matches: &ArgMatches<'a>) -> Option<Run<'a>>
     ensures crew { IfSome result (λ run. IsCrew run.workers) }
 {
     Some(Run {
-        abi: version(number(matches, "abi")?)?,
+        options: options(version(number(matches, "abi")?)?, matches),
         workers: crew(number(matches, "workers")?)?,
         grain: number(matches, "grain")?,
         tree: text(matches, "TREE")?,
@@ -194,7 +268,7 @@ pub(crate) fn plan_of<'a>(alloc: Global, words: &'a [String]) -> Plan<'a>
         Ok(run) => Plan::Run(run),
         Err(error) => match error.kind() {
             ErrorKind::OutOfMemory => Plan::Memory,
-            ErrorKind::DisplayHelp => Plan::Help(error),
+            ErrorKind::DisplayHelp | ErrorKind::DisplayVersion => Plan::Text(error),
             _ => Plan::Usage(error),
         },
     }

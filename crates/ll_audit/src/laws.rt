@@ -1,10 +1,10 @@
 //! What holds by the definitions alone.
 
-ghost use Rattle.std.specs.Prelude.{◌≡◌, ◌∷◌, ◌↔◌, ℕ, List, [], Some, None, Ok, IsSome, codes};
+ghost use Rattle.std.specs.Prelude.{◌≡◌, ◌∷◌, ◌↔◌, ℕ, List, [], Some, None, Ok, IsSome, codes, false, option_map, true};
 ghost use Rattle.clap.specs.Words.{Text};
 ghost use Rattle.clap.specs.declared.error.kind.ErrorKind.TheVariants as kind;
 ghost use Rattle.ll_rights.specs.declared.abi.Abi.{Abi as Version};
-ghost use Rattle.ll_rights.specs.declared.abi.Abi.TheVariants.{V4, V5};
+ghost use Rattle.ll_rights.specs.declared.abi.Abi.TheVariants.{V1, V4, V5};
 ghost use Rattle.ll_tree.specs.Lines.{Line};
 ghost use Rattle.ll_tree.specs.WorkedTree.{worked_tree};
 ghost use Rattle.ll_trace.specs.declared.record.Record.{Record};
@@ -17,17 +17,42 @@ ghost use Rattle.ll_audit.specs.Command.{faults, request_of};
 ghost use Rattle.ll_audit.specs.Lines.{line_of, lines_of};
 ghost use Rattle.ll_audit.specs.Names.{SaysOperation};
 ghost use Rattle.ll_audit.specs.Report.{report_text};
+ghost use Rattle.ll_audit.specs.declared.options.Effort.TheVariants.{AsRecorded, Best};
 ghost use Rattle.ll_audit.specs.declared.report.Report.{Report as Made};
+ghost use Rattle.ll_audit.specs.declared.shown.TheConstants.{ALL_LINES};
 
 /// What some command lines ask for, and what is wrong with others.
 #[tactic(auto, unfolding(clap::proofs::OnLiterals::clap_on_literals, crate::specs::Command::command, crate::specs::Command::faults, crate::specs::Command::request_in, crate::specs::Command::request_of))]
 pub fn command_lines()
     // Without `--workers` and `--grain` there is one worker, and the grain is 64.
     ensures short { request_of (codes "landaudit" ∷ codes "--abi" ∷ codes "4" ∷ codes "t" ∷ codes "r" ∷ [])
-        ≡ Some (record { abi = V4; workers = 1; grain = 64; tree = codes "t"; trace = codes "r" }) }
+        ≡ Some (record {
+          options = record { abi = V4; effort = AsRecorded; shown = ALL_LINES };
+          workers = 1;
+          grain = 64;
+          tree = codes "t";
+          trace = codes "r";
+        }) }
     ensures long { request_of (codes "landaudit" ∷ codes "--abi=5" ∷ codes "t" ∷ codes "--workers" ∷ codes "64"
         ∷ codes "r" ∷ codes "--grain=0" ∷ [])
-        ≡ Some (record { abi = V5; workers = 64; grain = 0; tree = codes "t"; trace = codes "r" }) }
+        ≡ Some (record {
+          options = record { abi = V5; effort = AsRecorded; shown = ALL_LINES };
+          workers = 64;
+          grain = 0;
+          tree = codes "t";
+          trace = codes "r";
+        }) }
+    ensures best_effort { option_map (λ asked. asked.options) (request_of (codes "landaudit" ∷ codes "--best-effort" ∷ codes "--abi"
+        ∷ codes "1" ∷ codes "t" ∷ codes "r" ∷ [])) ≡ Some (record { abi = V1; effort = Best; shown = ALL_LINES }) }
+    ensures refused { option_map (λ asked. asked.options.shown) (request_of (codes "landaudit" ∷ codes "--abi" ∷ codes "4" ∷ codes "--refused"
+        ∷ codes "t" ∷ codes "r" ∷ [])) ≡ Some (record { explanations = false; refused_alone = true }) }
+    ensures explained { option_map (λ asked. asked.options.shown) (request_of (codes "landaudit" ∷ codes "--abi" ∷ codes "4" ∷ codes "t"
+        ∷ codes "r" ∷ codes "--explain" ∷ [])) ≡ Some (record { explanations = true; refused_alone = false }) }
+    // A flag has no value, and is given at most once.
+    ensures no_value { faults (codes "landaudit" ∷ codes "--abi" ∷ codes "4" ∷ codes "--refused=true" ∷ codes "t" ∷ codes "r" ∷ [])
+        ≡ kind.TooManyValues ∷ [] }
+    ensures no_second { faults (codes "landaudit" ∷ codes "--abi" ∷ codes "4" ∷ codes "--refused" ∷ codes "--refused" ∷ codes "t"
+        ∷ codes "r" ∷ []) ≡ kind.ArgumentConflict ∷ [] }
     ensures no_such_version { faults (codes "landaudit" ∷ codes "--abi" ∷ codes "6" ∷ codes "t" ∷ codes "r" ∷ [])
         ≡ kind.ValueValidation ∷ [] }
     ensures no_worker { faults (codes "landaudit" ∷ codes "--abi" ∷ codes "4" ∷ codes "--workers" ∷ codes "0"
@@ -36,6 +61,8 @@ pub fn command_lines()
         ≡ kind.MissingRequiredArgument ∷ [] }
     ensures no_word { faults (codes "landaudit" ∷ []) ≡ kind.MissingRequiredArgument ∷ [] }
     ensures help { faults (codes "landaudit" ∷ codes "--help" ∷ []) ≡ kind.DisplayHelp ∷ [] }
+    ensures version { faults (codes "landaudit" ∷ codes "--version" ∷ []) ≡ kind.DisplayVersion ∷ [] }
+    ensures short_version { faults (codes "landaudit" ∷ codes "-V" ∷ []) ≡ kind.DisplayVersion ∷ [] }
     ensures help_last { faults (codes "landaudit" ∷ codes "--abi" ∷ codes "4" ∷ codes "t" ∷ codes "r" ∷ codes "--help" ∷ [])
         ≡ kind.DisplayHelp ∷ [] }
 {}

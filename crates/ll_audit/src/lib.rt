@@ -2,6 +2,7 @@
 #![tactic(auto)]
 
 mod auditing;
+mod blocks;
 mod command;
 mod cut;
 mod fault;
@@ -10,14 +11,16 @@ mod inputs;
 mod laws;
 mod lines;
 mod names;
+mod options;
 mod outcome;
 mod program;
 mod report;
+mod shown;
 mod source;
 #[cfg(test)]
 mod tests;
 
-pub use auditing::audit;
+pub use auditing::{audit, audit_with};
 pub use cut::Cut;
 pub use fault::Fault;
 pub use idle::Idle;
@@ -25,7 +28,9 @@ pub use laws::{
     command_lines, empty_report, the_report_has_the_words_of_the_trace,
     the_same_bytes_have_one_report, words_without_a_fault_name_a_run,
 };
+pub use options::{Effort, Options};
 pub use outcome::Ending;
 pub use program::{front, front_ending};
 pub use report::Report;
+pub use shown::{ALL_LINES, Shown};
 pub use source::{MemorySource, Source, SourceFault};

@@ -4,7 +4,7 @@ ghost use Rattle.std.specs.Prelude.{◌≡◌};
 ghost use Rattle.ll_audit.specs.Names as spec;
 
 use ll_rules::Errno;
-use ll_trace::Op;
+use ll_trace::{Op, RuleType};
 
 /// The name of an operation, as the trace spells it.
 #[tactic(auto, unfolding(crate::specs::Names::op_name))]
@@ -39,6 +39,11 @@ pub(crate) fn op_name(op: &Op) -> &'static str
         Op::Bind { .. } => "bind",
         Op::Connect { .. } => "connect",
         Op::Ioctl { .. } => "ioctl",
+        Op::CreateEmpty { .. } => "create",
+        Op::LeaveOut { rule } => match rule {
+            RuleType::PathBeneath => "add_path",
+            RuleType::NetPort => "add_port",
+        },
     }
 }
 

@@ -16,8 +16,8 @@ use std::io::{ErrorKind, Write};
 pub(crate) enum Outcome<'a> {
     /// A report.
     Report(Report),
-    /// Help was asked for: the error's text.
-    Help(Error),
+    /// Help or the version was asked for: the error's text.
+    Text(Error),
     /// The command line is at fault, as the error's text says.
     Usage(Error),
     /// No report.
@@ -34,7 +34,7 @@ pub struct Ending {
 }
 
 impl Outcome<'_> {
-    /// Writes the report or the help to `out`, or what is wrong to `err`, and gives the status.
+    /// Writes the report, the help or the version to `out`, or what is wrong to `err`, and gives the status.
     pub(crate) fn write_to<O: Write, E: Write>(&self, out: &mut O, err: &mut E) -> Ending
         ensures { EndsWith O.contents E.contents self.now result out.old out.new err.old err.new }
     {
@@ -46,7 +46,7 @@ impl Outcome<'_> {
                 },
                 Err(_) => complain(&Failure::Unwritten, err),
             },
-            Outcome::Help(text) => match write_help(out, text) {
+            Outcome::Text(text) => match write_text(out, text) {
                 Ok(()) => Ending {
                     status: 0,
                     told: true,
@@ -100,7 +100,7 @@ fn write_some<O: Write>(out: &mut O, bytes: &[u8]) -> io::Result<usize>
     }
 }
 
-fn write_help<O: Write>(out: &mut O, text: &Error) -> io::Result<()> {
+fn write_text<O: Write>(out: &mut O, text: &Error) -> io::Result<()> {
     write!(out, "{text}")?;
     out.flush()
 }

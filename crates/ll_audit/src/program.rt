@@ -5,7 +5,7 @@ ghost use Rattle.ll_audit.specs.Audits.{IsCrew};
 ghost use Rattle.ll_audit.specs.Command.{request_by};
 ghost use Rattle.ll_audit.specs.Fronts.{EndsWithoutRun, HasReason, HasWrongWords, IsFailureOf, IsOutcomeOf, Reports, StaysQuiet, TellsWhy, WritesNothing, WritesReport};
 
-use crate::auditing::audit;
+use crate::auditing::audit_with;
 use crate::command::{Plan, Run, plan_of};
 use crate::cut::Cut;
 use crate::fault::Fault;
@@ -21,10 +21,10 @@ use std::sync::Wait;
 use std::thread::Threads;
 
 /// Runs the program on the words of its command line, of which the first is its own name, and gives
-/// its status: 0 with a report that has no refused record, or with help; 1 with a report that has
+/// its status: 0 with a report that has no refused record, or with help or the version; 1 with a report that has
 /// one; 2 where the words are wrong; 3 where a file can't be read or doesn't read; 4 where memory or
 /// a thread is wanting, or the output can't be written, which may leave a beginning of the report
-/// there. The report and the help go to `out`, and what is wrong to `err`. If that can't be written
+/// there. The report, the help and the version go to `out`, and what is wrong to `err`. If that can't be written
 /// the status stays.
 pub fn front<R: Threads + Wait + Sync, S: Source, O: Write, E: Write, G: Gate + Sync>(
     rt: &R,
@@ -93,13 +93,13 @@ fn outcome_of<'a, R: Threads + Wait + Sync, S: Source, G: Gate + Sync>(
             Ok(report) => Outcome::Report(report),
             Err(failure) => Outcome::Failure(failure),
         },
-        Plan::Help(text) => Outcome::Help(text),
+        Plan::Text(text) => Outcome::Text(text),
         Plan::Usage(error) => Outcome::Usage(error),
         Plan::Memory => Outcome::Failure(Failure::Memory),
     }
 }
 
-/// The report of a run.
+/// The report of a run, with the options that it asks for.
 fn report_of<'a, R: Threads + Wait + Sync, S: Source, G: Gate + Sync>(
     rt: &R,
     alloc: Global,
@@ -115,12 +115,12 @@ fn report_of<'a, R: Threads + Wait + Sync, S: Source, G: Gate + Sync>(
 {
     let inputs = inputs_of(alloc, source, run)?;
     let cut = Cut::Grain(run.grain);
-    match audit(
+    match audit_with(
         rt,
         alloc,
         &inputs.tree,
         &inputs.trace,
-        run.abi,
+        &run.options,
         run.workers,
         cut,
         gate,

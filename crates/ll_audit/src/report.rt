@@ -1,17 +1,20 @@
 //! The text of the report.
 
 ghost use Rattle.std.specs.Prelude.{◌≡◌, ◌++◌, ◌∷◌, [], IfOk, OnOk, codes, count_by, decimal, length, if◌then◌else◌};
-ghost use Rattle.std.specs.List.{flat_map};
 ghost use Rattle.ll_audit.specs.Outcomes.{report_status};
-ghost use Rattle.ll_audit.specs.Lines.{line_of, lines_of, refused_among, verdict_of};
+ghost use Rattle.ll_semantics.specs.Worlds.{judged};
+ghost use Rattle.ll_audit.specs.ShownReports.{IsShownReportOn};
+ghost use Rattle.ll_audit.specs.Lines.{line_of, verdict_of};
 ghost use Rattle.ll_audit.specs.Report as words;
-ghost use Rattle.ll_audit.specs.Report.{head_text, layers_text, line_text, next_layer_text, refused, report_text, total_text, verdict_text};
+ghost use Rattle.ll_audit.specs.Report.{head_text, layers_text, line_text, next_layer_text, refused, total_text, verdict_text};
 ghost use Rattle.ll_audit.specs.Names as spec;
 
+use crate::blocks::push_blocks;
 use crate::names::{error_name, op_name};
+use crate::shown::Shown;
 use itoa::Buffer;
-use ll_process::Answer;
-use ll_rules::{Errno, LayerSet};
+use ll_process::{Answer, Case};
+use ll_rules::{Errno, LayerSet, NoMemory};
 use ll_trace::Record;
 use std::alloc::{AllocError, Global};
 
@@ -25,20 +28,18 @@ pub struct Report {
 }
 
 impl Report {
-    /// The report on records and the answers to them.
+    /// The report on a case and the answers to its records, as much as is shown of it.
     pub(crate) fn of(
         alloc: Global,
-        records: &[Record],
+        case: &Case,
         answers: &[Answer],
-    ) -> Result<Report, AllocError>
-        requires { length answers.now ≡ length records.now }
-        ensures bytes { IfOk result
-            (λ report. report.bytes.items ≡ report_text (lines_of records.now answers.now)) }
-        ensures refused { IfOk result
-            (λ report. report.refused ≡ refused_among records.now answers.now) }
+        shown: Shown,
+    ) -> Result<Report, NoMemory>
+        requires { answers.now ≡ judged case.now.tree case.now.abi case.now.records }
+        ensures { IfOk result (IsShownReportOn shown case.now.tree case.now.abi case.now.records) }
     {
         let mut bytes = Vec::new(alloc);
-        push_lines(&mut bytes, records, answers)?;
+        push_blocks(alloc, &mut bytes, case, answers, shown)?;
         let totals = Totals::of(answers);
         totals.push_to(&mut bytes)?;
         Ok(Report {
@@ -155,24 +156,16 @@ fn push_verdict(text: &mut Vec<u8>, answer: &Answer) -> Result<(), AllocError>
 }
 
 /// Adds the line of a record and its answer.
-fn push_line(text: &mut Vec<u8>, record: &Record, answer: &Answer) -> Result<(), AllocError>
+pub(crate) fn push_line(
+    text: &mut Vec<u8>,
+    record: &Record,
+    answer: &Answer,
+) -> Result<(), AllocError>
     ensures { OnOk result (text.new.items ≡ text.old.items ++ line_text (line_of «record».now answer.now)) }
 {
     push_head(text, record.line, record.pid, op_name(&record.op))?;
     push_verdict(text, answer)?;
     text.push(b'\n')?;
-    Ok(())
-}
-
-/// Adds the lines of records, each with its answer.
-fn push_lines(text: &mut Vec<u8>, records: &[Record], answers: &[Answer]) -> Result<(), AllocError>
-    requires { length answers.now ≡ length records.now }
-    ensures { OnOk result (text.new.items
-        ≡ text.old.items ++ flat_map line_text (lines_of records.now answers.now)) }
-{
-    for (place, record) in records.iter().enumerate() {
-        push_line(text, record, &answers[place])?;
-    }
     Ok(())
 }
 
@@ -182,7 +175,7 @@ fn is_allowed(answer: &Answer) -> bool
     matches!(answer, Answer::Allowed)
 }
 
-fn is_refused(answer: &Answer) -> bool
+pub(crate) fn is_refused(answer: &Answer) -> bool
     ensures { result ≡ words.is_refused (verdict_of answer.now) }
 {
     matches!(answer, Answer::Refused(_, _))

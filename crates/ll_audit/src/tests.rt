@@ -6,13 +6,16 @@ use crate::names::op_name;
 use crate::outcome::Outcome;
 use crate::report::{push_head, push_refusal, push_total};
 use crate::*;
+use ll_rights::Abi;
 use ll_rules::{Errno, LayerSet};
 use ll_trace::Trace;
 use ll_tree::{Cause, ReadFault};
 use std::alloc::{AllocError, Global};
 use std::io;
 use std::io::{ErrorKind, Write};
+use std::sync::Wait;
 use std::test::Fail;
+use std::thread::Threads;
 
 fn owned(alloc: Global, words: &[&str]) -> Result<Vec<String>, AllocError> {
     let mut all = Vec::new(alloc);
@@ -84,7 +87,7 @@ fn words_of_a_run(rt: HostRuntime) -> Result<(), Fail> {
     let Plan::Run(run) = plan_of(rt.alloc(), words.as_slice()) else {
         return Err(Fail::new("no run"));
     };
-    assert_eq!(rt; run.abi.number(), 4);
+    assert_eq!(rt; run.options.abi.number(), 4);
     assert_eq!(rt; run.workers, 8);
     assert_eq!(rt; run.grain, 64);
     assert_eq!(rt; run.tree, "t");
@@ -95,7 +98,7 @@ fn words_of_a_run(rt: HostRuntime) -> Result<(), Fail> {
 fn outcome_of(plan: Plan<'_>) -> Option<Outcome<'_>> {
     match plan {
         Plan::Run(_) => None,
-        Plan::Help(text) => Some(Outcome::Help(text)),
+        Plan::Text(text) => Some(Outcome::Text(text)),
         Plan::Usage(error) => Some(Outcome::Usage(error)),
         Plan::Memory => Some(Outcome::Failure(Failure::Memory)),
     }
@@ -281,9 +284,6 @@ fn files_in_memory(rt: HostRuntime) -> Result<(), Fail> {
 
 #[test]
 fn pieces_of_a_report(rt: HostRuntime) -> Result<(), Fail> {
-    let empty = Report::of(rt.alloc(), &[], &[])?;
-    let want = "total 0 allowed 0 refused 0 moot 0\n";
-    assert_eq!(rt; empty.bytes.as_slice(), want.as_bytes());
     let mut text = Vec::new(rt.alloc());
     push_head(&mut text, 2, 10, "create")?;
     push_refusal(&mut text, Errno::TooBig, LayerSet::new())?;
@@ -304,5 +304,162 @@ fn faults_have_texts(rt: HostRuntime) -> Result<(), Fail> {
         fault.to_string(rt.alloc())?.as_str(),
         "line 3 of the tree is wrong: Twice"
     );
+    Ok(())
+}
+
+const TREE: &str = "\
+{\"path\":\"/a\",\"kind\":\"dir\"}
+{\"path\":\"/b\",\"kind\":\"dir\"}
+{\"path\":\"/a/f\",\"kind\":\"reg\"}
+{\"path\":\"/b/g\",\"kind\":\"reg\"}
+";
+
+const TRACE: &str = "\
+{\"op\":\"start\",\"pid\":10}
+{\"op\":\"nnp\",\"pid\":10}
+{\"op\":\"create\",\"pid\":10,\"rs\":3,\"fs\":[\"read_file\"]}
+{\"op\":\"add_path\",\"pid\":10,\"rs\":3,\"path\":\"/a\",\"fs\":[\"read_file\"]}
+{\"op\":\"restrict\",\"pid\":10,\"rs\":3}
+{\"op\":\"open\",\"pid\":10,\"path\":\"/a/f\",\"fd\":4,\"mode\":\"r\"}
+{\"op\":\"open\",\"pid\":10,\"path\":\"/b/g\",\"fd\":5,\"mode\":\"r\"}
+{\"op\":\"ftruncate\",\"pid\":10,\"fd\":9}
+{\"op\":\"open\",\"pid\":10,\"path\":\"/b/g\",\"fd\":5,\"mode\":\"w\"}
+";
+
+const FIRST_LINES: &str = "\
+1 10 start allowed
+2 10 nnp allowed
+3 10 create allowed
+4 10 add_path allowed
+5 10 restrict allowed
+6 10 open allowed
+";
+
+const REFUSED_LINE: &str = "7 10 open refused EACCES 1\n";
+
+const LAST_LINES: &str = "8 10 ftruncate moot\n9 10 open allowed\n";
+
+const TOTALS: &str = "total 9 allowed 7 refused 1 moot 1\n";
+
+#[test]
+fn refused_records_alone(rt: HostRuntime) -> Result<(), Fail> {
+    let whole = [FIRST_LINES, REFUSED_LINE, LAST_LINES, TOTALS];
+    let alone = ["", REFUSED_LINE, "", TOTALS];
+    let cases: [(&[&str], [&str; 4]); 2] = [
+        (["landaudit", "--abi", "4", "t", "r"].as_slice(), whole),
+        (
+            ["landaudit", "--abi", "4", "t", "r", "--refused"].as_slice(),
+            alone,
+        ),
+    ];
+    for (words, report) in cases {
+        let words = owned(rt.alloc(), words)?;
+        let files = [("t", TREE.as_bytes()), ("r", TRACE.as_bytes())];
+        let mut source = MemorySource::new(files.as_slice());
+        let mut out = Vec::new(rt.alloc());
+        let mut err = Vec::new(rt.alloc());
+        let status = front(
+            &rt,
+            rt.alloc(),
+            &words,
+            &mut source,
+            &mut out,
+            &mut err,
+            &Idle,
+        );
+        let mut want = Vec::new(rt.alloc());
+        for part in report {
+            want.extend_from_slice(part.as_bytes())?;
+        }
+        assert_eq!(rt; out.as_slice(), want.as_slice());
+        assert_eq!(rt; status, 1);
+        assert!(rt; err.is_empty());
+    }
+    Ok(())
+}
+
+#[test]
+fn version_is_told(rt: HostRuntime) -> Result<(), Fail> {
+    for word in ["-V", "--version"] {
+        let words = owned(rt.alloc(), ["landaudit", word].as_slice())?;
+        let outcome = outcome_of(plan_of(rt.alloc(), words.as_slice())).ok_or("a run")?;
+        let mut out = Vec::new(rt.alloc());
+        let mut err = Vec::new(rt.alloc());
+        let ending = outcome.write_to(&mut out, &mut err);
+        assert_eq!(rt;
+            ending,
+            Ending {
+                status: 0,
+                told: true
+            }
+        );
+        assert_eq!(rt; out.as_slice(), b"landaudit 0.1\n".as_slice());
+        assert!(rt; err.is_empty());
+    }
+    Ok(())
+}
+
+/// A program recorded on a kernel with rules for ports: at ABI 3 its first `create` fails with E2BIG, and at best effort
+/// it makes a layer without rights, so that the next one is layer 2.
+const PORTS_FIRST: &str = "\
+{\"op\":\"start\",\"pid\":10,\"nnp\":true}
+{\"op\":\"create\",\"pid\":10,\"rs\":3,\"net\":[\"bind_tcp\"]}
+{\"op\":\"add_port\",\"pid\":10,\"rs\":3,\"port\":80,\"net\":[\"bind_tcp\"]}
+{\"op\":\"restrict\",\"pid\":10,\"rs\":3}
+{\"op\":\"create\",\"pid\":10,\"rs\":4,\"fs\":[\"read_file\"]}
+{\"op\":\"restrict\",\"pid\":10,\"rs\":4}
+{\"op\":\"open\",\"pid\":10,\"path\":\"/a/f\",\"fd\":4,\"mode\":\"r\"}
+";
+
+const AS_RECORDED: &str = "\
+1 10 start allowed
+2 10 create refused E2BIG -
+3 10 add_port refused EBADF -
+4 10 restrict refused EBADF -
+5 10 create allowed
+6 10 restrict allowed
+7 10 open refused EACCES 1
+total 7 allowed 3 refused 4 moot 0
+";
+
+const AT_BEST_EFFORT: &str = "\
+1 10 start allowed
+2 10 create allowed
+3 10 add_port moot
+4 10 restrict allowed
+5 10 create allowed
+6 10 restrict allowed
+7 10 open refused EACCES 2
+total 7 allowed 5 refused 1 moot 1
+";
+
+/// The report on a trace at ABI 3.
+fn report_at_3<R: AllocGlobal + Threads + Wait + Sync>(
+    rt: &R,
+    effort: Effort,
+) -> Result<Report, Fault> {
+    let options = Options {
+        abi: Abi::V3,
+        effort,
+        shown: ALL_LINES,
+    };
+    let cut = Cut::Grain(64);
+    let (tree, trace) = (TREE.as_bytes(), PORTS_FIRST.as_bytes());
+    audit_with(rt, rt.alloc(), tree, trace, &options, 2, cut, &Idle)
+}
+
+#[test]
+fn rulesets_as_recorded(rt: HostRuntime) -> Result<(), Fail> {
+    let report = report_at_3(&rt, Effort::AsRecorded)?;
+    assert_eq!(rt; report.bytes.as_slice(), AS_RECORDED.as_bytes());
+    assert_eq!(rt; report.refused, 4);
+    Ok(())
+}
+
+#[test]
+fn rulesets_at_best_effort(rt: HostRuntime) -> Result<(), Fail> {
+    let report = report_at_3(&rt, Effort::Best)?;
+    assert_eq!(rt; report.bytes.as_slice(), AT_BEST_EFFORT.as_bytes());
+    assert_eq!(rt; report.refused, 1);
     Ok(())
 }

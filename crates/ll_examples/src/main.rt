@@ -1,8 +1,8 @@
-//! Audits the worked examples, and says of each whether its report is the one that is documented.
+//! Audits the worked examples, and says of each whether its reports, plain and explained, are the documented ones.
 #![tactic(auto)]
 
 use anyhow::{Context, Result};
-use ll_audit::{Cut, Idle, audit};
+use ll_audit::{ALL_LINES, Cut, Effort, Idle, Options, Shown, audit_with};
 use ll_rights::Abi;
 use serde_json::Value;
 use std::fs;
@@ -11,14 +11,25 @@ use std::rt::Files;
 use std::sync::Wait;
 use std::thread::Threads;
 
-/// An example: the names of its files, and the version of the interface to audit it at.
+/// An example: the names of its files, the version of the interface to audit it at, and how its rulesets
+/// are taken.
 #[derive(Drop)]
 struct Example<'a> {
     name: &'a str,
     abi: Abi,
+    effort: Effort,
     tree: &'a str,
     trace: &'a str,
     report: &'a str,
+    explained: &'a str,
+}
+
+/// How the rulesets of an example are taken: at best effort where its member `best_effort` is true.
+fn effort_of(value: &Value) -> Effort {
+    match value.get("best_effort") {
+        Some(Value::Bool(true)) => Effort::Best,
+        _ => Effort::AsRecorded,
+    }
 }
 
 /// The example that a line of the index describes.
@@ -26,39 +37,57 @@ fn example_of(value: &Value) -> Option<Example<'_>> {
     Some(Example {
         name: value.get("name")?.as_str()?,
         abi: Abi::new(value.get("abi")?.as_u64()?)?,
+        effort: effort_of(value),
         tree: value.get("tree")?.as_str()?,
         trace: value.get("trace")?.as_str()?,
         report: value.get("report")?.as_str()?,
+        explained: value.get("explained")?.as_str()?,
     })
 }
 
-/// Whether the report on an example is the documented one, for one worker, for three and for eight.
+/// Whether the report with these options has the wanted text, for one worker, for three and for eight.
+fn reports<R: AllocGlobal + Threads + Wait + Sync>(
+    rt: &R,
+    options: &Options,
+    tree: &[u8],
+    trace: &[u8],
+    wanted: &[u8],
+) -> bool {
+    for workers in [1, 3, 8] {
+        let cut = Cut::Grain(0);
+        match audit_with(rt, rt.alloc(), tree, trace, options, workers, cut, &Idle) {
+            Ok(report) if report.bytes.as_slice() == wanted => {}
+            _ => return false,
+        }
+    }
+    true
+}
+
+/// Whether the reports on an example are the documented ones.
 fn is_documented<R: Files + AllocGlobal + Threads + Wait + Sync>(
     rt: &R,
     example: &Example<'_>,
 ) -> Result<bool> {
     let tree = fs::read(rt, example.tree)?;
     let trace = fs::read(rt, example.trace)?;
-    let wanted = fs::read(rt, example.report)?;
-    for workers in [1, 3, 8] {
-        let audited = audit(
-            rt,
-            rt.alloc(),
-            &tree,
-            &trace,
-            example.abi,
-            workers,
-            Cut::Grain(0),
-            &Idle,
-        );
-        let Ok(report) = audited else {
-            return Ok(false);
-        };
-        if report.bytes.as_slice() != wanted.as_slice() {
-            return Ok(false);
-        }
-    }
-    Ok(true)
+    let plain = fs::read(rt, example.report)?;
+    let explained = fs::read(rt, example.explained)?;
+    let of_all_lines = Options {
+        abi: example.abi,
+        effort: example.effort,
+        shown: ALL_LINES,
+    };
+    let with_reasons = Options {
+        shown: Shown {
+            explanations: true,
+            refused_alone: false,
+        },
+        ..of_all_lines
+    };
+    Ok(
+        reports(rt, &of_all_lines, &tree, &trace, &plain)
+            && reports(rt, &with_reasons, &tree, &trace, &explained),
+    )
 }
 
 /// Goes over the index, and says whether all reports are the documented ones.

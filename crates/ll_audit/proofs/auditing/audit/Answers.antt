@@ -1,9 +1,7 @@
-use Rattle.std.proofs.Common.{arith}
-use Rattle.ll_audit.proofs.Wants.{wants_are_faults}
+use Rattle.std.proofs.lemmas.Result.{IfOk-weaker}
+use Rattle.ll_audit.proofs.OneReport.{with_all_lines}
 use Rattle.ll_audit.proofs.auditing.audit.Goals as goal
 
-pub returns-clause-fault : goal.returns-clause-fault
-returns-clause-fault g c =
-    wants_are_faults c.args.workers c.args.tree.now c.args.trace.now c.report_on.result
-    (omega (arith, c.if-workers-eq0.false), omega (arith, c.if-workers-gt64.false))
-    (_, c.in_ok-tree.ensures.tree) (_, c.in_ok-trace.ensures.trace) c.report_on.ensures.fault
+pub returns-clause-report : goal.returns-clause-report
+returns-clause-report g c =
+    IfOk-weaker c.audit_with.result _ _ (λ report is. with_all_lines c.args.abi c.args.tree.now c.args.trace.now report is) c.audit_with.ensures.report

@@ -1,7 +1,5 @@
-use Rattle.ll_semantics.proofs.Worlds.{length-judged}
+use Rattle.std.proofs.Common.{◌∙◌}
 use Rattle.ll_audit.proofs.auditing.report_on.Goals as goal
 
 pub of-requires : goal.of-requires
-of-requires g c =
-    let case = c.args.case.now in
-    rw (c.deref.ensures.value, c.records.ensures.value, c.in_ok-answers.ensures.answers, c.trace.ensures.records) (length-judged case.tree case.abi case.records)
+of-requires g c = c.deref.ensures.value ∙ c.in_ok-answers.ensures.answers

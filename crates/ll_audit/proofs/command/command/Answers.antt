@@ -17,13 +17,18 @@ returns c =
     let abi_local : c.required.result.global ≡ false = ap (λ a. a.global) c.required.ensures ∙ c.number_option-abi.ensures.local in
     let workers_local : c.default_value.result.global ≡ false = ap (λ a. a.global) c.default_value.ensures ∙ c.number_option-workers.ensures.local in
     let grain_local : c.default_value-2.result.global ≡ false = ap (λ a. a.global) c.default_value-2.ensures ∙ c.number_option-grain.ensures.local in
-    let start : app_of c.after_help.result ≡ new_app (codes "landaudit") =
-    ap app_of_fields c.after_help.ensures ∙ (ap app_of_fields c.about.ensures ∙ c.new.ensures.app) in
-    let four = c.in_ok-arg-4.ensures.shape c.file_argument.ensures.local
-    ∙ ap₂ with_rule (c.in_ok-arg-3.ensures.shape grain_local
+    let start : app_of c.after_help.result ≡ spec.with_version (new_app (codes "landaudit")) =
+    ap app_of_fields c.after_help.ensures ∙ (ap app_of_fields c.about.ensures
+    ∙ (ap app_of_fields c.version.ensures ∙ ap spec.with_version c.new.ensures.app)) in
+    let options = c.in_ok-arg-3.ensures.shape grain_local
     ∙ ap₂ with_rule (c.in_ok-arg-2.ensures.shape workers_local
-    ∙ ap₂ with_rule (c.in_ok-arg.ensures.shape abi_local ∙ ap₂ with_rule start abi) workers) grain)
-    c.file_argument.ensures.rule in
-    IfOk-weaker c.arg-5.result _ _
-    (λ made h. h.shape c.file_argument-2.ensures.local ∙ ap₂ with_rule four c.file_argument-2.ensures.rule)
-    c.arg-5.ensures
+    ∙ ap₂ with_rule (c.in_ok-arg.ensures.shape abi_local ∙ ap₂ with_rule start abi) workers) grain in
+    let flags = c.in_ok-arg-6.ensures.shape c.flag_option-3.ensures.local
+    ∙ ap₂ with_rule (c.in_ok-arg-5.ensures.shape c.flag_option-2.ensures.local
+    ∙ ap₂ with_rule (c.in_ok-arg-4.ensures.shape c.flag_option.ensures.local
+    ∙ ap₂ with_rule options c.flag_option.ensures.rule) c.flag_option-2.ensures.rule) c.flag_option-3.ensures.rule in
+    let tree = c.in_ok-arg-7.ensures.shape c.file_argument.ensures.local
+    ∙ ap₂ with_rule flags c.file_argument.ensures.rule in
+    IfOk-weaker c.arg-8.result _ _
+    (λ made h. h.shape c.file_argument-2.ensures.local ∙ ap₂ with_rule tree c.file_argument-2.ensures.rule)
+    c.arg-8.ensures

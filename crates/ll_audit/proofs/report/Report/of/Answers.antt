@@ -1,19 +1,25 @@
-use Rattle.std.proofs.Common.{◌∙◌, ap, ◌++◌}
-use Rattle.std.specs.List.{flat_map}
-use Rattle.ll_audit.specs.Report.{line_text}
-use Rattle.ll_audit.specs.Lines.{lines_of}
+use Rattle.std.proofs.Common.{◌∙◌, ap, ◌++◌, length}
+use Rattle.ll_explain.specs.Explained.{text_at}
+use Rattle.ll_semantics.proofs.Worlds.{length-judged}
+use Rattle.ll_audit.specs.Lines.{lines_of, refused_among}
+use Rattle.ll_audit.specs.Shown.{blocks_from, shown_text}
 use Rattle.ll_audit.proofs.LinesLeft.{refused_count, whole_text}
 use Rattle.ll_audit.proofs.report.Report.of.Goals as goal
 
-pub returns-clause-bytes : goal.returns-clause-bytes
-returns-clause-bytes c =
-    whole_text c.args.records.now c.args.answers.now c.push_lines.new.text.items c.push_to.new.text.items
-    c.of-totals.result.all c.of-totals.result.allowed c.of-totals.result.refused c.of-totals.result.moot
-    c.requires
-    (c.in_ok-push_lines.ensures ∙ ap (λ text. text ++ flat_map line_text (lines_of c.args.records.now c.args.answers.now)) c.new-bytes.ensures.items)
-    (c.in_ok-push_to.ensures)
-    c.of-totals.ensures.all c.of-totals.ensures.allowed c.of-totals.ensures.refused c.of-totals.ensures.moot
-
-pub returns-clause-refused : goal.returns-clause-refused
-returns-clause-refused c =
-    refused_count c.args.records.now c.args.answers.now c.of-totals.result.refused c.requires c.of-totals.ensures.refused
+pub returns : goal.returns
+returns c =
+    let of = c.args.case.now in
+    let as_many = ap length c.requires ∙ length-judged of.tree of.abi of.records in
+    let totals = c.of-totals.result in
+    let explained = text_at of.tree of.abi of.records in
+    record {
+      text = whole_text c.args.shown explained of.records c.args.answers.now c.push_blocks.new.text.items c.push_to.new.text.items
+          totals.all totals.allowed totals.refused totals.moot as_many
+          (c.in_ok-push_blocks.ensures
+          ∙ ap (λ text. text ++ blocks_from c.args.shown explained 0 (lines_of of.records c.args.answers.now)) c.new-bytes.ensures.items)
+          c.in_ok-push_to.ensures
+          c.of-totals.ensures.all c.of-totals.ensures.allowed c.of-totals.ensures.refused c.of-totals.ensures.moot
+          ∙ ap (λ answers. shown_text c.args.shown explained (lines_of of.records answers)) c.requires;
+      refused = refused_count of.records c.args.answers.now totals.refused as_many c.of-totals.ensures.refused
+          ∙ ap (refused_among of.records) c.requires;
+    }

@@ -1,0 +1,36 @@
+-- What `audit_with` answers: the report on the answers of one fold over the records as they are taken, of which as much is shown as is asked for.
+-- Source: docs/FORMATS.md, "The report" and "Explanations".
+use Rattle.std.specs.Prelude.{◌≡◌, ℕ, List}
+use Rattle.ll_rights.specs.declared.abi.Abi.{Abi}
+use Rattle.ll_tree.specs.Trees.{Entry}
+use Rattle.ll_tree.specs.TreeReading.{IsTreeOf}
+use Rattle.ll_trace.specs.declared.record.Record.{Record}
+use Rattle.ll_trace.specs.Records.{IsTrace}
+use Rattle.ll_trace.specs.BestEffort.{records_at_best_effort}
+use Rattle.ll_semantics.specs.Worlds.{judged}
+use Rattle.ll_explain.specs.Explained.{text_at}
+use Rattle.ll_audit.specs.declared.options.Effort.{Effort}
+use Rattle.ll_audit.specs.declared.options.Effort.TheVariants.{AsRecorded, Best}
+use Rattle.ll_audit.specs.declared.options.Options.{Options}
+use Rattle.ll_audit.specs.declared.report.Report.{Report}
+use Rattle.ll_audit.specs.declared.shown.Shown.{Shown}
+use Rattle.ll_audit.specs.Lines.{lines_of, refused_among}
+use Rattle.ll_audit.specs.Shown.{shown_text}
+
+-- the report on records whose calls meet this tree
+pub record IsShownReportOn (shown : Shown) (tree : List Entry) (abi : Abi) (records : List Record) (report : Report) : Type 0 where
+  pub text : report.bytes.items ≡ shown_text shown (text_at tree abi records) (lines_of records (judged tree abi records))
+  pub refused : report.refused ≡ refused_among records (judged tree abi records)
+
+-- the records as they are taken: as they were recorded, or as a program calls that uses what its kernel supports
+abbrev pub taken : Effort → Abi → List Record → List Record
+taken AsRecorded abi records = records
+taken Best abi records = records_at_best_effort abi records
+
+-- the bytes of both files read, and this is the report that the options ask for on what they say
+pub record IsReportWith (options : Options) (tree_bytes trace_bytes : List ℕ) (report : Report) : Type 0 where
+  pub tree : List Entry
+  pub records : List Record
+  pub reads_tree : IsTreeOf tree_bytes tree
+  pub reads_trace : IsTrace trace_bytes records
+  pub report_on : IsShownReportOn options.shown tree options.abi (taken options.effort options.abi records) report

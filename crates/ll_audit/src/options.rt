@@ -1,0 +1,24 @@
+//! What is asked of an audit.
+
+use crate::shown::Shown;
+use ll_rights::Abi;
+
+/// How the rulesets of a trace are taken.
+#[derive(Clone, Copy, Debug, PartialEq, Eq)]
+pub enum Effort {
+    /// As they were recorded: a right that the version doesn't know is an error.
+    AsRecorded,
+    /// As a program makes them that first asks its kernel for the version, and then names those rights
+    /// alone that this version supports (the kernel's userspace document on Landlock, which advises
+    /// "a best-effort security approach").
+    Best,
+}
+
+/// What is asked of an audit: the version of Landlock's interface that answers, how rulesets are taken,
+/// and how much of the report is shown.
+#[derive(Clone, Copy, Debug, PartialEq, Eq)]
+pub struct Options {
+    pub abi: Abi,
+    pub effort: Effort,
+    pub shown: Shown,
+}

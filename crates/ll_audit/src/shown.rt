@@ -1,0 +1,16 @@
+//! What of a report is shown.
+
+/// What of a report is shown. The totals are always shown, and they are those of all records.
+#[derive(Clone, Copy, Debug, PartialEq, Eq)]
+pub struct Shown {
+    /// Whether behind the line of a record that is refused or moot its explanation stands.
+    pub explanations: bool,
+    /// Whether the lines of refused records alone are shown.
+    pub refused_alone: bool,
+}
+
+/// All records are shown, without explanations.
+pub const ALL_LINES: Shown = Shown {
+    explanations: false,
+    refused_alone: false,
+};
