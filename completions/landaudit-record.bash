@@ -6,11 +6,17 @@ _landaudit_record_words() {
         run) echo '-h --help --watch --port-rules --' ;;
         convert) echo '-h --help --port-rules' ;;
         policy) echo '-h --help --out --tree --program --abi' ;;
-        audit) echo '-h --help --policy --program --abi --json --landaudit' ;;
+        audit) echo '-h --help --policy --program --abi --as-recorded --json --landaudit' ;;
         compare) echo '-h --help --abi --json --differences --landaudit' ;;
-        suggest) echo '-h --help --policy --program --abi --landaudit' ;;
+        suggest) echo '-h --help --policy --program --abi --as-recorded --landaudit' ;;
         *) echo 'run convert policy audit compare suggest -h --help -V --version' ;;
     esac
+}
+
+# The versions that a subcommand can be asked about: audit takes ranges of them too.
+_landaudit_record_abis() {
+    echo '1 2 3 4 5'
+    [[ $1 != audit ]] || echo '1-2 1-3 1-4 1-5 2-3 2-4 2-5 3-4 3-5 4-5'
 }
 
 # The command behind the dashes, which stand at a place of the line.
@@ -40,7 +46,7 @@ _landaudit_record() {
         prev=${COMP_WORDS[COMP_CWORD - 2]}
     fi
     case $prev in
-        --abi) mapfile -t COMPREPLY < <(compgen -W '1 2 3 4 5' -- "$cur") ;;
+        --abi) mapfile -t COMPREPLY < <(compgen -W "$(_landaudit_record_abis "$sub")" -- "$cur") ;;
         --program) mapfile -t COMPREPLY < <(compgen -c -- "$cur") ;;
         --policy | --port-rules)
             compopt -o filenames 2> /dev/null

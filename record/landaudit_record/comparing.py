@@ -188,7 +188,7 @@ def _ports_and_moves(call: Call) -> bool:
 def _running_reads(call: Call) -> bool:
     """An exec whose trace does not say what the kernel opens for it."""
     alone = call.op == "exec" and all(record["op"] == "exec" for record in call.records)
-    reads = any(layer.handles("read_file") for layer in call.domain)
+    reads = any("read_file" in layer.handled_fs for layer in call.domain)
     return alone and reads and call.kernel == "EACCES" and not call.answer.refused
 
 

@@ -7,9 +7,9 @@ from dataclasses import dataclass, replace
 from itertools import groupby
 from typing import Any
 
-from .domains import Layer
 from .jsonl import Record
 from .landaudit import Answer
+from .processes import Layer
 from .reading import Judged
 from .rights import FS, NET
 

@@ -6,18 +6,20 @@ import os
 import shutil
 import subprocess
 import sys
-from collections.abc import Iterator
+from collections.abc import Iterable, Iterator
 from dataclasses import dataclass
 from pathlib import Path
 
 from .problems import UNREADABLE, WANTING, Problem
 
+#: Lines of a report that begin with it explain the record's line before them.
+EXPLAINS = "    "
 BUILT = Path(__file__).resolve().parents[2] / "crates" / "landaudit" / "out" / "landaudit"
 
 
 @dataclass(frozen=True)
 class Answer:
-    """What the report says of one record."""
+    """What the report says of one record; `explanation` are the lines that say why, as they are written there."""
 
     line: int
     pid: int
@@ -25,6 +27,7 @@ class Answer:
     verdict: str
     error: str | None
     layers: tuple[int, ...]
+    explanation: tuple[str, ...] = ()
 
     @property
     def refused(self) -> bool:
@@ -49,9 +52,14 @@ def find(named: str | None) -> Path:
     return Path(found)
 
 
-def audit(program: Path, abi: int, tree: Path, trace: Path, report: Path) -> int:
-    """Runs landaudit, writes its report to a file and gives its status, 0 or 1; a fault of the run is a Problem."""
-    command = [str(program), "--abi", str(abi), str(tree), str(trace)]
+def audit(program: Path, abi: int, tree: Path, trace: Path, report: Path, *, best_effort: bool) -> int:
+    """Runs landaudit, writes its report with explanations to a file and gives its status, 0 or 1.
+
+    At best effort rulesets lose the rights that the ABI lacks; else they are judged as they were recorded. A fault of
+    the run is a Problem.
+    """
+    command = [str(program), "--abi", str(abi), *(["--best-effort"] if best_effort else []), "--explain"]
+    command += [str(tree), str(trace)]
     with open(report, "wb") as out:
         try:
             run = subprocess.run(command, stdout=out, stderr=subprocess.PIPE, check=False)
@@ -67,14 +75,26 @@ def audit(program: Path, abi: int, tree: Path, trace: Path, report: Path) -> int
 def answers(report: Path) -> Iterator[Answer]:
     """The answers of a report, in its order, without the totals."""
     with open(report, encoding="utf-8") as lines:
-        for line in lines:
+        for line, explanation in _explained(lines):
             words = line.split()
             if words and words[0] != "total":
-                yield _answer(words)
+                yield _answer(words, explanation)
 
 
-def _answer(words: list[str]) -> Answer:
+def _explained(lines: Iterable[str]) -> Iterator[tuple[str, tuple[str, ...]]]:
+    """The lines that stand by themselves, each with those that explain it."""
+    alone, explanation = "", []
+    for line in lines:
+        if line.startswith(EXPLAINS):
+            explanation.append(line.removeprefix(EXPLAINS).removesuffix("\n"))
+            continue
+        yield alone, tuple(explanation)
+        alone, explanation = line, []
+    yield alone, tuple(explanation)
+
+
+def _answer(words: list[str], explanation: tuple[str, ...]) -> Answer:
     line, pid, op, verdict, *rest = words
     error = rest[0] if rest else None
     layers = tuple(int(layer) for layer in rest[1].split(",")) if rest and rest[1] != "-" else ()
-    return Answer(int(line), int(pid), op, verdict, error, layers)
+    return Answer(int(line), int(pid), op, verdict, error, layers, explanation)

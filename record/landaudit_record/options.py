@@ -5,6 +5,7 @@ from __future__ import annotations
 import argparse
 import sys
 from collections.abc import Iterable
+from typing import Any
 
 from .rights import NEWEST_ABI, OLDEST_ABI
 
@@ -17,6 +18,59 @@ def add_abi(parser: argparse.ArgumentParser) -> None:
         choices=range(OLDEST_ABI, NEWEST_ABI + 1),
         default=NEWEST_ABI,
         help=f"Landlock's ABI ({NEWEST_ABI} if it is left out); of the policy, rights that it lacks are dropped",
+    )
+
+
+def abis(text: str) -> range:
+    """The ABIs that a word stands for: `N`, or all of a range `N-M`."""
+    known = {str(abi): abi for abi in range(OLDEST_ABI, NEWEST_ABI + 1)}
+    first, dash, last = text.partition("-")
+    oldest, newest = known.get(first), known.get(last if dash else first)
+    if oldest is None or newest is None or oldest > newest:
+        raise argparse.ArgumentTypeError(
+            f"{text!r} is no ABI and no range of them: give one from {OLDEST_ABI} to {NEWEST_ABI}, or a range of these "
+            "as N-M, the older one first"
+        )
+    return range(oldest, newest + 1)
+
+
+class _Once(argparse.Action):
+    """An option that may be given once: a second one would take the place of the first unnoticed."""
+
+    def __call__(
+        self,
+        parser: argparse.ArgumentParser,
+        namespace: argparse.Namespace,
+        values: Any,
+        option_string: str | None = None,
+    ) -> None:
+        """Keeps the value, where there is none yet but the default."""
+        if getattr(namespace, self.dest) is not self.default:
+            raise argparse.ArgumentError(self, "is given twice: give one ABI, or a range of them as N-M")
+        setattr(namespace, self.dest, values)
+
+
+def add_abis(parser: argparse.ArgumentParser) -> None:
+    """The ABIs by which calls are judged; the policy is written by each of them."""
+    parser.add_argument(
+        "--abi",
+        dest="abis",
+        metavar="N|N-M",
+        type=abis,
+        action=_Once,
+        default=range(OLDEST_ABI, NEWEST_ABI + 1),
+        help=f"Landlock's ABI, or a range of them ({OLDEST_ABI}-{NEWEST_ABI} if it is left out): the newest is told in "
+        "full, behind it comes what breaks at each; of the policy, rights that an ABI lacks are dropped",
+    )
+
+
+def add_as_recorded(parser: argparse.ArgumentParser) -> None:
+    """How the rulesets are judged that the program makes itself."""
+    parser.add_argument(
+        "--as-recorded",
+        action="store_true",
+        help="judge the rulesets that the program makes itself as they were recorded (if it is left out, as a program "
+        "makes them that drops the rights which the ABI lacks)",
     )
 
 

@@ -6,45 +6,45 @@ from collections.abc import Iterator
 from dataclasses import dataclass, field, replace
 from typing import Any
 
-from .domains import Layer, Ruleset
 from .jsonl import Record
 from .landaudit import Answer
-from .trees import Tree, directory_of
+from .rights import Rights
 
 
 @dataclass(frozen=True)
-class Descriptor:
-    """What a descriptor is open on: the path to show, and the object that its rights were asked on.
+class Layer:
+    """A ruleset, and the layer that it becomes: the rights for files that it handles.
 
-    Both are None for one that open(2) did not make. A file that the call makes
-    is judged by its directory.
+    `policy` is its number in the tried policy, None if the program made it itself.
     """
 
-    shown: str | None = None
-    judged_on: str | None = None
+    handled_fs: Rights
+    policy: int | None = None
 
 
 @dataclass
 class Process:
     """What a process has at one record of the trace.
 
-    `program` is what it runs, None before its first program; `unopened` are the
-    numbers that would be open had a layer not refused it.
+    `program` is what it runs, None before its first program; `descriptors` are
+    the open numbers, each with the path that open(2) opened, to show, or None if
+    that did not make it; `unopened` are the numbers that would be open had their
+    opening been allowed.
     """
 
     program: str | None = None
     domain: tuple[Layer, ...] = ()
-    held: dict[int, Ruleset] = field(default_factory=dict)
-    descriptors: dict[int, Descriptor] = field(default_factory=dict)
+    held: dict[int, Layer] = field(default_factory=dict)
+    descriptors: dict[int, str | None] = field(default_factory=dict)
     unopened: set[int] = field(default_factory=set)
 
     def forked(self) -> Process:
-        """A child: it has all that its parent has, and the rulesets that both hold are the same."""
+        """A child: it has all that its parent has."""
         return replace(self, held=dict(self.held), descriptors=dict(self.descriptors), unopened=set(self.unopened))
 
-    def put(self, fd: int, descriptor: Descriptor) -> None:
-        """Opens a number on something."""
-        self.descriptors[fd] = descriptor
+    def put(self, fd: int, path: str | None) -> None:
+        """Opens a number, on the path if open(2) does it."""
+        self.descriptors[fd] = path
         self.unopened.discard(fd)
 
 
@@ -60,6 +60,12 @@ def shown(record: Record, member: str) -> str | None:
     """The path of a record as a person knows it; None if the record has no such member."""
     instead = record.get({"path": "shown", "to": "shown_to"}.get(member, ""))
     return instead if isinstance(instead, str) else record.get(member)
+
+
+def shown_path(record: Record, path: str) -> str:
+    """A path that landaudit names of a record, as a person knows it."""
+    member = next((member for member in ("path", "to") if record.get(member) == path), None)
+    return path if member is None else shown(record, member) or path
 
 
 def objects_made(record: Record) -> Iterator[str]:
@@ -79,8 +85,7 @@ def of_policy(record: Record) -> dict[str, Any] | None:
 class Processes:
     """All processes of a trace, followed record by record."""
 
-    def __init__(self, tree: Tree) -> None:
-        self._tree = tree
+    def __init__(self) -> None:
         self._by_pid: dict[int, Process] = {}
 
     def of(self, pid: int) -> Process:
@@ -105,11 +110,11 @@ class Processes:
     def _change(self, process: Process, record: Record) -> None:
         match record["op"]:
             case "open":
-                process.put(record["fd"], self._opened(record))
+                process.put(record["fd"], shown(record, "path"))
             case "close":
                 del process.descriptors[record["fd"]]
             case "adopt":
-                process.put(record["fd"], Descriptor())
+                process.put(record["fd"], None)
             case "dup":
                 process.put(record["to"], process.descriptors[record["fd"]])
             case "fork":
@@ -117,24 +122,16 @@ class Processes:
             case "exit":
                 del self._by_pid[record["pid"]]
             case "create":
-                process.held[record["rs"]] = _created(record)
-            case "add_path":
-                process.held[record["rs"]].add_path(record["path"], frozenset(record["fs"]))
-            case "add_port":
-                process.held[record["rs"]].add_port(record["port"], frozenset(record["net"]))
+                origin = of_policy(record) or {}
+                process.held[record["rs"]] = Layer(frozenset(record.get("fs", ())), origin.get("layer"))
             case "close_rs":
                 del process.held[record["rs"]]
             case "restrict":
-                process.domain = (*process.domain, process.held[record["rs"]].layer())
-
-    def _opened(self, record: Record) -> Descriptor:
-        path = record["path"]
-        judged_on = path if path in self._tree.kinds else directory_of(path)
-        return Descriptor(shown(record, "path"), judged_on)
+                process.domain = (*process.domain, process.held[record["rs"]])
 
 
 def _miss(process: Process, record: Record) -> None:
-    """Keeps account of the numbers that are not open because a layer refused to open them."""
+    """Keeps account of the numbers that are not open because their opening was refused or moot."""
     match record["op"]:
         case "open" if record["fd"] not in process.descriptors:
             process.unopened.add(record["fd"])
@@ -142,8 +139,3 @@ def _miss(process: Process, record: Record) -> None:
             process.unopened.add(record["to"])
         case "close":
             process.unopened.discard(record["fd"])
-
-
-def _created(record: Record) -> Ruleset:
-    origin = of_policy(record) or {}
-    return Ruleset(frozenset(record.get("fs", ())), frozenset(record.get("net", ())), origin.get("layer"))

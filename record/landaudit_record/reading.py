@@ -11,14 +11,13 @@ from .jsonl import Record
 from .landaudit import Answer, answers
 from .problems import Problem
 from .processes import Process, Processes, shown
-from .trees import Tree
 
 Judged = tuple[Record, Answer, Process]
 
 
-def judged(tree: Tree, trace: Path, report: Path) -> Iterator[Judged]:
+def judged(trace: Path, report: Path) -> Iterator[Judged]:
     """Each record, its answer, and its process as it is before the record. A `start` has no process yet: a new one."""
-    processes = Processes(tree)
+    processes = Processes()
     for found, answer in zip_longest(jsonl.numbered(trace), answers(report)):
         if found is None or answer is None or (found[0], found[1]["pid"]) != (answer.line, answer.pid):
             raise Problem(f"{report} is no report on {trace}: audit it again")
@@ -46,6 +45,5 @@ def place_text(record: Record, process: Process) -> str:
         return f"port {record['port']}"
     path = shown(record, "path")
     if path is None and "fd" in record:
-        held = process.descriptors.get(record["fd"])
-        path = held.shown if held is not None and held.shown is not None else f"descriptor {record['fd']}"
+        path = process.descriptors.get(record["fd"]) or f"descriptor {record['fd']}"
     return path or "-"

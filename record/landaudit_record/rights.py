@@ -74,19 +74,3 @@ NET = Family(what="for TCP ports", since=_NET_SINCE, groups={"all": frozenset(_N
 
 # The rights that apply to what is no directory.
 FILE_RIGHTS: Rights = frozenset({"execute", "write_file", "read_file", "truncate", "ioctl_dev"})
-
-# The right to make an object, by its kind in a tree.
-MAKE_RIGHT: Mapping[str, str] = {
-    "dir": "make_dir",
-    "reg": "make_reg",
-    "sym": "make_sym",
-    "char": "make_char",
-    "block": "make_block",
-    "fifo": "make_fifo",
-    "sock": "make_sock",
-}
-
-
-def remove_right(kind: str) -> str:
-    """The right to remove an object of a kind."""
-    return "remove_dir" if kind == "dir" else "remove_file"

@@ -7,14 +7,14 @@ from collections.abc import Callable, Iterable, Iterator, Mapping
 from dataclasses import dataclass, field, replace
 
 from . import wants
-from .asking import Moot, asked, lacking
+from .explanations import Closed, Gained, Kept, Missing, Objection, refusing
 from .jsonl import Record
 from .landaudit import Answer
 from .policies import Access, Layer, PathRule, Policy, PortRule
 from .processes import Process, objects_made, of_policy
 from .reading import Judged, call_text
-from .rights import FS, NET, Rights
-from .trees import Tree
+from .rights import FS, NET, NONE, Rights
+from .trees import Tree, directory_of
 from .wants import Rule, Wants
 
 MOST_ROUNDS = 30
@@ -111,7 +111,7 @@ def _look(tree: Tree, abi: int, calls: Iterable[Judged]) -> Round:
             continue
         ordinal += 1
         seen.made.update(objects_made(record))
-        if answer.refused:
+        if answer.layers:
             call = record.get("call")
             _refused(seen, tree, known, record, answer, process, call if type(call) is int else -ordinal)
     return seen
@@ -120,18 +120,35 @@ def _look(tree: Tree, abi: int, calls: Iterable[Judged]) -> Round:
 def _refused(
     seen: Round, tree: Tree, known: Rights, record: Record, answer: Answer, process: Process, call: int
 ) -> None:
-    """Takes up one refused call, for each layer that refuses it."""
-    found = asked(tree, record, process)
-    for number in answer.layers:
-        layer = process.domain[number - 1]
-        if layer.policy is None:
+    """Takes up one refused call, for each layer that refuses it.
+
+    Where one of its objections is not to be mended, rules for the others would
+    be in vain. So it is with `refer` at ABI 1, which no rule can grant there.
+    """
+    for layer in refusing(record, answer):
+        number = process.domain[layer.layer - 1].policy
+        if number is None:
             seen.of_program[call_text(record)] += 1
             continue
-        lacked: Wants = {}
-        if found is not None and not isinstance(found, Moot):
-            for place, rights in lacking(found, answer.error or "", layer):
-                wants.unite(lacked, {place: {right: {call} for right in rights & known}})
-        if any(lacked.values()):
-            wants.unite(seen.wants.setdefault(layer.policy, {}), lacked)
-        else:
+        grants = [_grant(tree, objection) for objection in layer.objections]
+        if not all(rights and rights <= known for _, rights in grants):
             seen.unmended[call_text(record)] += 1
+            continue
+        for place, rights in grants:
+            wants.unite(seen.wants.setdefault(number, {}), {place: {right: {call} for right in rights}})
+
+
+def _grant(tree: Tree, objection: Objection) -> tuple[str | int, Rights]:
+    """On what a rule would have to grant which rights for an objection to go; no rights where no rule does it.
+
+    A file that is not in the tree is one that was made by the call that opened
+    it, which the kernel judges by the directory.
+    """
+    match objection:
+        case Missing(rights=rights, path=path) | Gained(rights=rights, path=path):
+            return path, frozenset(rights)
+        case Closed(rights=rights, port=port):
+            return port, frozenset(rights)
+        case Kept(rights=rights, path=path):
+            return path if path in tree.kinds else directory_of(path), frozenset(rights)
+    return "-", NONE

@@ -4,46 +4,46 @@ from __future__ import annotations
 
 from collections import Counter
 from collections.abc import Iterable
-from dataclasses import dataclass, field
+from dataclasses import asdict, dataclass, field, replace
 from pathlib import Path
 from typing import Any
 
-from . import jsonl
-from .asking import Moot, why_moot
+from . import explanations, jsonl
+from .explanations import Condition, Kept, Missing, Objection
 from .jsonl import Record
 from .landaudit import Answer
-from .processes import Process, objects_made, of_policy
+from .processes import Process, objects_made, of_policy, shown_path
 from .reading import Judged, call_text, place_text
-from .rights import FILE_RIGHTS, FS, NET
-from .trees import Tree
 
 # Calls on paths, and what the kernel answers to those of them that it asked Landlock about.
 PATH_CALLS = frozenset(
     {"open", "truncate", "exec", "mknod", "mkdir", "symlink", "unlink", "rmdir", "rename", "link"},
 )
 ASKED_LANDLOCK = (None, "ok", "EACCES", "EPERM", "EXDEV")
-UNTOLD = "the tree or the descriptors decide it"
 
 
 @dataclass(frozen=True)
-class LayerName:
-    """A layer by its number in the domain, with its number in the tried policy if it is of that."""
+class RefusingLayer:
+    """A layer by its number in the domain, with its number in the tried policy if it is of that; what it objects to."""
 
     number: int
     policy: int | None
+    objections: tuple[Objection, ...]
 
-    def __str__(self) -> str:
+    @property
+    def name(self) -> str:
         return f"program's {self.number}" if self.policy is None else f"policy's {self.policy}"
 
 
 @dataclass(frozen=True)
 class Refusal:
-    """Refused calls that are alike."""
+    """Refused calls that are alike. Where no layer refuses them, they fail by themselves by a condition."""
 
     call: str
     place: str
     error: str
-    layers: tuple[LayerName, ...]
+    layers: tuple[RefusingLayer, ...]
+    condition: str | None
 
 
 @dataclass
@@ -69,7 +69,7 @@ class Summary:
         return sorted(self.refusals.items(), key=lambda item: -item[1].total())
 
 
-def summarize(tree: Tree, calls: Iterable[Judged], abi: int, unsaid: Path) -> Summary:
+def summarize(calls: Iterable[Judged], abi: int, unsaid: Path) -> Summary:
     """The summary of an audit whose records are given with their answers."""
     summary = Summary(abi)
     rules: dict[str, str] = {}
@@ -81,9 +81,9 @@ def summarize(tree: Tree, calls: Iterable[Judged], abi: int, unsaid: Path) -> Su
             summary.path_calls += 1
             summary.moot_path_calls += answer.verdict == "moot"
         if answer.verdict == "refused":
-            _refused(summary, record, answer, process, tree)
+            _refused(summary, record, answer, process)
         elif answer.verdict == "moot":
-            _moot(summary, record, process, tree)
+            _moot(summary, record, answer, process)
         elif (origin := of_policy(record)) is not None and "path" in record:
             rules[_rule_text(origin, record)] = record["path"]
     for rule, path in rules.items():
@@ -96,38 +96,68 @@ def summarize(tree: Tree, calls: Iterable[Judged], abi: int, unsaid: Path) -> Su
     return summary
 
 
-def _refused(summary: Summary, record: Record, answer: Answer, process: Process, tree: Tree) -> None:
+def _refused(summary: Summary, record: Record, answer: Answer, process: Process) -> None:
+    layers = _layers(record, answer, process) if answer.layers else ()
+    condition = None if answer.layers else explanations.condition(answer)
     origin = of_policy(record)
-    if origin is not None:
-        _warn(summary, f"{_rule_text(origin, record)} is refused with {answer.error}{_fault(record, tree)}")
+    if origin is not None and condition is not None:
+        _warn(summary, f"{_rule_text(origin, record)} is refused with {answer.error}: {condition.text}")
         return
-    if record["op"] == "create":
-        rights = FS.ordered(record.get("fs", ())) + NET.ordered(record.get("net", ()))
-        _warn(summary, f"a ruleset of the program is refused at ABI {summary.abi} with {answer.error}: a program that "
-                       f"asks for {', '.join(rights)} must drop what the kernel lacks, or it runs without that layer")
-    layers = tuple(LayerName(number, process.domain[number - 1].policy) for number in answer.layers)
-    refusal = Refusal(call_text(record), place_text(record, process), answer.error or "-", layers)
+    if record["op"] == "create" and condition is not None:
+        _warn(summary, f"a ruleset of the program is refused at ABI {summary.abi} with {answer.error}: "
+                       f"{_without_ruleset(condition)}")
+    told = None if condition is None else condition.text
+    refusal = Refusal(call_text(record), place_text(record, process), answer.error or "-", layers, told)
     summary.refusals.setdefault(refusal, Counter())[process.program or "-"] += 1
 
 
-def _moot(summary: Summary, record: Record, process: Process, tree: Tree) -> None:
-    why, at = _because(record, process, tree)
+def _without_ruleset(condition: Condition) -> str:
+    """Why a program makes no ruleset, and what comes of it."""
+    if condition.of_abi:
+        return f"{condition.text}; a program must drop what the kernel lacks, or it runs without that layer"
+    return f"{condition.text}; the program runs without that layer"
+
+
+def _layers(record: Record, answer: Answer, process: Process) -> tuple[RefusingLayer, ...]:
+    """The layers that refuse a record."""
+    return tuple(
+        RefusingLayer(
+            layer.layer,
+            process.domain[layer.layer - 1].policy,
+            tuple(_as_shown(objection, record, process) for objection in layer.objections),
+        )
+        for layer in explanations.refusing(record, answer)
+    )
+
+
+def _as_shown(objection: Objection, record: Record, process: Process) -> Objection:
+    """An objection with its path as a person knows it."""
+    match objection:
+        case Missing(path=path):
+            return replace(objection, path=shown_path(record, path))
+        case Kept(path=path):
+            return replace(objection, path=process.descriptors.get(record["fd"]) or path)
+    return objection
+
+
+def _moot(summary: Summary, record: Record, answer: Answer, process: Process) -> None:
+    why, at = _because(record, answer, process)
     summary.moot.setdefault(why, Counter())[at] += 1
     origin = of_policy(record)
     if origin is not None:
-        _warn(summary, f"{_rule_text(origin, record)} is moot, {why} in the tree: {at}; was it never touched in the "
-                       "run, or is the name wrong?")
+        _warn(summary, f"{_rule_text(origin, record)} is moot: {at} {why}; was it never touched in the run, or is the "
+                       "name wrong?")
 
 
-def _because(record: Record, process: Process, tree: Tree) -> tuple[str, str]:
+def _because(record: Record, answer: Answer, process: Process) -> tuple[str, str]:
     """Why a call is moot, and at which path or number that shows."""
-    kernel, place = record.get("kernel"), place_text(record, process)
-    if kernel not in ASKED_LANDLOCK:
-        return f"the call failed in the recording too: {kernel}", place
-    why = why_moot(tree, record, process) or Moot(UNTOLD)
-    if why.at is None or why.at in (record.get("path"), record.get("to")):
-        return why.why, place
-    return why.why, why.at
+    kernel = record.get("kernel")
+    reason = explanations.reason(record, answer)
+    if kernel not in ASKED_LANDLOCK and reason.why != explanations.LEFT_OUT:
+        return f"the call failed in the recording too: {kernel}", place_text(record, process)
+    missed = reason.why == explanations.NOT_OPEN and record["fd"] in process.unopened
+    why = f"{reason.why}, its opening was refused or moot" if missed else reason.why
+    return why, " -> ".join(shown_path(record, at) for at in reason.at)
 
 
 def _rule_text(origin: dict[str, Any], record: Record) -> str:
@@ -136,14 +166,6 @@ def _rule_text(origin: dict[str, Any], record: Record) -> str:
     words.append(origin.get("rule", record["op"]))
     words += [f"{key} {origin[key]}" for key in ("parent", "port") if key in origin]
     return "policy: " + ", ".join(words)
-
-
-def _fault(record: Record, tree: Tree) -> str:
-    """What to do about a rule that is refused, where it can be told."""
-    rights = FS.ordered(frozenset(record.get("fs", ())) - FILE_RIGHTS)
-    if record["op"] == "add_path" and rights and not tree.is_dir(record["path"]):
-        return f": {', '.join(rights)} are rights on directories, and {record['path']} is none"
-    return ""
 
 
 def _many_moot(summary: Summary) -> str:
@@ -188,6 +210,12 @@ def _refusal_data(refusal: Refusal, programs: Counter[str]) -> dict[str, Any]:
         "call": refusal.call,
         "place": refusal.place,
         "error": refusal.error,
-        "layers": [{"number": layer.number, "policy": layer.policy} for layer in refusal.layers],
+        "layers": [_layer_data(layer) for layer in refusal.layers],
+        "condition": refusal.condition,
         "programs": dict(programs.most_common()),
     }
+
+
+def _layer_data(layer: RefusingLayer) -> dict[str, Any]:
+    objections = [{"text": str(objection), **asdict(objection)} for objection in layer.objections]
+    return {"number": layer.number, "policy": layer.policy, "objections": objections}

@@ -8,7 +8,9 @@ from collections.abc import Iterator, Sequence
 from dataclasses import dataclass
 from typing import TextIO
 
-from .summary import Refusal, Summary
+from .by_abi import Kind, Step
+from .explanations import Closed, Kept, Missing, Objection
+from .summary import Refusal, RefusingLayer, Summary
 from .wording import counted, printable
 
 MOST_ROWS = 50
@@ -56,6 +58,37 @@ def lines(summary: Summary, title: str, style: Style) -> Iterator[str]:
         yield from _table(("times", "class"), [(str(times), name) for name, times in summary.unsaid.most_common()])
 
 
+def by_abi(steps: Sequence[Step], style: Style) -> Iterator[str]:
+    """The lines of the table by ABI, which stands behind a summary."""
+    yield ""
+    yield style.bold("by ABI: what breaks there first, and what is refused no more")
+    rows = [row for step in steps for row in _step_rows(step)]
+    yield from _table(("ABI", "allowed", "refused", "moot", "what changes"), rows, numbers=4)
+
+
+def _step_rows(step: Step) -> Iterator[tuple[str, ...]]:
+    """The rows of an ABI: its counts stand in the first, and each says one thing that changes."""
+    verdicts = (str(step.verdicts[verdict]) for verdict in ("allowed", "refused", "moot"))
+    counts: tuple[str, ...] = (str(step.abi), *verdicts)
+    for said in _changes(step) or [""]:
+        yield *counts, said
+        counts = ("",) * len(counts)
+
+
+def _changes(step: Step) -> list[str]:
+    """What an ABI changes, against the one before it."""
+    named = (("breaks", step.breaks), ("refused no more", step.no_more))
+    said = [f"{what}: {_some([_kind(kind) for kind in kinds])}" for what, kinds in named if kinds]
+    if step.warnings:
+        said.append(f"{counted(len(step.warnings), 'warning')} more: see --abi {step.abi}")
+    return said
+
+
+def _kind(kind: Kind) -> str:
+    """A kind in a row: of a call that is about nothing by name, the call and the error."""
+    return " ".join(word for word in (kind.call, kind.place, kind.error) if word != "-")
+
+
 def _refusals(summary: Summary, style: Style) -> Iterator[str]:
     found = summary.by_frequency()
     if not found:
@@ -63,14 +96,40 @@ def _refusals(summary: Summary, style: Style) -> Iterator[str]:
     yield ""
     yield style.bold(f"refused, the most frequent first ({counted(len(found), 'kind')})")
     rows = [_refusal_row(refusal, programs) for refusal, programs in found[:MOST_ROWS]]
-    yield from _table(("times", "call", "place", "error", "layers", "program"), rows)
+    yield from _table(("times", "call", "place", "error", "layers", "program", "why"), rows)
     if len(found) > MOST_ROWS:
         yield f"  and {counted(len(found) - MOST_ROWS, 'kind')} more: --json lists all"
 
 
 def _refusal_row(refusal: Refusal, programs: Counter[str]) -> tuple[str, ...]:
-    layers = ", ".join(str(layer) for layer in refusal.layers) or "-"
-    return str(programs.total()), refusal.call, refusal.place, refusal.error, layers, _names(programs)
+    layers = ", ".join(layer.name for layer in refusal.layers) or "-"
+    return str(programs.total()), refusal.call, refusal.place, refusal.error, layers, _names(programs), _why(refusal)
+
+
+def _why(refusal: Refusal) -> str:
+    """What the layers object to, once if it is the same for all; or the condition by which the calls fail."""
+    if refusal.condition is not None:
+        return refusal.condition
+    told = [(layer.name, _objections(layer, refusal.place)) for layer in refusal.layers]
+    if len({text for _, text in told}) == 1:
+        return told[0][1]
+    return "; ".join(f"{name}: {text}" for name, text in told)
+
+
+def _objections(layer: RefusingLayer, place: str) -> str:
+    return "; ".join(_objection(one, place) for one in layer.objections)
+
+
+def _objection(objection: Objection, place: str) -> str:
+    """What a layer objects to, without the place that the row has."""
+    match objection:
+        case Missing(rights=rights, path=path) if path == place:
+            return ", ".join(rights)
+        case Closed(rights=rights):
+            return ", ".join(rights)
+        case Kept(rights=rights):
+            return f"{', '.join(rights)} when it was opened"
+    return str(objection)
 
 
 def _moot(summary: Summary, style: Style) -> Iterator[str]:
@@ -84,16 +143,20 @@ def _moot(summary: Summary, style: Style) -> Iterator[str]:
 
 def _names(counted: Counter[str]) -> str:
     """The most frequent names, and how many are left."""
-    shown = [name for name, _ in counted.most_common(MOST_NAMES)]
-    left = len(counted) - len(shown)
-    return ", ".join(shown) + (f" and {left} more" if left else "")
+    return _some([name for name, _ in counted.most_common()])
 
 
-def _table(heads: Sequence[str], rows: Sequence[Sequence[str]]) -> Iterator[str]:
-    """Rows under heads: the first column flush right, the last as long as it is."""
+def _some(names: Sequence[str]) -> str:
+    """The first names, and how many are left."""
+    left = len(names) - MOST_NAMES
+    return ", ".join(names[:MOST_NAMES]) + (f" and {left} more" if left > 0 else "")
+
+
+def _table(heads: Sequence[str], rows: Sequence[Sequence[str]], numbers: int = 1) -> Iterator[str]:
+    """Rows under heads: the first columns are numbers and stand flush right, the last is as long as it is."""
     shown = [[printable(cell) for cell in row] for row in (heads, *rows)]
     widths = [max(map(len, column)) for column in zip(*shown)]
     for row in shown:
-        cells = [cell.ljust(width) for cell, width in zip(row, widths)]
-        cells[0] = row[0].rjust(widths[0])
+        cells = [cell.rjust(width) for cell, width in zip(row[:numbers], widths)]
+        cells += [cell.ljust(width) for cell, width in zip(row[numbers:], widths[numbers:])]
         yield "  " + "  ".join(cells).rstrip()

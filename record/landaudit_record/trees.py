@@ -50,14 +50,6 @@ class Tree:
         """Whether a directory is there."""
         return self.kinds.get(path) == "dir"
 
-    def is_gap(self, path: str) -> bool:
-        """Whether nothing has this name yet in a directory that is there."""
-        return path not in self.kinds and self.is_dir(directory_of(path))
-
-    def first_missing(self, path: str) -> str:
-        """The shortest beginning of a path that the tree lacks."""
-        return next((prefix for prefix in reversed(list(upwards(path))) if prefix not in self.kinds), path)
-
     def resolved(self, path: str) -> str:
         """An absolute path without symbolic links, `.`, `..` and doubled slashes, as the kernel walks it.
 

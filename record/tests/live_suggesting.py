@@ -50,7 +50,7 @@ class LiveSuggesting(unittest.TestCase):
         suggested = self.recorder("suggest", recording, "--policy", self.policy)
         self.assertEqual(suggested.returncode, 0, suggested.stderr)
         self.policy.write_text(DENY + suggested.stdout)
-        audited = self.recorder("audit", recording, "--policy", self.policy)
+        audited = self.recorder("audit", recording, "--policy", self.policy, "--abi", "5")
         self.assertEqual(audited.returncode, 0, audited.stdout)
 
         confined = self.confined()

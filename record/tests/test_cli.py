@@ -58,6 +58,41 @@ class CommandLine(unittest.TestCase):
             with self.subTest(words):
                 self.assertEqual(said(*words)[0], 2)
 
+    def test_the_abis_of_an_audit(self) -> None:
+        for words, abis in (
+            ([], [1, 2, 3, 4, 5]),
+            (["--abi", "1"], [1]),
+            (["--abi=5"], [5]),
+            (["--abi", "2-4"], [2, 3, 4]),
+            (["--abi=1-5"], [1, 2, 3, 4, 5]),
+            (["--abi", "3-3"], [3]),
+        ):
+            with self.subTest(words):
+                self.assertEqual(list(cli.parse(["audit", "rec", *words]).abis), abis)
+
+    def test_what_is_no_range_of_abis(self) -> None:
+        what = "is no ABI and no range of them: give one from 1 to 5, or a range of these as N-M, the older one first"
+        for word in ("0-3", "5-1", "1-6", "1-", "-", "a-b", "-3", "1-2-3", "1 - 2", "1,2", "0", "01", "", "٣", "1--2"):
+            with self.subTest(word):
+                status, error = said("audit", "rec", f"--abi={word}")
+                self.assertEqual(status, 2)
+                self.assertIn(f"--abi: {word!r} {what}\n", error)
+                self.assertEqual(said("audit", "rec", "--abi", word), (status, error))
+
+    def test_two_ranges_of_abis(self) -> None:
+        for first, second in (("1", "2"), ("1-5", "1-5"), ("3", "3"), ("1-2", "4")):
+            with self.subTest(first=first, second=second):
+                status, error = said("audit", "rec", "--abi", first, "--abi", second)
+                self.assertEqual(status, 2)
+                self.assertIn("--abi: is given twice: give one ABI, or a range of them as N-M", error)
+
+    def test_the_other_subcommands_take_one_abi(self) -> None:
+        for words in (["suggest", "rec", "--policy", "p"], ["policy", "p", "rec"], ["compare", "rec"]):
+            with self.subTest(words):
+                self.assertEqual(cli.parse(words).abi, 5)
+                self.assertEqual(cli.parse([*words, "--abi", "2"]).abi, 2)
+                self.assertEqual(said(*words, "--abi", "1-2")[0], 2)
+
     def test_a_run_without_a_command(self) -> None:
         status, error = said("run", "rec")
         self.assertEqual(status, 2)

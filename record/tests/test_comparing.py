@@ -58,7 +58,7 @@ def compared(rows: list[Row], abi: int = 5, standing: dict[str, os.stat_result] 
         )
         tally = Tally()
         classes = Classes(TREE, abi, (standing or {}).get)
-        list(comparing.compare(judged_calls(judged(TREE, trace, report), abi), classes, tally))
+        list(comparing.compare(judged_calls(judged(trace, report), abi), classes, tally))
     return tally
 
 

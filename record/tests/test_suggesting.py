@@ -18,7 +18,7 @@ from landaudit_record.suggesting import Suggestion, suggest, with_rules
 from landaudit_record.trees import Tree
 from landaudit_record.wants import Rule
 
-from .recorded import records, write_lines, write_report
+from .recorded import failed, moot, records, refused, write_lines, write_report
 
 TREE = Tree(
     {
@@ -43,7 +43,6 @@ DENY = '[[layer]]\nhandled_access_fs = ["all"]\nhandled_access_net = ["all"]\n'
 EVERYTHING = list(FS.since)
 
 Call = tuple[Record, str]
-Granted = Sequence[tuple[str, list[str]]]
 NONE: Counter[str] = Counter()
 
 
@@ -54,12 +53,11 @@ def policy(text: str = DENY) -> Policy:
         return policies.read(path)
 
 
-def layer(number: int | None = 1, fs: Sequence[str] = EVERYTHING, granted: Granted = ()) -> list[Call]:
+def layer(number: int | None = 1, fs: Sequence[str] = EVERYTHING) -> list[Call]:
     """The records of one layer, of the policy or (None) of the program itself."""
     origin: Record = {} if number is None else {"policy": {"layer": number}}
     calls: list[Record] = [
         {"op": "create", "rs": 3, "fs": list(fs), "net": ["bind_tcp", "connect_tcp"]},
-        *({"op": "add_path", "rs": 3, "path": path, "fs": rights} for path, rights in granted),
         {"op": "restrict", "rs": 3},
         {"op": "close_rs", "rs": 3},
     ]
@@ -80,180 +78,188 @@ def suggested(*rounds: list[Call], to: Policy | None = None, abi: int = 5) -> Su
         with tempfile.TemporaryDirectory() as folder:
             answers = ["allowed", "allowed", *(answer for _, answer in calls)]
             report = write_report(Path(folder, "report.txt"), trace, answers)
-            yield from judged(TREE, write_lines(Path(folder, "trace.jsonl"), trace), report)
+            yield from judged(write_lines(Path(folder, "trace.jsonl"), trace), report)
 
     return suggest(TREE, to or policy(), abi, audit)
 
 
-def rules(
-    *calls: Call, handled: Sequence[str] = EVERYTHING, granted: Granted = ()
-) -> list[tuple[object, list[str], int]]:
+def rules(*calls: Call) -> list[tuple[object, list[str], int]]:
     """The rules for refused calls under one layer: the place, the rights by name, the calls that ask."""
-    found = suggested([*layer(1, handled, granted), *calls])
+    found = suggested([*layer(), *calls])
     return [(rule.place, sorted(rule.rights), rule.calls) for rule in found.rules.get(1, [])]
 
 
-REFUSED = "refused EACCES 1"
+def reading(path: str, call: int = 1) -> Call:
+    """A refused opening of a file for reading."""
+    return opened(path, call=call), refused(f"read_file on {path}")
+
+
+def listing(path: str, call: int = 1) -> Call:
+    """A refused opening of a directory."""
+    return opened(path, call=call), refused(f"read_dir on {path}")
 
 
 class Paths(unittest.TestCase):
-    def test_a_file_lacks_what_no_rule_grants(self) -> None:
-        call = (opened("/a/f", "rw", trunc=True), REFUSED)
+    def test_what_is_missing_is_granted_where_it_is_missing(self) -> None:
+        call = (opened("/a/f", "rw", trunc=True), refused("write_file, read_file, truncate on /a/f"))
         self.assertEqual(rules(call), [("/a/f", ["read_file", "truncate", "write_file"], 1)])
-        granted = [("/a", ["read_file"]), ("/a/f", ["truncate"])]
-        self.assertEqual(rules(call, granted=granted), [("/a/f", ["write_file"], 1)])
-
-    def test_what_is_not_handled_is_not_lacking(self) -> None:
-        self.assertEqual(rules((opened("/a/f", "rw"), REFUSED), handled=["write_file"]), [("/a/f", ["write_file"], 1)])
+        self.assertEqual(rules((call[0], refused("write_file on /a/f"))), [("/a/f", ["write_file"], 1)])
 
     def test_records_of_one_call_count_once(self) -> None:
-        run = ({"op": "exec", "path": "/a/f", "call": 1, "kernel": "ok"}, REFUSED)
-        again = (opened("/a/f", call=2), REFUSED)
-        self.assertEqual(rules((opened("/a/f"), REFUSED), run, again), [("/a/f", ["execute", "read_file"], 2)])
+        run = ({"op": "exec", "path": "/a/f", "call": 1, "kernel": "ok"}, refused("execute on /a/f"))
+        self.assertEqual(rules(reading("/a/f"), run, reading("/a/f", 2)), [("/a/f", ["execute", "read_file"], 2)])
 
     def test_records_without_a_number_count_each(self) -> None:
-        call = ({"op": "open", "path": "/a/f", "fd": 5, "mode": "r"}, REFUSED)
+        call = ({"op": "open", "path": "/a/f", "fd": 5, "mode": "r"}, refused("read_file on /a/f"))
         self.assertEqual(rules(call, call), [("/a/f", ["read_file"], 2)])
 
     def test_several_files_of_a_directory_are_one_rule(self) -> None:
-        calls = [(opened(path, call=call), REFUSED) for call, path in enumerate(("/a/f", "/a/g", "/a/s/t"), start=1)]
+        calls = [reading(path, call) for call, path in enumerate(("/a/f", "/a/g", "/a/s/t"), start=1)]
         self.assertEqual(rules(*calls), [("/a", ["read_file"], 3)])
 
     def test_what_one_file_of_them_needs_alone_stays_with_it(self) -> None:
-        calls = [(opened("/a/f", call=1), REFUSED), (opened("/a/g", "rw", call=2), REFUSED)]
-        self.assertEqual(rules(*calls), [("/a", ["read_file"], 2), ("/a/g", ["write_file"], 1)])
+        both = (opened("/a/g", "rw", call=2), refused("write_file, read_file on /a/g"))
+        self.assertEqual(rules(reading("/a/f"), both), [("/a", ["read_file"], 2), ("/a/g", ["write_file"], 1)])
 
     def test_files_in_the_root_are_not_joined(self) -> None:
-        calls = [(opened("/x", call=1), REFUSED), (opened("/y", call=2), REFUSED)]
-        self.assertEqual(rules(*calls), [("/x", ["read_file"], 1), ("/y", ["read_file"], 1)])
+        self.assertEqual(rules(reading("/x"), reading("/y", 2)), [("/x", ["read_file"], 1), ("/y", ["read_file"], 1)])
 
     def test_directories_are_not_joined(self) -> None:
-        calls = [(opened("/a", call=1), REFUSED), (opened("/b", call=2), REFUSED)]
-        self.assertEqual(rules(*calls), [("/a", ["read_dir"], 1), ("/b", ["read_dir"], 1)])
+        self.assertEqual(rules(listing("/a"), listing("/b", 2)), [("/a", ["read_dir"], 1), ("/b", ["read_dir"], 1)])
 
     def test_a_rule_on_a_directory_serves_what_is_beneath(self) -> None:
-        calls = [(opened("/a/s", call=1), REFUSED), (opened("/a", call=2), REFUSED)]
-        self.assertEqual(rules(*calls), [("/a", ["read_dir"], 2)])
+        self.assertEqual(rules(listing("/a/s"), listing("/a", 2)), [("/a", ["read_dir"], 2)])
 
     def test_new_objects_ask_their_directory(self) -> None:
         make = opened("/a/~new~", "w", create=True, shown="/a/n")
-        self.assertEqual(rules((make, REFUSED)), [("/a", ["make_reg", "write_file"], 1)])
+        self.assertEqual(rules((make, refused("write_file, make_reg on /a"))), [("/a", ["make_reg", "write_file"], 1)])
 
     def test_what_the_run_makes_is_granted_on_the_directory_that_was_there(self) -> None:
-        make = ({"op": "mkdir", "path": "/a/~new~", "shown": "/a/s", "call": 1, "kernel": "ok"}, REFUSED)
-        read = (opened("/a/s/t", call=2), REFUSED)
-        self.assertEqual(rules(make, read), [("/a", ["make_dir", "read_file"], 2)])
+        record = {"op": "mkdir", "path": "/a/~new~", "shown": "/a/s", "call": 1, "kernel": "ok"}
+        make = (record, refused("make_dir on /a"))
+        self.assertEqual(rules(make, reading("/a/s/t", 2)), [("/a", ["make_dir", "read_file"], 2)])
 
     def test_a_name_that_was_never_made_moves_nothing(self) -> None:
-        look = (opened("/a/~new~", call=1, shown="/a/f", kernel="ENOENT"), "moot")
-        self.assertEqual(rules(look, (opened("/a/f", call=2), REFUSED)), [("/a/f", ["read_file"], 1)])
+        look = (opened("/a/~new~", call=1, shown="/a/f", kernel="ENOENT"), moot("/a/~new~ is not in the tree"))
+        self.assertEqual(rules(look, reading("/a/f", 2)), [("/a/f", ["read_file"], 1)])
 
     def test_files_of_a_process_are_granted_on_proc(self) -> None:
-        self.assertEqual(rules((opened("/proc/7/maps"), REFUSED)), [("/proc", ["read_file"], 1)])
+        self.assertEqual(rules(reading("/proc/7/maps")), [("/proc", ["read_file"], 1)])
 
     def test_the_rule_for_which_most_calls_ask_comes_first(self) -> None:
-        calls = [(opened("/a/f", call=1), REFUSED), (opened("/b", call=2), REFUSED), (opened("/b", call=3), REFUSED)]
-        self.assertEqual([place for place, _, _ in rules(*calls)], ["/b", "/a/f"])
+        found = rules(reading("/a/f"), listing("/b", 2), listing("/b", 3))
+        self.assertEqual([place for place, _, _ in found], ["/b", "/a/f"])
 
 
 class Descriptors(unittest.TestCase):
-    def test_ftruncate_lacks_truncate_on_the_file(self) -> None:
-        cut = ({"op": "ftruncate", "fd": 5, "call": 2}, REFUSED)
-        found = rules((opened("/a/f", "w"), "allowed"), cut, granted=[("/a", ["write_file"])])
-        self.assertEqual(found, [("/a/f", ["truncate"], 1)])
+    CUT = {"op": "ftruncate", "fd": 5, "call": 2}
+
+    def test_what_a_file_lacked_when_it_was_opened_is_granted_on_it(self) -> None:
+        cut = (self.CUT, refused("truncate on /a/f, opened at line 6"))
+        self.assertEqual(rules((opened("/a/f", "w"), "allowed"), cut), [("/a/f", ["truncate"], 1)])
+        ask = ({"op": "ioctl", "fd": 5, "driver": True, "call": 2}, refused("ioctl_dev on /tty, opened at line 6"))
+        self.assertEqual(rules((opened("/tty"), "allowed"), ask), [("/tty", ["ioctl_dev"], 1)])
 
     def test_and_on_the_directory_of_a_new_file(self) -> None:
-        cut = ({"op": "ftruncate", "fd": 5, "call": 2}, REFUSED)
+        cut = (self.CUT, refused("truncate on /a/~new~, opened at line 6"))
         make = (opened("/a/~new~", "w", create=True, shown="/a/n"), "allowed")
-        self.assertEqual(rules(make, cut, granted=[("/a", ["write_file", "make_reg"])]), [("/a", ["truncate"], 1)])
-
-    def test_ioctl_lacks_ioctl_dev_on_the_device(self) -> None:
-        ask = ({"op": "ioctl", "fd": 5, "driver": True, "call": 2}, REFUSED)
-        found = rules((opened("/tty"), "allowed"), ask, granted=[("/tty", ["read_file"])])
-        self.assertEqual(found, [("/tty", ["ioctl_dev"], 1)])
+        self.assertEqual(rules(make, cut), [("/a", ["truncate"], 1)])
 
 
 class Moves(unittest.TestCase):
     MOVE = {"op": "rename", "from": "/a/f", "to": "/b/~new~", "shown_to": "/b/n", "call": 1, "kernel": "ok"}
+    REFER = refused("refer on /a; refer on /b", error="EXDEV")
 
     def test_eacces_asks_to_remove_and_to_make(self) -> None:
-        self.assertEqual(rules((self.MOVE, REFUSED)), [("/a", ["remove_file"], 1), ("/b", ["make_reg"], 1)])
+        found = rules((self.MOVE, refused("remove_file on /a; make_reg on /b")))
+        self.assertEqual(found, [("/a", ["remove_file"], 1), ("/b", ["make_reg"], 1)])
 
     def test_exdev_asks_for_refer_on_both_directories(self) -> None:
-        granted = [("/a", ["remove_file", "refer"]), ("/b", ["make_reg"])]
-        self.assertEqual(rules((self.MOVE, "refused EXDEV 1"), granted=granted), [("/b", ["refer"], 1)])
+        self.assertEqual(rules((self.MOVE, self.REFER)), [("/a", ["refer"], 1), ("/b", ["refer"], 1)])
 
     def test_what_would_be_gained_is_granted_on_the_object(self) -> None:
-        granted = [("/a", ["remove_file", "refer"]), ("/b", ["make_reg", "refer", "execute"])]
-        self.assertEqual(rules((self.MOVE, "refused EXDEV 1"), granted=granted), [("/a/f", ["execute"], 1)])
+        gain = refused("/a/f would gain execute in /b", error="EXDEV")
+        self.assertEqual(rules((self.MOVE, gain)), [("/a/f", ["execute"], 1)])
 
     def test_for_a_symbolic_link_on_its_directory(self) -> None:
-        granted = [("/a", ["remove_file", "refer"]), ("/b", ["make_sym", "refer", "execute"])]
-        move = {**self.MOVE, "from": "/a/link"}
-        self.assertEqual(rules((move, "refused EXDEV 1"), granted=granted), [("/a", ["execute"], 1)])
+        gain = refused("/a/link would gain execute in /b", error="EXDEV")
+        self.assertEqual(rules(({**self.MOVE, "from": "/a/link"}, gain)), [("/a", ["execute"], 1)])
 
     def test_refer_is_unknown_to_abi_1(self) -> None:
-        found = suggested([*layer(1, ["read_file"]), (self.MOVE, "refused EXDEV 1")], abi=1)
-        self.assertEqual((found.rules, found.unmended), ({}, {"rename": 1}))
+        """Each layer with rights for files handles it there too, and no rule can grant it."""
+        for refusal in (self.REFER, refused("refer on /a; refer on /b; /a/f would gain execute in /b", error="EXDEV")):
+            with self.subTest(refusal=refusal):
+                found = suggested([*layer(1, ["execute"]), (self.MOVE, refusal)], abi=1)
+                self.assertEqual((found.rules, found.unmended), ({}, {"rename": 1}))
 
     def test_a_layer_that_does_not_handle_refer_by_name_must(self) -> None:
-        reading = policy('[[layer]]\nhandled_access_fs = ["read_file"]\n')
-        found = suggested([*layer(1, ["read_file"]), (self.MOVE, "refused EXDEV 1")], to=reading)
-        written = "\n".join(suggestion_text.lines(found, reading))
+        reads = policy('[[layer]]\nhandled_access_fs = ["read_file"]\n')
+        found = suggested([*layer(1, ["read_file"]), (self.MOVE, self.REFER)], to=reads)
+        written = "\n".join(suggestion_text.lines(found, reads))
         self.assertIn('# handled_access_fs = ["read_file", "refer"]', written)
-        handled = with_rules(reading, found.rules).layers[0].handled_access_fs
+        handled = with_rules(reads, found.rules).layers[0].handled_access_fs
         self.assertEqual(handled.rights, {"read_file", "refer"})
 
 
 class Ports(unittest.TestCase):
     def test_ports_that_lack_the_same_are_one_rule(self) -> None:
-        calls = [({"op": op, "port": port, "call": call}, REFUSED) for call, (op, port) in
+        calls = [({"op": op, "port": port, "call": call}, refused(f"{op}_tcp on port {port}")) for call, (op, port) in
                  enumerate((("connect", 443), ("connect", 80), ("bind", 8080), ("connect", 80)), start=1)]
         self.assertEqual(rules(*calls), [((80, 443), ["connect_tcp"], 3), ((8080,), ["bind_tcp"], 1)])
 
 
+MOUNT = ({"op": "mount"}, refused("it handles rights for files", error="EPERM"))
+
+
 class Layers(unittest.TestCase):
     def test_each_layer_lacks_its_own(self) -> None:
-        two = [*layer(1, ["read_file"]), *layer(2, ["read_file", "write_file"], [("/a", ["read_file"])])]
-        found = suggested([*two, (opened("/a/f", "rw"), "refused EACCES 1,2")], to=policy(DENY + DENY))
-        reading, writing = (Rule("/a/f", frozenset({right}), 1) for right in ("read_file", "write_file"))
-        self.assertEqual(found.rules, {1: [reading], 2: [writing]})
+        both = (opened("/a/f", "rw"), refused("read_file on /a/f", "write_file on /a/f"))
+        found = suggested([*layer(1), *layer(2), both], to=policy(DENY + DENY))
+        reads, writes = (Rule("/a/f", frozenset({right}), 1) for right in ("read_file", "write_file"))
+        self.assertEqual(found.rules, {1: [reads], 2: [writes]})
 
     def test_a_layer_of_the_program_is_not_mended(self) -> None:
-        found = suggested([*layer(None, ["read_file"]), (opened("/a/f"), REFUSED)])
+        found = suggested([*layer(None), reading("/a/f")])
         self.assertEqual((found.rules, found.of_program), ({}, {"open r": 1}))
 
     def test_a_forked_child_has_its_parents_layers(self) -> None:
-        child = [({"op": "fork", "child": 11}, "allowed"), ({**opened("/a/f"), "pid": 11}, REFUSED)]
+        record, answer = reading("/a/f")
+        child = [({"op": "fork", "child": 11}, "allowed"), ({**record, "pid": 11}, answer)]
         self.assertEqual(rules(*child), [("/a/f", ["read_file"], 1)])
 
+    def test_a_call_that_fails_by_itself_is_no_layers(self) -> None:
+        create = ({"op": "create", "rs": 4, "fs": ["refer"]}, failed("EINVAL", "ABI 1 does not know refer"))
+        found = suggested([*layer(), create, reading("/a/f")], abi=1)
+        self.assertEqual((found.unmended, found.of_program), ({}, {}))
+        self.assertEqual(found.rules, {1: [Rule("/a/f", frozenset({"read_file"}), 1)]})
+
     def test_a_mount_is_not_mended(self) -> None:
-        found = suggested([*layer(), ({"op": "mount"}, "refused EPERM 1")])
+        found = suggested([*layer(), MOUNT])
         self.assertEqual((found.rules, found.unmended), ({}, {"mount": 1}))
 
 
 class Rounds(unittest.TestCase):
     def test_what_stood_behind_a_refusal_is_asked_for_too(self) -> None:
-        cut = {"op": "ftruncate", "fd": 5, "call": 2}
-        first = [*layer(), (opened("/a/f", "w"), REFUSED), (cut, "moot")]
-        second = [*layer(granted=[("/a/f", ["write_file"])]), (opened("/a/f", "w"), "allowed"), (cut, REFUSED)]
+        cut, opening = {"op": "ftruncate", "fd": 5, "call": 2}, opened("/a/f", "w")
+        first = [*layer(), (opening, refused("write_file on /a/f")), (cut, moot("descriptor 5 is not open"))]
+        second = [*layer(), (opening, "allowed"), (cut, refused("truncate on /a/f, opened at line 6"))]
         found = suggested(first, second)
         self.assertEqual(found.rules, {1: [Rule("/a/f", frozenset({"write_file", "truncate"}), 2)]})
         self.assertEqual((found.rounds, found.finished), (3, True))
 
     def test_nothing_refused_suggests_nothing(self) -> None:
-        found = suggested([*layer(), (opened("/none"), "moot")])
+        found = suggested([*layer(), (opened("/none"), moot("/none is not in the tree"))])
         self.assertEqual((found.rules, found.rounds, found.finished), ({}, 1, True))
 
     def test_it_comes_to_an_end(self) -> None:
-        again = [*layer(), (opened("/a/f"), REFUSED)]
+        again = [*layer(), reading("/a/f")]
         self.assertFalse(suggested(*[again] * 50).finished)
 
 
 class Text(unittest.TestCase):
     def test_what_is_printed_pastes_into_the_policy(self) -> None:
-        calls = [(opened("/a/f"), REFUSED), ({"op": "connect", "port": 80, "call": 2}, REFUSED)]
-        found = suggested([*layer(), *calls])
+        connect = ({"op": "connect", "port": 80, "call": 2}, refused("connect_tcp on port 80"))
+        found = suggested([*layer(), reading("/a/f"), connect])
         written = "\n".join(suggestion_text.lines(found, policy()))
         read = policy(DENY + written)
         self.assertEqual([rule.parents for rule in read.layers[0].path_beneath], [("/a/f",)])
@@ -273,7 +279,7 @@ class Text(unittest.TestCase):
         self.assertRegex(written[0], "^# 1 rule for layer 2: paste them beneath the .*layer.* of that number")
 
     def test_what_stays_refused_is_said(self) -> None:
-        found = suggested([*layer(), ({"op": "mount"}, "refused EPERM 1")])
+        found = suggested([*layer(), MOUNT])
         written = "\n".join(suggestion_text.lines(found, policy()))
         self.assertIn("# 1 call is refused by layers of the policy whatever their rules are: mount 1", written)
 

@@ -17,11 +17,9 @@ from landaudit_record.problems import Problem
 from landaudit_record.reading import judged
 from landaudit_record.summary import Summary
 from landaudit_record.summary_text import Style
-from landaudit_record.trees import Tree
 
-from .recorded import PID, records, write_lines, write_report
+from .recorded import PID, failed, moot, records, refused, write_lines, write_report
 
-TREE = Tree({"/": "dir", "/a": "dir", "/a/f": "reg", "/a/made": "reg", "/b": "dir", "/bin": "reg"})
 NNP = ({"op": "nnp"}, "allowed")
 LAYER = [
     ({"op": "create", "rs": 3, "fs": ["read_file"], "policy": {"layer": 1}}, "allowed"),
@@ -31,8 +29,8 @@ OWN = [({"op": "create", "rs": 4, "fs": ["read_file"]}, "allowed"), ({"op": "res
 RUN = ({"op": "exec", "path": "/bin", "kernel": "ok"}, "allowed")
 READ = {"op": "open", "path": "/a/f", "fd": 5, "mode": "r", "kernel": "ok"}
 
-REFUSED = "refused EACCES 1"
-NOT_OPEN = "the descriptor is not open"
+REFUSED = refused("read_file on /a/f")
+NOT_OPEN = moot("descriptor 9 is not open")
 
 Call = tuple[Record, str]
 
@@ -45,8 +43,8 @@ def summed(calls: Sequence[Call], abi: int = 5, unsaid: Sequence[Record] | None 
         report = write_report(folder / "report.txt", trace, ["allowed", *(answer for _, answer in calls)])
         if unsaid is not None:
             write_lines(folder / "unsaid.jsonl", unsaid)
-        found = judged(TREE, write_lines(folder / "trace.jsonl", trace), report)
-        return summary.summarize(TREE, found, abi, folder / "unsaid.jsonl")
+        found = judged(write_lines(folder / "trace.jsonl", trace), report)
+        return summary.summarize(found, abi, folder / "unsaid.jsonl")
 
 
 def rule(path: str, *rights: str, parent: str | None = None) -> Record:
@@ -61,22 +59,23 @@ def text(found: Summary, coloured: bool = False) -> str:
 
 class Refusals(unittest.TestCase):
     def test_like_refusals_are_one_row_and_the_most_frequent_comes_first(self) -> None:
-        write = {**READ, "mode": "w"}
-        found = summed([NNP, *LAYER, RUN, (write, REFUSED), (READ, REFUSED), (READ, REFUSED)])
+        write = ({**READ, "mode": "w"}, refused("write_file on /a/f"))
+        found = summed([NNP, *LAYER, RUN, write, (READ, REFUSED), (READ, REFUSED)])
         rows = [(row["times"], row["call"], row["place"], row["error"]) for row in summary.as_data(found)["refusals"]]
         self.assertEqual(rows, [(2, "open r", "/a/f", "EACCES"), (1, "open w", "/a/f", "EACCES")])
 
     def test_a_row_names_the_program_and_the_layers(self) -> None:
-        found = summed([NNP, *LAYER, *OWN, (READ, "refused EACCES 1,2"), RUN, (READ, "refused EACCES 1,2")])
+        both = (READ, refused("read_file on /a/f", "read_file on /a/f"))
+        found = summed([NNP, *LAYER, *OWN, both, RUN, both])
         (row,) = summary.as_data(found)["refusals"]
         self.assertEqual(row["programs"], {"-": 1, "/bin": 1})
-        self.assertEqual(row["layers"], [{"number": 1, "policy": 1}, {"number": 2, "policy": None}])
+        self.assertEqual([(layer["number"], layer["policy"]) for layer in row["layers"]], [(1, 1), (2, None)])
         self.assertIn("policy's 1, program's 2", text(found))
 
     def test_a_child_runs_its_parents_program_until_its_own(self) -> None:
         fork = ({"op": "fork", "child": 11}, "allowed")
         child = [({**READ, "pid": 11}, REFUSED), ({**RUN[0], "pid": 11, "path": "/a/f"}, "allowed"),
-                 ({**READ, "pid": 11, "path": "/bin"}, REFUSED)]
+                 ({**READ, "pid": 11, "path": "/bin"}, refused("read_file on /bin"))]
         found = summed([NNP, *LAYER, RUN, fork, *child])
         programs = {row["place"]: row["programs"] for row in summary.as_data(found)["refusals"]}
         self.assertEqual(programs, {"/a/f": {"/bin": 1}, "/bin": {"/a/f": 1}})
@@ -90,59 +89,145 @@ class Refusals(unittest.TestCase):
     def test_a_made_up_name_is_shown_as_the_real_one(self) -> None:
         made = {"op": "rename", "from": "/a/f", "to": "/b/~new~", "shown_to": "/b/f", "kernel": "ok"}
         opened = {**READ, "path": "/a/~new~", "shown": "/a/n", "create": True, "mode": "w"}
-        found = summed([NNP, *LAYER, (made, "refused EXDEV 1"), (opened, REFUSED)])
+        found = summed([NNP, *LAYER, (made, refused("refer on /a; refer on /b", error="EXDEV")),
+                        (opened, refused("write_file, make_reg on /a"))])
         rows = [(row["call"], row["place"]) for row in summary.as_data(found)["refusals"]]
         self.assertEqual(rows, [("rename", "/a/f -> /b/f"), ("open w create", "/a/n")])
 
     def test_a_call_on_a_descriptor_names_its_file(self) -> None:
         opened = ({**READ, "mode": "w"}, "allowed")
         dup = ({"op": "dup", "fd": 5, "to": 6}, "allowed")
-        found = summed([NNP, *LAYER, opened, dup, ({"op": "ftruncate", "fd": 6}, REFUSED)])
+        cut = ({"op": "ftruncate", "fd": 6}, refused("truncate on /a/f, opened at line 5"))
+        found = summed([NNP, *LAYER, opened, dup, cut])
         self.assertEqual(summary.as_data(found)["refusals"][0]["place"], "/a/f")
 
     def test_ports_exchanges_and_kinds(self) -> None:
         exchange = {"op": "rename", "from": "/a/f", "to": "/bin", "exchange": True}
-        found = summed([NNP, *LAYER, ({"op": "bind", "port": 80}, REFUSED), (exchange, REFUSED),
-                        ({"op": "mknod", "path": "/a/n", "kind": "fifo"}, REFUSED)])
+        found = summed([NNP, *LAYER, ({"op": "bind", "port": 80}, refused("bind_tcp on port 80")),
+                        (exchange, refused("remove_file, make_reg on /a")),
+                        ({"op": "mknod", "path": "/a/n", "kind": "fifo"}, refused("make_fifo on /a"))])
         rows = [(row["call"], row["place"]) for row in summary.as_data(found)["refusals"]]
         self.assertEqual(rows, [("bind", "port 80"), ("exchange", "/a/f -> /bin"), ("mknod fifo", "/a/n")])
+
+
+class Whys(unittest.TestCase):
+    """What the layers object to, in the last column and as data."""
+
+    def why(self, *calls: Call) -> str:
+        """The last column of a summary's one row."""
+        lines = text(summed([NNP, *LAYER, *calls])).splitlines()
+        heads = next(number for number, line in enumerate(lines) if line.startswith("  times  call"))
+        return lines[heads + 1][lines[heads].index("why"):]
+
+    def test_rights_alone_where_they_are_missing_on_the_place_itself(self) -> None:
+        self.assertEqual(self.why((READ, REFUSED)), "read_file")
+        own = {**READ, "path": "/a/~f~", "shown": "/a/f"}
+        self.assertEqual(self.why((own, refused("read_file on /a/~f~"))), "read_file")
+        connect = ({"op": "connect", "port": 443}, refused("connect_tcp on port 443"))
+        self.assertEqual(self.why(connect), "connect_tcp")
+
+    def test_with_the_path_where_they_are_missing_elsewhere(self) -> None:
+        make = {**READ, "path": "/a/~new~", "shown": "/a/n", "create": True}
+        self.assertEqual(self.why((make, refused("read_file, make_reg on /a"))), "read_file, make_reg on /a")
+        move = {"op": "rename", "from": "/a/f", "to": "/b/f"}
+        for said in ("remove_file on /a; make_reg on /b", "/a/f would gain execute in /b"):
+            self.assertEqual(self.why((move, refused(said))), said)
+
+    def test_what_was_missing_at_an_opening_is_one_kind_whatever_line_that_stood_on(self) -> None:
+        opened, close = ({**READ, "mode": "w"}, "allowed"), ({"op": "close", "fd": 5}, "allowed")
+        cut, calls = {"op": "ftruncate", "fd": 5}, list[Call]()
+        for line in (5, 8):
+            calls += [opened, (cut, refused(f"truncate on /a/f, opened at line {line}")), close]
+        self.assertEqual(self.why(*calls), "truncate when it was opened")
+        (row,) = summary.as_data(summed([NNP, *LAYER, *calls]))["refusals"]
+        self.assertEqual(row["times"], 2)
+
+    def test_a_file_that_the_opening_made_has_its_real_name(self) -> None:
+        made = ({**READ, "path": "/a/~new~", "shown": "/a/n", "mode": "w", "create": True}, "allowed")
+        cut = ({"op": "ftruncate", "fd": 5}, refused("truncate on /a/~new~, opened at line 5"))
+        (row,) = summary.as_data(summed([NNP, *LAYER, made, cut]))["refusals"]
+        kept = {"text": "truncate on /a/n, opened at line 5", "rights": ("truncate",), "path": "/a/n", "opened": 5}
+        self.assertEqual(row["layers"][0]["objections"], [kept])
+
+    def test_each_layer_by_its_name_where_they_object_to_different_things(self) -> None:
+        both = (READ, refused("read_file on /a/f", "write_file, read_file on /a/f"))
+        self.assertEqual(self.why(*OWN, both), "policy's 1: read_file; program's 2: write_file, read_file")
+        alike = (READ, refused("read_file on /a/f", "read_file on /a/f"))
+        self.assertEqual(self.why(*OWN, alike), "read_file")
+
+    def test_the_condition_of_a_call_that_fails_by_itself(self) -> None:
+        restrict = ({"op": "restrict", "rs": 9}, failed("EBADF", "ruleset 9 is not held"))
+        self.assertEqual(self.why(restrict), "ruleset 9 is not held")
+        (row,) = summary.as_data(summed([NNP, restrict]))["refusals"]
+        self.assertEqual((row["condition"], row["layers"]), ("ruleset 9 is not held", []))
+
+    def test_objections_as_data(self) -> None:
+        move = {"op": "rename", "from": "/a/f", "to": "/b/f"}
+        said = "refer on /a; /a/f would gain execute in /b"
+        (row,) = summary.as_data(summed([NNP, *LAYER, (move, refused(said, error="EXDEV"))]))["refusals"]
+        gained = {"path": "/a/f", "rights": ("execute",), "directory": "/b"}
+        self.assertEqual(row["layers"], [{"number": 1, "policy": 1, "objections": [
+            {"text": "refer on /a", "rights": ("refer",), "path": "/a"},
+            {"text": "/a/f would gain execute in /b", **gained},
+        ]}])
+        self.assertIsNone(row["condition"])
 
 
 class Moots(unittest.TestCase):
     def reasons(self, *calls: Call) -> dict[str, dict[str, int]]:
         return {row["why"]: row["at"] for row in summary.as_data(summed([NNP, *LAYER, *calls]))["moot_because"]}
 
-    def test_reasons_name_where_they_show(self) -> None:
-        self.assertEqual(self.reasons(({**READ, "path": "/none/f"}, "moot")), {"no such object": {"/none": 1}})
-        self.assertEqual(self.reasons(({"op": "close", "fd": 9}, "moot")), {NOT_OPEN: {"descriptor 9": 1}})
-        self.assertEqual(self.reasons(({"op": "mkdir", "path": "/a"}, "moot")), {"the name is taken": {"/a": 1}})
+    def test_reasons_are_landaudits_and_name_where_they_show(self) -> None:
+        missing = ({**READ, "path": "/none/f"}, moot("/none is not in the tree"))
+        self.assertEqual(self.reasons(missing), {"is not in the tree": {"/none": 1}})
+        self.assertEqual(self.reasons(({"op": "close", "fd": 9}, NOT_OPEN)), {"is not open": {"descriptor 9": 1}})
+        make = ({"op": "mkdir", "path": "/a"}, moot("/a is in the tree already"))
+        self.assertEqual(self.reasons(make), {"is in the tree already": {"/a": 1}})
+        beneath = ({"op": "rename", "from": "/a", "to": "/a/~new~", "shown_to": "/a/n"},
+                   moot("/a would go beneath itself, to /a/~new~"))
+        self.assertEqual(self.reasons(beneath), {"would go beneath itself": {"/a -> /a/n": 1}})
+
+    def test_a_made_up_name_is_shown_as_the_real_one(self) -> None:
+        missing = ({**READ, "path": "/a/~new~", "shown": "/a/n"}, moot("/a/~new~ is not in the tree"))
+        self.assertEqual(self.reasons(missing), {"is not in the tree": {"/a/n": 1}})
 
     def test_a_number_stays_closed_when_its_opening_was_refused(self) -> None:
-        close = ({"op": "close", "fd": 5}, "moot")
-        why = f"{NOT_OPEN}, its opening was refused or moot"
+        close = ({"op": "close", "fd": 5}, moot("descriptor 5 is not open"))
+        why = "is not open, its opening was refused or moot"
         self.assertEqual(self.reasons((READ, REFUSED), close), {why: {"descriptor 5": 1}})
         adopt = ({"op": "adopt", "fd": 5, "kind": "other"}, "allowed")
         again = [(READ, REFUSED), adopt, ({"op": "close", "fd": 5}, "allowed"), close]
-        self.assertEqual(self.reasons(*again), {NOT_OPEN: {"descriptor 5": 1}})
+        self.assertEqual(self.reasons(*again), {"is not open": {"descriptor 5": 1}})
+
+    def test_a_rule_of_the_program_that_is_left_out(self) -> None:
+        said = "left out, as this ABI supports none of the rule's rights"
+        rules = [({"op": "add_path", "rs": 4, "path": "/a", "shown": "/a/n", "kernel": "ok"}, moot(said)),
+                 ({"op": "add_port", "rs": 4, "port": 443, "kernel": "ok"}, moot(said)),
+                 ({"op": "add_port", "rs": 4, "port": 80, "kernel": "EINVAL"}, moot(said))]
+        self.assertEqual(self.reasons(*rules), {said: {"/a/n": 1, "port 443": 1, "port 80": 1}})
+        self.assertEqual(summed([NNP, *LAYER, *rules]).warnings, {})
 
     def test_what_failed_by_itself_says_so(self) -> None:
         missing = {**READ, "path": "/a/~new~", "shown": "/a/none", "kernel": "ENOENT"}
         why = "the call failed in the recording too: ENOENT"
-        self.assertEqual(self.reasons((missing, "moot")), {why: {"/a/none": 1}})
+        found = self.reasons((missing, moot("/a/~new~ is not in the tree")))
+        self.assertEqual(found, {why: {"/a/none": 1}})
 
 
 class Warnings(unittest.TestCase):
+    ABSENT = ({**READ, "path": "/none"}, moot("/none is not in the tree"))
+
     def warnings(self, *calls: Call, abi: int = 5) -> list[str]:
         return list(summed([NNP, LAYER[0], *calls], abi).warnings)
 
     def test_a_rule_whose_parent_is_not_listed(self) -> None:
-        (said,) = self.warnings((rule("/none", "read_file", parent="/bin/none"), "moot"))
-        self.assertIn("policy: layer 1, path_beneath 1, parent /bin/none is moot, no such object", said)
-        self.assertIn("in the tree: /none", said)
+        (said,) = self.warnings((rule("/none", "read_file", parent="/bin/none"), moot("/none is not in the tree")))
+        self.assertIn("policy: layer 1, path_beneath 1, parent /bin/none is moot: /none is not in the tree;", said)
 
     def test_a_rule_that_is_refused(self) -> None:
-        (said,) = self.warnings((rule("/a/f", "read_file", "read_dir"), "refused EINVAL -"))
-        self.assertIn("path_beneath 1, parent /a/f is refused with EINVAL: read_dir are rights on directories", said)
+        condition = "/a/f is not a directory, and only directories have read_dir"
+        (said,) = self.warnings((rule("/a/f", "read_file", "read_dir"), failed("EINVAL", condition)))
+        self.assertEqual(said, f"policy: layer 1, path_beneath 1, parent /a/f is refused with EINVAL: {condition}")
 
     def test_a_rule_on_what_the_run_makes(self) -> None:
         added = (rule("/a/made", "read_file"), "allowed")
@@ -152,30 +237,34 @@ class Warnings(unittest.TestCase):
         self.assertEqual(self.warnings(added, ({**make, "kernel": "EACCES"}, "allowed")), [])
 
     def test_a_ruleset_of_the_program_that_an_older_abi_refuses(self) -> None:
-        (said,) = self.warnings(({"op": "create", "rs": 4, "fs": ["refer"]}, "refused EINVAL -"), abi=1)
-        self.assertIn("a ruleset of the program is refused at ABI 1 with EINVAL", said)
-        self.assertIn("refer", said)
+        condition = "ABI 1 does not know refer"
+        create = ({"op": "create", "rs": 4, "fs": ["read_file", "refer"]}, failed("EINVAL", condition))
+        (said,) = self.warnings(create, abi=1)
+        self.assertIn(f"a ruleset of the program is refused at ABI 1 with EINVAL: {condition}; a program must", said)
+
+    def test_a_ruleset_of_the_program_that_every_abi_refuses(self) -> None:
+        (said,) = self.warnings(({"op": "create", "rs": 4}, failed("ENOMSG", "no right is named")))
+        self.assertIn("with ENOMSG: no right is named; the program runs without that layer", said)
 
     def test_more_than_a_tenth_of_the_calls_on_paths_are_moot(self) -> None:
         close = ({"op": "close", "fd": 5}, "allowed")
         asked = [(READ, "allowed"), close] * 9
-        moot = ({**READ, "path": "/none"}, "moot")
-        self.assertEqual(self.warnings(*asked, (READ, "allowed"), close, moot), [])
-        (said,) = self.warnings(*asked, moot, moot)
+        self.assertEqual(self.warnings(*asked, (READ, "allowed"), close, self.ABSENT), [])
+        (said,) = self.warnings(*asked, self.ABSENT, self.ABSENT)
         self.assertIn("2 of 11 calls on paths are moot", said)
 
     def test_a_tenth_is_no_more_than_a_tenth(self) -> None:
         close = ({"op": "close", "fd": 5}, "allowed")
-        moot = ({**READ, "path": "/none"}, "moot")
-        self.assertEqual(self.warnings(*[(READ, "allowed"), close] * 9, moot), [])
+        self.assertEqual(self.warnings(*[(READ, "allowed"), close] * 9, self.ABSENT), [])
 
     def test_calls_that_failed_by_themselves_do_not_count(self) -> None:
-        self.assertEqual(self.warnings(({**READ, "path": "/none", "kernel": "ENOENT"}, "moot"), (READ, "allowed")), [])
+        missing, answer = self.ABSENT
+        self.assertEqual(self.warnings(({**missing, "kernel": "ENOENT"}, answer), (READ, "allowed")), [])
 
 
 class Text(unittest.TestCase):
     def setUp(self) -> None:
-        self.found = summed([NNP, *LAYER, RUN, (READ, REFUSED), ({"op": "close", "fd": 9}, "moot")],
+        self.found = summed([NNP, *LAYER, RUN, (READ, REFUSED), ({"op": "close", "fd": 9}, NOT_OPEN)],
                             unsaid=[{"class": "splice"}, {"class": "splice"}, {"class": "scopes"}])
 
     def test_totals(self) -> None:
@@ -183,7 +272,9 @@ class Text(unittest.TestCase):
 
     def test_a_row_of_the_table(self) -> None:
         rows = [line.split() for line in text(self.found).splitlines()]
-        self.assertIn(["1", "open", "r", "/a/f", "EACCES", "policy's", "1", "/bin"], rows)
+        self.assertIn(["times", "call", "place", "error", "layers", "program", "why"], rows)
+        self.assertIn(["1", "open", "r", "/a/f", "EACCES", "policy's", "1", "/bin", "read_file"], rows)
+        self.assertIn(["1", "is", "not", "open", "descriptor", "9"], rows)
 
     def test_what_was_not_recorded(self) -> None:
         self.assertIn("not recorded: 3 calls", text(self.found))
@@ -191,12 +282,13 @@ class Text(unittest.TestCase):
         self.assertEqual(summary.as_data(self.found)["unsaid"], {"splice": 2, "scopes": 1})
 
     def test_a_path_cannot_speak_to_the_terminal(self) -> None:
-        found = summed([NNP, *LAYER, ({**READ, "path": "/a/\x1b[2J\n"}, REFUSED)])
+        found = summed([NNP, *LAYER, ({**READ, "path": "/a/\x1b[2J\n", "create": True, "mode": "w"},
+                                      refused(r"write_file on /a/\u001b[2J\n"))])
         self.assertNotIn("\x1b", text(found))
         self.assertIn(r"/a/\x1b[2J\n", text(found))
 
     def test_many_kinds_are_cut(self) -> None:
-        many = [({"op": "bind", "port": port}, REFUSED) for port in range(60)]
+        many = [({"op": "bind", "port": port}, refused(f"bind_tcp on port {port}")) for port in range(60)]
         self.assertIn("and 10 kinds more", text(summed([NNP, *LAYER, *many])))
 
     def test_colours_on_a_terminal_alone(self) -> None:
@@ -213,14 +305,17 @@ class Text(unittest.TestCase):
 
 class Data(unittest.TestCase):
     def test_the_keys_stay(self) -> None:
-        data = summary.as_data(summed([NNP, *LAYER, (READ, REFUSED), ({"op": "close", "fd": 9}, "moot")]))
+        data = summary.as_data(summed([NNP, *LAYER, (READ, REFUSED), ({"op": "close", "fd": 9}, NOT_OPEN)]))
         self.assertEqual(
             sorted(data),
             ["abi", "allowed", "moot", "moot_because", "moot_path_calls", "path_calls", "records", "refusals"]
             + ["refused", "unsaid", "warnings"],
         )
         self.assertEqual((data["records"], data["allowed"], data["refused"], data["moot"]), (6, 4, 1, 1))
-        self.assertEqual(sorted(data["refusals"][0]), ["call", "error", "layers", "place", "programs", "times"])
+        self.assertEqual(
+            sorted(data["refusals"][0]),
+            ["call", "condition", "error", "layers", "place", "programs", "times"],
+        )
         json.dumps(data)
 
 
@@ -233,7 +328,7 @@ class Joining(unittest.TestCase):
                 report = Path(folder, "report.txt")
                 report.write_text("\n".join(rows) + "\n")
                 with self.assertRaisesRegex(Problem, "is no report on"):
-                    list(judged(TREE, write_lines(Path(folder, "trace.jsonl"), trace), report))
+                    list(judged(write_lines(Path(folder, "trace.jsonl"), trace), report))
 
 
 if __name__ == "__main__":

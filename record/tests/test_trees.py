@@ -61,12 +61,6 @@ class Trees(unittest.TestCase):
         with self.assertRaises(LinkLoop):
             self.tree.resolved("/loop/x")
 
-    def test_gaps_and_what_is_missing(self) -> None:
-        self.assertTrue(self.tree.is_gap("/usr/new"))
-        self.assertFalse(self.tree.is_gap("/usr/lib"))
-        self.assertFalse(self.tree.is_gap("/usr/lib/libc.so/x"))
-        self.assertEqual(self.tree.first_missing("/usr/none/a/b"), "/usr/none")
-
     def test_upwards(self) -> None:
         self.assertEqual(list(trees.upwards("/usr/lib/libc.so")), ["/usr/lib/libc.so", "/usr/lib", "/usr", "/"])
         self.assertEqual(list(trees.upwards("/")), ["/"])

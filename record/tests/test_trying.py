@@ -12,7 +12,7 @@ from typing import Any
 
 from landaudit_record import cli
 
-from .recorded import PID, write_lines
+from .recorded import PID, failed, refused, write_lines
 
 TREE = [{"path": "/bin", "kind": "reg"}, {"path": "/a", "kind": "reg"}]
 TRACE = [
@@ -28,13 +28,19 @@ parent = "/a"
 """
 # What the tried trace is at ABI 3: start, nnp, create, add_path, restrict, close_rs, exec, open.
 OPS = ["start", "nnp", "create", "add_path", "restrict", "close_rs", "exec", "open"]
+# Before ABI 3 it has no rule, since that would grant truncate.
+OLDER_OPS = [op for op in OPS if op != "add_path"]
 LANDAUDIT = """#!/usr/bin/env python3
+# Answers as it is told to, by ABI and number of records or by the latter alone, and says how it was called.
 import json, sys
 from pathlib import Path
-_, abi, tree, trace = sys.argv[1:]
-assert Path(tree).read_text() and abi == "3"
+_, abi, *flags, tree, trace = sys.argv[1:]
+assert Path(tree).read_text()
+with open({runs!r}, "a") as runs:
+    print(abi, *flags, file=runs)
 lines = [json.loads(line) for line in Path(trace).read_text().splitlines()]
-answers = json.loads(Path({answers!r}).read_text())[str(len(lines))]
+known = json.loads(Path({answers!r}).read_text())
+answers = known.get(f"{{abi}}: {{len(lines)}}") or known[str(len(lines))]
 for number, (record, answer) in enumerate(zip(lines, answers, strict=True), start=1):
     print(number, record["pid"], record["op"], answer)
 print("total", len(lines))
@@ -55,12 +61,16 @@ class Trying(unittest.TestCase):
         self.policy.write_text(POLICY)
         answers = {
             "3": ["allowed"] * 3,
-            "8": ["allowed"] * 7 + ["refused EACCES 1"],
+            "1: 7": ["allowed"] * 5 + [refused("execute on /bin"), "allowed"],
+            "2: 7": ["allowed"] * 6 + [refused("write_file on /a")],
+            "8": ["allowed"] * 7 + [refused("write_file on /a")],
             "9": ["allowed"] * 9,
         }
         (self.folder / "answers.json").write_text(json.dumps(answers))
         self.landaudit = self.folder / "landaudit"
-        self.landaudit.write_text(LANDAUDIT.format(answers=str(self.folder / "answers.json")))
+        self.runs = self.folder / "runs"
+        files = {"answers": str(self.folder / "answers.json"), "runs": str(self.runs)}
+        self.landaudit.write_text(LANDAUDIT.format(**files))
         self.landaudit.chmod(0o755)
 
     def called(self, *words: str | Path) -> tuple[int, str, str]:
@@ -71,8 +81,17 @@ class Trying(unittest.TestCase):
         out.seek(0)
         return status, out.read(), errors.getvalue()
 
-    def audited(self, *words: str | Path) -> tuple[int, str, str]:
-        return self.called(*words, "--abi", "3", "--landaudit", self.landaudit)
+    def audited(self, *words: str | Path, abi: str | None = "3") -> tuple[int, str, str]:
+        chosen = [] if abi is None else ["--abi", abi]
+        return self.called(*words, *chosen, "--landaudit", self.landaudit)
+
+    def ran(self) -> list[str]:
+        """How landaudit was called, each time: the ABI and the flags."""
+        return self.runs.read_text().splitlines()
+
+    def table(self, out: str) -> list[str]:
+        """The lines of the table by ABI."""
+        return out.partition("by ABI")[2].splitlines()[1:]
 
     def test_policy_writes_the_trace_to_standard_output(self) -> None:
         status, out, errors = self.called("policy", self.policy, self.recording, "--abi", "3")
@@ -110,7 +129,7 @@ class Trying(unittest.TestCase):
         status, out, _ = self.audited("audit", self.recording, "--policy", self.policy)
         self.assertEqual(status, 1)
         self.assertIn("8 records: 7 allowed, 1 refused, 0 moot", out)
-        self.assertIn("open w  /a     EACCES  policy's 1  /bin", out)
+        self.assertIn("open w  /a     EACCES  policy's 1  /bin     write_file", out)
         tried = (self.recording / "tried.jsonl").read_text().splitlines()
         self.assertEqual([json.loads(line)["op"] for line in tried], OPS)
 
@@ -121,11 +140,90 @@ class Trying(unittest.TestCase):
         _, out, _ = self.audited("audit", self.recording)
         self.assertNotIn("rules for these", out)
 
+    def test_audit_is_at_best_effort_and_as_recorded_if_that_is_wanted(self) -> None:
+        for command in (["audit", self.recording], ["suggest", self.recording, "--policy", self.policy]):
+            for words, flags in ([], "3 --best-effort --explain"), (["--as-recorded"], "3 --explain"):
+                with self.subTest(command=command[0], words=words):
+                    self.runs.unlink(missing_ok=True)
+                    self.audited(*command, *words)
+                    self.assertEqual(set(self.ran()), {flags})
+
+    def test_the_command_that_suggests_rules_judges_as_this_audit_did(self) -> None:
+        _, out, _ = self.audited("audit", self.recording, "--policy", self.policy, "--as-recorded")
+        command = f"landaudit-record suggest {self.recording} --policy {self.policy} --abi 3 --as-recorded"
+        self.assertEqual(out.splitlines()[-1], f"rules for these: {command}")
+
+    def test_compare_judges_what_was_recorded(self) -> None:
+        self.audited("compare", self.recording)
+        self.assertEqual(self.ran(), ["3 --explain"])
+
+    def test_audit_is_at_all_abis_if_none_is_named(self) -> None:
+        status, out, _ = self.audited("audit", self.recording, abi=None)
+        self.assertEqual((status, out.splitlines()[0]), (0, f"{self.recording} at ABI 5"))
+        self.assertEqual(self.ran(), [f"{abi} --best-effort --explain" for abi in range(1, 6)])
+        rows = [row.split() for row in self.table(out)[1:]]
+        self.assertEqual(rows, [[str(abi), "3", "0", "0"] for abi in range(1, 6)])
+
+    def test_audit_of_a_policy_at_a_range(self) -> None:
+        status, out, errors = self.audited("audit", self.recording, "--policy", self.policy, abi="1-4")
+        self.assertEqual((status, out.splitlines()[0]), (1, f"{self.recording} under {self.policy} at ABI 4"))
+        self.assertIn("8 records: 7 allowed, 1 refused, 0 moot", out)
+        command = f"landaudit-record suggest {self.recording} --policy {self.policy} --abi 4"
+        self.assertIn(f"\nrules for these: {command}\n", out)
+        self.assertEqual(self.table(out), [
+            "  ABI  allowed  refused  moot  what changes",
+            "    1        6        1     0  breaks: exec /bin EACCES",
+            "    2        6        1     0  breaks: open w /a EACCES",
+            "                               refused no more: exec /bin EACCES",
+            "    3        7        1     0",
+            "    4        7        1     0",
+        ])
+        lacking = "landaudit-record: note: ABI {0} lacks rights of the policy: see --abi {0} (3 notes)"
+        self.assertEqual(errors.splitlines(), [lacking.format(abi) for abi in (1, 2)])
+
+    def test_the_files_of_a_range_are_those_of_its_newest_abi(self) -> None:
+        for abi, ops in ("1-3", OPS), ("1-2", OLDER_OPS):
+            with self.subTest(abi):
+                self.audited("audit", self.recording, "--policy", self.policy, abi=abi)
+                tried = (self.recording / "tried.jsonl").read_text().splitlines()
+                self.assertEqual([json.loads(line)["op"] for line in tried], ops)
+                report = (self.recording / "report.txt").read_text()
+                self.assertIn(f"\ntotal {len(ops)}\n", report)
+        names = sorted(path.name for path in self.recording.iterdir())
+        self.assertEqual(names, ["report.txt", "trace.jsonl", "tree.jsonl", "tried.jsonl"])
+
+    def test_the_status_of_a_range_is_1_if_an_abi_refuses_something(self) -> None:
+        answers = {"3": ["allowed"] * 3, "2: 3": ["allowed"] * 2 + [failed("EBADF", "ruleset 9 is not held")]}
+        (self.folder / "answers.json").write_text(json.dumps(answers))
+        for abi, status in ("1", 0), ("1-3", 1), ("2-3", 1), ("3-5", 0), ("2", 1):
+            with self.subTest(abi):
+                self.assertEqual(self.audited("audit", self.recording, abi=abi)[0], status)
+
+    def test_one_abi_has_no_table(self) -> None:
+        for abi in ("3", "3-3"):
+            self.assertNotIn("by ABI", self.audited("audit", self.recording, abi=abi)[1])
+
+    def test_a_fault_at_an_abi_leaves_nothing_behind(self) -> None:
+        (self.folder / "answers.json").write_text(json.dumps({"1: 3": ["allowed"] * 3}))
+        status, out, errors = self.audited("audit", self.recording, abi=None)
+        self.assertEqual((status, out, errors.count("\n")), (3, "", 1))
+        self.assertEqual(sorted(path.name for path in self.recording.iterdir()), ["trace.jsonl", "tree.jsonl"])
+
     def test_audit_as_data(self) -> None:
         status, out, _ = self.audited("audit", self.recording, "--policy", self.policy, "--json")
         data = json.loads(out)
         self.assertEqual((status, data["refused"], data["policy"]), (1, 1, str(self.policy)))
         self.assertEqual(data["refusals"][0]["place"], "/a")
+        missing = {"text": "write_file on /a", "rights": ["write_file"], "path": "/a"}
+        self.assertEqual(data["refusals"][0]["layers"], [{"number": 1, "policy": 1, "objections": [missing]}])
+        self.assertEqual((data["abi"], [step["abi"] for step in data["abis"]], data["as_recorded"]), (3, [3], False))
+
+    def test_a_range_as_data(self) -> None:
+        words = ["--policy", self.policy, "--json", "--as-recorded"]
+        data = json.loads(self.audited("audit", self.recording, *words, abi="2-4")[1])
+        self.assertEqual((data["abi"], data["records"], data["as_recorded"]), (4, 8, True))
+        self.assertEqual([(step["abi"], step["records"]) for step in data["abis"]], [(2, 7), (3, 8), (4, 8)])
+        self.assertEqual(data["abis"][0]["breaks"], [{"call": "open w", "place": "/a", "error": "EACCES"}])
 
     def test_suggest_audits_until_nothing_is_refused(self) -> None:
         status, out, _ = self.audited("suggest", self.recording, "--policy", self.policy)

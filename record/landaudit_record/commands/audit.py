@@ -1,4 +1,4 @@
-"""Audits a finished recording, with a policy or without, and sums it up."""
+"""Audits a finished recording, with a policy or without, and sums it up: at one ABI, or at each of a range."""
 
 from __future__ import annotations
 
@@ -6,15 +6,20 @@ import argparse
 import json
 import shlex
 import sys
+import tempfile
+from dataclasses import dataclass
 from pathlib import Path
 
-from .. import applying, finished, fitting, landaudit, policies, summary_text, trees
+from .. import applying, by_abi, finished, fitting, landaudit, policies, summary_text, trees
+from ..applying import Plan
 from ..finished import Finished
-from ..options import add_abi, add_landaudit, add_program, note
+from ..options import add_abis, add_as_recorded, add_landaudit, add_program, note
+from ..policies import Policy
 from ..reading import judged
 from ..rights import NEWEST_ABI
 from ..summary import Summary, as_data, summarize
 from ..trees import Tree
+from ..wording import counted
 
 NAME = "audit"
 HELP = "say what a policy would refuse, or without one what the program's own layers refuse"
@@ -30,50 +35,85 @@ def add_arguments(parser: argparse.ArgumentParser) -> None:
         help="a policy to try on the recording, in OUT/tried.jsonl (how to write one: landaudit-record policy --help)",
     )
     add_program(parser)
-    add_abi(parser)
-    parser.add_argument("--json", action="store_true", help="print the summary as data")
+    add_abis(parser)
+    add_as_recorded(parser)
+    parser.add_argument("--json", action="store_true", help="print the same as data: that of each ABI is in 'abis'")
     add_landaudit(parser)
 
 
 def run(arguments: argparse.Namespace) -> int:
-    """Writes OUT/report.txt and prints its summary; the status is 1 if something is refused."""
+    """Writes OUT/report.txt, of the newest ABI, and prints the summary; the status is 1 if an ABI refuses something."""
     program = landaudit.find(arguments.landaudit)
     recording = finished.opened(arguments.recording)
-    tree = trees.read(recording.tree)
-    trace = recording.trace if arguments.policy is None else _tried(recording, tree, arguments)
-    status = landaudit.audit(program, arguments.abi, recording.tree, trace, recording.report)
-    summary = summarize(tree, judged(tree, trace, recording.report), arguments.abi, recording.unsaid)
-    if arguments.json:
-        about = {"recording": arguments.recording, "policy": arguments.policy}
-        print(json.dumps({**about, **as_data(summary)}, indent=2))
-    else:
-        _print(summary, arguments)
+    trying = None if arguments.policy is None else _trying(recording, arguments)
+    summaries: list[Summary] = []
+    status = 0
+    with tempfile.TemporaryDirectory(prefix="audit-", dir=recording.folder) as folder:
+        for abi in arguments.abis:
+            is_newest = abi == arguments.abis[-1]
+            files = recording if is_newest else Finished(Path(folder))
+            trace = recording.trace
+            if trying is not None:
+                trace = files.tried
+                notes = trying.write(abi, trace)
+                note(notes if is_newest else _in_short(notes, abi))
+            best_effort = not arguments.as_recorded
+            status |= landaudit.audit(program, abi, recording.tree, trace, files.report, best_effort=best_effort)
+            summaries.append(summarize(judged(trace, files.report), abi, recording.unsaid))
+    _print(summaries, arguments)
     return status
 
 
-def _tried(recording: Finished, tree: Tree, arguments: argparse.Namespace) -> Path:
-    """Writes the trace with the policy's records, and gives its path."""
+@dataclass(frozen=True)
+class _Trying:
+    """A policy, and where it goes in a trace."""
+
+    policy: Policy
+    trace: Path
+    tree: Tree
+    places: Plan
+
+    def write(self, abi: int, tried: Path) -> list[str]:
+        """Writes the trace with the policy's records as an ABI knows them, and gives notes on what that lacks."""
+        layers, notes = fitting.fit(self.policy, abi)
+        inserted = applying.records(self.policy, layers, self.tree, self.places.rs)
+        with open(tried, "wb") as out:
+            applying.write(self.trace, self.places, inserted, out)
+        return notes
+
+
+def _trying(recording: Finished, arguments: argparse.Namespace) -> _Trying:
+    """The policy that is named, and where it goes in the recording."""
+    tree = trees.read(recording.tree)
     policy = policies.read(Path(arguments.policy))
-    layers, notes = fitting.fit(policy, arguments.abi)
-    places = applying.plan(recording.trace, tree, arguments.program)
-    inserted = applying.records(policy, layers, tree, places.rs)
-    with open(recording.tried, "wb") as out:
-        applying.write(recording.trace, places, inserted, out)
-    note(notes)
-    return recording.tried
+    return _Trying(policy, recording.trace, tree, applying.plan(recording.trace, tree, arguments.program))
 
 
-def _print(summary: Summary, arguments: argparse.Namespace) -> None:
+def _in_short(notes: list[str], abi: int) -> list[str]:
+    """One note for all those on an ABI that is not told in full."""
+    return [f"ABI {abi} lacks rights of the policy: see --abi {abi} ({counted(len(notes), 'note')})"] if notes else []
+
+
+def _print(summaries: list[Summary], arguments: argparse.Namespace) -> None:
+    """Prints the summary of the newest ABI, and what changes from ABI to ABI."""
+    newest, steps = summaries[-1], by_abi.steps(summaries)
+    if arguments.json:
+        about = {key: getattr(arguments, key) for key in ("recording", "policy", "as_recorded")}
+        print(json.dumps({**about, **as_data(newest), "abis": by_abi.as_data(steps)}, indent=2))
+        return
     under = f" under {arguments.policy}" if arguments.policy else ""
-    title = f"{arguments.recording}{under} at ABI {arguments.abi}"
-    for line in summary_text.lines(summary, title, summary_text.Style.of(sys.stdout)):
+    style = summary_text.Style.of(sys.stdout)
+    for line in summary_text.lines(newest, f"{arguments.recording}{under} at ABI {newest.abi}", style):
         print(line)
-    if any(layer.policy for refusal in summary.refusals for layer in refusal.layers):
-        print(f"\nrules for these: {shlex.join(_suggesting(arguments))}")
+    if any(layer.policy for refusal in newest.refusals for layer in refusal.layers):
+        print(f"\nrules for these: {shlex.join(_suggesting(arguments, newest.abi))}")
+    for line in summary_text.by_abi(steps, style) if len(steps) > 1 else ():
+        print(line)
 
 
-def _suggesting(arguments: argparse.Namespace) -> list[str]:
-    """The command that suggests rules for what this audit found."""
+def _suggesting(arguments: argparse.Namespace, abi: int) -> list[str]:
+    """The command that suggests rules for what this audit found at the newest ABI."""
     words = ["landaudit-record", "suggest", arguments.recording, "--policy", arguments.policy]
     words += ["--program", arguments.program] if arguments.program else []
-    return words + (["--abi", str(arguments.abi)] if arguments.abi != NEWEST_ABI else [])
+    words += ["--abi", str(abi)] if abi != NEWEST_ABI else []
+    return words + (["--as-recorded"] if arguments.as_recorded else [])

@@ -47,7 +47,7 @@ def run(arguments: argparse.Namespace) -> int:
     tally = Tally()
     with tempfile.TemporaryDirectory() as folder:
         report = Path(folder) / "report.txt"
-        landaudit.audit(program, arguments.abi, recording.tree, recording.trace, report)
+        landaudit.audit(program, arguments.abi, recording.tree, recording.trace, report, best_effort=False)
         _keep(_differences(recording, report, arguments.abi, tally), arguments.differences)
     if not tally.calls:
         raise Problem(f"{recording.folder} has no call under a layer: record a program that confines itself", WANTING)
@@ -62,7 +62,7 @@ def run(arguments: argparse.Namespace) -> int:
 def _differences(recording: Finished, report: Path, abi: int, tally: Tally) -> Iterable[Difference]:
     """The calls that differ, as they are counted."""
     tree = trees.read(recording.tree)
-    calls = judged_calls(judged(tree, recording.trace, report), abi)
+    calls = judged_calls(judged(recording.trace, report), abi)
     return comparing.compare(calls, Classes(tree, abi, _stat_of), tally)
 
 

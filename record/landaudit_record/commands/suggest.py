@@ -8,7 +8,7 @@ from collections.abc import Iterator
 from pathlib import Path
 
 from .. import applying, finished, fitting, landaudit, policies, suggestion_text, trees
-from ..options import add_abi, add_landaudit, add_program, note
+from ..options import add_abi, add_as_recorded, add_landaudit, add_program, note
 from ..policies import Policy
 from ..reading import Judged, judged
 from ..suggesting import suggest
@@ -24,6 +24,7 @@ def add_arguments(parser: argparse.ArgumentParser) -> None:
     parser.add_argument("--policy", metavar="POLICY.toml", required=True, help="the policy that the rules are for")
     add_program(parser)
     add_abi(parser)
+    add_as_recorded(parser)
     add_landaudit(parser)
 
 
@@ -42,8 +43,9 @@ def run(arguments: argparse.Namespace) -> int:
             layers, _ = fitting.fit(extended, arguments.abi)
             with open(tried, "wb") as out:
                 applying.write(recording.trace, places, applying.records(extended, layers, tree, places.rs), out)
-            landaudit.audit(program, arguments.abi, recording.tree, tried, report)
-            return judged(tree, tried, report)
+            best_effort = not arguments.as_recorded
+            landaudit.audit(program, arguments.abi, recording.tree, tried, report, best_effort=best_effort)
+            return judged(tried, report)
 
         suggestion = suggest(tree, policy, arguments.abi, audit)
     for line in suggestion_text.lines(suggestion, policy):

@@ -1,0 +1,114 @@
+"""What changes from ABI to ABI: summaries written by hand, as data and as a table."""
+
+from __future__ import annotations
+
+import json
+import unittest
+from collections import Counter
+
+from landaudit_record import by_abi, summary_text
+from landaudit_record.by_abi import Kind, Step
+from landaudit_record.summary import Refusal, RefusingLayer, Summary
+from landaudit_record.summary_text import Style
+
+LAYER = RefusingLayer(1, 1, ())
+MOVE = Kind("rename", "/a/f -> /b/f", "EXDEV")
+CUT = Kind("open w trunc", "/a/f", "EACCES")
+CALL = Kind("connect", "port 443", "EACCES")
+
+
+def summary(abi: int, *kinds: Kind, warnings: tuple[str, ...] = ()) -> Summary:
+    """A summary with ten calls allowed, one moot, and one refused for each mention of a kind."""
+    found = Summary(abi, Counter(allowed=10, moot=1, refused=len(kinds)), warnings=dict.fromkeys(warnings, 1))
+    for kind in kinds:
+        refusal = Refusal(kind.call, kind.place, kind.error, (LAYER,), None)
+        found.refusals.setdefault(refusal, Counter())["/bin"] += 1
+    return found
+
+
+def changes(*summaries: Summary) -> list[tuple[tuple[Kind, ...], tuple[Kind, ...]]]:
+    """What breaks at each ABI, and what is refused no more."""
+    return [(step.breaks, step.no_more) for step in by_abi.steps(summaries)]
+
+
+def table(*summaries: Summary) -> list[str]:
+    """The rows of the table, with its heads."""
+    empty, title, *rows = summary_text.by_abi(by_abi.steps(summaries), Style(False))
+    assert (empty, title) == ("", "by ABI: what breaks there first, and what is refused no more")
+    return rows
+
+
+class Steps(unittest.TestCase):
+    def test_all_that_the_oldest_refuses_breaks_there(self) -> None:
+        self.assertEqual(changes(summary(2, MOVE, CUT)), [((MOVE, CUT), ())])
+
+    def test_each_abi_is_held_against_the_one_before_it(self) -> None:
+        found = changes(summary(1, MOVE), summary(2), summary(3, CUT), summary(4, CUT, CALL), summary(5, CUT, MOVE))
+        self.assertEqual(found, [((MOVE,), ()), ((), (MOVE,)), ((CUT,), ()), ((CALL,), ()), ((MOVE,), (CALL,))])
+
+    def test_the_most_frequent_come_first(self) -> None:
+        found = changes(summary(1, MOVE, CUT, CALL, CUT), summary(2))
+        self.assertEqual(found, [((CUT, MOVE, CALL), ()), ((), (CUT, MOVE, CALL))])
+
+    def test_a_kind_is_one_whichever_layers_refuse_it(self) -> None:
+        both = summary(2, CALL)
+        program = RefusingLayer(2, None, ())
+        both.refusals[Refusal(CALL.call, CALL.place, CALL.error, (LAYER, program), None)] = Counter({"/bin": 2})
+        self.assertEqual(changes(summary(1, CALL), both), [((CALL,), ()), ((), ())])
+        self.assertEqual(changes(both)[0][0], (CALL,))
+
+    def test_another_error_is_another_kind_and_the_call_stays_refused(self) -> None:
+        other = Kind(MOVE.call, MOVE.place, "EACCES")
+        self.assertEqual(changes(summary(1, MOVE), summary(2, other)), [((MOVE,), ()), ((other,), ())])
+
+    def test_warnings_that_the_newest_has_not(self) -> None:
+        older, newer = summary(1, warnings=("a", "b")), summary(2, warnings=("b",))
+        self.assertEqual([step.warnings for step in by_abi.steps([older, newer])], [("a",), ()])
+
+
+class Written(unittest.TestCase):
+    def test_a_row_for_each_abi_and_each_change(self) -> None:
+        other = Kind("exec", "/bin", "EACCES")
+        self.assertEqual(table(summary(1, MOVE, MOVE), summary(2, other), summary(3, other)), [
+            "  ABI  allowed  refused  moot  what changes",
+            "    1       10        2     1  breaks: rename /a/f -> /b/f EXDEV",
+            "    2       10        1     1  breaks: exec /bin EACCES",
+            "                               refused no more: rename /a/f -> /b/f EXDEV",
+            "    3       10        1     1",
+        ])
+
+    def test_a_few_kinds_are_named(self) -> None:
+        kinds = [Kind("bind", f"port {port}", "EACCES") for port in range(5)]
+        row = table(summary(4, *kinds), summary(5))[1]
+        self.assertTrue(row.endswith("  breaks: bind port 0 EACCES, bind port 1 EACCES, bind port 2 EACCES and 2 more"))
+        self.assertTrue(table(summary(4, *kinds[:3]), summary(5))[1].endswith(", bind port 2 EACCES"))
+
+    def test_a_call_that_is_about_nothing_by_name(self) -> None:
+        row = table(summary(1, Kind("restrict", "-", "EBADF")), summary(2))[1]
+        self.assertTrue(row.endswith("  breaks: restrict EBADF"))
+
+    def test_warnings_that_the_summary_does_not_show(self) -> None:
+        rows = table(summary(1, warnings=("a", "b")), summary(2, warnings=("a",)), summary(3))
+        self.assertEqual([row.partition("     1  ")[2] for row in rows[1:]],
+                         ["2 warnings more: see --abi 1", "1 warning more: see --abi 2", ""])
+
+    def test_a_path_cannot_speak_to_the_terminal(self) -> None:
+        rows = table(summary(1, Kind("open r", "/a/\x1b[2J\n", "EACCES")), summary(2))
+        self.assertIn(r"/a/\x1b[2J\n", rows[1])
+        self.assertNotIn("\x1b", "".join(rows))
+
+    def test_as_data(self) -> None:
+        data = by_abi.as_data(by_abi.steps([summary(1, MOVE, warnings=("a",)), summary(2)]))
+        move = {"call": "rename", "place": "/a/f -> /b/f", "error": "EXDEV"}
+        counts = {"allowed": 10, "moot": 1}
+        self.assertEqual(data, [
+            {"abi": 1, "records": 12, "refused": 1, **counts, "breaks": [move], "refused_no_more": [],
+             "more_warnings": ["a"]},
+            {"abi": 2, "records": 11, "refused": 0, **counts, "breaks": [], "refused_no_more": [move],
+             "more_warnings": []},
+        ])
+        json.dumps(data)
+
+
+if __name__ == "__main__":
+    unittest.main()
