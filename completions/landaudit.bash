@@ -16,7 +16,7 @@ _landaudit() {
         --grain) mapfile -t COMPREPLY < <(compgen -W '0 64 1024' -- "$cur") ;;
         *)
             if [[ $cur == -* ]]; then
-                mapfile -t COMPREPLY < <(compgen -W '--abi --workers --grain -h --help' -- "$cur")
+                mapfile -t COMPREPLY < <(compgen -W '--abi --best-effort --explain --refused --workers --grain -h --help -V --version' -- "$cur")
             fi
             ;;
     esac

@@ -12,8 +12,9 @@ from .places import TOP
 COMMAND = TOP / "crates" / "ll_audit" / "src" / "command.rt"
 #: A function that makes an option of its name, with its body.
 MAKER = re.compile(r"^fn (\w+)<'a>\([^)]*\bname: &'a str\b(?:.(?!^}))*?\.long\(name\)", re.MULTILINE | re.DOTALL)
-#: clap adds these by itself.
+#: clap adds these by itself, the latter where the command has a version.
 OWN = {"-h", "--help"}
+OF_VERSION = {"-V", "--version"}
 
 
 def of_landaudit() -> set[str]:
@@ -23,7 +24,8 @@ def of_landaudit() -> set[str]:
     named = re.findall(rf'\b(?:{makers})\(\s*\w+,\s*"([\w-]+)"', source)
     named += re.findall(r'\.long\("([\w-]+)"\)', source)
     short = re.findall(r"\.short\('(\w)'\)", source)
-    return OWN | {f"--{name}" for name in named} | {f"-{name}" for name in short}
+    own = OWN | OF_VERSION if re.search(r"\.version\(", source) else OWN
+    return own | {f"--{name}" for name in named} | {f"-{name}" for name in short}
 
 
 def subcommands() -> dict[str, set[str]]:

@@ -114,7 +114,12 @@ class Asked:
         self.assert_offers("landaudit-record convert run -", options.subcommands()["convert"])
 
     def test_the_abis_of_landaudit_record(self) -> None:
-        self.assert_offers("landaudit-record audit rec --abi ", {"1", "2", "3", "4", "5"})
+        for words in ("suggest rec", "policy p.toml rec", "compare rec"):
+            self.assert_offers(f"landaudit-record {words} --abi ", {"1", "2", "3", "4", "5"})
+
+    def test_the_ranges_of_abis_that_an_audit_takes(self) -> None:
+        ranges = {f"{oldest}-{newest}" for oldest in range(1, 6) for newest in range(oldest + 1, 6)}
+        self.assert_offers("landaudit-record audit rec --abi ", {"1", "2", "3", "4", "5"} | ranges)
 
 
 @unittest.skipUnless(shutil.which("bash"), "bash is not installed")

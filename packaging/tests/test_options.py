@@ -33,7 +33,10 @@ class Landaudit(unittest.TestCase):
         self.page = (MAN / "landaudit.1").read_text(encoding="utf-8")
 
     def test_the_source_has_the_options_that_its_documents_name(self) -> None:
-        self.assertEqual(options.of_landaudit(), {"--abi", "--workers", "--grain", "-h", "--help"})
+        documented = {
+            "--abi", "--best-effort", "--explain", "--refused", "--workers", "--grain", "-h", "--help", "-V", "--version",
+        }
+        self.assertEqual(options.of_landaudit(), documented)
 
     def test_each_option_has_an_item(self) -> None:
         self.assertEqual(items(self.page), options.of_landaudit())
