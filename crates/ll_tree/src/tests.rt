@@ -103,6 +103,37 @@ fn places(rt: HostRuntime) -> Result<(), Fail> {
     Ok(())
 }
 
+/// What a text names that has the shape of a path: its place, and its node where it has one.
+fn found(tree: &Tree, text: &str) -> Result<(Place, Option<NodeId>), Fail> {
+    if !path_ok(text) {
+        return Err(Fail::from("the text is no path"));
+    }
+    Ok((tree.place_of(text), tree.node_of(text)))
+}
+
+#[test]
+fn places_of_paths(rt: HostRuntime) -> Result<(), Fail> {
+    let tree = Tree::read(rt.alloc(), LISTED.as_bytes())
+        .ok()
+        .ok_or("the file reads")?;
+    for (number, path) in NUMBERED.iter().enumerate() {
+        let node = NodeId(number as u32);
+        assert_eq!(rt;
+            found(&tree, path)?,
+            (Place::Node(node), Some(node)),
+            "{path}"
+        );
+    }
+    for (path, directory) in [("/none", 0), ("/b/h", 2), ("/a/s/x", 3)] {
+        let gap = Place::Gap(NodeId(directory));
+        assert_eq!(rt; found(&tree, path)?, (gap, None), "{path}");
+    }
+    for path in ["/none/x", "/a/f/x", "/a/none/x"] {
+        assert_eq!(rt; found(&tree, path)?, (Place::Nowhere, None), "{path}");
+    }
+    Ok(())
+}
+
 #[test]
 fn shapes_of_paths(rt: HostRuntime) {
     for (text, ok) in [

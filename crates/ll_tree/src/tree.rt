@@ -247,8 +247,9 @@ impl Tree {
         self.place_of(text)
     }
 
-    /// The place of a path.
-    fn place_of(&self, path: &str) -> Place
+    /// The place of a text that is known to be a path (`path_ok`): its node, the gap in a directory that has no
+    /// such name, or nowhere.
+    pub fn place_of(&self, path: &str) -> Place
         requires { IsTrue (is_some (path_of path.now)) }
         ensures place { result ≡ place self.now path.now }
         ensures inside { IsPlace self.now result }
@@ -258,6 +259,15 @@ impl Tree {
             Some(node) => Place::Node(node),
             None => self.gap(self.find(front_text(path))),
         }
+    }
+
+    /// The node of a text that is known to be a path (`path_ok`), where the tree has one.
+    pub fn node_of(&self, path: &str) -> Option<NodeId>
+        requires { IsTrue (is_some (path_of path.now)) }
+        ensures exact { (spelt : Path) → path_of path.now ≡ Some spelt → result ≡ node_at self.now spelt }
+        ensures node { IfSome result (IsNode self.now) }
+    {
+        self.find(path)
     }
 
     /// The node whose path this text spells.
