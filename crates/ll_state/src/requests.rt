@@ -90,7 +90,7 @@ pub fn regular_asks(tree: &Tree, path: &PathText, rights: Fs) -> Option<Request>
     ensures exact { result ≡ regular_asks tree.now (place tree.now path.now) rights }
     ensures fit { IfSome result (IsFit tree.now) }
 {
-    match tree.resolve(path.as_str()) {
+    match tree.place_of(path.as_str()) {
         Place::Node(node) => match tree.kind(node) {
             Kind::Reg => Some(Request { node, rights }),
             _ => None,
@@ -105,7 +105,7 @@ pub fn make_asks(tree: &Tree, path: &PathText, rights: Fs) -> Option<Request>
     ensures exact { result ≡ make_asks (place tree.now path.now) rights }
     ensures fit { IfSome result (IsFit tree.now) }
 {
-    match tree.resolve(path.as_str()) {
+    match tree.place_of(path.as_str()) {
         Place::Gap(node) => Some(Request { node, rights }),
         _ => None,
     }
@@ -130,7 +130,7 @@ pub fn unlink_asks(tree: &Tree, path: &PathText) -> Option<Request>
     ensures exact { result ≡ unlink_asks tree.now (place tree.now path.now) }
     ensures fit { IfSome result (IsFit tree.now) }
 {
-    match tree.resolve(path.as_str()) {
+    match tree.place_of(path.as_str()) {
         Place::Node(node) => match tree.kind(node) {
             Kind::Dir => None,
             kind => remove_from(tree, kind, node),
@@ -145,7 +145,7 @@ pub fn rmdir_asks(tree: &Tree, path: &PathText) -> Option<Request>
     ensures exact { result ≡ rmdir_asks tree.now (place tree.now path.now) }
     ensures fit { IfSome result (IsFit tree.now) }
 {
-    match tree.resolve(path.as_str()) {
+    match tree.place_of(path.as_str()) {
         Place::Node(node) => match tree.kind(node) {
             Kind::Dir => remove_from(tree, Kind::Dir, node),
             _ => None,

@@ -163,7 +163,7 @@ impl OwnState {
         if self.descriptor(fd).is_some() {
             return Ok(Answer::Moot);
         }
-        let place = tree.resolve(path.as_str());
+        let place = tree.place_of(path.as_str());
         let request = open_asks(tree, place, mode, create, trunc);
         self.open_place(tree, layers, fd, mode, place, request)
     }
@@ -223,8 +223,8 @@ impl OwnState {
         requires agrees { Agrees at.tree at.layers self.now at.state }
         ensures { result ≡ answered at (Op.Rename from.now to.now exchange) }
     {
-        let from = tree.resolve(from.as_str());
-        let to = tree.resolve(to.as_str());
+        let from = tree.place_of(from.as_str());
+        let to = tree.place_of(to.as_str());
         self.ask_move(tree, layers, rename_move(tree, from, to, exchange))
     }
 
@@ -242,8 +242,8 @@ impl OwnState {
         requires agrees { Agrees at.tree at.layers self.now at.state }
         ensures { result ≡ answered at (Op.Link from.now to.now) }
     {
-        let from = tree.resolve(from.as_str());
-        let to = tree.resolve(to.as_str());
+        let from = tree.place_of(from.as_str());
+        let to = tree.place_of(to.as_str());
         self.ask_move(tree, layers, link_move(tree, from, to))
     }
 }
