@@ -126,7 +126,7 @@ impl Pass {
         let Some(place) = self.tables.place(process, rs) else {
             return Ok(failed(Errno::BadFd));
         };
-        let at = tree.resolve(path.as_str());
+        let at = tree.place_of(path.as_str());
         added(self.store.add_path(place, tree, at, fs))
     }
 

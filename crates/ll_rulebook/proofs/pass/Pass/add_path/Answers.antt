@@ -19,4 +19,4 @@ returns c =
     (λ note is abi. settles_path_rule c.args.tree.now abi c.args.process c.args.rs c.args.self.now (record { store = c.add_path.new.self; tables = c.args.self.now.tables }) c.in-Some.place c.in-Some.ensures
     c.requires.sound c.requires.there c.add_path.ensures.layers refl c.args.path.now c.args.fs c.add_path.result note is
     (subst (λ (at : Place). Replaces c.args.self.now.store.rulesets c.add_path.new.self.rulesets c.in-Some.place (AddsPathRule c.args.tree.now at c.args.fs c.add_path.result))
-    (c.resolve-at.ensures.place ∙ ap (λ (text : List ℕ). place c.args.tree.now text) c.as_str.ensures.text) c.add_path.ensures.rulesets))
+    (c.place_of-at.ensures.place ∙ ap (λ (text : List ℕ). place c.args.tree.now text) c.as_str.ensures.text) c.add_path.ensures.rulesets))
