@@ -46,7 +46,7 @@ use Rattle.ll_reasons.proofs.Gains.{prefix-trans, prefix-front}
 -- ---- the tree
 
 -- what a place says of the path that it is the place of
-unfoldable pub Placed : List Entry → Path → Place → Type 0
+unfoldable Placed : List Entry → Path → Place → Type 0
 Placed tree path (Node node) = node_at tree path ≡ Some node
 Placed tree path (Gap directory) = (node_at tree path ≡ None) × (node_at tree (front path) ≡ Some directory) × (is_dir (kind_at tree directory) ≡ true)
 Placed tree path Nowhere = node_at tree path ≡ None
@@ -64,7 +64,7 @@ unfolding Placed place_or_gap
 node_placed tree path None none = gap_placed tree path (node_at tree (front path)) none refl
 node_placed tree path (Some node) is = is
 
-pub text_placed : (tree : List Entry) (text : List ℕ) (path : Option Path) → path_of text ≡ path → is_some path ≡ true → Placed tree (spelt text) (place tree text)
+text_placed : (tree : List Entry) (text : List ℕ) (path : Option Path) → path_of text ≡ path → is_some path ≡ true → Placed tree (spelt text) (place tree text)
 unfolding place place_of
 text_placed tree text None is some = cc
 text_placed tree text (Some path) is some = rw is (node_placed tree path (node_at tree path) refl)

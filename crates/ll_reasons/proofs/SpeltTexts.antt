@@ -1,16 +1,11 @@
--- The path that a text spells, the one above it, and its node.
+-- The path that a text spells, and the one above it.
 use Rattle.std.proofs.Common.{◌≡◌, ℕ, ◌<◌, ◌≤◌, Bool, true, false, List, [], ◌∷◌, length, eqb, cond, Option, Some, None, refl, sym, ap, ◌∙◌, arith}
 use Rattle.std.specs.Prelude.{IsTrue, is_some, ◌≢◌}
-use Rattle.ll_tree.specs.declared.place.NodeId.{NodeId}
-use Rattle.ll_tree.specs.declared.place.Place.{Place}
-use Rattle.ll_tree.specs.declared.place.Place.TheVariants.{Node, Gap, Nowhere}
 use Rattle.ll_tree.specs.Paths.{Path, front, path_of, after_slash, names_in}
 use Rattle.ll_tree.specs.PathTexts.{text_of}
-use Rattle.ll_tree.specs.Trees.{Entry, node_at, place}
 use Rattle.ll_tree.proofs.PathLaws.{text_of-path_of}
 use Rattle.ll_tree.proofs.PathText.{path_of-short}
 use Rattle.ll_reasons.specs.Reasons.{path_or_root, spelt}
-use Rattle.ll_reasons.proofs.ReasonsTrue.{Placed, text_placed}
 
 read_as : (read : Option Path) → IsTrue (is_some read) → read ≡ Some (path_or_root read)
 read_as None some = cc
@@ -48,24 +43,3 @@ pub long_path : (text : List ℕ) → IsTrue (is_some (path_of text)) → 1 < le
 long_path text some long root =
     let one : length text ≡ 1 = root_text text (spelt_read text some ∙ ap (λ (p : Path). Some p) root) in
     absurd (omega (arith, one, long))
-
--- ---- the node
-
-abbrev pub node_in : Place → Option NodeId
-node_in (Node node) = Some node
-node_in (Gap directory) = None
-node_in Nowhere = None
-
-placed_node : (tree : List Entry) (path : Path) (at : Place) → Placed tree path at → node_in at ≡ node_at tree path
-unfolding Placed
-placed_node tree path (Node node) is = sym is
-placed_node tree path (Gap directory) is = sym is.0
-placed_node tree path Nowhere is = sym is
-
-pub place_node : (tree : List Entry) (text : List ℕ) (at : Place) → IsTrue (is_some (path_of text)) → at ≡ place tree text → node_in at ≡ node_at tree (spelt text)
-place_node tree text at some is = ap node_in is ∙ placed_node tree (spelt text) (place tree text) (text_placed tree text (path_of text) refl some)
-
-pub none_in : (at : Place) → ((node : NodeId) → at ≢ Node node) → node_in at ≡ None
-none_in (Node node) other = absurd (other node refl)
-none_in (Gap directory) other = refl
-none_in Nowhere other = refl

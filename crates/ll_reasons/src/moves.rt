@@ -51,7 +51,7 @@ fn moved_to<'t>(
     requires { IsNode tree.now moved }
     ensures { meant result ≡ moved_to tree.now (spelt from.now) moved (spelt to.now) (place tree.now to.now) exchange }
 {
-    match tree.resolve(to.as_str()) {
+    match tree.place_of(to.as_str()) {
         Place::Node(there) => onto(tree, from, moved, to, there),
         Place::Gap(_) if exchange => Why::Absent(SpeltPath::of(to)),
         Place::Gap(_) => Why::BeneathItself(SpeltPath::of(from), SpeltPath::of(to)),
@@ -64,7 +64,7 @@ fn moved_to<'t>(
 pub fn unrenamed<'t>(tree: &Tree, from: &'t PathText, to: &'t PathText, exchange: bool) -> Why<'t>
     ensures { meant result ≡ unrenamed tree.now (spelt from.now) (place tree.now from.now) (spelt to.now) (place tree.now to.now) exchange }
 {
-    match tree.resolve(from.as_str()) {
+    match tree.place_of(from.as_str()) {
         Place::Node(moved) if is_root(moved) => Why::Root,
         Place::Node(moved) => moved_to(tree, from, moved, to, exchange),
         Place::Gap(_) => Why::Absent(SpeltPath::of(from)),
@@ -78,7 +78,7 @@ fn linked_to<'t>(tree: &Tree, from: &'t PathText, linked: NodeId, to: &'t PathTe
     requires { IsNode tree.now linked }
     ensures { meant result ≡ linked_to tree.now (spelt from.now) linked (spelt to.now) (place tree.now to.now) }
 {
-    match tree.resolve(to.as_str()) {
+    match tree.place_of(to.as_str()) {
         Place::Node(_) => Why::Present(SpeltPath::of(to)),
         Place::Gap(_) => Why::OfKind(SpeltPath::of(from), tree.kind(linked)),
         Place::Nowhere => nowhere(tree, to),
@@ -90,7 +90,7 @@ fn linked_to<'t>(tree: &Tree, from: &'t PathText, linked: NodeId, to: &'t PathTe
 pub fn unlinked<'t>(tree: &Tree, from: &'t PathText, to: &'t PathText) -> Why<'t>
     ensures { meant result ≡ unlinked tree.now (spelt from.now) (place tree.now from.now) (spelt to.now) (place tree.now to.now) }
 {
-    match tree.resolve(from.as_str()) {
+    match tree.place_of(from.as_str()) {
         Place::Node(linked) if is_root(linked) => Why::Root,
         Place::Node(linked) => linked_to(tree, from, linked, to),
         Place::Gap(_) => Why::Absent(SpeltPath::of(from)),

@@ -50,7 +50,7 @@ pub(crate) fn nowhere<'t>(tree: &Tree, path: &'t PathText) -> Why<'t>
 pub fn no_object<'t>(tree: &Tree, path: &'t PathText) -> Why<'t>
     ensures { meant result ≡ no_object tree.now (spelt path.now) (place tree.now path.now) }
 {
-    match tree.resolve(path.as_str()) {
+    match tree.place_of(path.as_str()) {
         Place::Node(node) => Why::OfKind(SpeltPath::of(path), tree.kind(node)),
         Place::Gap(_) => Why::Absent(SpeltPath::of(path)),
         Place::Nowhere => nowhere(tree, path),
@@ -62,7 +62,7 @@ pub fn no_object<'t>(tree: &Tree, path: &'t PathText) -> Why<'t>
 pub fn not_removed<'t>(tree: &Tree, path: &'t PathText) -> Why<'t>
     ensures { meant result ≡ not_removed tree.now (spelt path.now) (place tree.now path.now) }
 {
-    match tree.resolve(path.as_str()) {
+    match tree.place_of(path.as_str()) {
         Place::Node(removed) if is_root(removed) => Why::Root,
         Place::Node(removed) => Why::OfKind(SpeltPath::of(path), tree.kind(removed)),
         Place::Gap(_) => Why::Absent(SpeltPath::of(path)),
@@ -75,7 +75,7 @@ pub fn not_removed<'t>(tree: &Tree, path: &'t PathText) -> Why<'t>
 pub fn no_gap<'t>(tree: &Tree, path: &'t PathText) -> Why<'t>
     ensures { meant result ≡ no_gap tree.now (spelt path.now) (place tree.now path.now) }
 {
-    match tree.resolve(path.as_str()) {
+    match tree.place_of(path.as_str()) {
         Place::Node(_) => Why::Present(SpeltPath::of(path)),
         Place::Gap(_) => Why::Absent(SpeltPath::of(path)),
         Place::Nowhere => nowhere(tree, path),

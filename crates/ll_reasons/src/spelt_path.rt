@@ -6,7 +6,7 @@ ghost use Rattle.ll_tree.specs.Trees.{IsNode, node_at};
 ghost use Rattle.ll_reasons.specs.Reasons.{spelt};
 
 use ll_trace::PathText;
-use ll_tree::{NodeId, Place, Tree, front_text};
+use ll_tree::{NodeId, Tree, front_text};
 use std::marker::Model;
 
 /// A text that spells a path, as the path of a record or what stands above it. Contracts see the path.
@@ -64,9 +64,6 @@ impl<'t> SpeltPath<'t> {
         ensures exact { result ≡ node_at tree.now self.now }
         ensures node { IfSome result (IsNode tree.now) }
     {
-        match tree.resolve(self.as_str()) {
-            Place::Node(node) => Some(node),
-            _ => None,
-        }
+        tree.node_of(self.as_str())
     }
 }
