@@ -57,7 +57,7 @@ pub(crate) fn push_open(
     ensures { OnOk result (text.new.items ≡ text.old.items ++ flat_map (layer_text of.now.records.now of.now.restricts.now)
         (to_request of.now.tree.now (all_in_tree of.now.tree.now (domain_of of.now.layers.now of.now.domain.now)) (requests.open_asks of.now.tree.now (place of.now.tree.now path.now) mode create trunc))) }
 {
-    let place = of.tree.resolve(path.as_str());
+    let place = of.tree.place_of(path.as_str());
     let request = open_asks(of.tree, place, mode, create, trunc);
     push_asked(text, of, text_at(place, path), request)?;
     Ok(())
