@@ -13,6 +13,7 @@ pub mod Growing
 pub mod Keeping
 pub mod RootAlone
 pub mod LinesLemmas
+pub mod PartsLemmas
 pub mod MembersLemmas
 pub mod ReadingLemmas
 pub mod TreeLines

@@ -1,10 +1,11 @@
 //! The lines of a file.
 
-ghost use Rattle.std.specs.Prelude.{◌≡◌, ◌<◌, ◌+◌, ◌^◌, ◌∷◌, [], length};
+ghost use Rattle.std.specs.Prelude.{◌≡◌, ◌<◌, ◌≤◌, ◌+◌, ◌^◌, ◌∷◌, ◌++◌, [], ℕ, length, max, flat_map, IfOk};
 ghost use Rattle.std.specs.Iterator.{YieldsFirstBy, item_count};
-ghost use Rattle.ll_tree.specs.Lines.{lines, is_blank, filled_lines};
+ghost use Rattle.ll_tree.specs.Lines.{lines, is_blank, filled_from, filled_lines, line_feeds};
 
 use memchr::memchr;
+use std::alloc::{AllocError, Global};
 use std::marker::Model;
 
 const LINE_FEED: u8 = b'\n';
@@ -45,6 +46,44 @@ impl<'a> FilledLines<'a> {
             rest: bytes,
         }
     }
+
+    /// The same lines in at most this many parts, each of about as many bytes, or in one part where the
+    /// number is 0. The lines of every part keep their numbers.
+    pub fn in_parts(self, alloc: Global, most: usize) -> Result<Vec<FilledLines<'a>>, AllocError>
+        ensures lines { IfOk result (λ parts. flat_map (λ part. part) parts.items ≡ self.entry) }
+        ensures few { IfOk result (λ parts. length parts.items ≤ max most 1) }
+    {
+        let count = most.max(1);
+        let size = self.rest.len() / count;
+        let mut parts = Vec::new(alloc);
+        let mut left = self;
+        for _ in 1..count {
+            if left.rest.is_empty() {
+                break;
+            }
+            let (part, others) = left.cut(size);
+            parts.push(part)?;
+            left = others;
+        }
+        parts.push(left)?;
+        Ok(parts)
+    }
+
+    /// The lines up to the one in which the byte at this place stands, and the lines after it.
+    fn cut(self, place: usize) -> (FilledLines<'a>, FilledLines<'a>)
+        ensures { self.entry ≡ result.0 ++ result.1 }
+    {
+        let (part, rest) = cut_behind_line(self.rest, place);
+        let others = FilledLines {
+            number: self.number + count_line_feeds(part),
+            rest,
+        };
+        let lines = FilledLines {
+            number: self.number,
+            rest: part,
+        };
+        (lines, others)
+    }
 }
 
 impl<'a> Iterator for FilledLines<'a> {
@@ -82,6 +121,27 @@ fn cut_line(bytes: &[u8]) -> (&[u8], &[u8])
         Some(end) => (&bytes[..end], &bytes[end + 1..]),
         None => (bytes, &[]),
     }
+}
+
+/// The bytes up to the end of the line in which the byte at this place stands, with its line feed,
+/// and the bytes after them.
+fn cut_behind_line(bytes: &[u8], place: usize) -> (&[u8], &[u8])
+    ensures lines { (n : ℕ) → filled_from n bytes.now
+        ≡ filled_from n result.0.now ++ filled_from (n + line_feeds result.0.now) result.1.now }
+    ensures whole { length result.0.now + length result.1.now ≡ length bytes.now }
+{
+    let from = place.min(bytes.len());
+    match memchr(LINE_FEED, &bytes[from..]) {
+        Some(end) => bytes.split_at(from + end + 1),
+        None => (bytes, &[]),
+    }
+}
+
+fn count_line_feeds(bytes: &[u8]) -> u64
+    ensures count { result ≡ line_feeds bytes.now }
+    ensures few { result ≤ length bytes.now }
+{
+    bytes.iter().filter(|byte| **byte == LINE_FEED).count() as u64
 }
 
 fn is_blank_line(bytes: &[u8]) -> bool
