@@ -1,12 +1,12 @@
 //! The reading of a trace file, record after record.
 
-ghost use Rattle.std.specs.Prelude.{◌≡◌, ◌≢◌, ◌+◌, ◌<◌, ◌∷◌, [], OnOk, IfOk, IfErr, None, Ok, unwrap_or};
+ghost use Rattle.std.specs.Prelude.{◌≡◌, ◌≢◌, ◌+◌, ◌<◌, ◌∷◌, [], List, OnOk, IfOk, IfErr, None, Ok, unwrap_or};
 ghost use Rattle.ll_tree.specs.declared.fault.Cause.TheVariants.{Memory};
 ghost use Rattle.ll_tree.specs.Readers.{Gives};
 ghost use Rattle.ll_tree.specs.LineView.{line_view};
 ghost use Rattle.ll_tree.specs.LineByLine.{with_entry, with_line, reading, GivesReading};
 ghost use Rattle.ll_tree.specs.Reading.{IsBad};
-ghost use Rattle.ll_trace.specs.Entries.{entry_at, is_live as is_live_in, is_unknown as is_unknown_in, is_twice as is_twice_in, is_too_many, is_end_of, misplacement, process_count, started_pid, trace_file};
+ghost use Rattle.ll_trace.specs.Entries.{Entry as Seen, entry_at, is_live as is_live_in, is_unknown as is_unknown_in, is_twice as is_twice_in, is_too_many, is_end_of, misplacement, process_count, started_pid, trace_file};
 ghost use Rattle.ll_trace.specs.Records.{process_of, IsTrace};
 ghost use Rattle.ll_trace.specs.RecordFacts.{AreRecords};
 ghost use Rattle.ll_trace.specs.Kept.{IsKept, IsNoted, Begins, Stops, entries, entry_view, number, owner_of, past, runs};
@@ -72,6 +72,14 @@ fn is_running(owner: Option<Owner>) -> bool
     }
 }
 
+/// Whether an entry's pid, whose latest process this is, has to be live and is not.
+fn is_unknown(entry: &Entry, owner: Option<Owner>) -> bool
+    ensures { (past : List Seen) → owner ≡ owner_of past entry.now.pid
+        → result ≡ is_unknown_in past (entry_view entry.now) }
+{
+    !entry.op.is_start() && !is_running(owner)
+}
+
 impl Reader {
     fn new(alloc: Global) -> Reader
         ensures kept { IsKept result }
@@ -105,13 +113,6 @@ impl Reader {
         is_running(self.owner(pid))
     }
 
-    fn is_unknown(&self, entry: &Entry) -> bool
-        requires { IsKept self.now }
-        ensures { result ≡ is_unknown_in (past self.now) (entry_view entry.now) }
-    {
-        !entry.op.is_start() && !self.is_live(entry.pid)
-    }
-
     fn is_twice(&self, entry: &Entry) -> bool
         requires { IsKept self.now }
         ensures { result ≡ is_twice_in (past self.now) (entry_view entry.now) }
@@ -130,12 +131,14 @@ impl Reader {
             || entry.op.started_pid(entry.pid).is_some() && self.processes >= MOST_PROCESSES
     }
 
-    /// The first cause by which an entry has no place after those that are read.
-    fn misplacement(&self, entry: &Entry) -> Option<Cause>
-        requires { IsKept self.now }
+    /// The first cause by which an entry has no place after those that are read; its pid's latest
+    /// process is looked up already.
+    fn misplacement(&self, entry: &Entry, owner: Option<Owner>) -> Option<Cause>
+        requires kept { IsKept self.now }
+        requires owner { owner ≡ owner_of (past self.now) entry.now.pid }
         ensures { result ≡ misplacement (past self.now) (entry_view entry.now) }
     {
-        if self.is_unknown(entry) {
+        if is_unknown(entry, owner) {
             return Some(Cause::UnknownProcess);
         }
         if self.is_twice(entry) {
@@ -147,14 +150,15 @@ impl Reader {
         None
     }
 
-    fn process_of(&self, entry: &Entry) -> ProcessId
-        requires { IsKept self.now }
+    fn process_of(&self, entry: &Entry, owner: Option<Owner>) -> ProcessId
+        requires kept { IsKept self.now }
+        requires owner { owner ≡ owner_of (past self.now) entry.now.pid }
         ensures { result.0 ≡ process_of (past self.now) (entry_view entry.now) }
     {
         if entry.op.is_start() {
             return ProcessId(self.processes);
         }
-        process_or_first(self.owner(entry.pid))
+        process_or_first(owner)
     }
 
     /// Takes an entry in as a record, if it has a place after those that are read.
@@ -164,10 +168,11 @@ impl Reader {
             (with_entry trace_file (entries self.old) (entry_view entry)) }
         ensures kept { OnOk result (IsKept self.new) }
     {
-        if let Some(cause) = self.misplacement(&entry) {
+        let owner = self.owner(entry.pid);
+        if let Some(cause) = self.misplacement(&entry, owner) {
             return Err(cause);
         }
-        let process = self.process_of(&entry);
+        let process = self.process_of(&entry, owner);
         self.note(&entry)?;
         self.records.push(Record {
             line: entry.line,
