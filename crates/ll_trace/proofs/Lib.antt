@@ -7,6 +7,7 @@ pub mod OwnRecords
 pub mod EachOnce
 pub mod Limits
 pub mod RecordLemmas
+pub mod PartLemmas
 pub mod TableLemmas
 pub mod LawLemmas
 pub mod OnLiterals

@@ -6,6 +6,7 @@ pub mod Records
 pub mod Processes
 pub mod RecordFacts
 pub mod Kept
+pub mod Parts
 pub mod Indexed
 pub mod Traces
 pub mod SingleUse

@@ -5,6 +5,7 @@ mod laws;
 mod members;
 mod op;
 mod operations;
+mod parts;
 mod path_text;
 mod reader;
 mod record;

@@ -28,8 +28,8 @@ const MOST_PROCESSES: u32 = 65_536;
 
 /// What a line says.
 #[derive(Drop)]
-struct Entry {
-    line: u64,
+pub(crate) struct Entry {
+    pub(crate) line: u64,
     pid: u64,
     op: Op,
 }
@@ -43,15 +43,16 @@ struct Owner {
 
 /// What is read so far.
 #[derive(Drop)]
-struct Reader {
+pub(crate) struct Reader {
     records: Vec<Record>,
     owners: BTreeMap<u64, Owner>,
     processes: u32,
 }
 
 #[tactic(auto, unfolding(crate::specs::Entries::entry_at))]
-fn entry_of(alloc: Global, line: &FileLine) -> Result<Entry, Cause>
-    ensures { Gives entry_view result (entry_at (line_view line.now)) }
+pub(crate) fn entry_of(alloc: Global, line: &FileLine) -> Result<Entry, Cause>
+    ensures gives { Gives entry_view result (entry_at (line_view line.now)) }
+    ensures line { IfOk result (λ entry. entry.line ≡ line.now.number) }
 {
     let value = value_of(alloc, line.bytes)?;
     let pid = number_of(&value, "pid")?;
@@ -81,7 +82,7 @@ fn is_unknown(entry: &Entry, owner: Option<Owner>) -> bool
 }
 
 impl Reader {
-    fn new(alloc: Global) -> Reader
+    pub(crate) fn new(alloc: Global) -> Reader
         ensures kept { IsKept result }
         ensures empty { entries result ≡ [] }
     {
@@ -92,7 +93,7 @@ impl Reader {
         }
     }
 
-    fn into_records(self) -> Vec<Record>
+    pub(crate) fn into_records(self) -> Vec<Record>
         ensures { result.items ≡ self.records.items }
     {
         let Reader { records, .. } = self;
@@ -162,7 +163,7 @@ impl Reader {
     }
 
     /// Takes an entry in as a record, if it has a place after those that are read.
-    fn admit(&mut self, entry: Entry) -> Result<(), Cause>
+    pub(crate) fn admit(&mut self, entry: Entry) -> Result<(), Cause>
         requires { IsKept self.old }
         ensures gives { Gives (λ _. entries self.new) result
             (with_entry trace_file (entries self.old) (entry_view entry)) }

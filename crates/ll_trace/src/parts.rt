@@ -1,0 +1,150 @@
+//! The reading of a trace file by several threads: each reads parts of the lines as entries, and one
+//! thread admits them in the order of the file.
+
+ghost use Rattle.std.specs.Prelude.{◌≡◌, ◌≢◌, ◌++◌, ◌∷◌, [], ℕ, List, flat_map, OnOk, OnErr, IfOk, IfErr};
+ghost use Rattle.std.specs.List.{AllZip};
+ghost use Rattle.ll_tree.specs.declared.fault.Cause.TheVariants.{Memory};
+ghost use Rattle.ll_tree.specs.Lines.{Line, filled_lines};
+ghost use Rattle.ll_tree.specs.LineView.{line_view};
+ghost use Rattle.ll_tree.specs.LineByLine.{read_lines, GivesReading, MeetsFault};
+ghost use Rattle.ll_tree.specs.Readers.{Fails};
+ghost use Rattle.ll_tree.specs.Reading.{IsBad};
+ghost use Rattle.ll_trace.specs.Entries.{entry_at, trace_file};
+ghost use Rattle.ll_trace.specs.Kept.{IsKept, entries};
+ghost use Rattle.ll_trace.specs.Parts.{Covers, IsReadOf};
+ghost use Rattle.ll_trace.specs.RecordFacts.{AreRecords};
+ghost use Rattle.ll_trace.specs.Records.{IsTrace};
+
+use crate::reader::{Entry, Reader, entry_of};
+use crate::record::Record;
+use ll_tree::lines::{FileLine, FilledLines};
+use ll_tree::{Cause, ReadFault};
+use rayon::prelude::*;
+use std::alloc::{AllocError, Global};
+use std::thread::Threads;
+
+/// What a part of the lines reads as: the entries of the lines in front of the first that has none,
+/// and the fault of that one.
+#[derive(Drop)]
+struct PartRead {
+    entries: Vec<Entry>,
+    fault: Option<ReadFault>,
+}
+
+/// Adds the entry that a line reads as.
+#[tactic(auto, using(crate::proofs::PartLemmas::covers_more))]
+fn take_line(alloc: Global, line: &FileLine, entries: &mut Vec<Entry>) -> Result<(), Cause>
+    ensures covers { OnOk result ((lines others : List Line)
+        → Covers lines entries.old.items (line_view line.now ∷ others)
+        → Covers lines entries.new.items others) }
+    ensures fails { IfErr result (λ cause. Fails cause (entry_at (line_view line.now))) }
+    ensures unchanged { OnErr result (entries.new.items ≡ entries.old.items) }
+{
+    let entry = entry_of(alloc, line)?;
+    entries.push(entry)?;
+    Ok(())
+}
+
+fn read_part(alloc: Global, lines: FilledLines) -> PartRead
+    ensures { IsReadOf lines.entry result }
+{
+    let mut entries = Vec::new(alloc);
+    for line in lines {
+        if let Err(cause) = take_line(alloc, &line, &mut entries) {
+            let fault = Some(ReadFault {
+                line: line.number,
+                cause,
+            });
+            return PartRead { entries, fault };
+        }
+    }
+    PartRead {
+        entries,
+        fault: None,
+    }
+}
+
+/// Takes the entries of a part in as records, up to the first fault.
+fn admit_part(reader: &mut Reader, part: PartRead) -> Result<(), ReadFault>
+    requires { IsKept reader.old }
+    ensures admitted { OnOk result ((lines others : List Line) → IsReadOf lines part
+        → read_lines trace_file (entries reader.old) (lines ++ others)
+        ≡ read_lines trace_file (entries reader.new) others) }
+    ensures fault { IfErr result (λ fault. (lines others : List Line) → IsReadOf lines part
+        → MeetsFault fault.line fault.cause (read_lines trace_file (entries reader.old) (lines ++ others))) }
+    ensures kept { OnOk result (IsKept reader.new) }
+{
+    let PartRead { entries, fault } = part;
+    for entry in entries {
+        let line = entry.line;
+        if let Err(cause) = reader.admit(entry) {
+            return Err(ReadFault { line, cause });
+        }
+    }
+    match fault {
+        None => Ok(()),
+        Some(fault) => Err(fault),
+    }
+}
+
+/// Takes the entries of all parts in, one part after another.
+fn admit_all(alloc: Global, parts: Vec<PartRead>) -> Result<Reader, ReadFault>
+    ensures gives { (lines : List (List Line)) → AllZip IsReadOf lines parts.items
+        → GivesReading entries result (read_lines trace_file [] (flat_map (λ part. part) lines)) }
+    ensures kept { IfOk result IsKept }
+{
+    let mut reader = Reader::new(alloc);
+    for part in parts {
+        if let Err(fault) = admit_part(&mut reader, part) {
+            return Err(fault);
+        }
+    }
+    Ok(reader)
+}
+
+/// The parts of a file, each read by itself.
+fn read_parts<R: Threads + Sync>(
+    rt: &R,
+    alloc: Global,
+    bytes: &[u8],
+    most: usize,
+) -> Result<Vec<PartRead>, AllocError>
+    ensures { IfOk result (λ parts. (lines : List (List Line))
+        × (flat_map (λ part. part) lines ≡ filled_lines bytes.now)
+        × AllZip IsReadOf lines parts.items) }
+{
+    let parts = FilledLines::new(bytes).in_parts(alloc, most)?;
+    parts
+        .into_par_iter()
+        .map(
+            |lines: FilledLines| -> PartRead
+                ensures { IsReadOf lines.entry result }
+            { read_part(alloc, lines) },
+        )
+        .with_min_len(1)
+        .collect(rt, alloc)
+}
+
+/// The records of a trace file, or the first fault of its first faulty line.
+#[tactic(auto, using(ll_tree::proofs::ReadingLemmas::good_from_reading, ll_tree::proofs::ReadingLemmas::bad_from_fault))]
+pub fn read_records_by<R: Threads + Sync>(
+    rt: &R,
+    alloc: Global,
+    bytes: &[u8],
+    most: usize,
+) -> Result<Vec<Record>, ReadFault>
+    ensures good { IfOk result (λ records. IsTrace bytes.now records.items) }
+    ensures records { IfOk result (λ records. AreRecords records.items) }
+    ensures bad { IfErr result (λ fault. fault.cause ≢ Memory → IsBad trace_file bytes.now fault) }
+{
+    match read_parts(rt, alloc, bytes, most) {
+        Ok(parts) => match admit_all(alloc, parts) {
+            Ok(reader) => Ok(reader.into_records()),
+            Err(fault) => Err(fault),
+        },
+        Err(_) => Err(ReadFault {
+            line: 1,
+            cause: Cause::Memory,
+        }),
+    }
+}
