@@ -9,6 +9,7 @@ ghost use Rattle.ll_trace.specs.Records.{IsTrace};
 ghost use Rattle.ll_trace.specs.BestEffort.{records_at_best_effort};
 ghost use Rattle.ll_trace.specs.Processes.{process_count, parent_of, own_records, started_at};
 
+use crate::parts::read_records_by;
 use crate::reader::read_records;
 use crate::record::{ProcessId, Record};
 use crate::tables::{Tables, index};
@@ -16,6 +17,7 @@ use ll_rights::Abi;
 use ll_tree::{Cause, ReadFault};
 use std::alloc::Global;
 use std::marker::Model;
+use std::thread::Threads;
 
 /// The records of a trace, in the order of the file; contracts see their list.
 #[derive(Drop)]
@@ -46,14 +48,43 @@ impl Trace {
             (λ fault. fault.cause ≢ Memory → IsBad trace_file bytes.now fault) }
     {
         match read_records(alloc, bytes) {
-            Ok(records) => match index(alloc, &records) {
-                Ok(tables) => Ok(Trace { records, tables }),
-                Err(_) => Err(ReadFault {
-                    line: last_line(&records),
-                    cause: Cause::Memory,
-                }),
-            },
+            Ok(records) => Trace::of(alloc, records),
             Err(fault) => Err(fault),
+        }
+    }
+
+    /// Reads a trace file as [`Trace::read`] does, by at most this many threads, which read parts of its
+    /// lines side by side; 0 counts as one. One starts no thread. Where memory runs out, the fault is
+    /// `Memory` at a line that was being read, or at the first line.
+    pub fn read_by<R: Threads + Sync>(
+        rt: &R,
+        alloc: Global,
+        bytes: &[u8],
+        workers: usize,
+    ) -> Result<Trace, ReadFault>
+        ensures good { IfOk result (λ trace. IsTrace bytes.now trace) }
+        ensures bad { IfErr result
+            (λ fault. fault.cause ≢ Memory → IsBad trace_file bytes.now fault) }
+    {
+        if workers <= 1 {
+            return Trace::read(alloc, bytes);
+        }
+        let records = read_records_by(rt, alloc, bytes, workers)?;
+        Trace::of(alloc, records)
+    }
+
+    /// The trace that has these records.
+    fn of(alloc: Global, records: Vec<Record>) -> Result<Trace, ReadFault>
+        requires { AreRecords records.items }
+        ensures ok { IfOk result (λ trace. trace ≡ records.items) }
+        ensures err { IfErr result (λ fault. fault.cause ≡ Memory) }
+    {
+        match index(alloc, &records) {
+            Ok(tables) => Ok(Trace { records, tables }),
+            Err(_) => Err(ReadFault {
+                line: last_line(&records),
+                cause: Cause::Memory,
+            }),
         }
     }
 
