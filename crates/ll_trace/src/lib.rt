@@ -24,4 +24,6 @@ pub use rows::{calls_at_best_effort, faulty_traces, whole_traces};
 pub use trace::Trace;
 
 #[cfg(test)]
+mod part_tests;
+#[cfg(test)]
 mod tests;
