@@ -4,9 +4,13 @@ ghost use Rattle.std.specs.Prelude.{IfOk};
 ghost use Rattle.ll_tree.specs.Trees.{IsNode};
 
 use super::*;
+use crate::lines::FilledLines;
 use ll_rights::Kind;
 use std::alloc::{AllocError, Global};
 use std::test::*;
+
+/// Its lines 2 and 4 are blank.
+const LINES: &[u8] = b"a\n\nbc\n \nd\ne";
 
 /// The worked tree.
 const LISTED: &str = "{\"path\":\"/a\",\"kind\":\"dir\"}
@@ -298,5 +302,26 @@ fn refused_memory(rt: HostRuntime) -> Result<(), Fail> {
         }
     }
     assert!(rt; refused <= 1, "{refused} refusals");
+    Ok(())
+}
+
+/// By the last number each line is a part of its own.
+#[test]
+fn lines_keep_their_numbers_in_parts(rt: HostRuntime) -> Result<(), Fail> {
+    for most in [0, 1, 2, 3, 8, usize::MAX] {
+        let parts = FilledLines::new(LINES).in_parts(rt.alloc(), most)?;
+        assert!(rt; parts.len() <= most.max(1));
+        let mut numbers = Vec::new(rt.alloc());
+        for part in parts {
+            for line in part {
+                numbers.push(line.number)?;
+            }
+        }
+        assert_eq!(rt;
+            numbers.as_slice(),
+            [1, 3, 5, 6].as_slice(),
+            "{most} parts at most"
+        );
+    }
     Ok(())
 }
