@@ -69,7 +69,7 @@ pub fn audit_with<R: Threads + Wait + Sync, G: Gate + Sync>(
         return Err(Fault::Workers);
     }
     let tree = tree_of(alloc, tree)?;
-    let trace = trace_of(alloc, trace)?;
+    let trace = trace_of(rt, alloc, trace, workers)?;
     let trace = taken(trace, options);
     let case = Case::new(alloc, tree, trace, options.abi)?;
     report_on(rt, alloc, &case, workers, cut, gate, options.shown)
@@ -99,12 +99,17 @@ fn tree_of(alloc: Global, bytes: &[u8]) -> Result<Tree, Fault>
     }
 }
 
-/// The trace that a file reads as.
-fn trace_of(alloc: Global, bytes: &[u8]) -> Result<Trace, Fault>
+/// The trace that a file reads as, read by this many workers.
+fn trace_of<R: Threads + Wait + Sync>(
+    rt: &R,
+    alloc: Global,
+    bytes: &[u8],
+    workers: u64,
+) -> Result<Trace, Fault>
     ensures trace { IfOk result (IsTrace bytes.now) }
     ensures fault { IfErr result (IsTraceFault bytes.now) }
 {
-    match Trace::read(alloc, bytes) {
+    match Trace::read_by(rt, alloc, bytes, workers as usize) {
         Ok(trace) => Ok(trace),
         Err(fault) => match fault.cause {
             Cause::Memory => Err(Fault::Memory),
