@@ -65,6 +65,14 @@ impl Case {
         })
     }
 
+    /// Gives back the tree and the trace that were handed in.
+    pub fn into_parts(self) -> (Tree, Trace)
+        ensures tree { result.0 ≡ self.tree }
+        ensures records { result.1 ≡ self.records }
+    {
+        (self.tree, self.trace)
+    }
+
     /// The tree that was handed in.
     pub fn tree(&self) -> &Tree
         ensures { result.now ≡ self.now.tree }
