@@ -1,4 +1,4 @@
-//! The system's files as a source.
+//! The system's files, and standard input, as a source.
 
 ghost use Rattle.std.specs.Prelude.{◌≡◌, ◌≤◌, IfOk, None, vec_len};
 
@@ -6,20 +6,23 @@ use ll_audit::{Source, SourceFault};
 use std::alloc::Global;
 use std::fs::File;
 use std::io;
-use std::io::{ErrorKind, Read};
+use std::io::{ErrorKind, Input, Read};
 use std::rt::Files;
 
 /// How many bytes a file may have.
 const LIMIT: u64 = 1_073_741_824;
 
-/// The files of the system. One that has more than `LIMIT` bytes can't be read.
+/// The name by which a file is standard input.
+const STANDARD_INPUT: &str = "-";
+
+/// The files of the system, and standard input by the name `-`. What has more than `LIMIT` bytes can't be read.
 #[derive(Drop)]
-pub(crate) struct FileSource<'a, R: Files> {
+pub(crate) struct FileSource<'a, R: Files + Input> {
     rt: &'a R,
     failures: u64,
 }
 
-impl<'a, R: Files> FileSource<'a, R> {
+impl<'a, R: Files + Input> FileSource<'a, R> {
     pub(crate) fn new(rt: &'a R) -> FileSource<'a, R>
         ensures { result.failures ≡ 0 }
     {
@@ -27,7 +30,7 @@ impl<'a, R: Files> FileSource<'a, R> {
     }
 }
 
-impl<R: Files> Source for FileSource<'_, R> {
+impl<R: Files + Input> Source for FileSource<'_, R> {
     ghost files = { λ _. None };
 
     ghost failed = { λ source. source.failures };
@@ -48,14 +51,23 @@ impl<R: Files> Source for FileSource<'_, R> {
     }
 }
 
-/// The bytes of a file, if it has at most `LIMIT`.
-fn read<R: Files>(rt: &R, alloc: Global, name: &str) -> io::Result<Vec<u8>>
+/// The bytes of a file, or those of standard input, if there are at most `LIMIT`.
+fn read<R: Files + Input>(rt: &R, alloc: Global, name: &str) -> io::Result<Vec<u8>>
+    ensures { IfOk result (λ bytes. vec_len bytes ≤ LIMIT) }
+{
+    if name == STANDARD_INPUT {
+        read_all(alloc, rt.reader())
+    } else {
+        read_all(alloc, File::open(rt, name)?)
+    }
+}
+
+/// The bytes that a reader gives, if there are at most `LIMIT`.
+fn read_all<I: Read + Drop>(alloc: Global, reader: I) -> io::Result<Vec<u8>>
     ensures { IfOk result (λ bytes. vec_len bytes ≤ LIMIT) }
 {
     let mut bytes = Vec::new(alloc);
-    File::open(rt, name)?
-        .take(LIMIT + 1)
-        .read_to_end(&mut bytes)?;
+    reader.take(LIMIT + 1).read_to_end(&mut bytes)?;
     if bytes.len() as u64 > LIMIT {
         return Err(ErrorKind::FileTooLarge.into());
     }

@@ -84,6 +84,7 @@ module _ {Output Errors : Type 0} (contents : Output → Option (List ℕ)) (lin
   bounded (outcome.Text error) (inl why) = high_bounded ending.status (inr why.0)
   bounded (outcome.Text error) (inr written) = omega (arith, written.0)
   bounded (outcome.Usage error) ends = omega (arith, ends.0)
+  bounded (outcome.Misuse misuse) ends = omega (arith, ends.0)
   bounded (outcome.Failure of) ends = high_bounded ending.status (failing of ending.status ends.0.0)
 
   pub stays_quiet : (of : Outcome) → EndsWith contents lines of ending old new errors_old errors_new → StaysQuiet ending.status errors_old errors_new
@@ -92,6 +93,7 @@ module _ {Output Errors : Type 0} (contents : Output → Option (List ℕ)) (lin
   stays_quiet (outcome.Text error) (inl why) low = absurd (low_high ending.status low (inr why.0))
   stays_quiet (outcome.Text error) (inr written) low = written.1
   stays_quiet (outcome.Usage error) ends low = absurd (low_two ending.status low ends.0)
+  stays_quiet (outcome.Misuse misuse) ends low = absurd (low_two ending.status low ends.0)
   stays_quiet (outcome.Failure of) ends low = absurd (low_high ending.status low (failing of ending.status ends.0.0))
 
 module _ {Output Errors : Type 0} (contents : Output → Option (List ℕ)) (lines : Errors → Option (List ℕ)) (words : List Text) (files : Option Files) (before after : ℕ) (ending : Ending) (old new : Output) (errors_old errors_new : Errors) where
@@ -103,6 +105,7 @@ module _ {Output Errors : Type 0} (contents : Output → Option (List ℕ)) (lin
       (report, subst (λ (r : Request). Reports files r report) same has.reports, written.1, written.0)
   writes_report (outcome.Text error) help ends low request asked = absurd (none-some request (sym (asks_for_no_run words help) ∙ asked))
   writes_report (outcome.Usage error) wrong ends low request asked = absurd (low_two ending.status low ends.0)
+  writes_report (outcome.Misuse misuse) wrong ends low request asked = absurd (low_two ending.status low ends.0)
   writes_report (outcome.Failure of) has ends low request asked = absurd (low_high ending.status low (failing of ending.status ends.0.0))
 
   pub wrong_words : (of : Outcome) → IsOutcomeOf words files before after of → EndsWith contents lines of ending old new errors_old errors_new
@@ -112,6 +115,7 @@ module _ {Output Errors : Type 0} (contents : Output → Option (List ℕ)) (lin
   wrong_words (outcome.Text error) help (inl why) two = absurd (two_high ending.status two (inr why.0))
   wrong_words (outcome.Text error) help (inr written) two = absurd (low_two ending.status (inl written.0) two)
   wrong_words (outcome.Usage error) wrong ends two = wrong
+  wrong_words (outcome.Misuse misuse) wrong ends two = wrong
   wrong_words (outcome.Failure of) has ends two = absurd (two_high ending.status two (failing of ending.status ends.0.0))
 
   no_run_failing : (of : Failure) → HasFailure words files before after of → ending.status ≡ failure_status of → request_of words ≡ None → ending.status ≡ 4
@@ -124,6 +128,7 @@ module _ {Output Errors : Type 0} (contents : Output → Option (List ℕ)) (lin
   ends_without_run (outcome.Text error) help (inl why) none = inr (inr why.0)
   ends_without_run (outcome.Text error) help (inr written) none = inr (inl (written.0, help))
   ends_without_run (outcome.Usage error) wrong ends none = inl ends.0
+  ends_without_run (outcome.Misuse misuse) wrong ends none = inl ends.0
   ends_without_run (outcome.Failure of) has ends none = inr (inr (no_run_failing of has ends.0.0 none))
 
   pub writes_nothing : (of : Outcome) → IsOutcomeOf words files before after of → EndsWith contents lines of ending old new errors_old errors_new
@@ -137,6 +142,7 @@ module _ {Output Errors : Type 0} (contents : Output → Option (List ℕ)) (lin
   writes_nothing (outcome.Text error) help (inl why) = (λ wrong. absurd (four_wrong ending.status why.0 wrong), λ _. inr (inl help))
   writes_nothing (outcome.Text error) help (inr written) = (λ wrong. absurd (low_wrong ending.status (inl written.0) wrong), λ _. inr (inl help))
   writes_nothing (outcome.Usage error) wrong ends = (λ _. ends.1, λ _. inl ends.1)
+  writes_nothing (outcome.Misuse misuse) wrong ends = (λ _. ends.1, λ _. inl ends.1)
   writes_nothing (outcome.Failure of) has ends = (λ _. ends.1, λ _. inl ends.1)
 
   pub tells_why : (of : Outcome) → IsOutcomeOf words files before after of → EndsWith contents lines of ending old new errors_old errors_new
@@ -146,6 +152,7 @@ module _ {Output Errors : Type 0} (contents : Output → Option (List ℕ)) (lin
   tells_why (outcome.Text error) help (inl why) high = (failure.Unwritten, inr (refl, inl help), why)
   tells_why (outcome.Text error) help (inr written) high = absurd (low_high ending.status (inl written.0) high)
   tells_why (outcome.Usage error) wrong ends high = absurd (two_high ending.status ends.0 high)
+  tells_why (outcome.Misuse misuse) wrong ends high = absurd (two_high ending.status ends.0 high)
   tells_why (outcome.Failure of) has ends high = (of, inl has, ends.0)
 
 -- what is told has a reason

@@ -21,7 +21,7 @@ as_many of answers records place are same below =
     let counts : length answers ≡ length of.records = ap length are ∙ length-judged of.tree of.abi of.records in
     subst (λ n. place < n) (ap length same ∙ sym counts) below
 
-stands : {X : Type 0} (xs : List X) (place : ℕ) (x : X) → place < length xs → x ≡ get_or xs place x → slice_get xs place ≡ Some x
+pub stands : {X : Type 0} (xs : List X) (place : ℕ) (x : X) → place < length xs → x ≡ get_or xs place x → slice_get xs place ≡ Some x
 stands xs place x below is = slice_get-get_or xs place x below ∙ ap Some (sym is)
 
 -- the answer that stands at a place is that to the record there

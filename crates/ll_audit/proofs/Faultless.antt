@@ -10,17 +10,16 @@ use Rattle.std.proofs.lemmas.Slice.Eq.{bytes_eq-Decides}
 use Rattle.std.specs.Str.Parse.{digits_value, without_leading_plus}
 use Rattle.clap.specs.declared.builder.value_parser.ValueParser.TheVariants.{Unsigned}
 use Rattle.clap.proofs.ValueTestLemmas.{accepts-Accepts, Accepts-accepts}
-use Rattle.ll_rights.specs.declared.abi.Abi.{Abi}
-use Rattle.ll_rights.specs.declared.abi.Abi.TheVariants.{V1, V2, V3, V4, V5}
-use Rattle.ll_audit.proofs.CommandLine.{request_of-matches}
-use Rattle.ll_audit.specs.Command.{Request, command, crew_of, faults, number_at, request_if, request_in, request_of, options_in, version_of}
+use Rattle.ll_audit.specs.declared.abis.AbiRange.{AbiRange}
+use Rattle.ll_audit.proofs.CommandLine.{no_misuse, request_of-matches}
+use Rattle.ll_audit.specs.Command.{Request, command, crew_of, faults, is_misuse, number_at, range_in, request_if, request_in, request_of, options_in, with_misuse}
 use Rattle.clap.specs.declared.builder.action.ArgAction.{ArgAction}
 use Rattle.clap.specs.declared.builder.action.ArgAction.TheVariants.{Help, Set, SetTrue, Version}
 use Rattle.clap.specs.declared.parser.matches.ValueSource.{ValueSource}
 use Rattle.clap.specs.declared.parser.matches.ValueSource.TheVariants.{CommandLine, DefaultValue}
 use Rattle.clap.specs.declared.builder.value_parser.Reading.{Reading}
 use Rattle.clap.specs.Facts.{explicit_source, parser_of_value, unwrap_or_range}
-use Rattle.clap.specs.Faults.{action_fault, bundle_fault, bundle_step_fault, check_fault, default_fault, defaults_fault, flag_word_fault, flags_fault, given_default_fault, long_fault, option_fault, other_fault, positional_fault, react_fault, repeat_fault, settle_fault, short_fault, step_fault, stray_fault, turn_fault, use_fault, values_fault, walk_fault, word_fault}
+use Rattle.clap.specs.Faults.{action_fault, fault_of, bundle_fault, bundle_step_fault, check_fault, default_fault, defaults_fault, flag_word_fault, flags_fault, given_default_fault, long_fault, option_fault, other_fault, positional_fault, react_fault, repeat_fault, settle_fault, short_fault, step_fault, stray_fault, turn_fault, use_fault, values_fault, walk_fault, word_fault}
 use Rattle.clap.specs.Kinds.{Kinds, or_else, range_kinds, request_kinds, value_kinds}
 use Rattle.clap.specs.Lexer.{long_of, short_of}
 use Rattle.clap.specs.Simple.{Shape, argument_words, built, matches_of, names_of}
@@ -526,7 +525,7 @@ unfolding command
 are_known =
     let sets = inl (refl, omega arith) in
     let flags = inr (inl (refl, omega arith)) in
-    ((refl, sets), ((refl, sets), ((refl, sets), ((refl, flags), ((refl, flags), ((refl, flags), ((refl, sets), ((refl, sets), ((refl, inr (inr (inl refl))), ((refl, inr (inr (inr refl))), tt))))))))))
+    ((refl, sets), ((refl, sets), ((refl, sets), ((refl, flags), ((refl, flags), ((refl, flags), ((refl, flags), ((refl, sets), ((refl, sets), ((refl, inr (inr (inl refl))), ((refl, inr (inr (inr refl))), tt)))))))))))
 
 -- the rows of words in which nothing is wrong
 record IsWhole (rows : List Row) : Type 0 where
@@ -558,8 +557,17 @@ with_defaults : (rows : List Row)
 unfolding command
 with_defaults rows = (own_defaults (codes "workers") top.rules rows refl, own_defaults (codes "grain") top.rules rows refl)
 
-whole : (words : List Text) → faults words ≡ [] → IsWhole (matches_of command words)
+-- words without a fault have none that the command's rules find, and are not misused
+rules_alone : (words : List Text) → faults words ≡ [] → (fault_of command words ≡ []) × (is_misuse (matches_of command words) ≡ false)
 unfolding faults
+rules_alone words none = of_kinds (fault_of command words) (is_misuse (matches_of command words)) none
+  where
+    of_kinds : (kinds : Kinds) (misused : Bool) → with_misuse kinds misused ≡ [] → (kinds ≡ []) × (misused ≡ false)
+    of_kinds [] true free = cc
+    of_kinds [] false free = (refl, refl)
+    of_kinds (kind ∷ others) misused free = cc
+
+whole : (words : List Text) → fault_of command words ≡ [] → IsWhole (matches_of command words)
 whole words none =
     let walks = both_empty _ _ none in
     let below = both_empty _ _ walks.1 in
@@ -586,47 +594,50 @@ number_found low high name rows text fits one passes =
     Accepts-accepts false (Unsigned 0 18446744073709551615) text (accepted.0, accepted.1, omega arith, omega (arith, accepted.3, fits)) in
     (digits_value 10 (without_leading_plus text), rw (one, wide) refl, accepted.2, accepted.3)
 
-version_found : (number : ℕ) → 1 ≤ number → number ≤ 5 → (abi : Abi) × (version_of number ≡ Some abi)
-version_found zero low high = absurd (omega arith)
-version_found (suc zero) low high = (V1, refl)
-version_found (suc (suc zero)) low high = (V2, refl)
-version_found (suc (suc (suc zero))) low high = (V3, refl)
-version_found (suc (suc (suc (suc zero)))) low high = (V4, refl)
-version_found (suc (suc (suc (suc (suc zero))))) low high = (V5, refl)
-version_found (suc (suc (suc (suc (suc (suc n)))))) low high = absurd (omega arith)
+-- what isn't misused names a range
+range_found : (rows : List Row) (text : Text) → is_misuse rows ≡ false → first_of (codes "abi") rows ≡ Some text → (abis : AbiRange) × (range_in text ≡ Some abis)
+range_found rows text used first = there (range_in text) refl
+  where
+    there : (found : Option AbiRange) → range_in text ≡ found → (abis : AbiRange) × (range_in text ≡ Some abis)
+    there None is =
+        let misused : is_misuse rows ≡ true = rw (first, is) refl in
+        cc
+    there (Some abis) is = (abis, is)
 
 crew_found : (number : ℕ) → 1 ≤ number → number ≤ 64 → crew_of number ≡ Some number
 crew_found number low high = rw (lt-ltb 0 number (omega arith), lt-ltb number 65 (omega arith)) refl
 
-named : (rows : List Row) → IsWhole rows → (request : Request) × (request_in rows ≡ Some request)
+named : (rows : List Row) → IsWhole rows → is_misuse rows ≡ false → (request : Request) × (request_in rows ≡ Some request)
 unfolding command request_in
-named rows is =
+named rows is used =
     let abi = text_found top.rules _ (codes "abi") rows is.fit refl (given_found _ rows is.abi) in
     let workers = text_found top.rules _ (codes "workers") rows is.fit refl (row_found _ rows is.workers) in
     let grain = text_found top.rules _ (codes "grain") rows is.fit refl (row_found _ rows is.grain) in
     let tree = text_found top.rules _ (codes "TREE") rows is.fit refl (given_found _ rows is.tree) in
     let trace = text_found top.rules _ (codes "TRACE") rows is.fit refl (given_found _ rows is.trace) in
-    let number = number_found 1 5 (codes "abi") rows abi.0 (omega arith) abi.2 abi.3 in
-    let version = version_found number.0 number.2 number.3 in
+    let abis = range_found rows abi.0 used abi.1 in
     let many = number_found 1 64 (codes "workers") rows workers.0 (omega arith) workers.2 workers.3 in
     let crew = crew_found many.0 many.2 many.3 in
     let size = number_found 0 18446744073709551615 (codes "grain") rows grain.0 (omega arith) grain.2 grain.3 in (
-      record { options = options_in version.0 rows; workers = many.0; grain = size.0; tree = tree.0; trace = trace.0 },
-      rw (number.1, version.1, many.1, crew, size.1, tree.1, trace.1) refl,
+      record { options = options_in abis.0 rows; workers = many.0; grain = size.0; tree = tree.0; trace = trace.0 },
+      rw (abi.1, abis.1, many.1, crew, size.1, tree.1, trace.1) refl,
     )
 
 -- words without a fault name a run
 pub names_run : (words : List Text) → faults words ≡ [] → (request : Request) × (request_of words ≡ Some request)
 unfolding request_of
 names_run words none =
-    let request = named _ (whole words none) in
+    let alone = rules_alone words none in
+    let request = named _ (whole words alone.0) alone.1 in
     (request.0, rw none request.1)
 
 -- and so matches of words without a fault never lack a run
-pub never_lacking : (words : List Text) (rows : List Row) → faults words ≡ [] → rows ≡ matches_of command words → None ≡ request_in rows → ⊥
-never_lacking words rows none same lacks =
-    let request = names_run words none in
-    none-some request.0 (lacks ∙ sym (request_of-matches words rows none same) ∙ request.1)
+pub never_lacking : (words : List Text) (rows : List Row) → fault_of command words ≡ [] → rows ≡ matches_of command words → is_misuse rows ≡ false
+    → None ≡ request_in rows → ⊥
+never_lacking words rows none same used lacks =
+    let free = no_misuse words rows none same used in
+    let request = names_run words free in
+    none-some request.0 (lacks ∙ sym (request_of-matches words rows free same) ∙ request.1)
 
 -- words that name a run have no fault
 pub no_fault : (words : List Text) (request : Request) → request_of words ≡ Some request → faults words ≡ []

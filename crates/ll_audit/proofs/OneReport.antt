@@ -1,5 +1,9 @@
 -- Reports on the same bytes.
-use Rattle.std.proofs.Common.{◌≡◌, ◌∙◌, ◌∷◌, ℕ, List, sym, ap, ap₂}
+use Rattle.std.proofs.Common.{◌≡◌, ◌∙◌, ◌∷◌, ℕ, Bool, true, false, List, Some, None, cond, refl, subst, sym, ap, ap₂}
+use Rattle.std.specs.Prelude.{◌==◌, if◌then◌else◌}
+use Rattle.std.proofs.lemmas.Bool.{eqb-true}
+use Rattle.std.proofs.lemmas.Option.{same_Some}
+use Rattle.ll_rights.specs.Abis.{number_of}
 use Rattle.ll_rights.specs.declared.abi.Abi.{Abi}
 use Rattle.ll_tree.specs.TreeReading.{IsTreeOf, tree_format}
 use Rattle.ll_tree.specs.Trees.{Entry, root}
@@ -13,7 +17,8 @@ use Rattle.ll_audit.specs.declared.options.Options.{Options}
 use Rattle.ll_audit.specs.declared.report.Report.{Report}
 use Rattle.ll_audit.specs.declared.shown.TheConstants.{ALL_LINES}
 use Rattle.ll_audit.specs.Audits.{IsReport}
-use Rattle.ll_audit.specs.ShownReports.{IsReportWith}
+use Rattle.ll_audit.specs.declared.abis.AbiRange.{AbiRange}
+use Rattle.ll_audit.specs.ShownReports.{IsReportBy, IsReportWith, IsShownReportOn, taken}
 use Rattle.ll_audit.specs.Lines.{lines_of, refused_among}
 use Rattle.ll_audit.specs.Report.{report_text}
 use Rattle.ll_audit.proofs.BlocksLeft.{is_report_text}
@@ -26,7 +31,7 @@ one_tree bytes tree other first second =
 
 -- the options of the plain report: rulesets as they were recorded, all lines, and no explanations
 abbrev pub plain : Abi → Options
-plain abi = record { abi = abi; effort = AsRecorded; shown = ALL_LINES }
+plain abi = record { abis = record { oldest = abi; newest = abi }; effort = AsRecorded; shown = ALL_LINES }
 
 -- a report with these options is the report
 pub with_all_lines : (abi : Abi) (tree trace : List ℕ) (report : Report) → IsReportWith (plain abi) tree trace report → IsReport abi tree trace report
@@ -36,10 +41,39 @@ with_all_lines abi tree trace report is = record {
   reads_tree = is.reads_tree;
   reads_trace = is.reads_trace;
   report_on = record {
-    text = is.report_on.text ∙ is_report_text (text_at is.tree abi is.records) (lines_of is.records (judged is.tree abi is.records));
-    refused = is.report_on.refused;
+    text = (is.report_by.under_one refl).text ∙ is_report_text (text_at is.tree abi is.records) (lines_of is.records (judged is.tree abi is.records));
+    refused = (is.report_by.under_one refl).refused;
   };
 }
+
+-- a range of which this is the only version
+single_version : (range : AbiRange) (abi : Abi) → (if number_of range.oldest == number_of range.newest then Some range.oldest else None) ≡ Some abi
+    → (abi ≡ range.oldest) × (number_of range.oldest ≡ number_of range.newest)
+single_version range abi is = go (number_of range.oldest == number_of range.newest) refl is
+  where
+    go : (same : Bool) → (number_of range.oldest == number_of range.newest) ≡ same → cond same (Some range.oldest) None ≡ Some abi
+        → (abi ≡ range.oldest) × (number_of range.oldest ≡ number_of range.newest)
+    go true same is = (sym (same_Some range.oldest abi is), eqb-true (number_of range.oldest) (number_of range.newest) same)
+    go false same is = cc
+
+-- the report under the only version of a range is the one that is asked for
+module _ (options : Options) (tree : List Entry) (records : List Record) (abi : Abi) (report : Report)
+    (single : (if number_of options.abis.oldest == number_of options.abis.newest then Some options.abis.oldest else None) ≡ Some abi) where
+  under_single : IsShownReportOn options.shown tree abi (taken options.effort abi records) report → IsReportBy options tree records report
+  under_single is =
+      let only = single_version options.abis abi single in
+      record {
+        under_one = λ same. subst (λ (a : Abi). IsShownReportOn options.shown tree a (taken options.effort a records) report) only.0 is;
+        over_several = λ differs. absurd (differs only.1);
+      }
+
+  pub is_under_one : (t : List Entry) (a : Abi) (rs : List Record) → t ≡ tree → a ≡ abi → rs ≡ taken options.effort abi records → IsShownReportOn options.shown t a rs report
+      → IsReportBy options tree records report
+  is_under_one t a rs same_tree same_abi same_records is =
+      under_single
+      (subst (λ (x : List Record). IsShownReportOn options.shown tree abi x report) same_records
+      (subst (λ (x : Abi). IsShownReportOn options.shown tree x rs report) same_abi
+      (subst (λ (x : List Entry). IsShownReportOn options.shown x a rs report) same_tree is)))
 
 module _ (abi : Abi) (tree trace : List ℕ) (report other : Report) (first : IsReport abi tree trace report) (second : IsReport abi tree trace other) where
   same_tree : first.tree ≡ second.tree

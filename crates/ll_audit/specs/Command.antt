@@ -1,19 +1,20 @@
--- The command line: `landaudit --abi N [--workers N] [--grain N] [--best-effort] [--refused] [--explain] TREE TRACE`, and what it asks for.
+-- The command line: `landaudit --abi N[-M] [--workers N] [--grain N] [--best-effort] [--refused] [--differs] [--explain] TREE TRACE`, and what it asks for.
 -- Source: docs/FORMATS.md, "The command line".
-use Rattle.std.specs.Prelude.{◌≡◌, ◌≢◌, ◌⊎◌, ◌==◌, ◌&&◌, ⊤, nat_lt, ℕ, Bool, true, false, List, [], ◌∷◌, Option, Some, None, codes, find, if◌then◌else◌, option_and_then}
+use Rattle.std.specs.Prelude.{◌≡◌, ◌≢◌, ◌⊎◌, ◌+◌, ◌==◌, ◌&&◌, ◌||◌, ⊤, is_none, nat_le, nat_lt, ℕ, Bool, true, false, List, [], ◌∷◌, Option, Some, None, codes, find, if◌then◌else◌, option_and_then}
 use Rattle.std.specs.Str.{bytes_eq}
 use Rattle.std.specs.Str.Parse.{digits_value, without_leading_plus}
 use Rattle.clap.specs.declared.builder.action.ArgAction.TheVariants.{Set, SetTrue}
 use Rattle.clap.specs.declared.builder.value_parser.ValueParser.TheVariants.{Unsigned}
-use Rattle.clap.specs.declared.error.kind.ErrorKind.TheVariants.{DisplayHelp, DisplayVersion}
+use Rattle.clap.specs.declared.error.kind.ErrorKind.TheVariants.{DisplayHelp, DisplayVersion, ValueValidation}
 use Rattle.clap.specs.declared.error.kind.ErrorKind.{ErrorKind}
 use Rattle.clap.specs.Words.{App, IsAmong, Kinds, Row, Rule, Text, fault_of, first_of, matches_of, new_app, new_rule, one_of, with_rule}
 use Rattle.clap.specs.Simple.{on_top}
 use Rattle.clap.specs.ValueTests.{is_unsigned_in}
 use Rattle.ll_rights.specs.declared.abi.Abi.{Abi}
-use Rattle.ll_rights.specs.declared.abi.Abi.TheVariants.{V1, V2, V3, V4, V5}
 use Rattle.ll_rights.specs.Abis.{number_of}
 use Rattle.ll_audit.specs.Audits.{IsCrew}
+use Rattle.ll_audit.specs.Versions.{all_versions}
+use Rattle.ll_audit.specs.declared.abis.AbiRange.{AbiRange}
 use Rattle.ll_audit.specs.declared.command.Run.{Run}
 use Rattle.ll_audit.specs.declared.options.Effort.{Effort}
 use Rattle.ll_audit.specs.declared.options.Effort.TheVariants.{AsRecorded, Best}
@@ -28,6 +29,14 @@ number_option name least most = record (new_rule name) {
   long = Some name;
   action = Some Set;
   parser = Some (Unsigned least most);
+  value_names = 1;
+}
+
+-- `--name N[-M]`
+abbrev pub text_option : Text → Rule
+text_option name = record (new_rule name) {
+  long = Some name;
+  action = Some Set;
   value_names = 1;
 }
 
@@ -54,12 +63,13 @@ abbrev pub with_version : App → App
 with_version app = on_top (λ shape. record shape { has_version = true }) app
 
 unfoldable pub command : App
-command = with_rule (with_rule (with_rule (with_rule (with_rule (with_rule (with_rule (with_rule (with_version (new_app (codes "landaudit")))
-    (required (number_option (codes "abi") 1 5)))
+command = with_rule (with_rule (with_rule (with_rule (with_rule (with_rule (with_rule (with_rule (with_rule (with_version (new_app (codes "landaudit")))
+    (required (text_option (codes "abi"))))
     (with_default (codes "1") (number_option (codes "workers") 1 64)))
     (with_default (codes "64") (number_option (codes "grain") 0 18446744073709551615)))
     (flag (codes "best-effort")))
     (flag (codes "refused")))
+    (flag (codes "differs")))
     (flag (codes "explain")))
     (file_argument (codes "TREE")))
     (file_argument (codes "TRACE"))
@@ -72,9 +82,21 @@ pub record Request : Type 0 where
   pub tree : Text
   pub trace : Text
 
--- the version of a number
+-- the version of a digit
 abbrev pub version_of : ℕ → Option Abi
-version_of number = find (λ abi. number_of abi == number) (V1 ∷ V2 ∷ V3 ∷ V4 ∷ V5 ∷ [])
+version_of digit = find (λ abi. 48 + number_of abi == digit) all_versions
+
+-- the range from a version to one that isn't older
+abbrev pub range_between : Option Abi → Option Abi → Option AbiRange
+range_between (Some oldest) (Some newest) =
+    if nat_le (number_of oldest) (number_of newest) then Some (record { oldest = oldest; newest = newest }) else None
+range_between _ _ = None
+
+-- the range that a text names: a version, or two with a hyphen between them
+abbrev pub range_in : Text → Option AbiRange
+range_in (digit ∷ []) = range_between (version_of digit) (version_of digit)
+range_in (oldest ∷ byte ∷ newest ∷ []) = if byte == 45 then range_between (version_of oldest) (version_of newest) else None
+range_in _ = None
 
 -- the number of workers, which is 1 to 64
 abbrev pub crew_of : ℕ → Option ℕ
@@ -88,25 +110,30 @@ number_in text = if is_unsigned_in 0 18446744073709551615 text then Some (digits
 abbrev pub number_at : Text → List Row → Option ℕ
 number_at name rows = option_and_then number_in (one_of name rows)
 
--- whether the matches have a flag, whose value is then `true`, and else `false`
-abbrev pub is_true : Option Text → Bool
-is_true (Some text) = bytes_eq text (codes "true")
-is_true None = false
+-- whether a text is there, and is this one
+abbrev pub is_text : Text → Option Text → Bool
+is_text wanted (Some text) = bytes_eq text wanted
+is_text wanted None = false
 
+-- whether the matches have a flag, whose value is then `true`, and else `false`
 abbrev pub flag_at : Text → List Row → Bool
-flag_at name rows = is_true (first_of name rows)
+flag_at name rows = is_text (codes "true") (first_of name rows)
 
 -- what the matches ask to show
 abbrev pub shown_in : List Row → Shown
-shown_in rows = record { explanations = flag_at (codes "explain") rows; refused_alone = flag_at (codes "refused") rows }
+shown_in rows = record {
+  explanations = flag_at (codes "explain") rows;
+  refused_alone = flag_at (codes "refused") rows;
+  differing_alone = flag_at (codes "differs") rows;
+}
 
 -- how the matches ask to take rulesets
 abbrev pub effort_in : List Row → Effort
 effort_in rows = if flag_at (codes "best-effort") rows then Best else AsRecorded
 
--- what the matches ask of an audit under a version
-abbrev pub options_in : Abi → List Row → Options
-options_in abi rows = record { abi = abi; effort = effort_in rows; shown = shown_in rows }
+-- what the matches ask of an audit under some versions
+abbrev pub options_in : AbiRange → List Row → Options
+options_in abis rows = record { abis = abis; effort = effort_in rows; shown = shown_in rows }
 
 infixl 10 ◌>>=◌
 abbrev pub ◌>>=◌ : {A B : Type 0} → Option A → (A → Option B) → Option B
@@ -115,18 +142,29 @@ found >>= next = option_and_then next found
 -- what the matches ask for
 unfoldable pub request_in : List Row → Option Request
 request_in rows = do
-  number ← number_at (codes "abi") rows
-  abi ← version_of number
+  versions ← first_of (codes "abi") rows
+  abis ← range_in versions
   crew ← number_at (codes "workers") rows
   workers ← crew_of crew
   grain ← number_at (codes "grain") rows
   tree ← first_of (codes "TREE") rows
   trace ← first_of (codes "TRACE") rows
-  Some (record { options = options_in abi rows; workers = workers; grain = grain; tree = tree; trace = trace })
+  Some (record { options = options_in abis rows; workers = workers; grain = grain; tree = tree; trace = trace })
+
+-- matches that are each as their rule has it, and are wrong for all that: no range of versions is named, or both files
+-- are standard input
+abbrev pub is_misuse : List Row → Bool
+is_misuse rows =
+    is_none (option_and_then range_in (first_of (codes "abi") rows))
+    || (is_text (codes "-") (first_of (codes "TREE") rows) && is_text (codes "-") (first_of (codes "TRACE") rows))
 
 -- the faults of the words: none, help or the version that is asked for, or what is wrong with them
+abbrev pub with_misuse : Kinds → Bool → Kinds
+with_misuse [] true = ValueValidation ∷ []
+with_misuse kinds misused = kinds
+
 unfoldable pub faults : List Text → Kinds
-faults words = fault_of command words
+faults words = with_misuse (fault_of command words) (is_misuse (matches_of command words))
 
 -- what the words ask for, where nothing is wrong with them
 abbrev pub request_if : Kinds → List Row → Option Request
@@ -154,4 +192,5 @@ abbrev pub IsPlanFor : List Text → Plan → Type 0
 IsPlanFor words (plan.Run run) = (request_of words ≡ Some (request_by run)) × IsCrew run.workers
 IsPlanFor words (plan.Text error) = AskForText words
 IsPlanFor words (plan.Usage error) = AreWrong words
+IsPlanFor words (plan.Misuse why) = AreWrong words
 IsPlanFor words plan.Memory = ⊤

@@ -74,6 +74,7 @@ abbrev pub IsOutcomeOf : List Text → Option Files → ℕ → ℕ → Outcome 
 IsOutcomeOf words files before after (outcome.Report report) = HasReport words files report
 IsOutcomeOf words files before after (outcome.Text error) = AskForText words
 IsOutcomeOf words files before after (outcome.Usage error) = AreWrong words
+IsOutcomeOf words files before after (outcome.Misuse why) = AreWrong words
 IsOutcomeOf words files before after (outcome.Failure of) = HasFailure words files before after of
 
 -- there is help, the version or a report to be written

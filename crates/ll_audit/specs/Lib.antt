@@ -12,3 +12,8 @@ pub mod Cuts
 pub mod Shown
 pub mod ShownReports
 pub mod ShownSoFar
+pub mod Versions
+pub mod Spans
+pub mod Texts
+pub mod Found
+pub mod Rows

@@ -34,5 +34,6 @@ EndsWith contents lines (outcome.Report report) ending old new errors_old errors
 EndsWith contents lines (outcome.Text error) ending old new errors_old errors_new =
     Complains Unwritten ending (lines errors_old) (lines errors_new) ⊎ ((ending.status ≡ 0) × (errors_new ≡ errors_old))
 EndsWith contents lines (outcome.Usage error) ending old new errors_old errors_new = (ending.status ≡ 2) × (new ≡ old)
+EndsWith contents lines (outcome.Misuse why) ending old new errors_old errors_new = (ending.status ≡ 2) × (new ≡ old)
 EndsWith contents lines (outcome.Failure of) ending old new errors_old errors_new =
     Complains of ending (lines errors_old) (lines errors_new) × (new ≡ old)

@@ -35,9 +35,13 @@ verdict_text allowed = codes "allowed"
 verdict_text moot = codes "moot"
 verdict_text (refused error layers) = codes "refused " ++ error ++ codes " " ++ layers_text layers
 
+-- which record a line is about
+abbrev pub record_text : ℕ → ℕ → List ℕ → List ℕ
+record_text line pid op = decimal line ++ codes " " ++ decimal pid ++ codes " " ++ op
+
 -- what stands before the verdict
 abbrev pub head_text : ℕ → ℕ → List ℕ → List ℕ
-head_text line pid op = decimal line ++ codes " " ++ decimal pid ++ codes " " ++ op ++ codes " "
+head_text line pid op = record_text line pid op ++ codes " "
 
 -- a record's line
 abbrev pub line_text : ReportLine → List ℕ
@@ -59,11 +63,14 @@ is_moot _ = false
 abbrev pub count_of : (Verdict → Bool) → List ReportLine → ℕ
 count_of test lines = count_by (λ (line : ReportLine). test line.verdict) lines
 
+-- how many records are answered in each way
+abbrev pub counts_text : ℕ → ℕ → ℕ → List ℕ
+counts_text passed denied idle =
+    codes " allowed " ++ decimal passed ++ codes " refused " ++ decimal denied ++ codes " moot " ++ decimal idle ++ codes "\n"
+
 -- the last line
 abbrev pub total_text : ℕ → ℕ → ℕ → ℕ → List ℕ
-total_text records passed denied idle =
-    codes "total " ++ decimal records ++ codes " allowed " ++ decimal passed ++ codes " refused " ++ decimal denied
-    ++ codes " moot " ++ decimal idle ++ codes "\n"
+total_text records passed denied idle = codes "total " ++ decimal records ++ counts_text passed denied idle
 
 -- the report
 unfoldable pub report_text : List ReportLine → List ℕ

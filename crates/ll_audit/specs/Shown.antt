@@ -1,12 +1,13 @@
--- The report as it is shown: of each record its line and its explanation, or nothing, and the totals of all records.
+-- The report over one version as it is shown: of each record its line and its explanation, or nothing, and the totals of all records.
 -- Source: docs/FORMATS.md, "The report" and "Explanations".
-use Rattle.std.specs.Prelude.{◌+◌, ◌&&◌, ℕ, Bool, not, List, [], ◌∷◌, ◌++◌, if◌then◌else◌, length}
+use Rattle.std.specs.Prelude.{◌+◌, ◌&&◌, ◌||◌, ℕ, Bool, not, List, [], ◌∷◌, ◌++◌, if◌then◌else◌, length}
 use Rattle.ll_audit.specs.declared.shown.Shown.{Shown}
 use Rattle.ll_audit.specs.Report.{ReportLine, Verdict, count_of, is_allowed, is_moot, is_refused, line_text, total_text}
 
--- a record whose line is left out: only refused ones are shown, and it isn't
+-- A record whose line is left out: only refused ones are shown, and it isn't, or only those whose answer differs between
+-- versions, and there is one version.
 abbrev pub is_left_out : Shown → Verdict → Bool
-is_left_out shown verdict = shown.refused_alone && not (is_refused verdict)
+is_left_out shown verdict = (shown.refused_alone && not (is_refused verdict)) || shown.differing_alone
 
 -- what stands behind a line: the explanation, where explanations are shown
 abbrev pub behind_line : Bool → List ℕ → List ℕ

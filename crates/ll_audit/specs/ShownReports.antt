@@ -1,7 +1,8 @@
--- What `audit_with` answers: the report on the answers of one fold over the records as they are taken, of which as much is shown as is asked for.
--- Source: docs/FORMATS.md, "The report" and "Explanations".
-use Rattle.std.specs.Prelude.{◌≡◌, ℕ, List}
+-- What `audit_with` answers: the report on the answers of one fold over the records as they are taken, under each version that is asked for, of which as much is shown as is asked for.
+-- Source: docs/FORMATS.md, "The report", "Explanations" and "Several versions".
+use Rattle.std.specs.Prelude.{◌≡◌, ◌≢◌, ℕ, List, map}
 use Rattle.ll_rights.specs.declared.abi.Abi.{Abi}
+use Rattle.ll_rights.specs.Abis.{number_of}
 use Rattle.ll_tree.specs.Trees.{Entry}
 use Rattle.ll_tree.specs.TreeReading.{IsTreeOf}
 use Rattle.ll_trace.specs.declared.record.Record.{Record}
@@ -14,10 +15,13 @@ use Rattle.ll_audit.specs.declared.options.Effort.TheVariants.{AsRecorded, Best}
 use Rattle.ll_audit.specs.declared.options.Options.{Options}
 use Rattle.ll_audit.specs.declared.report.Report.{Report}
 use Rattle.ll_audit.specs.declared.shown.Shown.{Shown}
+use Rattle.ll_audit.specs.Found.{Found, found_under}
 use Rattle.ll_audit.specs.Lines.{lines_of, refused_among}
+use Rattle.ll_audit.specs.Rows.{refused_under_some, rows_text}
 use Rattle.ll_audit.specs.Shown.{shown_text}
+use Rattle.ll_audit.specs.Versions.{versions_in}
 
--- the report on records whose calls meet this tree
+-- the report under one version on records whose calls meet this tree
 pub record IsShownReportOn (shown : Shown) (tree : List Entry) (abi : Abi) (records : List Record) (report : Report) : Type 0 where
   pub text : report.bytes.items ≡ shown_text shown (text_at tree abi records) (lines_of records (judged tree abi records))
   pub refused : report.refused ≡ refused_among records (judged tree abi records)
@@ -27,10 +31,26 @@ abbrev pub taken : Effort → Abi → List Record → List Record
 taken AsRecorded abi records = records
 taken Best abi records = records_at_best_effort abi records
 
+-- what is found of the records under each version that is asked for, the oldest first
+abbrev pub findings : Options → List Entry → List Record → List Found
+findings options tree records =
+    map (λ abi. found_under options.shown tree (taken options.effort abi records) abi) (versions_in options.abis)
+
+-- the report over several versions
+pub record IsReportOver (options : Options) (tree : List Entry) (records : List Record) (report : Report) : Type 0 where
+  pub text : report.bytes.items ≡ rows_text options.shown (number_of options.abis.oldest) (findings options tree records) records
+  pub refused : report.refused ≡ refused_under_some (findings options tree records) records
+
+-- the report that the options ask for: under the version that they name, or over the versions
+pub record IsReportBy (options : Options) (tree : List Entry) (records : List Record) (report : Report) : Type 0 where
+  pub under_one : number_of options.abis.oldest ≡ number_of options.abis.newest
+      → IsShownReportOn options.shown tree options.abis.oldest (taken options.effort options.abis.oldest records) report
+  pub over_several : number_of options.abis.oldest ≢ number_of options.abis.newest → IsReportOver options tree records report
+
 -- the bytes of both files read, and this is the report that the options ask for on what they say
 pub record IsReportWith (options : Options) (tree_bytes trace_bytes : List ℕ) (report : Report) : Type 0 where
   pub tree : List Entry
   pub records : List Record
   pub reads_tree : IsTreeOf tree_bytes tree
   pub reads_trace : IsTrace trace_bytes records
-  pub report_on : IsShownReportOn options.shown tree options.abi (taken options.effort options.abi records) report
+  pub report_by : IsReportBy options tree records report

@@ -5,12 +5,14 @@ ghost use Rattle.ll_tree.specs.TreeReading.{IsTreeOf};
 ghost use Rattle.ll_trace.specs.Records.{IsTrace};
 ghost use Rattle.ll_semantics.specs.Worlds.{judged};
 ghost use Rattle.ll_audit.specs.Audits.{IsCrew, IsFaultOf, IsReport};
-ghost use Rattle.ll_audit.specs.ShownReports.{IsReportWith, IsShownReportOn, taken};
+ghost use Rattle.ll_audit.specs.ShownReports.{IsReportBy, IsReportWith, IsShownReportOn, taken};
 ghost use Rattle.ll_audit.specs.Causes.{IsTraceFault, IsTreeFault, IsWant};
 
+use crate::abis::AbiRange;
 use crate::cut::{Cut, cuts_of};
 use crate::fault::Fault;
 use crate::options::{Effort, Options};
+use crate::ranging::report_over;
 use crate::report::Report;
 use crate::shown::{ALL_LINES, Shown};
 use ll_pool::{CollectFault, Gate, collect, run};
@@ -41,16 +43,17 @@ pub fn audit<R: Threads + Wait + Sync, G: Gate + Sync>(
     ensures fault { IfErr result (IsFaultOf workers tree.now trace.now) }
 {
     let options = Options {
-        abi,
+        abis: AbiRange::only(abi),
         effort: Effort::AsRecorded,
         shown: ALL_LINES,
     };
     audit_with(rt, alloc, tree, trace, &options, workers, cut, gate)
 }
 
-/// Audits a trace against a tree as `audit` does, with options: rulesets may be taken at best effort, and
-/// as much of the report is shown as is asked for, explanations behind the lines of records, or refused
-/// records alone. The totals are those of all records.
+/// Audits a trace against a tree as `audit` does, with options: under each version of a range, of which each
+/// may take rulesets at best effort. As much of the report is shown as is asked for, explanations behind
+/// the lines of records, or refused records alone, or those whose answer differs between versions. The
+/// totals are those of all records. Both files are read once, whatever the number of versions.
 pub fn audit_with<R: Threads + Wait + Sync, G: Gate + Sync>(
     rt: &R,
     alloc: Global,
@@ -70,18 +73,16 @@ pub fn audit_with<R: Threads + Wait + Sync, G: Gate + Sync>(
     }
     let tree = tree_of(alloc, tree)?;
     let trace = trace_of(rt, alloc, trace, workers)?;
-    let trace = taken(trace, options);
-    let case = Case::new(alloc, tree, trace, options.abi)?;
-    report_on(rt, alloc, &case, workers, cut, gate, options.shown)
+    report_by(rt, alloc, tree, trace, options, workers, cut, gate)
 }
 
-/// A trace as its rulesets are to be taken.
-fn taken(trace: Trace, options: &Options) -> Trace
-    ensures { result ≡ taken options.now.effort options.now.abi trace }
+/// A trace as its rulesets are to be taken under a version.
+pub(crate) fn taken(trace: Trace, effort: Effort, abi: Abi) -> Trace
+    ensures { result ≡ taken effort abi trace }
 {
-    match options.effort {
+    match effort {
         Effort::AsRecorded => trace,
-        Effort::Best => trace.at_best_effort(options.abi),
+        Effort::Best => trace.at_best_effort(abi),
     }
 }
 
@@ -118,13 +119,39 @@ fn trace_of<R: Threads + Wait + Sync>(
     }
 }
 
+/// The report that the options ask for.
+fn report_by<R: Threads + Wait + Sync, G: Gate + Sync>(
+    rt: &R,
+    alloc: Global,
+    tree: Tree,
+    trace: Trace,
+    options: &Options,
+    workers: u64,
+    cut: Cut,
+    gate: &G,
+) -> Result<Report, Fault>
+    requires { IsCrew workers }
+    ensures report { IfOk result (IsReportBy options.now tree trace) }
+    ensures fault { IfErr result IsWant }
+{
+    let cuts = cuts_of(alloc, &trace, cut)?;
+    match options.abis.single() {
+        Some(abi) => {
+            let trace = taken(trace, options.effort, abi);
+            let case = Case::new(alloc, tree, trace, abi)?;
+            report_on(rt, alloc, &case, workers, &cuts, gate, options.shown)
+        }
+        None => report_over(rt, alloc, tree, trace, options, workers, &cuts, gate),
+    }
+}
+
 /// The report on a case, as much as is shown of it.
 fn report_on<R: Threads + Wait + Sync, G: Gate + Sync>(
     rt: &R,
     alloc: Global,
     case: &Case,
     workers: u64,
-    cut: Cut,
+    cuts: &[bool],
     gate: &G,
     shown: Shown,
 ) -> Result<Report, Fault>
@@ -132,17 +159,17 @@ fn report_on<R: Threads + Wait + Sync, G: Gate + Sync>(
     ensures report { IfOk result (IsShownReportOn shown case.now.tree case.now.abi case.now.records) }
     ensures fault { IfErr result IsWant }
 {
-    let answers = answers_of(rt, alloc, case, workers, cut, gate)?;
+    let answers = answers_of(rt, alloc, case, workers, cuts, gate)?;
     Ok(Report::of(alloc, case, &answers, shown)?)
 }
 
 /// The answers to all records, judged by this many workers.
-fn answers_of<R: Threads + Wait + Sync, G: Gate + Sync>(
+pub(crate) fn answers_of<R: Threads + Wait + Sync, G: Gate + Sync>(
     rt: &R,
     alloc: Global,
     case: &Case,
     workers: u64,
-    cut: Cut,
+    cuts: &[bool],
     gate: &G,
 ) -> Result<Vec<Answer>, Fault>
     requires { IsCrew workers }
@@ -150,8 +177,7 @@ fn answers_of<R: Threads + Wait + Sync, G: Gate + Sync>(
         (λ answers. answers.items ≡ judged case.now.tree case.now.abi case.now.records) }
     ensures fault { IfErr result IsWant }
 {
-    let cuts = cuts_of(alloc, case.trace(), cut)?;
-    let pieces = run(rt, alloc, case, workers as usize, &cuts, gate)?;
+    let pieces = run(rt, alloc, case, workers as usize, cuts, gate)?;
     match collect(alloc, case, pieces) {
         Ok(answers) => Ok(answers),
         Err(CollectFault::Memory) => Err(Fault::Memory),

@@ -21,7 +21,7 @@ use std::alloc::Global;
 fn is_hidden(shown: Shown, answer: &Answer) -> bool
     ensures { result ≡ is_left_out shown (verdict_of answer.now) }
 {
-    shown.refused_alone && !is_refused(answer)
+    shown.refused_alone && !is_refused(answer) || shown.differing_alone
 }
 
 /// What is shown of the records of a case, one after the other: where explanations are shown it is

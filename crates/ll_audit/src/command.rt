@@ -1,11 +1,13 @@
 //! The command line.
 
-ghost use Rattle.std.specs.Prelude.{◌≡◌, ◌⊎◌, [], IfOk, IfSome, MatchResult, Some, false, map, option_map, string_bytes};
-ghost use Rattle.clap.specs.Words.{HasKind, app_of, first_of, found_of, kind_of, matches_of, rows_of, rule_of};
+ghost use Rattle.std.specs.Prelude.{◌≡◌, ◌⊎◌, [], IfOk, IfSome, MatchResult, Some, false, is_some, map, option_map, string_bytes};
+ghost use Rattle.clap.specs.Words.{HasKind, app_of, fault_of, first_of, found_of, kind_of, matches_of, rows_of, rule_of};
 ghost use Rattle.clap.specs.declared.error.kind.ErrorKind.TheVariants.{OutOfMemory};
 ghost use Rattle.ll_audit.specs.Audits.{IsCrew};
 ghost use Rattle.ll_audit.specs.Command as spec;
 
+use crate::abis::AbiRange;
+use crate::misuse::Misuse;
 use crate::options::{Effort, Options};
 use crate::shown::Shown;
 use clap::builder::ValueParser;
@@ -38,6 +40,8 @@ pub(crate) enum Plan<'a> {
     Text(Error),
     /// Nothing: the words are at fault, and the error's text says why.
     Usage(Error),
+    /// Nothing: each word is as its rule has it, and they are wrong for all that.
+    Misuse(Misuse),
     /// No memory was left while the words were read.
     Memory,
 }
@@ -47,22 +51,27 @@ const VERSION: &str = "0.1";
 
 const ABOUT: &str = "Says for each call of a trace what Landlock answers";
 
+const ABI_HELP: &str = "Version of Landlock's interface, 1 to 5, or a range of them: 2-5";
+
 const TREE_HELP: &str =
-    "File with the file tree, one object a line: {\"path\":\"/a/f\",\"kind\":\"reg\"}";
+    "File with the file tree, one object a line: {\"path\":\"/a/f\",\"kind\":\"reg\"}, or - for standard input";
 
 const TRACE_HELP: &str =
-    "File with the calls, one a line: {\"op\":\"open\",\"pid\":10,\"path\":\"/a/f\",\"fd\":4,\"mode\":\"r\"}";
+    "File with the calls, one a line: {\"op\":\"open\",\"pid\":10,\"path\":\"/a/f\",\"fd\":4,\"mode\":\"r\"}, or - for standard input";
 
 const EFFORT_HELP: &str =
     "Drop the rights that the version lacks, as a program does that asks its kernel";
 
 const REFUSED_HELP: &str = "Print only the refused records; the totals count all";
 
+const DIFFERS_HELP: &str =
+    "Print only the records whose answer differs between the versions of the range";
+
 const EXPLAIN_HELP: &str = "Print behind each refused or moot record why it is so";
 
 const MORE_HELP: &str = "\
-Example: what ABI 4 refuses of a recording, and why
-  landaudit --abi 4 --explain --refused rec/tree.jsonl rec/trace.jsonl
+Example: what some ABI refuses of a recording, and why
+  landaudit --abi 1-5 --explain --refused rec/tree.jsonl rec/trace.jsonl
 
 Status:
   0  no call is refused, or this help or the version was asked for
@@ -83,6 +92,18 @@ fn number_option<'a>(alloc: Global, name: &'a str, least: u64, most: u64, help: 
         .action(ArgAction::Set)
         .value_name("N")
         .value_parser(ValueParser::unsigned(least, most))
+        .help(help)
+}
+
+/// An option `--name N[-M]`.
+fn text_option<'a>(alloc: Global, name: &'a str, help: &'a str) -> Arg<'a>
+    ensures rule { rule_of result ≡ spec.text_option name.entry.now }
+    ensures local { result.global ≡ false }
+{
+    Arg::new(alloc, name)
+        .long(name)
+        .action(ArgAction::Set)
+        .value_name("N[-M]")
         .help(help)
 }
 
@@ -113,13 +134,7 @@ fn file_argument<'a>(alloc: Global, name: &'a str, help: &'a str) -> Arg<'a>
 fn command<'a>(alloc: Global) -> Result<Command<'a>, AllocError>
     ensures { IfOk result (λ command. app_of command ≡ spec.command) }
 {
-    let abi = number_option(
-        alloc,
-        "abi",
-        1,
-        5,
-        "Version of Landlock's interface, 1 to 5",
-    );
+    let abi = text_option(alloc, "abi", ABI_HELP);
     let workers = number_option(alloc, "workers", 1, 64, "Number of threads, 1 to 64");
     let grain = number_option(
         alloc,
@@ -137,16 +152,47 @@ fn command<'a>(alloc: Global) -> Result<Command<'a>, AllocError>
         .arg(grain.default_value("64"))?
         .arg(flag_option(alloc, "best-effort", EFFORT_HELP))?
         .arg(flag_option(alloc, "refused", REFUSED_HELP))?
+        .arg(flag_option(alloc, "differs", DIFFERS_HELP))?
         .arg(flag_option(alloc, "explain", EXPLAIN_HELP))?
         .arg(file_argument(alloc, "TREE", TREE_HELP))?
         .arg(file_argument(alloc, "TRACE", TRACE_HELP))
 }
 
-/// The version of a number.
-fn version(number: u64) -> Option<Abi>
-    ensures { result ≡ spec.version_of number }
+/// The version of a digit.
+fn version(digit: u8) -> Option<Abi>
+    ensures { result ≡ spec.version_of digit }
 {
-    Abi::new(number)
+    match digit {
+        b'1' => Some(Abi::V1),
+        b'2' => Some(Abi::V2),
+        b'3' => Some(Abi::V3),
+        b'4' => Some(Abi::V4),
+        b'5' => Some(Abi::V5),
+        _ => None,
+    }
+}
+
+/// The range from a version to one that isn't older.
+fn range_between(oldest: Option<Abi>, newest: Option<Abi>) -> Option<AbiRange>
+    ensures { result ≡ spec.range_between oldest newest }
+{
+    let (oldest, newest) = (oldest?, newest?);
+    if oldest.number() <= newest.number() {
+        Some(AbiRange { oldest, newest })
+    } else {
+        None
+    }
+}
+
+/// The range that a text names: a version, or two with a hyphen between them.
+fn range(text: &str) -> Option<AbiRange>
+    ensures { result ≡ spec.range_in text.now }
+{
+    match text.as_bytes() {
+        [digit] => range_between(version(*digit), version(*digit)),
+        [oldest, b'-', newest] => range_between(version(*oldest), version(*newest)),
+        _ => None,
+    }
 }
 
 /// The number of workers, where it is 1 to 64.
@@ -176,14 +222,21 @@ fn text<'a>(matches: &ArgMatches<'a>, name: &str) -> Option<&'a str>
     matches.get_str(name)
 }
 
+/// Whether the matches give an argument this text.
+fn is_text(matches: &ArgMatches<'_>, name: &str, wanted: &str) -> bool
+    ensures { result ≡ spec.is_text wanted.now (first_of name.now (rows_of (found_of matches.now))) }
+{
+    match text(matches, name) {
+        Some(text) => text == wanted,
+        None => false,
+    }
+}
+
 /// Whether the matches have a flag.
 fn flag(matches: &ArgMatches<'_>, name: &str) -> bool
     ensures { result ≡ spec.flag_at name.now (rows_of (found_of matches.now)) }
 {
-    match text(matches, name) {
-        Some(value) => value == "true",
-        None => false,
-    }
+    is_text(matches, name, "true")
 }
 
 /// What the matches ask to show.
@@ -193,6 +246,7 @@ fn shown(matches: &ArgMatches<'_>) -> Shown
     Shown {
         explanations: flag(matches, "explain"),
         refused_alone: flag(matches, "refused"),
+        differing_alone: flag(matches, "differs"),
     }
 }
 
@@ -207,12 +261,12 @@ fn effort(matches: &ArgMatches<'_>) -> Effort
     }
 }
 
-/// What the matches ask of an audit under a version.
-fn options(abi: Abi, matches: &ArgMatches<'_>) -> Options
-    ensures { result ≡ spec.options_in abi (rows_of (found_of matches.now)) }
+/// What the matches ask of an audit under some versions.
+fn options(abis: AbiRange, matches: &ArgMatches<'_>) -> Options
+    ensures { result ≡ spec.options_in abis (rows_of (found_of matches.now)) }
 {
     Options {
-        abi,
+        abis,
         effort: effort(matches),
         shown: shown(matches),
     }
@@ -226,7 +280,7 @@ fn run_of<'a>(matches: &ArgMatches<'a>) -> Option<Run<'a>>
     ensures crew { IfSome result (λ run. IsCrew run.workers) }
 {
     Some(Run {
-        options: options(version(number(matches, "abi")?)?, matches),
+        options: options(range(text(matches, "abi")?)?, matches),
         workers: crew(number(matches, "workers")?)?,
         grain: number(matches, "grain")?,
         tree: text(matches, "TREE")?,
@@ -238,24 +292,40 @@ fn run_of<'a>(matches: &ArgMatches<'a>) -> Option<Run<'a>>
 fn parse<'a>(command: &mut Command<'a>, words: &'a [String]) -> Result<ArgMatches<'a>, Error>
     requires { app_of command.old ≡ spec.command }
     ensures { MatchResult result
-        (λ matches. (spec.faults (map string_bytes words.entry.now) ≡ [])
+        (λ matches. (fault_of spec.command (map string_bytes words.entry.now) ≡ [])
         × (rows_of (found_of matches) ≡ matches_of spec.command (map string_bytes words.entry.now)))
         (HasKind (spec.faults (map string_bytes words.entry.now))) }
 {
     command.try_get_matches_from_mut(words)
 }
 
+/// What is wrong with matches that are each as their rule has it, if anything is.
+fn misuse(matches: &ArgMatches<'_>) -> Option<Misuse>
+    ensures { is_some result ≡ spec.is_misuse (rows_of (found_of matches.now)) }
+{
+    match text(matches, "abi") {
+        Some(versions) if range(versions).is_some() => {}
+        _ => return Some(Misuse::Versions),
+    }
+    if is_text(matches, "TREE", "-") && is_text(matches, "TRACE", "-") {
+        return Some(Misuse::StandardInput);
+    }
+    None
+}
+
 /// Reads the words, of which the first is the program's name.
-fn read<'a>(alloc: Global, words: &'a [String]) -> Result<Run<'a>, Error>
+fn read<'a>(alloc: Global, words: &'a [String]) -> Result<Plan<'a>, Error>
     ensures { MatchResult result
-        (λ run. (spec.request_of (map string_bytes words.entry.now) ≡ Some (spec.request_by run))
-        × IsCrew run.workers)
+        (spec.IsPlanFor (map string_bytes words.entry.now))
         (HasKind (spec.faults (map string_bytes words.entry.now))) }
 {
     let mut command = command(alloc)?;
     let matches = parse(&mut command, words)?;
+    if let Some(why) = misuse(&matches) {
+        return Ok(Plan::Misuse(why));
+    }
     match run_of(&matches) {
-        Some(run) => Ok(run),
+        Some(run) => Ok(Plan::Run(run)),
         None => unreachable!(),
     }
 }
@@ -265,7 +335,7 @@ pub(crate) fn plan_of<'a>(alloc: Global, words: &'a [String]) -> Plan<'a>
     ensures { spec.IsPlanFor (map string_bytes words.entry.now) result }
 {
     match read(alloc, words) {
-        Ok(run) => Plan::Run(run),
+        Ok(plan) => plan,
         Err(error) => match error.kind() {
             ErrorKind::OutOfMemory => Plan::Memory,
             ErrorKind::DisplayHelp | ErrorKind::DisplayVersion => Plan::Text(error),

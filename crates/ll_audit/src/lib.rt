@@ -1,25 +1,33 @@
 //! The audit as a whole: the command line, the files, the report, and the status of the program.
 #![tactic(auto)]
 
+mod abis;
 mod auditing;
 mod blocks;
 mod command;
 mod cut;
 mod fault;
+mod found;
 mod idle;
 mod inputs;
 mod laws;
 mod lines;
+mod misuse;
 mod names;
 mod options;
 mod outcome;
 mod program;
+mod ranging;
 mod report;
+mod rows;
 mod shown;
 mod source;
+mod spans;
 #[cfg(test)]
 mod tests;
+mod texts;
 
+pub use abis::AbiRange;
 pub use auditing::{audit, audit_with};
 pub use cut::Cut;
 pub use fault::Fault;

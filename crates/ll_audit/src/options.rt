@@ -1,7 +1,7 @@
 //! What is asked of an audit.
 
+use crate::abis::AbiRange;
 use crate::shown::Shown;
-use ll_rights::Abi;
 
 /// How the rulesets of a trace are taken.
 #[derive(Clone, Copy, Debug, PartialEq, Eq)]
@@ -14,11 +14,11 @@ pub enum Effort {
     Best,
 }
 
-/// What is asked of an audit: the version of Landlock's interface that answers, how rulesets are taken,
+/// What is asked of an audit: the versions of Landlock's interface that answer, how rulesets are taken,
 /// and how much of the report is shown.
 #[derive(Clone, Copy, Debug, PartialEq, Eq)]
 pub struct Options {
-    pub abi: Abi,
+    pub abis: AbiRange,
     pub effort: Effort,
     pub shown: Shown,
 }

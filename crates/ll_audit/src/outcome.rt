@@ -1,11 +1,12 @@
 //! What a run comes to, and how it ends.
 
-ghost use Rattle.std.specs.Prelude.{OnOk};
+ghost use Rattle.std.specs.Prelude.{◌≡◌, OnOk};
 ghost use Rattle.std.specs.Io.{WritesAtMost};
 ghost use Rattle.std.specs.Io.KnownBytes.{Appends, WriteAppends};
 ghost use Rattle.ll_audit.specs.Outcomes.{AppendsBeginning, Complains, EndsWith};
 
 use crate::lines::Failure;
+use crate::misuse::Misuse;
 use crate::report::Report;
 use clap::Error;
 use std::io;
@@ -20,6 +21,8 @@ pub(crate) enum Outcome<'a> {
     Text(Error),
     /// The command line is at fault, as the error's text says.
     Usage(Error),
+    /// The command line is at fault, though each word is as its rule has it.
+    Misuse(Misuse),
     /// No report.
     Failure(Failure<'a>),
 }
@@ -53,13 +56,20 @@ impl Outcome<'_> {
                 },
                 Err(_) => complain(&Failure::Unwritten, err),
             },
-            Outcome::Usage(error) => Ending {
-                status: 2,
-                told: write!(err, "{error}").is_ok(),
-            },
+            Outcome::Usage(error) => wrong_words(write!(err, "{error}").is_ok()),
+            Outcome::Misuse(why) => {
+                wrong_words(writeln!(err, "landaudit: {}", why.text()).is_ok())
+            }
             Outcome::Failure(failure) => complain(failure, err),
         }
     }
+}
+
+/// How a run ends whose words are wrong.
+fn wrong_words(told: bool) -> Ending
+    ensures { result ≡ record { status = 2; told = told } }
+{
+    Ending { status: 2, told }
 }
 
 /// Writes all bytes, and sends them on. Where that fails a beginning of them was written.

@@ -95,6 +95,7 @@ fn outcome_of<'a, R: Threads + Wait + Sync, S: Source, G: Gate + Sync>(
         },
         Plan::Text(text) => Outcome::Text(text),
         Plan::Usage(error) => Outcome::Usage(error),
+        Plan::Misuse(why) => Outcome::Misuse(why),
         Plan::Memory => Outcome::Failure(Failure::Memory),
     }
 }

@@ -6,7 +6,7 @@ ghost use Rattle.ll_semantics.specs.Worlds.{judged};
 ghost use Rattle.ll_audit.specs.ShownReports.{IsShownReportOn};
 ghost use Rattle.ll_audit.specs.Lines.{line_of, verdict_of};
 ghost use Rattle.ll_audit.specs.Report as words;
-ghost use Rattle.ll_audit.specs.Report.{head_text, layers_text, line_text, next_layer_text, refused, total_text, verdict_text};
+ghost use Rattle.ll_audit.specs.Report.{counts_text, head_text, layers_text, line_text, next_layer_text, record_text, refused, total_text, verdict_text};
 ghost use Rattle.ll_audit.specs.Names as spec;
 
 use crate::blocks::push_blocks;
@@ -23,12 +23,12 @@ use std::alloc::{AllocError, Global};
 pub struct Report {
     /// The text: a line for each record, and the totals.
     pub bytes: Vec<u8>,
-    /// How many records are refused.
+    /// How many records are refused, under some version if there are several.
     pub refused: u64,
 }
 
 impl Report {
-    /// The report on a case and the answers to its records, as much as is shown of it.
+    /// The report under the version of a case on the answers to its records, as much as is shown of it.
     pub(crate) fn of(
         alloc: Global,
         case: &Case,
@@ -57,22 +57,34 @@ impl Report {
 }
 
 /// Adds a number in decimal digits.
-fn push_number(text: &mut Vec<u8>, number: u64) -> Result<(), AllocError>
+pub(crate) fn push_number(text: &mut Vec<u8>, number: u64) -> Result<(), AllocError>
     ensures { OnOk result (text.new.items ≡ text.old.items ++ decimal number) }
 {
     let mut buffer = Buffer::new();
     text.extend_from_slice(buffer.format(number).as_bytes())
 }
 
-/// Adds what stands before a verdict.
-pub(crate) fn push_head(text: &mut Vec<u8>, line: u64, pid: u64, op: &str) -> Result<(), AllocError>
-    ensures { OnOk result (text.new.items ≡ text.old.items ++ head_text line pid op.now) }
+/// Adds which record a line is about.
+pub(crate) fn push_record(
+    text: &mut Vec<u8>,
+    line: u64,
+    pid: u64,
+    op: &str,
+) -> Result<(), AllocError>
+    ensures { OnOk result (text.new.items ≡ text.old.items ++ record_text line pid op.now) }
 {
     push_number(text, line)?;
     text.push(b' ')?;
     push_number(text, pid)?;
     text.push(b' ')?;
-    text.extend_from_slice(op.as_bytes())?;
+    text.extend_from_slice(op.as_bytes())
+}
+
+/// Adds what stands before a verdict.
+pub(crate) fn push_head(text: &mut Vec<u8>, line: u64, pid: u64, op: &str) -> Result<(), AllocError>
+    ensures { OnOk result (text.new.items ≡ text.old.items ++ head_text line pid op.now) }
+{
+    push_record(text, line, pid, op)?;
     text.push(b' ')?;
     Ok(())
 }
@@ -121,6 +133,20 @@ fn push_layer(text: &mut Vec<u8>, number: u32, is_first: bool) -> Result<(), All
     push_number(text, u64::from(number))
 }
 
+/// Adds how many records are answered in each way.
+fn push_counts(text: &mut Vec<u8>, allowed: u64, refused: u64, moot: u64) -> Result<(), AllocError>
+    ensures { OnOk result (text.new.items ≡ text.old.items ++ counts_text allowed refused moot) }
+{
+    text.extend_from_slice(b" allowed ")?;
+    push_number(text, allowed)?;
+    text.extend_from_slice(b" refused ")?;
+    push_number(text, refused)?;
+    text.extend_from_slice(b" moot ")?;
+    push_number(text, moot)?;
+    text.push(b'\n')?;
+    Ok(())
+}
+
 /// Adds the last line.
 pub(crate) fn push_total(
     text: &mut Vec<u8>,
@@ -134,18 +160,11 @@ pub(crate) fn push_total(
 {
     text.extend_from_slice(b"total ")?;
     push_number(text, all)?;
-    text.extend_from_slice(b" allowed ")?;
-    push_number(text, allowed)?;
-    text.extend_from_slice(b" refused ")?;
-    push_number(text, refused)?;
-    text.extend_from_slice(b" moot ")?;
-    push_number(text, moot)?;
-    text.push(b'\n')?;
-    Ok(())
+    push_counts(text, allowed, refused, moot)
 }
 
 /// Adds how a record was answered.
-fn push_verdict(text: &mut Vec<u8>, answer: &Answer) -> Result<(), AllocError>
+pub(crate) fn push_verdict(text: &mut Vec<u8>, answer: &Answer) -> Result<(), AllocError>
     ensures { OnOk result (text.new.items ≡ text.old.items ++ verdict_text (verdict_of answer.now)) }
 {
     match answer {
@@ -189,7 +208,7 @@ fn is_moot(answer: &Answer) -> bool
 
 /// How many answers there are of each kind.
 #[derive(Clone, Copy, Debug)]
-struct Totals {
+pub(crate) struct Totals {
     all: u64,
     allowed: u64,
     refused: u64,
@@ -197,7 +216,7 @@ struct Totals {
 }
 
 impl Totals {
-    fn of(answers: &[Answer]) -> Totals
+    pub(crate) fn of(answers: &[Answer]) -> Totals
         ensures all { result.all ≡ length answers.now }
         ensures allowed { result.allowed ≡ count_by (λ answer. words.is_allowed (verdict_of answer)) answers.now }
         ensures refused { result.refused ≡ count_by (λ answer. words.is_refused (verdict_of answer)) answers.now }
@@ -216,5 +235,18 @@ impl Totals {
             ++ total_text self.now.all self.now.allowed self.now.refused self.now.moot) }
     {
         push_total(text, self.all, self.allowed, self.refused, self.moot)
+    }
+
+    /// Adds the last line of the version of a number.
+    pub(crate) fn push_under(&self, text: &mut Vec<u8>, abi: u64) -> Result<(), AllocError>
+        ensures { OnOk result (text.new.items ≡ text.old.items
+            ++ (codes "total " ++ decimal self.now.all ++ codes " abi " ++ decimal abi
+            ++ counts_text self.now.allowed self.now.refused self.now.moot)) }
+    {
+        text.extend_from_slice(b"total ")?;
+        push_number(text, self.all)?;
+        text.extend_from_slice(b" abi ")?;
+        push_number(text, abi)?;
+        push_counts(text, self.allowed, self.refused, self.moot)
     }
 }

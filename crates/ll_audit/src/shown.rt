@@ -5,12 +5,15 @@
 pub struct Shown {
     /// Whether behind the line of a record that is refused or moot its explanation stands.
     pub explanations: bool,
-    /// Whether the lines of refused records alone are shown.
+    /// Whether the lines of records alone are shown that some version refuses.
     pub refused_alone: bool,
+    /// Whether the lines of records alone are shown whose answer isn't the same under all versions.
+    pub differing_alone: bool,
 }
 
 /// All records are shown, without explanations.
 pub const ALL_LINES: Shown = Shown {
     explanations: false,
     refused_alone: false,
+    differing_alone: false,
 };

@@ -2,6 +2,7 @@
 
 use crate::command::{Plan, plan_of};
 use crate::lines::Failure;
+use crate::misuse::Misuse;
 use crate::names::op_name;
 use crate::outcome::Outcome;
 use crate::report::{push_head, push_refusal, push_total};
@@ -87,7 +88,7 @@ fn words_of_a_run(rt: HostRuntime) -> Result<(), Fail> {
     let Plan::Run(run) = plan_of(rt.alloc(), words.as_slice()) else {
         return Err(Fail::new("no run"));
     };
-    assert_eq!(rt; run.options.abi.number(), 4);
+    assert_eq!(rt; run.options.abis, AbiRange::only(Abi::V4));
     assert_eq!(rt; run.workers, 8);
     assert_eq!(rt; run.grain, 64);
     assert_eq!(rt; run.tree, "t");
@@ -100,6 +101,7 @@ fn outcome_of(plan: Plan<'_>) -> Option<Outcome<'_>> {
         Plan::Run(_) => None,
         Plan::Text(text) => Some(Outcome::Text(text)),
         Plan::Usage(error) => Some(Outcome::Usage(error)),
+        Plan::Misuse(why) => Some(Outcome::Misuse(why)),
         Plan::Memory => Some(Outcome::Failure(Failure::Memory)),
     }
 }
@@ -126,6 +128,47 @@ fn words_of_no_run(rt: HostRuntime) -> Result<(), Fail> {
         assert_eq!(rt; ending, Ending { status, told: true });
         assert_eq!(rt; out.is_empty(), status == 2);
         assert_eq!(rt; err.is_empty(), status == 0);
+    }
+    Ok(())
+}
+
+/// What the line says that names no versions.
+const NO_VERSIONS: &str = "landaudit: --abi takes a version of Landlock's interface, 1 to 5, \
+    or a range of them, the older first: 2 or 2-5\n";
+
+const BOTH_INPUTS: &str = "landaudit: TREE and TRACE can't both be standard input\n";
+
+#[test]
+fn words_that_are_misused(rt: HostRuntime) -> Result<(), Fail> {
+    let cases = [
+        ("0-3", "t", Misuse::Versions, NO_VERSIONS),
+        ("5-1", "t", Misuse::Versions, NO_VERSIONS),
+        ("1-6", "t", Misuse::Versions, NO_VERSIONS),
+        ("1-", "t", Misuse::Versions, NO_VERSIONS),
+        ("-", "t", Misuse::Versions, NO_VERSIONS),
+        ("a-b", "t", Misuse::Versions, NO_VERSIONS),
+        ("6", "-", Misuse::Versions, NO_VERSIONS),
+        ("1-5", "-", Misuse::StandardInput, BOTH_INPUTS),
+    ];
+    for (versions, tree, misuse, line) in cases {
+        let words = ["landaudit", "--abi", versions, tree, "-"];
+        let words = owned(rt.alloc(), words.as_slice())?;
+        let Plan::Misuse(why) = plan_of(rt.alloc(), words.as_slice()) else {
+            return Err(Fail::new("no misuse"));
+        };
+        assert_eq!(rt; why, misuse);
+        let mut out = Vec::new(rt.alloc());
+        let mut err = Vec::new(rt.alloc());
+        let ending = Outcome::Misuse(why).write_to(&mut out, &mut err);
+        assert_eq!(rt;
+            ending,
+            Ending {
+                status: 2,
+                told: true
+            }
+        );
+        assert!(rt; out.is_empty());
+        assert_eq!(rt; err.as_slice(), line.as_bytes());
     }
     Ok(())
 }
@@ -439,7 +482,7 @@ fn report_at_3<R: AllocGlobal + Threads + Wait + Sync>(
     effort: Effort,
 ) -> Result<Report, Fault> {
     let options = Options {
-        abi: Abi::V3,
+        abis: AbiRange::only(Abi::V3),
         effort,
         shown: ALL_LINES,
     };
@@ -460,6 +503,109 @@ fn rulesets_as_recorded(rt: HostRuntime) -> Result<(), Fail> {
 fn rulesets_at_best_effort(rt: HostRuntime) -> Result<(), Fail> {
     let report = report_at_3(&rt, Effort::Best)?;
     assert_eq!(rt; report.bytes.as_slice(), AT_BEST_EFFORT.as_bytes());
+    assert_eq!(rt; report.refused, 1);
+    Ok(())
+}
+
+/// A program that handles `truncate`, which came with ABI 3: before it its ruleset can't be made.
+const RIGHTS_OF_3: &str = "\
+{\"op\":\"start\",\"pid\":10,\"nnp\":true}
+{\"op\":\"create\",\"pid\":10,\"rs\":3,\"fs\":[\"read_file\",\"truncate\"]}
+{\"op\":\"restrict\",\"pid\":10,\"rs\":3}
+{\"op\":\"truncate\",\"pid\":10,\"path\":\"/a/f\"}
+{\"op\":\"exit\",\"pid\":10}
+";
+
+const OVER_1_TO_4: &str = "\
+1 10 start allowed
+2 10 create 1-2 refused EINVAL - 3-4 allowed
+3 10 restrict 1-2 refused EBADF - 3-4 allowed
+4 10 truncate 1-2 allowed 3-4 refused EACCES 1
+5 10 exit allowed
+total 5 abi 1 allowed 3 refused 2 moot 0
+total 5 abi 2 allowed 3 refused 2 moot 0
+total 5 abi 3 allowed 4 refused 1 moot 0
+total 5 abi 4 allowed 4 refused 1 moot 0
+";
+
+const DIFFERING_EXPLAINED: &str = "\
+2 10 create 1-2 refused EINVAL - 3-4 allowed
+    abi 1:
+    ABI 1 does not know truncate
+    abi 2:
+    ABI 2 does not know truncate
+3 10 restrict 1-2 refused EBADF - 3-4 allowed
+    abi 1-2:
+    ruleset 3 is not held
+4 10 truncate 1-2 allowed 3-4 refused EACCES 1
+    abi 3-4:
+    layer 1 (line 3): truncate on /a/f
+total 5 abi 1 allowed 3 refused 2 moot 0
+total 5 abi 2 allowed 3 refused 2 moot 0
+total 5 abi 3 allowed 4 refused 1 moot 0
+total 5 abi 4 allowed 4 refused 1 moot 0
+";
+
+const REFUSED_AT_BEST_EFFORT: &str = "\
+4 10 truncate 2 allowed 3 refused EACCES 1
+total 5 abi 2 allowed 5 refused 0 moot 0
+total 5 abi 3 allowed 4 refused 1 moot 0
+";
+
+/// The report over a range.
+fn report_over<R: AllocGlobal + Threads + Wait + Sync>(
+    rt: &R,
+    oldest: Abi,
+    newest: Abi,
+    effort: Effort,
+    shown: Shown,
+) -> Result<Report, Fault> {
+    let options = Options {
+        abis: AbiRange { oldest, newest },
+        effort,
+        shown,
+    };
+    let (tree, trace) = (TREE.as_bytes(), RIGHTS_OF_3.as_bytes());
+    audit_with(
+        rt,
+        rt.alloc(),
+        tree,
+        trace,
+        &options,
+        2,
+        Cut::Grain(0),
+        &Idle,
+    )
+}
+
+#[test]
+fn answers_of_a_range(rt: HostRuntime) -> Result<(), Fail> {
+    let report = report_over(&rt, Abi::V1, Abi::V4, Effort::AsRecorded, ALL_LINES)?;
+    assert_eq!(rt; report.bytes.as_slice(), OVER_1_TO_4.as_bytes());
+    assert_eq!(rt; report.refused, 3);
+    Ok(())
+}
+
+#[test]
+fn differing_records_alone(rt: HostRuntime) -> Result<(), Fail> {
+    let shown = Shown {
+        explanations: true,
+        differing_alone: true,
+        ..ALL_LINES
+    };
+    let report = report_over(&rt, Abi::V1, Abi::V4, Effort::AsRecorded, shown)?;
+    assert_eq!(rt; report.bytes.as_slice(), DIFFERING_EXPLAINED.as_bytes());
+    Ok(())
+}
+
+#[test]
+fn refused_under_some_version(rt: HostRuntime) -> Result<(), Fail> {
+    let shown = Shown {
+        refused_alone: true,
+        ..ALL_LINES
+    };
+    let report = report_over(&rt, Abi::V2, Abi::V3, Effort::Best, shown)?;
+    assert_eq!(rt; report.bytes.as_slice(), REFUSED_AT_BEST_EFFORT.as_bytes());
     assert_eq!(rt; report.refused, 1);
     Ok(())
 }

@@ -8,13 +8,13 @@ use Rattle.ll_audit.proofs.command.command.Goals as goal
 pub returns : goal.returns
 unfolding spec.command
 returns c =
-    let abi : rule_of c.required.result ≡ spec.required (spec.number_option (codes "abi") 1 5) =
-    ap rule_of c.required.ensures ∙ ap spec.required c.number_option-abi.ensures.rule in
+    let abi : rule_of c.required.result ≡ spec.required (spec.text_option (codes "abi")) =
+    ap rule_of c.required.ensures ∙ ap spec.required c.text_option-abi.ensures.rule in
     let workers : rule_of c.default_value.result ≡ spec.with_default (codes "1") (spec.number_option (codes "workers") 1 64) =
     ap rule_of c.default_value.ensures ∙ ap (spec.with_default (codes "1")) c.number_option-workers.ensures.rule in
     let grain : rule_of c.default_value-2.result ≡ spec.with_default (codes "64") (spec.number_option (codes "grain") 0 18446744073709551615) =
     ap rule_of c.default_value-2.ensures ∙ ap (spec.with_default (codes "64")) c.number_option-grain.ensures.rule in
-    let abi_local : c.required.result.global ≡ false = ap (λ a. a.global) c.required.ensures ∙ c.number_option-abi.ensures.local in
+    let abi_local : c.required.result.global ≡ false = ap (λ a. a.global) c.required.ensures ∙ c.text_option-abi.ensures.local in
     let workers_local : c.default_value.result.global ≡ false = ap (λ a. a.global) c.default_value.ensures ∙ c.number_option-workers.ensures.local in
     let grain_local : c.default_value-2.result.global ≡ false = ap (λ a. a.global) c.default_value-2.ensures ∙ c.number_option-grain.ensures.local in
     let start : app_of c.after_help.result ≡ spec.with_version (new_app (codes "landaudit")) =
@@ -23,12 +23,13 @@ returns c =
     let options = c.in_ok-arg-3.ensures.shape grain_local
     ∙ ap₂ with_rule (c.in_ok-arg-2.ensures.shape workers_local
     ∙ ap₂ with_rule (c.in_ok-arg.ensures.shape abi_local ∙ ap₂ with_rule start abi) workers) grain in
-    let flags = c.in_ok-arg-6.ensures.shape c.flag_option-3.ensures.local
+    let flags = c.in_ok-arg-7.ensures.shape c.flag_option-4.ensures.local
+    ∙ ap₂ with_rule (c.in_ok-arg-6.ensures.shape c.flag_option-3.ensures.local
     ∙ ap₂ with_rule (c.in_ok-arg-5.ensures.shape c.flag_option-2.ensures.local
     ∙ ap₂ with_rule (c.in_ok-arg-4.ensures.shape c.flag_option.ensures.local
-    ∙ ap₂ with_rule options c.flag_option.ensures.rule) c.flag_option-2.ensures.rule) c.flag_option-3.ensures.rule in
-    let tree = c.in_ok-arg-7.ensures.shape c.file_argument.ensures.local
+    ∙ ap₂ with_rule options c.flag_option.ensures.rule) c.flag_option-2.ensures.rule) c.flag_option-3.ensures.rule) c.flag_option-4.ensures.rule in
+    let tree = c.in_ok-arg-8.ensures.shape c.file_argument.ensures.local
     ∙ ap₂ with_rule flags c.file_argument.ensures.rule in
-    IfOk-weaker c.arg-8.result _ _
+    IfOk-weaker c.arg-9.result _ _
     (λ made h. h.shape c.file_argument-2.ensures.local ∙ ap₂ with_rule tree c.file_argument-2.ensures.rule)
-    c.arg-8.ensures
+    c.arg-9.ensures

@@ -1,7 +1,5 @@
-use Rattle.std.proofs.Common.{sym, refl, ap, ◌∙◌}
-use Rattle.std.specs.Prelude.{is_some}
+use Rattle.std.proofs.Common.{sym, refl}
 use Rattle.ll_trails.proofs.AtPlaces.{begins_at}
-use Rattle.ll_audit.specs.ShownSoFar.{AreAt}
 use Rattle.ll_audit.proofs.blocks.Blocks.new.Goals as goal
 use Rattle.ll_audit.proofs.blocks.Blocks.new.Goals.{then-shown, else-shown}
 

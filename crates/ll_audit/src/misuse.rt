@@ -1,0 +1,22 @@
+//! Words of the command line that are each as their rule has it, and are wrong for all that.
+
+/// What is wrong with such words.
+#[derive(Clone, Copy, Debug, PartialEq, Eq)]
+pub(crate) enum Misuse {
+    /// The text that names the versions names no range of them.
+    Versions,
+    /// Both files are standard input.
+    StandardInput,
+}
+
+impl Misuse {
+    /// The text for standard error.
+    pub(crate) fn text(self) -> &'static str {
+        match self {
+            Misuse::Versions => {
+                "--abi takes a version of Landlock's interface, 1 to 5, or a range of them, the older first: 2 or 2-5"
+            }
+            Misuse::StandardInput => "TREE and TRACE can't both be standard input",
+        }
+    }
+}
