@@ -83,6 +83,7 @@ class Made(unittest.TestCase):
 
     def test_marks_that_mdoc_would_read(self) -> None:
         self.assertEqual(self.made("`.` and `Op` and `#!`."), [".Cm \\&.", "and", ".Cm \\&Op", "and", ".Cm #! ."])
+        self.assertEqual(self.made("`a:`, `b c:`."), [".Cm a:\\& ,", '.Cm "b c:\\&" .'])
 
     def test_sentences_begin_lines(self) -> None:
         self.assertEqual(self.made("**A b.** C d. E."), ['.Sy "A b" .', "C d.", "E."])
