@@ -14,15 +14,18 @@ from . import options
 from .places import MAN, TOP
 
 DOCUMENTS = [TOP / "README.md", TOP / "CONTRIBUTING.md", *(TOP / "docs").glob("*.md"), *MAN.iterdir()]
-#: A command behind a prompt; where its output goes is no part of it.
-SHOWN = re.compile(r"\$ (landaudit(?:-record)? [^\n|>]*)")
+#: What stands behind a prompt: one command, or a pipe of several.
+PROMPTED = re.compile(r"\$ ([^\n]*)")
+#: A command of a pipe; where its output goes is no part of it.
+SHOWN = re.compile(r"(?:^|\| )(landaudit(?:-record)? [^|>]*)")
 
 
 def commands() -> Iterator[tuple[Path, list[str]]]:
     """Each command, with the document that shows it."""
     for document in DOCUMENTS:
-        for shown in SHOWN.findall(document.read_text(encoding="utf-8")):
-            yield document, shlex.split(shown)
+        for line in PROMPTED.findall(document.read_text(encoding="utf-8")):
+            for shown in SHOWN.findall(line):
+                yield document, shlex.split(shown)
 
 
 class Commands(unittest.TestCase):
@@ -37,7 +40,8 @@ class Commands(unittest.TestCase):
             if program == "landaudit":
                 with self.subTest(f"{document.name}: {shlex.join(words)}"):
                     named = {word.strip("[]") for word in words if word.strip("[]").startswith("-")}
-                    self.assertLessEqual(named, options.of_landaudit())
+                    # A dash alone is standard input.
+                    self.assertLessEqual(named - {"-"}, options.of_landaudit())
 
     def test_there_are_some(self) -> None:
         self.assertGreater(len(list(commands())), 10)

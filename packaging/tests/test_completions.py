@@ -15,6 +15,10 @@ from pathlib import Path
 from . import options
 from .places import COMPLETIONS
 
+#: The versions of Landlock's interface, and the ranges of them.
+ABIS = {str(abi) for abi in range(1, 6)}
+RANGES = {f"{oldest}-{newest}" for oldest in range(1, 6) for newest in range(oldest + 1, 6)}
+
 BASH = """
 source "$1/landaudit.bash"
 source "$1/landaudit-record.bash"
@@ -95,10 +99,10 @@ class Asked:
         raise NotImplementedError
 
     def test_the_options_of_landaudit(self) -> None:
-        self.assert_offers("landaudit -", options.of_landaudit())
+        self.assert_offers("landaudit -", options.of_landaudit() | {"-"})
 
-    def test_the_abis_of_landaudit(self) -> None:
-        self.assert_offers("landaudit --abi ", {"1", "2", "3", "4", "5"})
+    def test_the_abis_of_landaudit_and_ranges_of_them(self) -> None:
+        self.assert_offers("landaudit --abi ", ABIS | RANGES)
 
     def test_the_subcommands(self) -> None:
         self.assert_offers("landaudit-record ", set(options.subcommands()))
@@ -115,11 +119,10 @@ class Asked:
 
     def test_the_abis_of_landaudit_record(self) -> None:
         for words in ("suggest rec", "policy p.toml rec", "compare rec"):
-            self.assert_offers(f"landaudit-record {words} --abi ", {"1", "2", "3", "4", "5"})
+            self.assert_offers(f"landaudit-record {words} --abi ", ABIS)
 
     def test_the_ranges_of_abis_that_an_audit_takes(self) -> None:
-        ranges = {f"{oldest}-{newest}" for oldest in range(1, 6) for newest in range(oldest + 1, 6)}
-        self.assert_offers("landaudit-record audit rec --abi ", {"1", "2", "3", "4", "5"} | ranges)
+        self.assert_offers("landaudit-record audit rec --abi ", ABIS | RANGES)
 
 
 @unittest.skipUnless(shutil.which("bash"), "bash is not installed")
@@ -131,7 +134,7 @@ class OfBash(Asked, unittest.TestCase):
             self.assertEqual(offered, wanted)
 
     def test_an_option_with_a_sign(self) -> None:
-        self.assertEqual(bash("landaudit --abi = 4"), {"4"})
+        self.assertEqual(bash("landaudit --abi = 4"), {"4", "4-5"})
 
     def test_a_command_behind_the_dashes(self) -> None:
         self.assertIn("bash", bash("landaudit-record run rec -- bas"))
