@@ -2,7 +2,7 @@
 #![tactic(auto)]
 
 use anyhow::{Context, Result};
-use ll_audit::{ALL_LINES, Cut, Effort, Idle, Options, Shown, audit_with};
+use ll_audit::{ALL_LINES, AbiRange, Cut, Effort, Idle, Options, Shown, audit_with};
 use ll_rights::Abi;
 use serde_json::Value;
 use std::fs;
@@ -11,17 +11,36 @@ use std::rt::Files;
 use std::sync::Wait;
 use std::thread::Threads;
 
-/// An example: the names of its files, the version of the interface to audit it at, and how its rulesets
+/// An example: the names of its files, the versions of the interface to audit it at, and how its rulesets
 /// are taken.
 #[derive(Drop)]
 struct Example<'a> {
     name: &'a str,
-    abi: Abi,
+    abis: AbiRange,
     effort: Effort,
     tree: &'a str,
     trace: &'a str,
     report: &'a str,
     explained: &'a str,
+}
+
+/// A version of the interface, by its number as a text.
+fn abi_of(text: &str) -> Option<Abi> {
+    Abi::new(text.parse().ok()?)
+}
+
+/// The versions that the member `abi` of an example stands for: a number is one, a text such as `1-5` a range.
+fn abis_of(value: &Value) -> Option<AbiRange> {
+    match value {
+        Value::String(text) => {
+            let (oldest, newest) = text.split_once('-')?;
+            Some(AbiRange {
+                oldest: abi_of(oldest)?,
+                newest: abi_of(newest)?,
+            })
+        }
+        _ => Some(AbiRange::only(Abi::new(value.as_u64()?)?)),
+    }
 }
 
 /// How the rulesets of an example are taken: at best effort where its member `best_effort` is true.
@@ -36,7 +55,7 @@ fn effort_of(value: &Value) -> Effort {
 fn example_of(value: &Value) -> Option<Example<'_>> {
     Some(Example {
         name: value.get("name")?.as_str()?,
-        abi: Abi::new(value.get("abi")?.as_u64()?)?,
+        abis: abis_of(value.get("abi")?)?,
         effort: effort_of(value),
         tree: value.get("tree")?.as_str()?,
         trace: value.get("trace")?.as_str()?,
@@ -73,7 +92,7 @@ fn is_documented<R: Files + AllocGlobal + Threads + Wait + Sync>(
     let plain = fs::read(rt, example.report)?;
     let explained = fs::read(rt, example.explained)?;
     let of_all_lines = Options {
-        abi: example.abi,
+        abis: example.abis,
         effort: example.effort,
         shown: ALL_LINES,
     };
@@ -81,6 +100,7 @@ fn is_documented<R: Files + AllocGlobal + Threads + Wait + Sync>(
         shown: Shown {
             explanations: true,
             refused_alone: false,
+            differing_alone: false,
         },
         ..of_all_lines
     };
