@@ -19,6 +19,7 @@ from .jsonl import Record
 from .policies import Policy
 from .problems import Problem
 from .processes import program_run
+from .rights import FS, NET
 from .trees import LinkLoop, Tree
 
 MOST_PROGRAMS_SHOWN = 8
@@ -152,6 +153,21 @@ def _of_layer(policy: Policy, layer: FittedLayer, tree: Tree, rs: int) -> Iterat
             yield {"op": "add_port", "rs": rs, "port": port, "net": port_rule.on_port, "policy": of_rule}
     yield {"op": "restrict", "rs": rs, "policy": origin}
     yield {"op": "close_rs", "rs": rs, "policy": origin}
+
+
+def at_best_effort(inserted: Iterable[Record], abi: int) -> Iterator[Record]:
+    """A policy's records as landaudit judges them at best effort: without the rights that an ABI lacks.
+
+    A rule that has none left is left out.
+    """
+    for record in inserted:
+        known = {
+            member: [right for right in record[member] if right in family.known(abi)]
+            for member, family in (("fs", FS), ("net", NET))
+            if member in record
+        }
+        if any(known.values()) or record["op"] not in ("add_path", "add_port"):
+            yield {**record, **known}
 
 
 def write(trace: Path, places: Plan, inserted: list[Record], out: BinaryIO) -> None:

@@ -3,6 +3,7 @@
 from __future__ import annotations
 
 import os
+import re
 import shutil
 import subprocess
 import sys
@@ -11,9 +12,15 @@ from dataclasses import dataclass
 from pathlib import Path
 
 from .problems import UNREADABLE, WANTING, Problem
+from .wording import span
 
 #: Lines of a report that begin with it explain the record's line before them.
 EXPLAINS = "    "
+_ABIS = r"([0-9]+)(?:-([0-9]+))?"
+#: What some ABIs of a range answer, where not all of them answer alike.
+_ANSWERED = re.compile(rf"{_ABIS} (allowed|moot|refused \S+ \S+)")
+#: Before lines that explain the answer of some ABIs of a range, where not all of them have the same lines.
+_HEADING = re.compile(rf"abi {_ABIS}:")
 BUILT = Path(__file__).resolve().parents[2] / "crates" / "landaudit" / "out" / "landaudit"
 
 
@@ -52,13 +59,13 @@ def find(named: str | None) -> Path:
     return Path(found)
 
 
-def audit(program: Path, abi: int, tree: Path, trace: Path, report: Path, *, best_effort: bool) -> int:
-    """Runs landaudit, writes its report with explanations to a file and gives its status, 0 or 1.
+def audit(program: Path, abis: range, tree: Path, trace: Path, report: Path, *, best_effort: bool) -> int:
+    """Runs landaudit once for all ABIs of a range, and writes its report with explanations to a file.
 
-    At best effort rulesets lose the rights that the ABI lacks; else they are judged as they were recorded. A fault of
-    the run is a Problem.
+    The status is 0, or 1 if some ABI refuses something. At best effort rulesets lose the rights that an ABI lacks; else
+    they are judged as they were recorded. A fault of the run is a Problem.
     """
-    command = [str(program), "--abi", str(abi), *(["--best-effort"] if best_effort else []), "--explain"]
+    command = [str(program), "--abi", span(abis), *(["--best-effort"] if best_effort else []), "--explain"]
     command += [str(tree), str(trace)]
     with open(report, "wb") as out:
         try:
@@ -72,13 +79,12 @@ def audit(program: Path, abi: int, tree: Path, trace: Path, report: Path, *, bes
     raise Problem(f"{said[0]} (tree {tree}, trace {trace})", status)
 
 
-def answers(report: Path) -> Iterator[Answer]:
-    """The answers of a report, in its order, without the totals."""
+def answers(report: Path, abi: int | None = None) -> Iterator[Answer]:
+    """The answers of a report at an ABI, in its order, without the totals; a report on one ABI needs none named."""
     with open(report, encoding="utf-8") as lines:
         for line, explanation in _explained(lines):
-            words = line.split()
-            if words and words[0] != "total":
-                yield _answer(words, explanation)
+            if line and not line.startswith("total "):
+                yield _answer(line, explanation, abi)
 
 
 def _explained(lines: Iterable[str]) -> Iterator[tuple[str, tuple[str, ...]]]:
@@ -93,8 +99,38 @@ def _explained(lines: Iterable[str]) -> Iterator[tuple[str, tuple[str, ...]]]:
     yield alone, tuple(explanation)
 
 
-def _answer(words: list[str], explanation: tuple[str, ...]) -> Answer:
-    line, pid, op, verdict, *rest = words
+def _answer(text: str, explanation: tuple[str, ...], abi: int | None) -> Answer:
+    """The answer of a line at an ABI, with those of the lines behind it that explain this answer."""
+    line, pid, op, answered = text.rstrip("\n").split(" ", 3)
+    verdict, *rest = _answered(answered, abi, text).split(" ")
     error = rest[0] if rest else None
     layers = tuple(int(layer) for layer in rest[1].split(",")) if rest and rest[1] != "-" else ()
-    return Answer(int(line), int(pid), op, verdict, error, layers, explanation)
+    return Answer(int(line), int(pid), op, verdict, error, layers, tuple(_explaining(explanation, abi)))
+
+
+def _answered(text: str, abi: int | None, line: str) -> str:
+    """What an ABI answers: where ABIs differ, each answer stands behind those that give it."""
+    if not text[0].isdigit():
+        return text
+    found = next((found for found in _ANSWERED.finditer(text) if _is_among(abi, found)), None)
+    if found is None:
+        at = "without an ABI" if abi is None else f"at ABI {abi}"
+        raise Problem(f"landaudit's answer {line.strip()!r} can't be read {at}: use landaudit and landaudit-record of "
+                      "one version")
+    return found[3]
+
+
+def _explaining(explanation: Iterable[str], abi: int | None) -> Iterator[str]:
+    """The lines that explain what an ABI answers: those behind no heading, or behind one that it is among."""
+    meant = True
+    for line in explanation:
+        heading = _HEADING.fullmatch(line)
+        if heading is not None:
+            meant = _is_among(abi, heading)
+        elif meant:
+            yield line
+
+
+def _is_among(abi: int | None, found: re.Match[str]) -> bool:
+    """Whether an ABI is one of those that a text names."""
+    return abi is not None and int(found[1]) <= abi <= int(found[2] or found[1])

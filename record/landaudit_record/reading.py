@@ -15,10 +15,13 @@ from .processes import Process, Processes, shown
 Judged = tuple[Record, Answer, Process]
 
 
-def judged(trace: Path, report: Path) -> Iterator[Judged]:
-    """Each record, its answer, and its process as it is before the record. A `start` has no process yet: a new one."""
+def judged(trace: Path, report: Path, abi: int | None = None) -> Iterator[Judged]:
+    """Each record, its answer, and its process as it is before the record. A `start` has no process yet: a new one.
+
+    Of a report over several ABIs, the answers are those of the one that is named.
+    """
     processes = Processes()
-    for found, answer in zip_longest(jsonl.numbered(trace), answers(report)):
+    for found, answer in zip_longest(jsonl.numbered(trace), answers(report, abi)):
         if found is None or answer is None or (found[0], found[1]["pid"]) != (answer.line, answer.pid):
             raise Problem(f"{report} is no report on {trace}: audit it again")
         record = found[1]

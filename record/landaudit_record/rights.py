@@ -12,6 +12,11 @@ Rights = frozenset[str]
 NONE: Rights = frozenset()
 
 
+def alone(abi: int) -> range:
+    """The range that is one ABI."""
+    return range(abi, abi + 1)
+
+
 @dataclass(frozen=True)
 class Family:
     """The rights for files, or those for the network.

@@ -75,6 +75,8 @@ def summarize(calls: Iterable[Judged], abi: int, unsaid: Path) -> Summary:
     rules: dict[str, str] = {}
     made: set[str] = set()
     for record, answer, process in calls:
+        if _is_left_out(record, answer):
+            continue
         summary.verdicts[answer.verdict] += 1
         made.update(objects_made(record))
         if record["op"] in PATH_CALLS and record.get("kernel") in ASKED_LANDLOCK:
@@ -94,6 +96,11 @@ def summarize(calls: Iterable[Judged], abi: int, unsaid: Path) -> Summary:
         _warn(summary, _many_moot(summary))
     summary.unsaid = _unsaid(unsaid)
     return summary
+
+
+def _is_left_out(record: Record, answer: Answer) -> bool:
+    """Whether a record is a rule of the policy that the ABI has no right of: at this ABI the policy is without it."""
+    return of_policy(record) is not None and answer.explanation == (explanations.LEFT_OUT,)
 
 
 def _refused(summary: Summary, record: Record, answer: Answer, process: Process) -> None:

@@ -3,11 +3,13 @@
 from __future__ import annotations
 
 import json
-from collections.abc import Iterable, Sequence
+from collections.abc import Iterable, Iterator, Mapping, Sequence
+from itertools import groupby
 from pathlib import Path
 from typing import Any
 
 from landaudit_record.jsonl import Record
+from landaudit_record.wording import span
 
 PID = 10
 
@@ -38,6 +40,23 @@ def failed(error: str, condition: str) -> str:
 def moot(reason: str) -> str:
     """An answer by which the policy is not asked."""
     return f"moot\n    {reason}"
+
+
+def over_range(answers: Mapping[int, str]) -> str:
+    """What the ABIs of a range answer to a record, as one report has it: neighbours that say the same say it once."""
+    parts = {abi: answer.partition("\n") for abi, answer in answers.items()}
+    words = list(_together({abi: said for abi, (said, _, _) in parts.items()}))
+    lines = list(_together({abi: explanation for abi, (_, _, explanation) in parts.items()}))
+    answered = words[0][1] if len(words) == 1 else " ".join(f"{abis} {said}" for abis, said in words)
+    headed = [f"    abi {abis}:\n{said}" if len(lines) > 1 else said for abis, said in lines if said]
+    return "\n".join([answered, *headed])
+
+
+def _together(texts: Mapping[int, str]) -> Iterator[tuple[str, str]]:
+    """The texts of neighbouring ABIs, once for those that have the same."""
+    for text, abis in groupby(sorted(texts), key=texts.__getitem__):
+        some = list(abis)
+        yield span(range(some[0], some[-1] + 1)), text
 
 
 def write_report(path: Path, trace: Sequence[Record], answers: Sequence[str]) -> Path:

@@ -13,7 +13,7 @@ from landaudit_record.fitting import fit
 from landaudit_record.jsonl import Record
 from landaudit_record.policies import Access, Layer, PathRule, Policy, PortRule
 from landaudit_record.problems import Problem
-from landaudit_record.rights import FS
+from landaudit_record.rights import FS, NET, NEWEST_ABI, OLDEST_ABI
 from landaudit_record.trees import Tree
 
 from .recorded import write_lines
@@ -22,6 +22,7 @@ TREE = Tree(
     {"/": "dir", "/usr": "dir", "/usr/ls": "reg", "/usr/dash": "reg", "/bin": "sym", "/sh": "sym", "/loop": "sym"},
     {"/bin": "usr", "/sh": "/bin/dash", "/loop": "loop"},
 )
+ABIS = range(OLDEST_ABI, NEWEST_ABI + 1)
 RUN = {"op": "exec", "pid": 10, "path": "/usr/ls", "call": 5, "kernel": "ok"}
 START = {"op": "start", "pid": 10, "call": 5}
 
@@ -140,6 +141,25 @@ class Applying(unittest.TestCase):
         tried = policy("/usr", "/usr/ls", fs=everything, allowed=reading)
         added = [record["fs"] for record in applying.records(tried, fit(tried, 5)[0], TREE, 1) if "path" in record]
         self.assertEqual(added, [["read_file", "read_dir"], ["read_file"]])
+
+    def test_best_effort_makes_an_older_abis_records_of_a_newer_ones(self) -> None:
+        everything, ports = Access(grouped=FS.groups["all"]), Access(grouped=NET.groups["all"])
+        writing, renewed = Access(grouped=FS.groups["write"]), access("truncate", "refer")
+        paths = PathRule("path_beneath 1", writing, ("/usr", "/usr/ls", "/none"))
+        newer = PathRule("path_beneath 2", renewed, ("/usr",))
+        tried = Policy(Path("P.toml"), (Layer(1, everything, ports, (paths, newer), (PortRule("p", ports, (443,)),)),))
+        for abi in ABIS:
+            with self.subTest(abi):
+                fitted = applying.records(tried, fit(tried, abi)[0], TREE, 1)
+                newest = applying.records(tried, fit(tried, NEWEST_ABI)[0], TREE, 1)
+                self.assertEqual(list(applying.at_best_effort(newest, abi)), fitted)
+
+    def test_best_effort_keeps_the_records_of_a_layer_that_an_abi_has_not(self) -> None:
+        tried = policy("/usr", fs=access("truncate"), allowed=access("truncate"))
+        newest = applying.records(tried, fit(tried, NEWEST_ABI)[0], TREE, 1)
+        found = [record["op"] for record in applying.at_best_effort(newest, 2)]
+        self.assertEqual(found, ["nnp", "create", "restrict", "close_rs"])
+        self.assertEqual([one["op"] for one in applying.records(tried, fit(tried, 2)[0], TREE, 1)], ["nnp"])
 
     def test_a_parent_that_is_a_loop(self) -> None:
         looped = policy("/loop")

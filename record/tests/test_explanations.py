@@ -10,7 +10,7 @@ from collections.abc import Callable
 from functools import partial
 from pathlib import Path
 
-from landaudit_record import explanations, landaudit
+from landaudit_record import explanations, landaudit, options
 from landaudit_record.explanations import Closed, Gained, Kept, Missing, Mounting, Objection, Reason
 from landaudit_record.jsonl import Record
 from landaudit_record.landaudit import Answer
@@ -287,9 +287,10 @@ class WorkedExamples(unittest.TestCase):
             self.skipTest("the examples have no explained reports")
         read: Counter[str] = Counter()
         for entry in explained:
-            for record, found, _ in judged(EXAMPLES / entry["trace"], EXAMPLES / entry["explained"]):
-                with self.subTest(f"{entry['name']} line {found.line}"):
-                    read[self.read(record, found)] += 1
+            for abi in options.abis(str(entry["abi"])):
+                for record, found, _ in judged(EXAMPLES / entry["trace"], EXAMPLES / entry["explained"], abi):
+                    with self.subTest(f"{entry['name']} at ABI {abi}, line {found.line}"):
+                        read[self.read(record, found)] += 1
         self.assertLess({"objections", "condition", "reason"}, set(read))
 
     def read(self, record: Record, found: Answer) -> str:

@@ -207,6 +207,11 @@ class Moots(unittest.TestCase):
         self.assertEqual(self.reasons(*rules), {said: {"/a/n": 1, "port 443": 1, "port 80": 1}})
         self.assertEqual(summed([NNP, *LAYER, *rules]).warnings, {})
 
+    def test_a_rule_of_the_policy_that_is_left_out_is_not_there(self) -> None:
+        left_out = (rule("/a", "truncate"), moot("left out, as this ABI supports none of the rule's rights"))
+        found = summed([NNP, *LAYER, left_out])
+        self.assertEqual((found.records, found.moot, found.warnings), (4, {}, {}))
+
     def test_what_failed_by_itself_says_so(self) -> None:
         missing = {**READ, "path": "/a/~new~", "shown": "/a/none", "kernel": "ENOENT"}
         why = "the call failed in the recording too: ENOENT"

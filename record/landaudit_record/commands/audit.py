@@ -13,9 +13,11 @@ from pathlib import Path
 from .. import applying, by_abi, finished, fitting, landaudit, policies, summary_text, trees
 from ..applying import Plan
 from ..finished import Finished
+from ..jsonl import Record
 from ..options import add_abis, add_as_recorded, add_landaudit, add_program, note
 from ..policies import Policy
 from ..reading import judged
+from ..rights import alone
 from ..rights import NEWEST_ABI
 from ..summary import Summary, as_data, summarize
 from ..trees import Tree
@@ -42,24 +44,30 @@ def add_arguments(parser: argparse.ArgumentParser) -> None:
 
 
 def run(arguments: argparse.Namespace) -> int:
-    """Writes OUT/report.txt, of the newest ABI, and prints the summary; the status is 1 if an ABI refuses something."""
+    """Writes OUT/report.txt and prints the summary; the status is 1 if an ABI refuses something.
+
+    landaudit runs once for all ABIs that are judged by one trace; the files that stay are those of the newest.
+    """
     program = landaudit.find(arguments.landaudit)
     recording = finished.opened(arguments.recording)
     trying = None if arguments.policy is None else _trying(recording, arguments)
+    best_effort = not arguments.as_recorded
     summaries: list[Summary] = []
     status = 0
     with tempfile.TemporaryDirectory(prefix="audit-", dir=recording.folder) as folder:
-        for abi in arguments.abis:
-            is_newest = abi == arguments.abis[-1]
-            files = recording if is_newest else Finished(Path(folder))
-            trace = recording.trace
+        files = Finished(Path(folder))
+        trace, parts = recording.trace, [arguments.abis]
+        if trying is not None:
+            trace, parts = files.tried, trying.parts(arguments.abis, best_effort=best_effort)
+            trying.note(arguments.abis)
+        for abis in parts:
             if trying is not None:
-                trace = files.tried
-                notes = trying.write(abi, trace)
-                note(notes if is_newest else _in_short(notes, abi))
-            best_effort = not arguments.as_recorded
-            status |= landaudit.audit(program, abi, recording.tree, trace, files.report, best_effort=best_effort)
-            summaries.append(summarize(judged(trace, files.report), abi, recording.unsaid))
+                trying.write(abis[-1], trace)
+            status |= landaudit.audit(program, abis, recording.tree, trace, files.report, best_effort=best_effort)
+            summaries += [summarize(judged(trace, files.report, abi), abi, recording.unsaid) for abi in abis]
+        if trying is not None:
+            files.tried.replace(recording.tried)
+        files.report.replace(recording.report)
     _print(summaries, arguments)
     return status
 
@@ -73,13 +81,34 @@ class _Trying:
     tree: Tree
     places: Plan
 
-    def write(self, abi: int, tried: Path) -> list[str]:
-        """Writes the trace with the policy's records as an ABI knows them, and gives notes on what that lacks."""
-        layers, notes = fitting.fit(self.policy, abi)
-        inserted = applying.records(self.policy, layers, self.tree, self.places.rs)
+    def note(self, abis: range) -> None:
+        """Prints notes on what the ABIs lack of the policy: on the newest all, on each older one how many."""
+        for abi in abis:
+            _, notes = fitting.fit(self.policy, abi)
+            note(notes if abi == abis[-1] else _in_short(notes, abi))
+
+    def parts(self, abis: range, *, best_effort: bool) -> list[range]:
+        """The ABIs of a range in parts, the oldest first: each is judged by the trace of its newest."""
+        found = [alone(abis[-1])]
+        for abi in reversed(abis[:-1]):
+            inserted = self._inserted(found[0][-1])
+            if best_effort:
+                inserted = list(applying.at_best_effort(inserted, abi))
+            if inserted == self._inserted(abi):
+                found[0] = range(abi, found[0].stop)
+            else:
+                found.insert(0, alone(abi))
+        return found
+
+    def write(self, abi: int, tried: Path) -> None:
+        """Writes the trace with the policy's records as an ABI knows them."""
         with open(tried, "wb") as out:
-            applying.write(self.trace, self.places, inserted, out)
-        return notes
+            applying.write(self.trace, self.places, self._inserted(abi), out)
+
+    def _inserted(self, abi: int) -> list[Record]:
+        """The policy's records as an ABI knows them."""
+        layers, _ = fitting.fit(self.policy, abi)
+        return applying.records(self.policy, layers, self.tree, self.places.rs)
 
 
 def _trying(recording: Finished, arguments: argparse.Namespace) -> _Trying:

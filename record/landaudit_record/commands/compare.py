@@ -16,7 +16,7 @@ from ..kernel_calls import judged_calls
 from ..options import add_landaudit
 from ..problems import WANTING, Problem
 from ..reading import judged
-from ..rights import NEWEST_ABI, OLDEST_ABI
+from ..rights import NEWEST_ABI, OLDEST_ABI, alone
 
 NAME = "compare"
 HELP = "compare landaudit's answers with what the kernel did to a program that was under a layer"
@@ -47,7 +47,7 @@ def run(arguments: argparse.Namespace) -> int:
     tally = Tally()
     with tempfile.TemporaryDirectory() as folder:
         report = Path(folder) / "report.txt"
-        landaudit.audit(program, arguments.abi, recording.tree, recording.trace, report, best_effort=False)
+        landaudit.audit(program, alone(arguments.abi), recording.tree, recording.trace, report, best_effort=False)
         _keep(_differences(recording, report, arguments.abi, tally), arguments.differences)
     if not tally.calls:
         raise Problem(f"{recording.folder} has no call under a layer: record a program that confines itself", WANTING)

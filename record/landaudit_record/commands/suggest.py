@@ -11,6 +11,7 @@ from .. import applying, finished, fitting, landaudit, policies, suggestion_text
 from ..options import add_abi, add_as_recorded, add_landaudit, add_program, note
 from ..policies import Policy
 from ..reading import Judged, judged
+from ..rights import alone
 from ..suggesting import suggest
 
 NAME = "suggest"
@@ -44,7 +45,7 @@ def run(arguments: argparse.Namespace) -> int:
             with open(tried, "wb") as out:
                 applying.write(recording.trace, places, applying.records(extended, layers, tree, places.rs), out)
             best_effort = not arguments.as_recorded
-            landaudit.audit(program, arguments.abi, recording.tree, tried, report, best_effort=best_effort)
+            landaudit.audit(program, alone(arguments.abi), recording.tree, tried, report, best_effort=best_effort)
             return judged(tried, report)
 
         suggestion = suggest(tree, policy, arguments.abi, audit)
