@@ -17,8 +17,7 @@ from ..jsonl import Record
 from ..options import add_abis, add_as_recorded, add_landaudit, add_program, note
 from ..policies import Policy
 from ..reading import judged
-from ..rights import alone
-from ..rights import NEWEST_ABI
+from ..rights import NEWEST_ABI, alone
 from ..summary import Summary, as_data, summarize
 from ..trees import Tree
 from ..wording import counted
