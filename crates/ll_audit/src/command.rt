@@ -51,23 +51,87 @@ const VERSION: &str = "0.1";
 
 const ABOUT: &str = "Says for each call of a trace what Landlock answers";
 
-const ABI_HELP: &str = "Version of Landlock's interface, 1 to 5, or a range of them: 2-5";
+/// What help says of an argument: a line for `-h`, and the whole for `--help`.
+#[derive(Clone, Copy)]
+struct Help {
+    short: &'static str,
+    whole: &'static str,
+}
 
-const TREE_HELP: &str =
-    "File with the file tree, one object a line: {\"path\":\"/a/f\",\"kind\":\"reg\"}, or - for standard input";
+const TREE_HELP: Help = Help {
+    short: "File with the file tree, or - for standard input",
+    whole: "\
+File with the file tree, one object a line, parents first, or - for
+standard input:
+  {\"path\":\"/a\",\"kind\":\"dir\"}
+  {\"path\":\"/a/f\",\"kind\":\"reg\"}",
+};
 
-const TRACE_HELP: &str =
-    "File with the calls, one a line: {\"op\":\"open\",\"pid\":10,\"path\":\"/a/f\",\"fd\":4,\"mode\":\"r\"}, or - for standard input";
+const TRACE_HELP: Help = Help {
+    short: "File with the calls, or - for standard input",
+    whole: "\
+File with the calls, one a line, in the order in which they took
+effect, or - for standard input:
+  {\"op\":\"start\",\"pid\":10}
+  {\"op\":\"open\",\"pid\":10,\"path\":\"/a/f\",\"fd\":4,\"mode\":\"r\"}",
+};
 
-const EFFORT_HELP: &str =
-    "Drop the rights that the version lacks, as a program does that asks its kernel";
+const ABI_HELP: Help = Help {
+    short: "Version of Landlock's interface, 1 to 5, or a range of them: 2-5",
+    whole: "\
+Version of Landlock's interface, 1 to 5, or a range of them, the older
+first: 2-5. Over a range each version answers by itself, and
+neighbouring versions with the same answer are named together.",
+};
 
-const REFUSED_HELP: &str = "Print only the refused records; the totals count all";
+const WORKERS_HELP: Help = Help {
+    short: "Number of threads, 1 to 64",
+    whole: "\
+Number of threads that read the trace and judge its processes, 1 to
+64. The report is the same for every number.",
+};
 
-const DIFFERS_HELP: &str =
-    "Print only the records whose answer differs between the versions of the range";
+const GRAIN_HELP: Help = Help {
+    short: "Fewest records of a forked process that may go to another thread",
+    whole: "\
+Fewest records of a forked process that may go to another thread. Set
+it lower where many short processes keep few threads busy, higher
+where handing them out takes longer than judging them. The report is
+the same for every number.",
+};
 
-const EXPLAIN_HELP: &str = "Print behind each refused or moot record why it is so";
+const EFFORT_HELP: Help = Help {
+    short: "Drop the rights that the version lacks, as a program does that asks its kernel",
+    whole: "\
+Drop the rights that the version lacks, as a program does that asks
+its kernel for the version and uses what this supports. Without it
+rulesets are judged as they were recorded, and a right that the
+version lacks is an error: a recording of such a program would
+mislead at a version older than its kernel's.",
+};
+
+const REFUSED_HELP: Help = Help {
+    short: "Print only the records that some version refuses",
+    whole: "\
+Print only the records that some version refuses. The totals count
+all.",
+};
+
+const DIFFERS_HELP: Help = Help {
+    short: "Print only the records whose answer differs between the versions of the range",
+    whole: "\
+Print only the records whose answer differs between the versions of
+the range. The totals count all.",
+};
+
+const EXPLAIN_HELP: Help = Help {
+    short: "Print behind each refused or moot record why it is so",
+    whole: "\
+Print behind each refused or moot record why it is so: the layers that
+refuse it, the line of the restrict that made each of them, and what
+is missing on which path or port; or the condition of its error; or
+why the policy is not asked.",
+};
 
 const MORE_HELP: &str = "\
 Example: what some ABI refuses of a recording, and why
@@ -75,7 +139,7 @@ Example: what some ABI refuses of a recording, and why
 
 Status:
   0  no call is refused, or this help or the version was asked for
-  1  some call is refused
+  1  some version refuses some call
   2  the command line is wrong
   3  a file can't be read, or a line of it is wrong
   4  no memory or no thread is left, or the report can't be written
@@ -83,7 +147,7 @@ Status:
 The files and the report are described in landaudit(5) and docs/FORMATS.md.";
 
 /// An option `--name N`.
-fn number_option<'a>(alloc: Global, name: &'a str, least: u64, most: u64, help: &'a str) -> Arg<'a>
+fn number_option<'a>(alloc: Global, name: &'a str, least: u64, most: u64, help: Help) -> Arg<'a>
     ensures rule { rule_of result ≡ spec.number_option name.entry.now least most }
     ensures local { result.global ≡ false }
 {
@@ -92,11 +156,12 @@ fn number_option<'a>(alloc: Global, name: &'a str, least: u64, most: u64, help: 
         .action(ArgAction::Set)
         .value_name("N")
         .value_parser(ValueParser::unsigned(least, most))
-        .help(help)
+        .help(help.short)
+        .long_help(help.whole)
 }
 
 /// An option `--name N[-M]`.
-fn text_option<'a>(alloc: Global, name: &'a str, help: &'a str) -> Arg<'a>
+fn text_option<'a>(alloc: Global, name: &'a str, help: Help) -> Arg<'a>
     ensures rule { rule_of result ≡ spec.text_option name.entry.now }
     ensures local { result.global ≡ false }
 {
@@ -104,29 +169,32 @@ fn text_option<'a>(alloc: Global, name: &'a str, help: &'a str) -> Arg<'a>
         .long(name)
         .action(ArgAction::Set)
         .value_name("N[-M]")
-        .help(help)
+        .help(help.short)
+        .long_help(help.whole)
 }
 
 /// An option `--name`, which has no value.
-fn flag_option<'a>(alloc: Global, name: &'a str, help: &'a str) -> Arg<'a>
+fn flag_option<'a>(alloc: Global, name: &'a str, help: Help) -> Arg<'a>
     ensures rule { rule_of result ≡ spec.flag name.entry.now }
     ensures local { result.global ≡ false }
 {
     Arg::new(alloc, name)
         .long(name)
         .action(ArgAction::SetTrue)
-        .help(help)
+        .help(help.short)
+        .long_help(help.whole)
 }
 
 /// The name of a file, which has to be given.
-fn file_argument<'a>(alloc: Global, name: &'a str, help: &'a str) -> Arg<'a>
+fn file_argument<'a>(alloc: Global, name: &'a str, help: Help) -> Arg<'a>
     ensures rule { rule_of result ≡ spec.file_argument name.entry.now }
     ensures local { result.global ≡ false }
 {
     Arg::new(alloc, name)
         .required(true)
         .action(ArgAction::Set)
-        .help(help)
+        .help(help.short)
+        .long_help(help.whole)
 }
 
 /// The command, with the texts of its help.
@@ -135,18 +203,12 @@ fn command<'a>(alloc: Global) -> Result<Command<'a>, AllocError>
     ensures { IfOk result (λ command. app_of command ≡ spec.command) }
 {
     let abi = text_option(alloc, "abi", ABI_HELP);
-    let workers = number_option(alloc, "workers", 1, 64, "Number of threads, 1 to 64");
-    let grain = number_option(
-        alloc,
-        "grain",
-        0,
-        u64::MAX,
-        "Fewest records of a forked process that may go to another thread",
-    );
+    let workers = number_option(alloc, "workers", 1, 64, WORKERS_HELP);
+    let grain = number_option(alloc, "grain", 0, u64::MAX, GRAIN_HELP);
     Command::new(alloc, "landaudit")
         .version(VERSION)
         .about(ABOUT)
-        .after_help(MORE_HELP)
+        .after_long_help(MORE_HELP)
         .arg(abi.required(true))?
         .arg(workers.default_value("1"))?
         .arg(grain.default_value("64"))?

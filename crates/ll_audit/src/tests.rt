@@ -442,6 +442,22 @@ fn version_is_told(rt: HostRuntime) -> Result<(), Fail> {
     Ok(())
 }
 
+#[test]
+fn help_is_short_or_whole(rt: HostRuntime) -> Result<(), Fail> {
+    for (word, end) in [
+        ("-h", b"Print version\n".as_slice()),
+        ("--help", b"landaudit(5) and docs/FORMATS.md.\n".as_slice()),
+    ] {
+        let words = owned(rt.alloc(), ["landaudit", word].as_slice())?;
+        let outcome = outcome_of(plan_of(rt.alloc(), words.as_slice())).ok_or("a run")?;
+        let mut out = Vec::new(rt.alloc());
+        let mut err = Vec::new(rt.alloc());
+        assert_eq!(rt; outcome.write_to(&mut out, &mut err).status, 0);
+        assert!(rt; out.as_slice().ends_with(end));
+    }
+    Ok(())
+}
+
 /// A program recorded on a kernel with rules for ports: at ABI 3 its first `create` fails with E2BIG, and at best effort
 /// it makes a layer without rights, so that the next one is layer 2.
 const PORTS_FIRST: &str = "\

@@ -17,8 +17,8 @@ returns c =
     let abi_local : c.required.result.global ≡ false = ap (λ a. a.global) c.required.ensures ∙ c.text_option-abi.ensures.local in
     let workers_local : c.default_value.result.global ≡ false = ap (λ a. a.global) c.default_value.ensures ∙ c.number_option-workers.ensures.local in
     let grain_local : c.default_value-2.result.global ≡ false = ap (λ a. a.global) c.default_value-2.ensures ∙ c.number_option-grain.ensures.local in
-    let start : app_of c.after_help.result ≡ spec.with_version (new_app (codes "landaudit")) =
-    ap app_of_fields c.after_help.ensures ∙ (ap app_of_fields c.about.ensures
+    let start : app_of c.after_long_help.result ≡ spec.with_version (new_app (codes "landaudit")) =
+    ap app_of_fields c.after_long_help.ensures ∙ (ap app_of_fields c.about.ensures
     ∙ (ap app_of_fields c.version.ensures ∙ ap spec.with_version c.new.ensures.app)) in
     let options = c.in_ok-arg-3.ensures.shape grain_local
     ∙ ap₂ with_rule (c.in_ok-arg-2.ensures.shape workers_local
