@@ -10,8 +10,8 @@ use Rattle.ll_tree.specs.Members.{flag_at, number_at, text_at, truth_at, value_a
 use Rattle.ll_trace.specs.declared.op.Op.{Op}
 use Rattle.ll_trace.specs.declared.op.Op.TheVariants as op
 use Rattle.ll_trace.specs.Entries.{Entry, entry_at}
-use Rattle.ll_trace.specs.Members.{fs_at, made_kind_at, mode_at, net_at, path_in, port_at, sort_at}
-use Rattle.ll_trace.specs.Operations.{add_path_at, add_port_at, adopt_at, bind_at, close_at, close_rs_at, connect_at, create_at, dup_at, exec_at, fork_at, ftruncate_at, ioctl_at, link_at, mkdir_at, mknod_at, open_at, operation_at, operation_named, rename_at, restrict_at, rmdir_at, start_at, symlink_at, truncate_at, unlink_at}
+use Rattle.ll_trace.specs.Members.{fs_at, made_kind_at, mode_at, net_at, path_at, path_in, port_at, sort_at}
+use Rattle.ll_trace.specs.Operations.{add_path_at, add_port_at, adopt_at, create_at, dup_at, ioctl_at, link_at, mknod_at, open_at, operation_at, operation_named, operation_on, rename_at, start_at}
 use Rattle.ll_audit.specs.Names.{SaysOperation, op_name}
 
 -- what is read, if anything, has this word in the report
@@ -49,18 +49,18 @@ five word (Ok x) b c d e make has = four word (b x) (c x) (d x) (e x) (make x) (
 five word (Err cause) b c d e make has = tt
 
 module _ (value : Data) where
-  -- an operation on a path alone
+  -- an operation that takes a path alone, or a number alone
   on_path : (word : List ℕ) (make : List ℕ → Op) → ((path : List ℕ) → op_name (make path) ≡ word)
-      → HasWord word (text_at (codes "path") value >>= λ text. path_in text >>= λ path. Ok (make path))
-  on_path word make has = two word (text_at (codes "path") value) path_in (λ _ path. make path) (λ _ path. has path)
+      → HasWord word (operation_on make (path_at value))
+  on_path word make has = one word (path_at value) make has
+
+  on_number : (word member : List ℕ) (make : ℕ → Op) → ((number : ℕ) → op_name (make number) ≡ word)
+      → HasWord word (operation_on make (number_at member value))
+  on_number word member make has = one word (number_at member value) make has
 
   start : HasWord (codes "start") (start_at value)
   unfolding start_at op_name
   start = two (codes "start") (flag_at (codes "nnp") value) (λ _. flag_at (codes "admin") value) op.Start (λ _ _. refl)
-
-  fork : HasWord (codes "fork") (fork_at value)
-  unfolding fork_at op_name
-  fork = one (codes "fork") (number_at (codes "child") value) op.Fork (λ _. refl)
 
   create : HasWord (codes "create") (create_at value)
   unfolding create_at op_name
@@ -76,14 +76,6 @@ module _ (value : Data) where
   unfolding add_port_at op_name
   add_port =
       three (codes "add_port") (number_at (codes "rs") value) (λ _. number_at (codes "port") value) (λ _ _. net_at value) op.AddPort (λ _ _ _. refl)
-
-  close_rs : HasWord (codes "close_rs") (close_rs_at value)
-  unfolding close_rs_at op_name
-  close_rs = one (codes "close_rs") (number_at (codes "rs") value) op.CloseRs (λ _. refl)
-
-  restrict : HasWord (codes "restrict") (restrict_at value)
-  unfolding restrict_at op_name
-  restrict = one (codes "restrict") (number_at (codes "rs") value) op.Restrict (λ _. refl)
 
   opens : HasWord (codes "open") (open_at value)
   unfolding open_at op_name
@@ -106,43 +98,11 @@ module _ (value : Data) where
   unfolding dup_at op_name
   dup = two (codes "dup") (number_at (codes "fd") value) (λ _. number_at (codes "to") value) op.Dup (λ _ _. refl)
 
-  close : HasWord (codes "close") (close_at value)
-  unfolding close_at op_name
-  close = one (codes "close") (number_at (codes "fd") value) op.Close (λ _. refl)
-
-  ftruncate : HasWord (codes "ftruncate") (ftruncate_at value)
-  unfolding ftruncate_at op_name
-  ftruncate = one (codes "ftruncate") (number_at (codes "fd") value) op.Ftruncate (λ _. refl)
-
-  truncate : HasWord (codes "truncate") (truncate_at value)
-  unfolding truncate_at op_name
-  truncate = on_path (codes "truncate") op.Truncate (λ _. refl)
-
-  exec : HasWord (codes "exec") (exec_at value)
-  unfolding exec_at op_name
-  exec = on_path (codes "exec") op.Exec (λ _. refl)
-
   mknod : HasWord (codes "mknod") (mknod_at value)
   unfolding mknod_at op_name
   mknod =
       three (codes "mknod") (text_at (codes "path") value) (λ _. made_kind_at value) (λ text _. path_in text)
       (λ _ kind path. op.Mknod path kind) (λ _ _ _. refl)
-
-  mkdir : HasWord (codes "mkdir") (mkdir_at value)
-  unfolding mkdir_at op_name
-  mkdir = on_path (codes "mkdir") op.Mkdir (λ _. refl)
-
-  symlink : HasWord (codes "symlink") (symlink_at value)
-  unfolding symlink_at op_name
-  symlink = on_path (codes "symlink") op.Symlink (λ _. refl)
-
-  unlink : HasWord (codes "unlink") (unlink_at value)
-  unfolding unlink_at op_name
-  unlink = on_path (codes "unlink") op.Unlink (λ _. refl)
-
-  rmdir : HasWord (codes "rmdir") (rmdir_at value)
-  unfolding rmdir_at op_name
-  rmdir = on_path (codes "rmdir") op.Rmdir (λ _. refl)
 
   rename : HasWord (codes "rename") (rename_at value)
   unfolding rename_at op_name
@@ -155,14 +115,6 @@ module _ (value : Data) where
   link =
       four (codes "link") (text_at (codes "from") value) (λ _. text_at (codes "to") value) (λ from _. path_in from) (λ _ to _. path_in to)
       (λ _ _ from to. op.Link from to) (λ _ _ _ _. refl)
-
-  bind : HasWord (codes "bind") (bind_at value)
-  unfolding bind_at op_name
-  bind = one (codes "bind") (port_at value) op.Bind (λ _. refl)
-
-  connect : HasWord (codes "connect") (connect_at value)
-  unfolding connect_at op_name
-  connect = one (codes "connect") (port_at value) op.Connect (λ _. refl)
 
   ioctl : HasWord (codes "ioctl") (ioctl_at value)
   unfolding ioctl_at op_name
@@ -181,31 +133,31 @@ module _ (value : Data) where
   unfolding operation_named op_name
   named name =
       or_other name _ _ _ start (
-      or_other name _ _ _ fork (
+      or_other name _ _ _ (on_number (codes "fork") (codes "child") op.Fork (λ _. refl)) (
       or_other name _ _ _ refl (
       or_other name _ _ _ refl (
       or_other name _ _ _ create (
       or_other name _ _ _ add_path (
       or_other name _ _ _ add_port (
-      or_other name _ _ _ close_rs (
-      or_other name _ _ _ restrict (
+      or_other name _ _ _ (on_number (codes "close_rs") (codes "rs") op.CloseRs (λ _. refl)) (
+      or_other name _ _ _ (on_number (codes "restrict") (codes "rs") op.Restrict (λ _. refl)) (
       or_other name _ _ _ opens (
       or_other name _ _ _ adopt (
       or_other name _ _ _ dup (
-      or_other name _ _ _ close (
-      or_other name _ _ _ ftruncate (
-      or_other name _ _ _ truncate (
-      or_other name _ _ _ exec (
+      or_other name _ _ _ (on_number (codes "close") (codes "fd") op.Close (λ _. refl)) (
+      or_other name _ _ _ (on_number (codes "ftruncate") (codes "fd") op.Ftruncate (λ _. refl)) (
+      or_other name _ _ _ (on_path (codes "truncate") op.Truncate (λ _. refl)) (
+      or_other name _ _ _ (on_path (codes "exec") op.Exec (λ _. refl)) (
       or_other name _ _ _ mknod (
-      or_other name _ _ _ mkdir (
-      or_other name _ _ _ symlink (
-      or_other name _ _ _ unlink (
-      or_other name _ _ _ rmdir (
+      or_other name _ _ _ (on_path (codes "mkdir") op.Mkdir (λ _. refl)) (
+      or_other name _ _ _ (on_path (codes "symlink") op.Symlink (λ _. refl)) (
+      or_other name _ _ _ (on_path (codes "unlink") op.Unlink (λ _. refl)) (
+      or_other name _ _ _ (on_path (codes "rmdir") op.Rmdir (λ _. refl)) (
       or_other name _ _ _ rename (
       or_other name _ _ _ link (
       or_other name _ _ _ refl (
-      or_other name _ _ _ bind (
-      or_other name _ _ _ connect (
+      or_other name _ _ _ (one (codes "bind") (port_at value) op.Bind (λ _. refl)) (
+      or_other name _ _ _ (one (codes "connect") (port_at value) op.Connect (λ _. refl)) (
       or_other name _ _ _ ioctl tt))))))))))))))))))))))))))
 
 -- what an object says as its operation is the report's word for it

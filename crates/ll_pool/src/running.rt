@@ -1,5 +1,5 @@
 //! Judging all processes of a case by workers.
-ghost use Rattle.std.specs.Prelude.{◌≡◌, ◌≤◌, ◌<◌, ℕ, IfOk};
+ghost use Rattle.std.specs.Prelude.{◌≡◌, ◌≤◌, ◌<◌, ◌+◌, ◌-◌, ◌^◌, ℕ, IfOk, count_by, min};
 ghost use Rattle.ll_trace.specs.Processes.{process_count, times};
 ghost use Rattle.ll_pool.specs.Gathered.{AllOf, processes_in};
 
@@ -53,7 +53,7 @@ impl From<AllocError> for PoolFault {
 /// Judges all processes of a case, each as part of one piece: by so many workers, each on a thread of
 /// its own, who share a queue of 1,024 jobs. The roots go to the queue, and so does each child where
 /// `cut` is true at its number; an absent place is false. Other children are judged with their
-/// parent, and so is one that finds the queue full.
+/// parent, and so is one that finds the queue full. No more workers start than there can be jobs.
 ///
 /// The gate is told of each job before it is judged. Where a thread can't be started the answer is
 /// `NoThread`, else `Memory` where memory ran out. All workers have ended when it answers.
@@ -73,6 +73,13 @@ pub fn run<'c, R: Threads + Wait + Sync, G: Gate + Sync>(
     run_named::<Brand, R, G>(rt, alloc, case, workers, cut, gate)
 }
 
+/// The most jobs that the queue can ever be given: the roots, and the children where `cut` is true.
+fn most_jobs(roots: usize, cut: &[bool]) -> usize
+    ensures { result ≡ min (roots + count_by (λ here. here) cut.now) (2 ^ 64 - 1) }
+{
+    roots.saturating_add(cut.iter().filter(|&&here| here).count())
+}
+
 /// `run` on the case that `N` names.
 fn run_named<'s, 'c, N: Naming + Send + Sync, R: Threads + Wait + Sync, G: Gate + Sync>(
     rt: &'s R,
@@ -89,6 +96,7 @@ fn run_named<'s, 'c, N: Naming + Send + Sync, R: Threads + Wait + Sync, G: Gate 
         (λ pieces. (process : ℕ) → process < process_count case.now.records → times process (processes_in pieces.items) ≡ 1) }
 {
     let mut first = case.roots(alloc)?;
+    let crew = workers.min(most_jobs(first.len(), cut));
     let rest = first.split_off(first.len().min(ROOM))?;
     let (line, pass) = open::<N>(alloc)?;
     let pool: Pool<'s, 'c, N, R, G> = Pool {
@@ -103,7 +111,7 @@ fn run_named<'s, 'c, N: Naming + Send + Sync, R: Threads + Wait + Sync, G: Gate 
     let Worked {
         mut pass,
         mut pieces,
-    } = lead(me, Roots { first, rest }, workers)?;
+    } = lead(me, Roots { first, rest }, crew)?;
     drain(&pool, &mut pass, &mut pieces)?;
     Ok(pieces)
 }

@@ -22,6 +22,12 @@ use Rattle.ll_trace.specs.declared.op.Sort.TheVariants as sorts
 unfoldable pub path_in : List ℕ → Result (List ℕ) Cause
 path_in text = if is_some (path_of text) then Ok text else Err BadPath
 
+-- the path that is an operation's one member
+unfoldable pub path_at : Data → Result (List ℕ) Cause
+path_at value = do
+  text ← text_at (codes "path") value
+  path_in text
+
 -- a set, and the right for files that a name stands for
 abbrev pub with_fs : Fs → List ℕ → Fs
 with_fs set name = files.united set (files.only (files.right_named name))

@@ -8,18 +8,13 @@ use Rattle.ll_tree.specs.Fault.{◌>>=◌}
 use Rattle.ll_tree.specs.Members.{text_at, number_at, truth_at, flag_at}
 use Rattle.ll_trace.specs.declared.op.Op.{Op}
 use Rattle.ll_trace.specs.declared.op.Op.TheVariants.{Start, Fork, Exit, Nnp, Create, AddPath, AddPort, CloseRs, Restrict, OpenFile, Adopt, Dup, Close, Ftruncate, Truncate, Exec, Mknod, Mkdir, Symlink, Unlink, Rmdir, Rename, Link, Mount, Bind, Connect, Ioctl}
-use Rattle.ll_trace.specs.Members.{path_in, fs_at, net_at, mode_at, sort_at, made_kind_at, port_at}
+use Rattle.ll_trace.specs.Members.{path_in, path_at, fs_at, net_at, mode_at, sort_at, made_kind_at, port_at}
 
 unfoldable pub start_at : Data → Result Op Cause
 start_at value = do
   nnp ← flag_at (codes "nnp") value
   admin ← flag_at (codes "admin") value
   Ok (Start nnp admin)
-
-unfoldable pub fork_at : Data → Result Op Cause
-fork_at value = do
-  child ← number_at (codes "child") value
-  Ok (Fork child)
 
 unfoldable pub create_at : Data → Result Op Cause
 create_at value = do
@@ -43,16 +38,6 @@ add_port_at value = do
   net ← net_at value
   Ok (AddPort rs port net)
 
-unfoldable pub close_rs_at : Data → Result Op Cause
-close_rs_at value = do
-  rs ← number_at (codes "rs") value
-  Ok (CloseRs rs)
-
-unfoldable pub restrict_at : Data → Result Op Cause
-restrict_at value = do
-  rs ← number_at (codes "rs") value
-  Ok (Restrict rs)
-
 unfoldable pub open_at : Data → Result Op Cause
 open_at value = do
   path_text ← text_at (codes "path") value
@@ -75,58 +60,12 @@ dup_at value = do
   to ← number_at (codes "to") value
   Ok (Dup fd to)
 
-unfoldable pub close_at : Data → Result Op Cause
-close_at value = do
-  fd ← number_at (codes "fd") value
-  Ok (Close fd)
-
-unfoldable pub ftruncate_at : Data → Result Op Cause
-ftruncate_at value = do
-  fd ← number_at (codes "fd") value
-  Ok (Ftruncate fd)
-
-unfoldable pub truncate_at : Data → Result Op Cause
-truncate_at value = do
-  path_text ← text_at (codes "path") value
-  path ← path_in path_text
-  Ok (Truncate path)
-
-unfoldable pub exec_at : Data → Result Op Cause
-exec_at value = do
-  path_text ← text_at (codes "path") value
-  path ← path_in path_text
-  Ok (Exec path)
-
 unfoldable pub mknod_at : Data → Result Op Cause
 mknod_at value = do
   path_text ← text_at (codes "path") value
   kind ← made_kind_at value
   path ← path_in path_text
   Ok (Mknod path kind)
-
-unfoldable pub mkdir_at : Data → Result Op Cause
-mkdir_at value = do
-  path_text ← text_at (codes "path") value
-  path ← path_in path_text
-  Ok (Mkdir path)
-
-unfoldable pub symlink_at : Data → Result Op Cause
-symlink_at value = do
-  path_text ← text_at (codes "path") value
-  path ← path_in path_text
-  Ok (Symlink path)
-
-unfoldable pub unlink_at : Data → Result Op Cause
-unlink_at value = do
-  path_text ← text_at (codes "path") value
-  path ← path_in path_text
-  Ok (Unlink path)
-
-unfoldable pub rmdir_at : Data → Result Op Cause
-rmdir_at value = do
-  path_text ← text_at (codes "path") value
-  path ← path_in path_text
-  Ok (Rmdir path)
 
 unfoldable pub rename_at : Data → Result Op Cause
 rename_at value = do
@@ -145,51 +84,47 @@ link_at value = do
   to ← path_in to_text
   Ok (Link from to)
 
-unfoldable pub bind_at : Data → Result Op Cause
-bind_at value = do
-  port ← port_at value
-  Ok (Bind port)
-
-unfoldable pub connect_at : Data → Result Op Cause
-connect_at value = do
-  port ← port_at value
-  Ok (Connect port)
-
 unfoldable pub ioctl_at : Data → Result Op Cause
 ioctl_at value = do
   fd ← number_at (codes "fd") value
   driver ← truth_at (codes "driver") value
   Ok (Ioctl fd driver)
 
+-- the operation that takes one member alone, if that member reads
+abbrev pub operation_on : {A : Type 0} → (A → Op) → Result A Cause → Result Op Cause
+operation_on operation member = do
+  given ← member
+  Ok (operation given)
+
 -- the operation of a name
 unfoldable pub operation_named : List ℕ → Data → Result Op Cause
 operation_named name value =
     if bytes_eq name (codes "start") then start_at value else (
-    if bytes_eq name (codes "fork") then fork_at value else (
+    if bytes_eq name (codes "fork") then operation_on Fork (number_at (codes "child") value) else (
     if bytes_eq name (codes "exit") then Ok Exit else (
     if bytes_eq name (codes "nnp") then Ok Nnp else (
     if bytes_eq name (codes "create") then create_at value else (
     if bytes_eq name (codes "add_path") then add_path_at value else (
     if bytes_eq name (codes "add_port") then add_port_at value else (
-    if bytes_eq name (codes "close_rs") then close_rs_at value else (
-    if bytes_eq name (codes "restrict") then restrict_at value else (
+    if bytes_eq name (codes "close_rs") then operation_on CloseRs (number_at (codes "rs") value) else (
+    if bytes_eq name (codes "restrict") then operation_on Restrict (number_at (codes "rs") value) else (
     if bytes_eq name (codes "open") then open_at value else (
     if bytes_eq name (codes "adopt") then adopt_at value else (
     if bytes_eq name (codes "dup") then dup_at value else (
-    if bytes_eq name (codes "close") then close_at value else (
-    if bytes_eq name (codes "ftruncate") then ftruncate_at value else (
-    if bytes_eq name (codes "truncate") then truncate_at value else (
-    if bytes_eq name (codes "exec") then exec_at value else (
+    if bytes_eq name (codes "close") then operation_on Close (number_at (codes "fd") value) else (
+    if bytes_eq name (codes "ftruncate") then operation_on Ftruncate (number_at (codes "fd") value) else (
+    if bytes_eq name (codes "truncate") then operation_on Truncate (path_at value) else (
+    if bytes_eq name (codes "exec") then operation_on Exec (path_at value) else (
     if bytes_eq name (codes "mknod") then mknod_at value else (
-    if bytes_eq name (codes "mkdir") then mkdir_at value else (
-    if bytes_eq name (codes "symlink") then symlink_at value else (
-    if bytes_eq name (codes "unlink") then unlink_at value else (
-    if bytes_eq name (codes "rmdir") then rmdir_at value else (
+    if bytes_eq name (codes "mkdir") then operation_on Mkdir (path_at value) else (
+    if bytes_eq name (codes "symlink") then operation_on Symlink (path_at value) else (
+    if bytes_eq name (codes "unlink") then operation_on Unlink (path_at value) else (
+    if bytes_eq name (codes "rmdir") then operation_on Rmdir (path_at value) else (
     if bytes_eq name (codes "rename") then rename_at value else (
     if bytes_eq name (codes "link") then link_at value else (
     if bytes_eq name (codes "mount") then Ok Mount else (
-    if bytes_eq name (codes "bind") then bind_at value else (
-    if bytes_eq name (codes "connect") then connect_at value else (
+    if bytes_eq name (codes "bind") then operation_on Bind (port_at value) else (
+    if bytes_eq name (codes "connect") then operation_on Connect (port_at value) else (
     if bytes_eq name (codes "ioctl") then ioctl_at value else (
     Err Field)))))))))))))))))))))))))))
 

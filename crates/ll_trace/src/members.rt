@@ -3,15 +3,26 @@
 ghost use Rattle.serde_json.specs.View.{view, items_view};
 ghost use Rattle.ll_rights.specs.Rights as files;
 ghost use Rattle.ll_rights.specs.NetRights as network;
-ghost use Rattle.ll_tree.specs.Readers.{Reads};
+ghost use Rattle.ll_tree.specs.Readers.{Gives, Reads};
 ghost use Rattle.ll_tree.specs.Members.{fold_texts};
-ghost use Rattle.ll_trace.specs.Members.{with_fs, fs_at, with_net, net_at, mode_at, sort_at, made_kind_at, port_at};
+ghost use Rattle.ll_trace.specs.Members.{path_at, with_fs, fs_at, with_net, net_at, mode_at, sort_at, made_kind_at, port_at};
 
 use crate::op::{Mode, Sort};
+use crate::path_text::PathText;
 use ll_rights::{Fs, Kind, Net, fs_of_name, net_of_name};
 use ll_tree::Cause;
 use ll_tree::members::{items_of, number_of, text_in_list, text_of};
 use serde_json::Value;
+use std::alloc::Global;
+
+/// The path of the member `path`.
+#[tactic(auto, unfolding(crate::specs::Members::path_at))]
+pub fn path_of(alloc: Global, value: &Value) -> Result<PathText, Cause>
+    ensures { Gives (λ path. path) result (path_at (view value.now)) }
+{
+    let text = text_of(value, "path")?;
+    PathText::read(alloc, text)
+}
 
 /// The rights for files of the member `fs`.
 #[tactic(auto, unfolding(crate::specs::Members::fs_at))]

@@ -2,9 +2,9 @@
 
 ghost use Rattle.serde_json.specs.View.{view};
 ghost use Rattle.ll_tree.specs.Readers.{Gives, Reads};
-ghost use Rattle.ll_trace.specs.Operations.{start_at, fork_at, create_at, add_path_at, add_port_at, close_rs_at, restrict_at, open_at, adopt_at, dup_at, close_at, ftruncate_at, truncate_at, exec_at, mknod_at, mkdir_at, symlink_at, unlink_at, rmdir_at, rename_at, link_at, bind_at, connect_at, ioctl_at, operation_named, operation_at};
+ghost use Rattle.ll_trace.specs.Operations.{start_at, create_at, add_path_at, add_port_at, open_at, adopt_at, dup_at, mknod_at, rename_at, link_at, ioctl_at, operation_named, operation_at};
 
-use crate::members::{fs_of, made_kind_of, mode_of, net_of, port_of, sort_of};
+use crate::members::{fs_of, made_kind_of, mode_of, net_of, path_of, port_of, sort_of};
 use crate::op::Op;
 use crate::path_text::PathText;
 use ll_tree::Cause;
@@ -27,31 +27,57 @@ fn operation_by_name(alloc: Global, name: &str, value: &Value) -> Result<Op, Cau
 {
     match name {
         "start" => start_of(value),
-        "fork" => fork_of(value),
+        "fork" => Ok(Op::Fork {
+            child: number_of(value, "child")?,
+        }),
         "exit" => Ok(Op::Exit),
         "nnp" => Ok(Op::Nnp),
         "create" => create_of(value),
         "add_path" => add_path_of(alloc, value),
         "add_port" => add_port_of(value),
-        "close_rs" => close_rs_of(value),
-        "restrict" => restrict_of(value),
+        "close_rs" => Ok(Op::CloseRs {
+            rs: number_of(value, "rs")?,
+        }),
+        "restrict" => Ok(Op::Restrict {
+            rs: number_of(value, "rs")?,
+        }),
         "open" => open_of(alloc, value),
         "adopt" => adopt_of(value),
         "dup" => dup_of(value),
-        "close" => close_of(value),
-        "ftruncate" => ftruncate_of(value),
-        "truncate" => truncate_of(alloc, value),
-        "exec" => exec_of(alloc, value),
+        "close" => Ok(Op::Close {
+            fd: number_of(value, "fd")?,
+        }),
+        "ftruncate" => Ok(Op::Ftruncate {
+            fd: number_of(value, "fd")?,
+        }),
+        "truncate" => Ok(Op::Truncate {
+            path: path_of(alloc, value)?,
+        }),
+        "exec" => Ok(Op::Exec {
+            path: path_of(alloc, value)?,
+        }),
         "mknod" => mknod_of(alloc, value),
-        "mkdir" => mkdir_of(alloc, value),
-        "symlink" => symlink_of(alloc, value),
-        "unlink" => unlink_of(alloc, value),
-        "rmdir" => rmdir_of(alloc, value),
+        "mkdir" => Ok(Op::Mkdir {
+            path: path_of(alloc, value)?,
+        }),
+        "symlink" => Ok(Op::Symlink {
+            path: path_of(alloc, value)?,
+        }),
+        "unlink" => Ok(Op::Unlink {
+            path: path_of(alloc, value)?,
+        }),
+        "rmdir" => Ok(Op::Rmdir {
+            path: path_of(alloc, value)?,
+        }),
         "rename" => rename_of(alloc, value),
         "link" => link_of(alloc, value),
         "mount" => Ok(Op::Mount),
-        "bind" => bind_of(value),
-        "connect" => connect_of(value),
+        "bind" => Ok(Op::Bind {
+            port: port_of(value)?,
+        }),
+        "connect" => Ok(Op::Connect {
+            port: port_of(value)?,
+        }),
         "ioctl" => ioctl_of(value),
         _ => Err(Cause::Field),
     }
@@ -64,14 +90,6 @@ fn start_of(value: &Value) -> Result<Op, Cause>
     let nnp = flag_of(value, "nnp")?;
     let admin = flag_of(value, "admin")?;
     Ok(Op::Start { nnp, admin })
-}
-
-#[tactic(auto, unfolding(crate::specs::Operations::fork_at))]
-fn fork_of(value: &Value) -> Result<Op, Cause>
-    ensures { Reads (λ op. op) result (fork_at (view value.now)) }
-{
-    let child = number_of(value, "child")?;
-    Ok(Op::Fork { child })
 }
 
 #[tactic(auto, unfolding(crate::specs::Operations::create_at))]
@@ -103,22 +121,6 @@ fn add_port_of(value: &Value) -> Result<Op, Cause>
     let port = number_of(value, "port")?;
     let net = net_of(value)?;
     Ok(Op::AddPort { rs, port, net })
-}
-
-#[tactic(auto, unfolding(crate::specs::Operations::close_rs_at))]
-fn close_rs_of(value: &Value) -> Result<Op, Cause>
-    ensures { Reads (λ op. op) result (close_rs_at (view value.now)) }
-{
-    let rs = number_of(value, "rs")?;
-    Ok(Op::CloseRs { rs })
-}
-
-#[tactic(auto, unfolding(crate::specs::Operations::restrict_at))]
-fn restrict_of(value: &Value) -> Result<Op, Cause>
-    ensures { Reads (λ op. op) result (restrict_at (view value.now)) }
-{
-    let rs = number_of(value, "rs")?;
-    Ok(Op::Restrict { rs })
 }
 
 #[tactic(auto, unfolding(crate::specs::Operations::open_at))]
@@ -158,40 +160,6 @@ fn dup_of(value: &Value) -> Result<Op, Cause>
     Ok(Op::Dup { fd, to })
 }
 
-#[tactic(auto, unfolding(crate::specs::Operations::close_at))]
-fn close_of(value: &Value) -> Result<Op, Cause>
-    ensures { Reads (λ op. op) result (close_at (view value.now)) }
-{
-    let fd = number_of(value, "fd")?;
-    Ok(Op::Close { fd })
-}
-
-#[tactic(auto, unfolding(crate::specs::Operations::ftruncate_at))]
-fn ftruncate_of(value: &Value) -> Result<Op, Cause>
-    ensures { Reads (λ op. op) result (ftruncate_at (view value.now)) }
-{
-    let fd = number_of(value, "fd")?;
-    Ok(Op::Ftruncate { fd })
-}
-
-#[tactic(auto, unfolding(crate::specs::Operations::truncate_at))]
-fn truncate_of(alloc: Global, value: &Value) -> Result<Op, Cause>
-    ensures { Gives (λ op. op) result (truncate_at (view value.now)) }
-{
-    let path = text_of(value, "path")?;
-    let path = PathText::read(alloc, path)?;
-    Ok(Op::Truncate { path })
-}
-
-#[tactic(auto, unfolding(crate::specs::Operations::exec_at))]
-fn exec_of(alloc: Global, value: &Value) -> Result<Op, Cause>
-    ensures { Gives (λ op. op) result (exec_at (view value.now)) }
-{
-    let path = text_of(value, "path")?;
-    let path = PathText::read(alloc, path)?;
-    Ok(Op::Exec { path })
-}
-
 #[tactic(auto, unfolding(crate::specs::Operations::mknod_at))]
 fn mknod_of(alloc: Global, value: &Value) -> Result<Op, Cause>
     ensures { Gives (λ op. op) result (mknod_at (view value.now)) }
@@ -200,42 +168,6 @@ fn mknod_of(alloc: Global, value: &Value) -> Result<Op, Cause>
     let kind = made_kind_of(value)?;
     let path = PathText::read(alloc, path)?;
     Ok(Op::Mknod { path, kind })
-}
-
-#[tactic(auto, unfolding(crate::specs::Operations::mkdir_at))]
-fn mkdir_of(alloc: Global, value: &Value) -> Result<Op, Cause>
-    ensures { Gives (λ op. op) result (mkdir_at (view value.now)) }
-{
-    let path = text_of(value, "path")?;
-    let path = PathText::read(alloc, path)?;
-    Ok(Op::Mkdir { path })
-}
-
-#[tactic(auto, unfolding(crate::specs::Operations::symlink_at))]
-fn symlink_of(alloc: Global, value: &Value) -> Result<Op, Cause>
-    ensures { Gives (λ op. op) result (symlink_at (view value.now)) }
-{
-    let path = text_of(value, "path")?;
-    let path = PathText::read(alloc, path)?;
-    Ok(Op::Symlink { path })
-}
-
-#[tactic(auto, unfolding(crate::specs::Operations::unlink_at))]
-fn unlink_of(alloc: Global, value: &Value) -> Result<Op, Cause>
-    ensures { Gives (λ op. op) result (unlink_at (view value.now)) }
-{
-    let path = text_of(value, "path")?;
-    let path = PathText::read(alloc, path)?;
-    Ok(Op::Unlink { path })
-}
-
-#[tactic(auto, unfolding(crate::specs::Operations::rmdir_at))]
-fn rmdir_of(alloc: Global, value: &Value) -> Result<Op, Cause>
-    ensures { Gives (λ op. op) result (rmdir_at (view value.now)) }
-{
-    let path = text_of(value, "path")?;
-    let path = PathText::read(alloc, path)?;
-    Ok(Op::Rmdir { path })
 }
 
 #[tactic(auto, unfolding(crate::specs::Operations::rename_at))]
@@ -259,22 +191,6 @@ fn link_of(alloc: Global, value: &Value) -> Result<Op, Cause>
     let from = PathText::read(alloc, from)?;
     let to = PathText::read(alloc, to)?;
     Ok(Op::Link { from, to })
-}
-
-#[tactic(auto, unfolding(crate::specs::Operations::bind_at))]
-fn bind_of(value: &Value) -> Result<Op, Cause>
-    ensures { Reads (λ op. op) result (bind_at (view value.now)) }
-{
-    let port = port_of(value)?;
-    Ok(Op::Bind { port })
-}
-
-#[tactic(auto, unfolding(crate::specs::Operations::connect_at))]
-fn connect_of(value: &Value) -> Result<Op, Cause>
-    ensures { Reads (λ op. op) result (connect_at (view value.now)) }
-{
-    let port = port_of(value)?;
-    Ok(Op::Connect { port })
 }
 
 #[tactic(auto, unfolding(crate::specs::Operations::ioctl_at))]
