@@ -20,6 +20,10 @@ PATH_CALLS = frozenset(
     {"open", "truncate", "exec", "mknod", "mkdir", "symlink", "unlink", "rmdir", "rename", "link"},
 )
 ASKED_LANDLOCK = (None, "ok", "EACCES", "EPERM", "EXDEV")
+# Calls that a process makes on its way to a layer.
+ASKS_FOR_LAYERS = frozenset({"create", "restrict"})
+NO_LAYER = ("no process confines itself, so nothing is refused: try a policy by --policy, or record a program that "
+            "confines itself")
 
 
 @dataclass(frozen=True)
@@ -69,16 +73,18 @@ class Summary:
         return sorted(self.refusals.items(), key=lambda item: -item[1].total())
 
 
-def summarize(calls: Iterable[Judged], abi: int, unsaid: Path) -> Summary:
-    """The summary of an audit whose records are given with their answers."""
+def summarize(calls: Iterable[Judged], abi: int, unsaid: Path, *, tried: bool = False) -> Summary:
+    """The summary of an audit whose records are given with their answers, and of a tried policy where there is one."""
     summary = Summary(abi)
     rules: dict[str, str] = {}
     made: set[str] = set()
+    confines = tried
     for record, answer, process in calls:
         if _is_left_out(record, answer):
             continue
         summary.verdicts[answer.verdict] += 1
         made.update(objects_made(record))
+        confines |= record["op"] in ASKS_FOR_LAYERS
         if record["op"] in PATH_CALLS and record.get("kernel") in ASKED_LANDLOCK:
             summary.path_calls += 1
             summary.moot_path_calls += answer.verdict == "moot"
@@ -92,6 +98,8 @@ def summarize(calls: Iterable[Judged], abi: int, unsaid: Path) -> Summary:
         if path in made:
             _warn(summary, f"{rule}: the run makes {path} itself, so the rule finds none or an older one: grant it on "
                            "the directory")
+    if not confines:
+        _warn(summary, NO_LAYER)
     if 10 * summary.moot_path_calls > summary.path_calls:
         _warn(summary, _many_moot(summary))
     summary.unsaid = _unsaid(unsaid)

@@ -35,7 +35,9 @@ NOT_OPEN = moot("descriptor 9 is not open")
 Call = tuple[Record, str]
 
 
-def summed(calls: Sequence[Call], abi: int = 5, unsaid: Sequence[Record] | None = None) -> Summary:
+def summed(
+    calls: Sequence[Call], abi: int = 5, unsaid: Sequence[Record] | None = None, *, tried: bool = False
+) -> Summary:
     """The summary of one process's calls, each with its answer."""
     trace = records(*(record for record, _ in calls))
     with tempfile.TemporaryDirectory() as name:
@@ -44,7 +46,7 @@ def summed(calls: Sequence[Call], abi: int = 5, unsaid: Sequence[Record] | None 
         if unsaid is not None:
             write_lines(folder / "unsaid.jsonl", unsaid)
         found = judged(write_lines(folder / "trace.jsonl", trace), report)
-        return summary.summarize(found, abi, folder / "unsaid.jsonl")
+        return summary.summarize(found, abi, folder / "unsaid.jsonl", tried=tried)
 
 
 def rule(path: str, *rights: str, parent: str | None = None) -> Record:
@@ -250,6 +252,12 @@ class Warnings(unittest.TestCase):
     def test_a_ruleset_of_the_program_that_every_abi_refuses(self) -> None:
         (said,) = self.warnings(({"op": "create", "rs": 4}, failed("ENOMSG", "no right is named")))
         self.assertIn("with ENOMSG: no right is named; the program runs without that layer", said)
+
+    def test_a_recording_in_which_nothing_asks_for_a_layer(self) -> None:
+        calls = [NNP, RUN, (READ, "allowed")]
+        self.assertEqual(list(summed(calls).warnings), [summary.NO_LAYER])
+        self.assertEqual(list(summed(calls, tried=True).warnings), [])
+        self.assertEqual(list(summed([*OWN, *calls]).warnings), [])
 
     def test_more_than_a_tenth_of_the_calls_on_paths_are_moot(self) -> None:
         close = ({"op": "close", "fd": 5}, "allowed")

@@ -63,7 +63,9 @@ def run(arguments: argparse.Namespace) -> int:
             if trying is not None:
                 trying.write(abis[-1], trace)
             status |= landaudit.audit(program, abis, recording.tree, trace, files.report, best_effort=best_effort)
-            summaries += [summarize(judged(trace, files.report, abi), abi, recording.unsaid) for abi in abis]
+            for abi in abis:
+                calls = judged(trace, files.report, abi)
+                summaries.append(summarize(calls, abi, recording.unsaid, tried=trying is not None))
         if trying is not None:
             files.tried.replace(recording.tried)
         files.report.replace(recording.report)
