@@ -4,11 +4,14 @@ from __future__ import annotations
 
 import argparse
 import os
+import shlex
 import signal
 import sys
 from collections.abc import Sequence
 
 from . import VERSION, commands
+from .commands import run
+from .commands.run import BEHIND_DASHES
 from .problems import Problem
 
 DESCRIPTION = "Record a program, try a Landlock policy on the recording, and read what breaks."
@@ -36,14 +39,17 @@ def parser() -> argparse.ArgumentParser:
             formatter_class=argparse.RawDescriptionHelpFormatter,
         )
         command.add_arguments(sub)
-        sub.set_defaults(run=command.run)
+        sub.set_defaults(run=command.run, fault=sub.error)
     return top
 
 
 def parse(words: Sequence[str]) -> argparse.Namespace:
     """The arguments of a subcommand; what stands behind the first `--` is a command of its own, in `behind`."""
     end = words.index("--") if "--" in words else len(words)
-    arguments = parser().parse_args(words[:end])
+    arguments, left = parser().parse_known_args(words[:end])
+    if left:
+        hint = f" ({BEHIND_DASHES})" if arguments.command == run.NAME else ""
+        arguments.fault(f"unrecognized arguments: {shlex.join(left)}{hint}")
     arguments.behind = list(words[end + 1 :])
     return arguments
 

@@ -45,5 +45,7 @@ def opened(folder: str) -> Finished:
     recording = Finished(Path(folder))
     for path in (recording.tree, recording.trace):
         if not path.is_file():
-            raise Problem(f"{folder} has no {path.name}: record first, by landaudit-record run {folder} -- COMMAND")
+            if recording.folder.exists():
+                raise Problem(f"{folder} has no {path.name}: name a folder that 'landaudit-record run' made")
+            raise Problem(f"{folder} is not there: record first, by landaudit-record run {folder} -- COMMAND")
     return recording

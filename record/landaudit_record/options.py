@@ -10,22 +10,35 @@ from typing import Any
 from .rights import NEWEST_ABI, OLDEST_ABI
 
 
-def add_abi(parser: argparse.ArgumentParser) -> None:
-    """The ABI by which a policy is written and calls are judged."""
+#: The words for single ABIs.
+_ABI_OF = {str(abi): abi for abi in range(OLDEST_ABI, NEWEST_ABI + 1)}
+OF_POLICY = "of the policy, rights that it lacks are dropped"
+
+
+def add_abi(parser: argparse.ArgumentParser, besides: str = OF_POLICY) -> None:
+    """The one ABI by which calls are judged, and what else comes of it."""
     parser.add_argument(
         "--abi",
-        type=int,
+        type=abi,
         choices=range(OLDEST_ABI, NEWEST_ABI + 1),
         default=NEWEST_ABI,
-        help=f"Landlock's ABI ({NEWEST_ABI} if it is left out); of the policy, rights that it lacks are dropped",
+        help=f"Landlock's ABI ({NEWEST_ABI} if it is left out); {besides}",
     )
+
+
+def abi(text: str) -> int:
+    """The ABI that a word stands for."""
+    if text not in _ABI_OF:
+        raise argparse.ArgumentTypeError(
+            f"{text!r} is no ABI: give one from {OLDEST_ABI} to {NEWEST_ABI} (audit alone takes a range)"
+        )
+    return _ABI_OF[text]
 
 
 def abis(text: str) -> range:
     """The ABIs that a word stands for: `N`, or all of a range `N-M`."""
-    known = {str(abi): abi for abi in range(OLDEST_ABI, NEWEST_ABI + 1)}
     first, dash, last = text.partition("-")
-    oldest, newest = known.get(first), known.get(last if dash else first)
+    oldest, newest = _ABI_OF.get(first), _ABI_OF.get(last if dash else first)
     if oldest is None or newest is None or oldest > newest:
         raise argparse.ArgumentTypeError(
             f"{text!r} is no ABI and no range of them: give one from {OLDEST_ABI} to {NEWEST_ABI}, or a range of these "

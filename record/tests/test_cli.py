@@ -91,12 +91,32 @@ class CommandLine(unittest.TestCase):
             with self.subTest(words):
                 self.assertEqual(cli.parse(words).abi, 5)
                 self.assertEqual(cli.parse([*words, "--abi", "2"]).abi, 2)
-                self.assertEqual(said(*words, "--abi", "1-2")[0], 2)
+                for word in ("1-2", "6", "x", "", "03"):
+                    status, error = said(*words, "--abi", word)
+                    self.assertEqual(status, 2)
+                    what = f"{word!r} is no ABI: give one from 1 to 5 (audit alone takes a range)\n"
+                    self.assertTrue(error.endswith(f"argument --abi: {what}"), error)
 
     def test_a_run_without_a_command(self) -> None:
-        status, error = said("run", "rec")
-        self.assertEqual(status, 2)
-        self.assertIn("give a command behind '--'", error)
+        for words in (["rec"], ["rec", "--"], ["rec", "sort", "-r", "/a b"]):
+            with self.subTest(words):
+                status, error = said("run", *words)
+                self.assertEqual(status, 2)
+                self.assertIn("give a command behind '--', as 'landaudit-record run rec -- ls'", error)
+        self.assertIn("unrecognized arguments: sort -r '/a b' (give a command", error)
+
+    def test_words_that_a_subcommand_does_not_have(self) -> None:
+        for words in (["audit", "rec", "--refused"], ["suggest", "rec", "--policy", "p", "--json"]):
+            with self.subTest(words):
+                status, error = said(*words)
+                self.assertEqual(status, 2)
+                self.assertTrue(error.startswith(f"usage: landaudit-record {words[0]} "), error)
+                self.assertTrue(error.endswith(f": error: unrecognized arguments: {words[-1]}\n"), error)
+
+    def test_the_words_of_policy_in_another_order(self) -> None:
+        with tempfile.TemporaryDirectory() as folder:
+            wanted = f"landaudit-record: cannot read {folder}: Is a directory\n"
+            self.assertEqual(said("policy", folder, "policy.toml"), (3, wanted))
 
     def test_a_command_that_is_not_found(self) -> None:
         self.assertEqual(

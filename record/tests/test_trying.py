@@ -269,11 +269,14 @@ class Trying(unittest.TestCase):
         self.assertEqual(sorted(path.name for path in self.recording.iterdir()), ["trace.jsonl", "tree.jsonl"])
 
     def test_a_folder_without_a_recording(self) -> None:
-        for words in (["audit", self.folder], ["suggest", self.folder, "--policy", self.policy]):
-            status, _, errors = self.audited(*words)
-            self.assertEqual(status, 3)
-            self.assertIn("has no tree.jsonl: record first", errors)
-            self.assertEqual(errors.count("\n"), 1)
+        made = "has no tree.jsonl: name a folder that 'landaudit-record run' made\n"
+        absent = self.folder / "absent"
+        first = f"is not there: record first, by landaudit-record run {absent} -- COMMAND\n"
+        for folder, what in ((self.folder, made), (self.policy, made), (absent, first)):
+            for words in (["audit", folder], ["suggest", folder, "--policy", self.policy]):
+                with self.subTest(words):
+                    status, _, errors = self.audited(*words)
+                    self.assertEqual((status, errors), (3, f"landaudit-record: {folder} {what}"))
 
     def test_a_policy_with_a_fault(self) -> None:
         self.policy.write_text('[[layer]]\nhandled_access_fs = ["wirte"]\n')

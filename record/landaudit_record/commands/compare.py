@@ -13,10 +13,10 @@ from .. import comparing, comparing_text, finished, jsonl, landaudit, trees
 from ..comparing import Classes, Difference, Tally
 from ..finished import Finished
 from ..kernel_calls import judged_calls
-from ..options import add_landaudit
+from ..options import add_abi, add_landaudit
 from ..problems import WANTING, Problem
 from ..reading import judged
-from ..rights import NEWEST_ABI, OLDEST_ABI, alone
+from ..rights import alone
 
 NAME = "compare"
 HELP = "compare landaudit's answers with what the kernel did to a program that was under a layer"
@@ -27,13 +27,8 @@ EXAMPLE = """landaudit-record run rec -- record/tests/sandboxer.py policy.toml -
 def add_arguments(parser: argparse.ArgumentParser) -> None:
     """Names the words of the subcommand."""
     parser.add_argument("recording", metavar="OUT", help="the folder of a recording that was made under a policy")
-    parser.add_argument(
-        "--abi",
-        type=int,
-        choices=range(OLDEST_ABI, NEWEST_ABI + 1),
-        default=NEWEST_ABI,
-        help=f"Landlock's ABI ({NEWEST_ABI} if it is left out); where the recording names a right that is newer, "
-        "its 'create' is EINVAL, and no layer comes of it",
+    add_abi(
+        parser, "where the recording names a right that is newer, its 'create' is EINVAL, and no layer comes of it"
     )
     parser.add_argument("--json", action="store_true", help="print the same as data")
     parser.add_argument("--differences", metavar="FILE", type=Path, help="write each difference, as JSON Lines")

@@ -38,10 +38,10 @@ def add_arguments(parser: argparse.ArgumentParser) -> None:
 
 def run(arguments: argparse.Namespace) -> int:
     """Writes the trace; notes on what the ABI drops go to standard error."""
+    policy = policies.read(Path(arguments.policy))
     named = Path(arguments.trace)
     trace = named / "trace.jsonl" if named.is_dir() else named
     tree = trees.read(Path(arguments.tree) if arguments.tree else trace.with_name("tree.jsonl"))
-    policy = policies.read(Path(arguments.policy))
     layers, notes = fitting.fit(policy, arguments.abi)
     places = applying.plan(trace, tree, arguments.program)
     inserted = applying.records(policy, layers, tree, places.rs)

@@ -15,6 +15,7 @@ from . import convert
 NAME = "run"
 HELP = "record a command: run it under strace, and write its tree and its trace"
 EXAMPLE = "landaudit-record run rec --watch /tmp/work -- tar xf archive.tar -C /tmp/work"
+BEHIND_DASHES = "give a command behind '--', as 'landaudit-record run rec -- ls'"
 
 
 def add_arguments(parser: argparse.ArgumentParser) -> None:
@@ -35,7 +36,7 @@ def run(arguments: argparse.Namespace) -> int:
     """Records the command; the status is the command's."""
     command = arguments.behind
     if not command:
-        raise Problem("give a command behind '--', as 'landaudit-record run rec -- ls'", USAGE)
+        raise Problem(BEHIND_DASHES, USAGE)
     if shutil.which(command[0]) is None:
         raise Problem(f"{command[0]} is not found, or is no program", WANTING)
     strace = tracing.version()
