@@ -23,7 +23,7 @@ INSTALLED := bin/landaudit bin/landaudit-record \
 
 # Builds landaudit without its proofs, and runs it; a refused call (status 1) is an answer as good as another.
 example:
-	@tree=$$(realpath '$(TREE)') && trace=$$(realpath '$(TRACE)') || exit; \
+	@tree=$$(realpath -e '$(TREE)') && trace=$$(realpath -e '$(TRACE)') || exit; \
 	echo 'building landaudit without its proofs, to audit $(TRACE): a minute or two' >&2; \
 	log=$$(mktemp); cd crates/landaudit; rt try -- --abi '$(ABI)' "$$tree" "$$trace" 2> $$log; status=$$?; \
 	test $$status -lt 2 || grep '^landaudit: ' $$log >&2 || cat $$log >&2; rm -f $$log; test $$status -lt 2

@@ -50,6 +50,13 @@ class Example(Make):
         self.assertEqual(run.stdout.splitlines(), ["try", "--", "--abi", "1", f"{tree}", f"{trace}"])
         self.assertEqual(run.returncode, 0)
 
+    def test_a_file_that_is_not_there_is_told_before_anything_is_built(self) -> None:
+        for word in ("TREE", "TRACE"):
+            run = self.make("exit 0", "example", f"{word}={self.folder}/absent")
+            self.assertEqual(run.returncode, 2)
+            self.assertTrue(run.stderr.startswith(f"realpath: {self.folder}/absent: No such file or directory\n"))
+            self.assertNotIn("building", run.stderr)
+
     def test_a_fault_of_a_file_is_its_line_alone(self) -> None:
         run = self.make('echo "landaudit: tree line 3: Json" >&2; exit 3', "example")
         self.assertEqual(run.returncode, 2)
