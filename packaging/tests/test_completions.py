@@ -31,6 +31,7 @@ printf '%s\\n' "${COMPREPLY[@]}"
 FISH = "for file in $argv[1]/*.fish; source $file; end; complete -C $argv[2]"
 
 #: Completions are added by compadd, which here also prints what it adds; with -O, -A or -D it adds nothing.
+#: The end is told when the line editor begins too: up to then the terminal itself would obey a Control-U.
 ZSH = """
 autoload -Uz compinit; compinit -u -D
 compadd() {
@@ -44,6 +45,7 @@ compadd() {
 }
 the_end() { compstate[insert]=; compstate[list]=; print -rn -- 'the' 'end'; comppostfuncs=(the_end) }
 comppostfuncs=(the_end)
+zle-line-init() { print -rn -- 'the' 'end' }; zle -N zle-line-init
 """
 
 
@@ -70,7 +72,7 @@ class Zsh:
         self._child, self._terminal = pty.fork()
         if self._child == 0:
             os.execvp("zsh", ["zsh", "-f", "-i"])
-        self._send(f"fpath=({shlex.quote(str(folder))} $fpath)\n{ZSH}print -r -- the'' end\n")
+        self._send(f"fpath=({shlex.quote(str(folder))} $fpath)\n{ZSH}")
 
     def __call__(self, line: str) -> set[str]:
         """What zsh offers. The line is killed afterwards (Control-U)."""
