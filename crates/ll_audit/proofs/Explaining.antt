@@ -24,7 +24,7 @@ as_many of answers records place are same below =
 pub stands : {X : Type 0} (xs : List X) (place : ℕ) (x : X) → place < length xs → x ≡ get_or xs place x → slice_get xs place ≡ Some x
 stands xs place x below is = slice_get-get_or xs place x below ∙ ap Some (sym is)
 
--- the answer that stands at a place is that to the record there
+-- the answer at a place is that to the record there
 pub answer_at : (of : Matter) (answers : List Answer) (place : ℕ) (answer : Answer) (blocks : Blocks) (shown : Shown) → answers ≡ judged of.tree of.abi of.records
     → place < length answers → answer ≡ get_or answers place answer → AreAt shown of place blocks → IsAnswerAt blocks.case.now place answer
 answer_at of answers place answer blocks shown are below is at =

@@ -1,4 +1,4 @@
--- Texts that are kept one behind the other: each stands where it was put, whatever is put behind it.
+-- Texts that are kept one behind the other: each is where it was put, whatever is put behind it.
 use Rattle.std.proofs.Common.{◌≡◌, ◌∙◌, ℕ, zero, suc, ◌-◌, ◌≤◌, List, [], ◌∷◌, ◌++◌, length, take, drop, Option, Some, None, refl, sym, ap, ap₂, arith, Bool, cond, length-append}
 use Rattle.std.specs.Prelude.{slice_get, unwrap_or}
 use Rattle.std.proofs.lemmas.Bool.{ne_eqb}

@@ -18,7 +18,7 @@ use Rattle.ll_audit.specs.Names.{SaysOperation, op_name}
 abbrev HasWord : List ℕ → Result Op Cause → Type 0
 HasWord word read = IfOk read (λ op. op_name op ≡ word)
 
--- a reading of so many members, after which an operation of this word is made
+-- a reading of this many members, after which an operation of this word is made
 one : {A : Type 0} (word : List ℕ) (a : Result A Cause) (make : A → Op) → ((x : A) → op_name (make x) ≡ word)
     → HasWord word (a >>= λ x. Ok (make x))
 one word (Ok x) make has = has x

@@ -1,4 +1,4 @@
--- Want of memory or of a thread, behind two files that read, is a fault of the audit.
+-- Being out of memory or threads, after two files that read, is a fault of the audit.
 use Rattle.std.proofs.Common.{ℕ, List, Result, Ok, Err, sym, subst, inl, inr}
 use Rattle.std.specs.Prelude.{IfErr}
 use Rattle.ll_audit.specs.declared.fault.Fault.{Fault}

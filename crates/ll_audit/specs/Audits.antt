@@ -40,8 +40,8 @@ ReadsAsTree bytes = (tree : List Entry) × IsTreeOf bytes tree
 abbrev pub ReadsAsTrace : List ℕ → Type 0
 ReadsAsTrace bytes = (records : List Record) × IsTrace bytes records
 
--- Why there is no report: the tree doesn't read, or it does and the trace doesn't. A thread is wanting only where both
--- read. Want of memory says nothing of the files.
+-- Why there is no report: the tree doesn't read, or it does and the trace doesn't. A thread is missing only where both
+-- read. Being out of memory says nothing of the files.
 abbrev pub IsFaultOf : ℕ → List ℕ → List ℕ → Fault → Type 0
 IsFaultOf workers tree_bytes trace_bytes fault.Workers = IsCrew workers → ⊥
 IsFaultOf workers tree_bytes trace_bytes (fault.Tree of) = IsCrew workers × IsBad tree_format tree_bytes of

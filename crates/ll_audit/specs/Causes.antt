@@ -1,4 +1,4 @@
--- Why a part of an audit gives nothing: a file that doesn't read, or a want of memory or of threads.
+-- Why a part of an audit gives nothing: a file that doesn't read, or being out of memory or threads.
 -- Source: docs/FORMATS.md, "Faults of a run".
 use Rattle.std.specs.Prelude.{◌≡◌, ◌⊎◌, ℕ, List}
 use Rattle.ll_tree.specs.Reading.{IsBad}
@@ -20,11 +20,11 @@ IsTraceFault bytes (fault.Trace of) = IsBad trace_file bytes of
 IsTraceFault bytes fault.Memory = Unit {0}
 IsTraceFault bytes _ = ⊥
 
--- what the pool's want comes to
+-- what a fault of the pool comes to
 abbrev pub fault_of_pool : PoolFault → Fault
 fault_of_pool pool.Memory = fault.Memory
 fault_of_pool pool.NoThread = fault.NoThread
 
--- memory or a thread is wanting
+-- out of memory, or a thread is missing
 abbrev pub IsWant : Fault → Type 0
 IsWant of = (of ≡ fault.Memory) ⊎ (of ≡ fault.NoThread)

@@ -151,7 +151,7 @@ request_in rows = do
   trace ← first_of (codes "TRACE") rows
   Some (record { options = options_in abis rows; workers = workers; grain = grain; tree = tree; trace = trace })
 
--- matches that are each as their rule has it, and are wrong for all that: no range of versions is named, or both files
+-- matches that are each as their rule has it, and are still wrong: no range of versions is named, or both files
 -- are standard input
 abbrev pub is_misuse : List Row → Bool
 is_misuse rows =

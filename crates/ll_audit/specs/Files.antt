@@ -14,6 +14,6 @@ Files = finite.FinMap (slice_cmp nat_cmp) (List ℕ)
 abbrev pub bytes_of : Files → List ℕ → Option (List ℕ)
 bytes_of files name = finite.get files name
 
--- the files of a list; where a name stands twice the first counts
+-- the files of a list; where a name is there twice the first counts
 abbrev pub files_of : List (Bor (List ℕ) × Bor (List ℕ)) → Files
 files_of listed = finite.from_entries (map (λ file. (file.0.now, file.1.now)) listed)

@@ -1,4 +1,4 @@
--- What a run of the program comes to: the report on the files that its words name, or what stands in its way.
+-- What a run of the program comes to: the report on the files that its words name, or why there is none.
 -- Source: docs/FORMATS.md, "The command line" and "Statuses".
 use Rattle.std.specs.Prelude.{◌≡◌, ◌⊎◌, ◌<◌, ℕ, List, ⊤, Option, Some, None, IfSome}
 use Rattle.std.specs.Io.KnownBytes.{Appends}
@@ -63,7 +63,7 @@ IsFailureOf files request before after failure.Memory = ⊤
 IsFailureOf files request before after failure.NoThread = HasTree files request.tree × HasTrace files request.trace
 IsFailureOf files request before after failure.Unwritten = ⊥
 
--- no memory is left, or the words ask for a run that fails in this way
+-- out of memory, or the words ask for a run that fails in this way
 abbrev pub HasFailure : List Text → Option Files → ℕ → ℕ → Failure → Type 0
 HasFailure words files before after of =
     (of ≡ failure.Memory)

@@ -20,7 +20,7 @@ pub record ReportLine : Type 0 where
 abbrev pub next_layer_text : ℕ → List ℕ
 next_layer_text layer = codes "," ++ decimal layer
 
--- layers, parted by commas
+-- layers, separated by commas
 abbrev pub listed_layers : List ℕ → List ℕ
 listed_layers [] = []
 listed_layers (first ∷ more) = decimal first ++ flat_map next_layer_text more
@@ -39,7 +39,7 @@ verdict_text (refused error layers) = codes "refused " ++ error ++ codes " " ++ 
 abbrev pub record_text : ℕ → ℕ → List ℕ → List ℕ
 record_text line pid op = decimal line ++ codes " " ++ decimal pid ++ codes " " ++ op
 
--- what stands before the verdict
+-- what comes before the verdict
 abbrev pub head_text : ℕ → ℕ → List ℕ → List ℕ
 head_text line pid op = record_text line pid op ++ codes " "
 

@@ -32,14 +32,14 @@ abbrev pub is_row_left_out : Shown → List Found → ℕ → Bool
 is_row_left_out shown founds place =
     (shown.refused_alone && not (is_refused_under_some founds place)) || (shown.differing_alone && agree (answers_said founds place))
 
--- What is shown of the record at a place, of which the report tells so: nothing, or its line and what stands behind it.
+-- What is shown of the record at a place, of which the report tells so: nothing, or its line and what is behind it.
 abbrev pub row_text : Shown → ℕ → List Found → ℕ → List ℕ → List ℕ
 row_text shown oldest founds place told =
     if is_row_left_out shown founds place then []
     else told ++ versions_text Answers oldest (answers_said founds place) ++ codes "\n"
     ++ behind_line shown.explanations (versions_text Explanations oldest (explanations_said founds place))
 
--- what is shown of records, the first of which stands at a place of the trace
+-- what is shown of records, the first of which is at a place of the trace
 unfoldable pub rows_from : Shown → ℕ → List Found → ℕ → List Record → List ℕ
 rows_from shown oldest founds place [] = []
 rows_from shown oldest founds place (of ∷ others) =

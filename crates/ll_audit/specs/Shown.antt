@@ -9,16 +9,16 @@ use Rattle.ll_audit.specs.Report.{ReportLine, Verdict, count_of, is_allowed, is_
 abbrev pub is_left_out : Shown → Verdict → Bool
 is_left_out shown verdict = (shown.refused_alone && not (is_refused verdict)) || shown.differing_alone
 
--- what stands behind a line: the explanation, where explanations are shown
+-- what is behind a line: the explanation, where explanations are shown
 abbrev pub behind_line : Bool → List ℕ → List ℕ
 behind_line explanations explanation = if explanations then explanation else []
 
--- what is shown of a record: nothing, or its line and what stands behind it
+-- what is shown of a record: nothing, or its line and what is behind it
 abbrev pub block_text : Shown → ReportLine → List ℕ → List ℕ
 block_text shown said explanation =
     if is_left_out shown said.verdict then [] else line_text said ++ behind_line shown.explanations explanation
 
--- What is shown of records, the first of which stands at a place of the trace. The explanations are given by the places
+-- What is shown of records, the first of which is at a place of the trace. The explanations are given by the places
 -- of the records.
 unfoldable pub blocks_from : Shown → (ℕ → List ℕ) → ℕ → List ReportLine → List ℕ
 blocks_from shown explained place [] = []

@@ -33,8 +33,8 @@ agree (said ∷ others) = list_all (λ (other : List ℕ). bytes_eq said other) 
 abbrev pub numbers_text : ℕ → ℕ → List ℕ
 numbers_text first last = decimal first ++ (if first == last then [] else codes "-" ++ decimal last)
 
--- An answer stands behind the numbers of its versions. An explanation stands beneath them, and where nothing is to be
--- explained neither stands.
+-- An answer is behind the numbers of its versions. An explanation is under them, and where nothing is to be
+-- explained there is neither.
 abbrev pub span_text : Form → Span → List ℕ
 span_text Answers span = codes " " ++ numbers_text span.first span.last ++ codes " " ++ span.said
 span_text Explanations span = beneath (numbers_text span.first span.last) span.said
@@ -43,7 +43,7 @@ span_text Explanations span = beneath (numbers_text span.first span.last) span.s
     beneath numbers [] = []
     beneath numbers (byte ∷ bytes) = codes "    abi " ++ numbers ++ codes ":\n" ++ byte ∷ bytes
 
--- what all versions say stands without their numbers
+-- what all versions say is told without their numbers
 abbrev pub alone_text : Form → List ℕ → List ℕ
 alone_text Answers said = codes " " ++ said
 alone_text Explanations said = said

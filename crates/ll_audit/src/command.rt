@@ -19,7 +19,7 @@ use std::alloc::{AllocError, Global};
 /// What a run is asked to do.
 #[derive(Clone, Copy, Debug)]
 pub(crate) struct Run<'a> {
-    /// What is asked of the audit.
+    /// The options of the audit.
     pub(crate) options: Options,
     /// How many threads judge.
     pub(crate) workers: u64,
@@ -40,9 +40,9 @@ pub(crate) enum Plan<'a> {
     Text(Error),
     /// Nothing: the words are at fault, and the error's text says why.
     Usage(Error),
-    /// Nothing: each word is as its rule has it, and they are wrong for all that.
+    /// Nothing: each word is as its rule has it, and they are still wrong.
     Misuse(Misuse),
-    /// No memory was left while the words were read.
+    /// Out of memory while the words were read.
     Memory,
 }
 

@@ -24,7 +24,7 @@ pub enum Fault {
     /// The number of workers isn't 1 to 64.
     #[error("the number of workers isn't 1 to 64")]
     Workers,
-    /// No memory was left.
+    /// Out of memory.
     #[error("no memory is left")]
     Memory,
     /// A thread could not be started.

@@ -17,7 +17,7 @@ pub(crate) enum Failure<'a> {
     Trace(ReadFault),
     /// The file of this name can't be read.
     Unread(&'a str),
-    /// No memory is left.
+    /// Out of memory.
     Memory,
     /// A thread could not be started.
     NoThread,

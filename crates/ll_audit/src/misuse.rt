@@ -1,4 +1,4 @@
-//! Words of the command line that are each as their rule has it, and are wrong for all that.
+//! Words of the command line that are each as their rule has it, and are still wrong.
 
 /// What is wrong with such words.
 #[derive(Clone, Copy, Debug, PartialEq, Eq)]

@@ -1,4 +1,4 @@
-//! What is asked of an audit.
+//! The options of an audit.
 
 use crate::abis::AbiRange;
 use crate::shown::Shown;
@@ -14,7 +14,7 @@ pub enum Effort {
     Best,
 }
 
-/// What is asked of an audit: the versions of Landlock's interface that answer, how rulesets are taken,
+/// The options of an audit: the versions of Landlock's interface that answer, how rulesets are taken,
 /// and how much of the report is shown.
 #[derive(Clone, Copy, Debug, PartialEq, Eq)]
 pub struct Options {

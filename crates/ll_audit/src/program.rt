@@ -23,7 +23,7 @@ use std::thread::Threads;
 /// Runs the program on the words of its command line, of which the first is its own name, and gives
 /// its status: 0 with a report that has no refused record, or with help or the version; 1 with a report that has
 /// one; 2 where the words are wrong; 3 where a file can't be read or doesn't read; 4 where memory or
-/// a thread is wanting, or the output can't be written, which may leave a beginning of the report
+/// a thread is missing, or the output can't be written, which may leave a beginning of the report
 /// there. The report, the help and the version go to `out`, and what is wrong to `err`. If that can't be written
 /// the status stays.
 pub fn front<R: Threads + Wait + Sync, S: Source, O: Write, E: Write, G: Gate + Sync>(

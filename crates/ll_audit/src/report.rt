@@ -80,7 +80,7 @@ pub(crate) fn push_record(
     text.extend_from_slice(op.as_bytes())
 }
 
-/// Adds what stands before a verdict.
+/// Adds what comes before a verdict.
 pub(crate) fn push_head(text: &mut Vec<u8>, line: u64, pid: u64, op: &str) -> Result<(), AllocError>
     ensures { OnOk result (text.new.items ≡ text.old.items ++ head_text line pid op.now) }
 {
@@ -89,7 +89,7 @@ pub(crate) fn push_head(text: &mut Vec<u8>, line: u64, pid: u64, op: &str) -> Re
     Ok(())
 }
 
-/// Adds the numbers of layers, parted by commas, or a hyphen where there are none.
+/// Adds the numbers of layers, separated by commas, or a hyphen where there are none.
 fn push_layers(text: &mut Vec<u8>, layers: LayerSet) -> Result<(), AllocError>
     ensures { OnOk result (text.new.items ≡ text.old.items ++ layers_text layers) }
 {

@@ -65,7 +65,7 @@ fn is_left_out(shown: Shown, findings: &[Finding], place: usize, answers: &[Vec<
         || shown.differing_alone && agree(answers)
 }
 
-/// Adds what stands behind the line of the record at a place.
+/// Adds what is behind the line of the record at a place.
 fn push_behind(
     alloc: Global,
     text: &mut Vec<u8>,
@@ -148,7 +148,7 @@ fn push_totals(text: &mut Vec<u8>, oldest: u64, findings: &[Finding]) -> Result<
     Ok(())
 }
 
-/// How many records some version refuses, of so many records.
+/// How many records some version refuses, of this many.
 fn refused_under_some(findings: &[Finding], records: usize) -> u64
     ensures { result ≡ count_by (is_refused_under_some findings.now) (range_with_len 0 records) }
 {

@@ -3,7 +3,7 @@
 /// What of a report is shown. The totals are always shown, and they are those of all records.
 #[derive(Clone, Copy, Debug, PartialEq, Eq)]
 pub struct Shown {
-    /// Whether behind the line of a record that is refused or moot its explanation stands.
+    /// Whether the explanation of a record that is refused or moot is behind its line.
     pub explanations: bool,
     /// Whether the lines of records alone are shown that some version refuses.
     pub refused_alone: bool,

@@ -12,7 +12,7 @@ use std::alloc::{AllocError, Global};
 pub enum SourceFault {
     /// The file can't be read.
     Unread,
-    /// No memory is left for its bytes.
+    /// Out of memory for its bytes.
     Memory,
 }
 
@@ -57,7 +57,7 @@ fn first_named<'a>(files: &[(&'a str, &'a [u8])], name: &str) -> Option<&'a [u8]
     Some(file.1)
 }
 
-/// Files in memory, as names beside their bytes. Where a name stands twice the first counts.
+/// Files in memory, as names beside their bytes. Where a name is there twice the first counts.
 #[derive(Debug, Drop)]
 pub struct MemorySource<'a> {
     files: &'a [(&'a str, &'a [u8])],

@@ -10,7 +10,7 @@ use std::alloc::AllocError;
 /// What is said under each version.
 #[derive(Clone, Copy, Debug)]
 pub(crate) enum Form {
-    /// Answers, which stand on the record's line.
+    /// Answers, which are on the record's line.
     Answers,
     /// Explanations, which are lines of their own.
     Explanations,

@@ -1,4 +1,4 @@
-//! The texts that stand behind the lines of records.
+//! The texts behind the lines of records.
 
 ghost use Rattle.std.specs.Prelude.{◌≡◌, ◌∷◌, ◌++◌, ◌-◌, ◌<◌, ◌≤◌, [], IfOk, OnOk, drop, length, slice_get, take, unwrap_or};
 ghost use Rattle.ll_trails.specs.CaseTrails.{AreTrailsAt, IsAnswerAt};

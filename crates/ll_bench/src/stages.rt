@@ -91,7 +91,7 @@ fn judging<R: Clock + Files + Print + AllocGlobal + Threads + Wait + Sync>(
     Ok(())
 }
 
-/// The pieces of a case, judged by so many workers, with a cut at each fork.
+/// The pieces of a case, judged by this many workers, with a cut at each fork.
 fn pieces_by<'c, R: AllocGlobal + Threads + Wait + Sync>(
     rt: &R,
     case: &'c Case,

@@ -65,7 +65,7 @@ fn by_lanes<R: Clock>(rt: &R, tree: &Tree, layers: &Layers, nodes: &[NodeId]) ->
     Ok(Taken { refused, time })
 }
 
-/// Nanoseconds for one of so many checks.
+/// Nanoseconds for one of this many checks.
 fn nanoseconds(time: Duration, checks: u32) -> f64 {
     time.as_secs_f64() * 1e9 / f64::from(checks)
 }

@@ -134,7 +134,7 @@ fn stacked(layers: &[Layer]) -> Result<Domain>
     Ok(domain)
 }
 
-/// So many layers, at most sixteen.
+/// This many layers, at most sixteen.
 pub(crate) fn layers_of(alloc: Global, tree: &Tree, count: u32, granting: bool) -> Result<Layers>
     ensures rules { IfOk result (λ layers. All (AreInTree tree.now) layers.lanes.items) }
     ensures domain { IfOk result (λ layers. IsDomainOf layers.lanes.items layers.domain) }

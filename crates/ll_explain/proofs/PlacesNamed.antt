@@ -1,4 +1,4 @@
--- The path of the node on which a call asks rights: the path that the call names, or what stands above it.
+-- The path of the node on which a call asks rights: the path that the call names, or what is above it.
 use Rattle.std.proofs.Common.{◌≡◌, ◌∙◌, ℕ, Bool, true, false, List, [], ◌∷◌, Option, Some, None, refl, sym, ap, cond}
 use Rattle.std.specs.Prelude.{IfSome, IsTrue, is_some}
 use Rattle.std.proofs.lemmas.Bool.{false≢true}
@@ -28,7 +28,7 @@ node_at-path tree path here is = go (position_of path tree) refl is where
   go None at is = absurd (none-some here is)
   go (Some n) at is = ap (path_at tree) (sym (same_Some _ here is)) ∙ (at_position path tree n at).1
 
--- a path is that of the node of its place, or what stands above it is
+-- a path is that of the node of its place, or the one above it is
 abbrev pub IsNamed : List Entry → Path → Place → Type 0
 IsNamed tree path (Node here) = path ≡ path_at tree here
 IsNamed tree path (Gap up) = front path ≡ path_at tree up
@@ -142,7 +142,7 @@ rmdir_at tree path Nowhere is = tt
 pub rmdir_named : (tree : List Entry) (text : List ℕ) (request : Option Request) → request ≡ rmdir_asks tree (place tree text) → IfSome request (λ request. front (spelt text) ≡ path_at tree request.node)
 rmdir_named tree text request is = rw is (rmdir_at tree (spelt text) (place tree text) (named tree text))
 
--- ---- the text of what stands above a path
+-- ---- the text of what is above a path
 
 front_read : (text above : List ℕ) (read : Option Path) → path_of text ≡ read → IsTrue (is_some read) → ((path : Path) → path_of text ≡ Some path → path_of above ≡ Some (front path)) →
     IsTrue (is_some (path_of above)) × (path_or_root (path_of above) ≡ front (path_or_root read))

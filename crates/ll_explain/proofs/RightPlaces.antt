@@ -16,7 +16,7 @@ use Rattle.ll_reasons.specs.Conditions.{directory_rights, rights_beyond, unknown
 use Rattle.ll_rights.specs.Rights as files
 use Rattle.ll_rights.specs.NetRights as network
 
--- each right stands at the place of its bit
+-- each right is at the place of its bit
 numbered : {R : Type 0} (bit_of : R → ℕ) (rights : List R) (none : R) (count : ℕ) → length rights ≡ count → map bit_of rights ≡ map (λ n. n) (range_with_len 0 count) →
     (place : ℕ) → place < count → bit_of (get_or rights place none) ≡ place
 numbered bit_of rights none count counted same place there =

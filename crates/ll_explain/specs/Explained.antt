@@ -1,4 +1,4 @@
--- The text that stands behind the line of a record.
+-- The text behind the line of a record.
 -- Source: docs/FORMATS.md, "Explanations".
 use Rattle.std.specs.Prelude.{ℕ, List, [], Option, Some, None, slice_get}
 use Rattle.ll_rights.specs.declared.abi.Abi.{Abi}

@@ -4,7 +4,7 @@ use Rattle.ll_tree.specs.declared.place.Place.{Place}
 use Rattle.ll_tree.specs.declared.place.Place.TheVariants.{Node, Gap, Nowhere}
 use Rattle.ll_tree.specs.Paths.{Path, front}
 
--- the path itself where an object is there, else what stands above it
+-- the path itself where an object is there, else what is above it
 abbrev pub named_by : Place → Path → Path
 named_by (Node here) path = path
 named_by (Gap directory) path = front path

@@ -23,7 +23,7 @@ use ll_trace::{Mode, PathText};
 use ll_tree::{Place, front_text};
 use std::alloc::AllocError;
 
-/// The text of what stands above a path.
+/// The text of what is above a path.
 pub(crate) fn front_of(path: &PathText) -> &str
     ensures shape { IsTrue (is_some (path_of result.now)) }
     ensures path { spelt result.now ≡ front (spelt path.now) }
@@ -32,7 +32,7 @@ pub(crate) fn front_of(path: &PathText) -> &str
 }
 
 /// The text of the path on which rights are asked at a place: the path itself where an object is there, else what
-/// stands above it.
+/// is above it.
 fn text_at(place: Place, path: &PathText) -> &str
     ensures shape { IsTrue (is_some (path_of result.now)) }
     ensures path { spelt result.now ≡ named_by place (spelt path.now) }
@@ -97,7 +97,7 @@ pub(crate) fn push_made(
     Ok(())
 }
 
-/// Adds the lines for unlink(2), which asks a right on the directory that the object stands in.
+/// Adds the lines for unlink(2), which asks a right on the directory that the object is in.
 pub(crate) fn push_unlinked(
     text: &mut Vec<u8>,
     of: &Confinement,
@@ -113,7 +113,7 @@ pub(crate) fn push_unlinked(
     Ok(())
 }
 
-/// Adds the lines for rmdir(2), which asks a right on the directory that the object stands in.
+/// Adds the lines for rmdir(2), which asks a right on the directory that the object is in.
 pub(crate) fn push_directory_removed(
     text: &mut Vec<u8>,
     of: &Confinement,

@@ -74,7 +74,7 @@ fn push_unmoved(text: &mut Vec<u8>, path: &str) -> Result<(), AllocError>
     text.extend_from_slice(b" would go where it is")
 }
 
-/// Says that an object would go beneath itself.
+/// Says that an object would go under itself.
 #[tactic(auto, unfolding(crate::specs::Words::reason_text))]
 fn push_beneath_itself(text: &mut Vec<u8>, from: &str, to: &str) -> Result<(), AllocError>
     requires from { IsTrue (is_some (path_of from.now)) }

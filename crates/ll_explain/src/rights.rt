@@ -12,7 +12,7 @@ use bitflags::Flags;
 use ll_rights::{Fs, Net};
 use std::alloc::AllocError;
 
-/// Whether a set of bits, of which so many have a name, has the right at a place of its table; all bits without a
+/// Whether a set of bits, this many of them named, has the right at a place of its table; all bits without a
 /// name are one right, behind the others.
 pub(crate) fn has_place(named: u32, bits: u32, place: u32) -> bool
     requires { named < 32 }

@@ -28,13 +28,13 @@ pub(crate) struct Route<'p> {
     pub(crate) from: &'p str,
     /// The path that it goes to.
     pub(crate) to: &'p str,
-    /// The path of the directory that it stands in.
+    /// The path of the directory that it is in.
     pub(crate) source: &'p str,
     /// The path of the directory that it goes to.
     pub(crate) destination: &'p str,
 }
 
-/// Adds the line of a layer that lacks something of what a move asks of its two directories, which stands together if
+/// Adds the line of a layer that lacks something of what a move asks of its two directories, in one list if
 /// they are one.
 fn push_denied(
     text: &mut Vec<u8>,

@@ -44,7 +44,7 @@ fn digit(number: u8) -> u8
     }
 }
 
-/// Adds a byte as it stands in a JSON text.
+/// Adds a byte as it is in a JSON text.
 #[tactic(auto, unfolding(json::specs::Print::escape_byte))]
 fn push_escaped_byte(text: &mut Vec<u8>, byte: u8) -> Result<(), AllocError>
     ensures { OnOk result (text.new.items ≡ text.old.items ++ escape_byte byte) }

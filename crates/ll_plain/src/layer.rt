@@ -31,7 +31,7 @@ impl PlainLayer {
         }
     }
 
-    /// Adds a rule that grants rights on an object and on all beneath it.
+    /// Adds a rule that grants rights on an object and on all under it.
     pub fn grant(&mut self, node: NodeId, files: Fs) -> Result<(), AllocError> {
         let granted = self.rule_on(node).union(files);
         self.on_nodes.insert(node.index(), granted)?;

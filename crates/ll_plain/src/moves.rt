@@ -73,7 +73,7 @@ pub struct Attempt {
     pub at: NodeId,
 }
 
-/// The directory that an object stands in; the root stands in itself.
+/// The directory that an object is in; the root is in itself.
 fn directory_of(tree: &Tree, object: NodeId) -> NodeId
     requires { IsNode tree.now object }
     ensures { IsNode tree.now result }
@@ -103,7 +103,7 @@ pub(crate) fn destination_of(tree: &Tree, attempt: &Attempt) -> NodeId
     }
 }
 
-/// The rights that are asked of a directory, where objects of these kinds are moved and there.
+/// The rights that are asked on a directory, where objects of these kinds are moved and there.
 fn rights_of(asks: &[Asks], moved: Kind, there: Kind) -> Fs {
     let mut rights = Fs::NONE;
     for ask in asks {

@@ -21,7 +21,7 @@ use std::test::*;
 /// How many numbers of nodes the filter of a layer tells apart: those that differ by a multiple share a mark.
 const MARKS: u32 = 4096;
 
-/// How many rules of a layer are within reach of one look, at most; the others stand in its map alone.
+/// How many rules of a layer are within reach of one look, at most; the others are in its map alone.
 const RECENT: u32 = 64;
 
 /// How many rules are tried for a layer. Those are added of which a right is left that it handles.
@@ -197,7 +197,7 @@ impl Both {
     }
 }
 
-/// So many layers, at most sixteen.
+/// This many layers, at most sixteen.
 fn layers_of(
     alloc: Global,
     tree: &Tree,

@@ -1,4 +1,4 @@
--- At the end every process stands in one piece, once.
+-- At the end every process is in one piece, once.
 use Rattle.std.proofs.Common.{◌≡◌, ℕ, ◌<◌, List, ◌++◌, take, drop, sym, ap, ◌∙◌, arith}
 use Rattle.std.specs.Prelude.{sum_by}
 use Rattle.std.proofs.lemmas.List.{map-append, take-append-drop}

@@ -1,4 +1,4 @@
--- Where each process stands once in the pieces, collecting them finds none missing and none doubled.
+-- Where each process is in the pieces once, collecting them finds none missing and none doubled.
 use Rattle.std.proofs.Common.{◌≡◌, ℕ, ◌<◌, List, arith}
 use Rattle.ll_trace.specs.declared.record.Record.{Record}
 use Rattle.ll_trace.specs.declared.record.ProcessId.{ProcessId}

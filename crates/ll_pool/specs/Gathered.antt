@@ -24,6 +24,6 @@ unfoldable pub placed : List (ℕ × Answer) → List Answer → List Answer
 placed [] answers = answers
 placed (part ∷ parts) answers = placed parts (slice_set answers part.0 part.1)
 
--- how often each process stands in a list, counted up to 255
+-- how often each process is in a list, counted up to 255
 pub record IsTally (processes : List ℕ) (seen : List ℕ) : Type 0 where
   pub each : (process : ℕ) → process < length seen → slice_index seen process ≡ min 255 (times process processes)

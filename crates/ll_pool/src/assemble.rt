@@ -19,7 +19,7 @@ fn place(answers: &mut Vec<Answer>, parts: &[(u32, Answer)])
     }
 }
 
-/// The answers of pieces in the order of the records, where each process stands in some piece.
+/// The answers of pieces in the order of the records, where each process is in some piece.
 pub(crate) fn assemble(
     alloc: Global,
     case: &Case,

@@ -15,11 +15,11 @@ use std::alloc::{AllocError, Global};
 /// Why the answers can't be collected.
 #[derive(Clone, Copy, Debug, PartialEq, Eq)]
 pub enum CollectFault {
-    /// The least process that stands in no piece.
+    /// The least process that is in no piece.
     Missing(ProcessId),
-    /// The least process that stands more than once.
+    /// The least process that is there more than once.
     Double(ProcessId),
-    /// There is no memory.
+    /// Out of memory.
     Memory,
 }
 
@@ -34,8 +34,8 @@ impl From<AllocError> for CollectFault {
     }
 }
 
-/// The answers to all records, in their order. If a process stands more than once in the pieces, the
-/// fault names the least such process; else, if one is absent, the least of these.
+/// The answers to all records, in their order. If a process is in the pieces more than once, the
+/// fault names the least such process; else, if one is missing, the least of these.
 pub fn collect(
     alloc: Global,
     case: &Case,

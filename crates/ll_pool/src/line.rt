@@ -11,7 +11,7 @@ use std::alloc::{AllocError, Global};
 use std::sync::Wait;
 
 /// How many jobs the queue holds. That the right to know the whole has as many parts is chance: their
-/// number, 1,024, stands in the rule (`Fair`), and has to be above that of the workers.
+/// number, 1,024, is in the rule (`Fair`), and has to be above that of the workers.
 pub(crate) const ROOM: usize = 1024;
 
 /// The queue of one case's jobs.

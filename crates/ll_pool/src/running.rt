@@ -22,7 +22,7 @@ use std::thread::Threads;
 /// Why not all was judged.
 #[derive(Clone, Copy, Debug, PartialEq, Eq)]
 pub enum PoolFault {
-    /// There is no memory.
+    /// Out of memory.
     Memory,
     /// A thread could not be started.
     NoThread,
@@ -50,9 +50,9 @@ impl From<AllocError> for PoolFault {
     }
 }
 
-/// Judges all processes of a case, each as part of one piece: by so many workers, each on a thread of
+/// Judges all processes of a case, each in one piece: by this many workers, each on a thread of
 /// its own, who share a queue of 1,024 jobs. The roots go to the queue, and so does each child where
-/// `cut` is true at its number; an absent place is false. Other children are judged with their
+/// `cut` is true at its number; a missing place is false. Other children are judged with their
 /// parent, and so is one that finds the queue full. No more workers start than there can be jobs.
 ///
 /// The gate is told of each job before it is judged. Where a thread can't be started the answer is

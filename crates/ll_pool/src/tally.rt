@@ -1,4 +1,4 @@
-//! Counting how often each process stands in pieces.
+//! Counting how often each process is in pieces.
 
 ghost use Rattle.std.specs.Prelude.{◌≡◌, ℕ, ◌+◌, ◌<◌, ◌≤◌, min, length, slice_index, All, IfOk, IfSome, IfNone, vec_len};
 ghost use Rattle.ll_trace.specs.Processes.{process_count, numbers, times};
@@ -22,7 +22,7 @@ fn count(seen: &mut Vec<u8>, processes: &[ProcessId])
     }
 }
 
-/// How often each process of the case stands in the pieces, counted up to 255.
+/// How often each process of the case is in the pieces, counted up to 255.
 pub(crate) fn tally(alloc: Global, case: &Case, pieces: &[Piece<'_>]) -> Result<Vec<u8>, AllocError>
     requires { AllOf case.now pieces.now }
     ensures len { IfOk result (λ seen. length seen.items ≡ process_count case.now.records) }
@@ -36,7 +36,7 @@ pub(crate) fn tally(alloc: Global, case: &Case, pieces: &[Piece<'_>]) -> Result<
     Ok(seen)
 }
 
-/// The first process that stands more than once.
+/// The first process that is there more than once.
 pub(crate) fn first_double(seen: &[u8]) -> Option<u32>
     requires { length seen.now ≤ 65536 }
     ensures found { IfSome result (λ first. (first < length seen.now) × (1 < slice_index seen.now first)
@@ -51,7 +51,7 @@ pub(crate) fn first_double(seen: &[u8]) -> Option<u32>
     None
 }
 
-/// The first process that doesn't stand there.
+/// The first process that isn't there.
 pub(crate) fn first_absent(seen: &[u8]) -> Option<u32>
     requires { length seen.now ≤ 65536 }
     ensures found { IfSome result (λ first. (first < length seen.now) × (slice_index seen.now first ≡ 0)

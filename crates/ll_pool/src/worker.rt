@@ -14,7 +14,7 @@ use std::sync::Wait;
 use std::thread;
 use std::thread::Promise;
 
-/// After so many looks in a row that find the queue empty a worker ends.
+/// After this many looks in a row that find the queue empty a worker ends.
 const LOOKS: u64 = 1_000_000_000;
 
 /// What a worker hands back: its pass, and the pieces that it made.

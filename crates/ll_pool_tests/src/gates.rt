@@ -13,7 +13,7 @@ impl Gate for Open {
 }
 
 /// It holds whichever job begins first, among the processes from `first` to `last`, until another of
-/// them has begun, or for so many looks.
+/// them has begun, or for this many looks.
 #[derive(Drop)]
 pub(crate) struct Meeting {
     first: u32,

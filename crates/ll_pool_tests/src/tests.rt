@@ -12,7 +12,7 @@ use std::sync::Wait;
 use std::test::Fail;
 use std::thread::Threads;
 
-/// The answers to all records, judged by so many workers.
+/// The answers to all records, judged by this many workers.
 fn letters_by<R: Threads + Wait + Sync>(
     rt: &R,
     alloc: Global,
@@ -27,7 +27,7 @@ fn letters_by<R: Threads + Wait + Sync>(
     Ok(letters(alloc, &answers)?)
 }
 
-/// How many pieces so many workers make.
+/// How many pieces this many workers make.
 fn pieces_by<R: Threads + Wait + Sync>(
     rt: &R,
     alloc: Global,
@@ -40,7 +40,7 @@ fn pieces_by<R: Threads + Wait + Sync>(
     Ok(run(rt, alloc, case, workers, cut, &Open)?.len())
 }
 
-/// How many of the pieces have so many processes.
+/// How many of the pieces have this many processes.
 fn pieces_of(pieces: &[Piece<'_>], processes: usize) -> usize {
     pieces
         .iter()

@@ -79,7 +79,7 @@ left_met tree abi records i r numbered at =
 -- ---- from one own record to the next
 
 module _ (tree : List Entry) (abi : Abi) (records : List Record) (p : ℕ) where
-  -- an own record meets the state from which no own record parts it
+  -- an own record meets the state from which no own record separates it
   met_later : (b i : ℕ) (r : Record) → IsNumbered records → slice_get records i ≡ Some r → r.process.0 ≡ p → p < process_count (take b records) → b ≤ i → ((n : ℕ) (x : Record) → b ≤ n → n < i → slice_get records n ≡ Some x → x.process.0 ≢ p)
       → state_met tree abi records i p ≡ (world_at tree abi records b).processes p
   met_later b i r numbered at own there after none =

@@ -14,7 +14,7 @@ use Rattle.ll_semantics.specs.States.{State}
 use Rattle.ll_trace.specs.Processes.{IsNumbered, started_at}
 use Rattle.ll_process.specs.Judging.{state_left, answers_of}
 
--- what contracts see of a case: the layers are those that its trace enforces, and a note stands for each record
+-- what contracts see of a case: the layers are those that its trace enforces, with a note for each record
 pub record Matter : Type 0 where
   pub tree : List Entry
   pub records : List Record

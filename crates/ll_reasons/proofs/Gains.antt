@@ -42,7 +42,7 @@ prefix-front [] = refl
 prefix-front (name ∷ []) = refl
 prefix-front (name ∷ next ∷ names) = and_from (bytes_eq name name) _ ((bytes_eq-Decides name name).1 refl) (prefix-front (next ∷ names))
 
--- what is granted on a directory is granted beneath it
+-- what is granted on a directory is granted under it
 granted_beneath : (layer : Layer) (above path : Path) (right : FsRight) → is_prefix above path ≡ true → granted layer above right ≡ true → granted layer path right ≡ true
 unfolding granted
 granted_beneath layer above path right beneath grants =
@@ -91,7 +91,7 @@ only_refer there path layer right given =
     let asked = (and_both (one_of (refer ∷ []) right) _ (and_both (one_of (refer ∷ []) right && handles layer right) _ parts.1).0).0 in
     same_right right refer (sym (or_false (is_right right refer)) ∙ asked)
 
--- where `refer` is handled, it is granted beneath the directory by then
+-- where `refer` is handled, it is granted under the directory by then
 refer_beneath : (there path : Path) (layer : Layer) → is_prefix there path ≡ true → handles layer refer ≡ true → (list_any (gives path refer) (on_path there (one_of (refer ∷ [])) layer) || granted layer path refer) ≡ true
 refer_beneath there path layer beneath handled = elim (cases_Bool (granted layer there refer)) [
   | inl grants ↦ or_right (list_any (gives path refer) (on_path there (one_of (refer ∷ [])) layer)) (granted layer path refer) (granted_beneath layer there path refer beneath grants)

@@ -100,7 +100,7 @@ makes_layer tree abi records k is =
     let allowed : answer_in tree abi w p is.of.op ≡ Allowed = same_Some (answer_in tree abi w p is.of.op) Allowed (sym (judged-at tree abi records k is.of is.at) ∙ is.allowed) in
     rw (is.at) (enforces tree abi w is.of.op p is.rs is.restricts allowed)
 
--- ---- so they stand at the same places
+-- ---- so they are at the same places
 
 some_first : {X Y : Type 0} (h : X → Option Y) (x : X) (xs : List X) (o : Option Y) → is_some o ≡ true → (i : ℕ) → h x ≡ o
     → ((j : ℕ) → slice_get (filter_map h xs) j ≡ option_and_then h (slice_get xs j))

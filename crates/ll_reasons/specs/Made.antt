@@ -33,7 +33,7 @@ pub record IsRestrict (tree : List Entry) (abi : Abi) (records : List Record) (k
   pub restricts : of.op ≡ calls.Restrict rs
   pub allowed : slice_get (judged tree abi records) k ≡ Some Allowed
 
--- and it stands before another place
+-- and it is before another place
 abbrev pub IsEarlierRestrict : List Entry → Abi → List Record → ℕ → ℕ → Type 0
 IsEarlierRestrict tree abi records place k = (k < place) × IsRestrict tree abi records k
 
@@ -71,7 +71,7 @@ IsEarlierOpening tree abi records place k = (k < place) × IsOpening tree abi re
 
 -- ---- rulesets
 
--- the call creates a ruleset, be it one that handles nothing
+-- the call creates a ruleset, even one that handles nothing
 unfoldable pub is_create : Op → Bool
 is_create (calls.Create rs fs net) = true
 is_create (calls.CreateEmpty rs) = true

@@ -27,7 +27,7 @@ pub data Objection : Type 0 where
   missing : List FsRight → Path → Objection
   -- rights are asked on a port, handled and not granted there
   closed : List network.NetRight → ℕ → Objection
-  -- an object would have rights in a directory that it goes to, which it doesn't have as it stands
+  -- an object would have rights in a directory that it goes to, which it doesn't have where it is
   gained : Path → List FsRight → Path → Objection
   -- rights for files are handled, so what is mounted stays as it is
   mounting : Objection

@@ -25,9 +25,9 @@ pub data Reason : Type 0 where
   root : Reason
   -- a move of an object onto itself
   unmoved : Path → Reason
-  -- a move of a directory beneath itself
+  -- a move of a directory under itself
   beneath_itself : Path → Path → Reason
-  -- a move onto a directory that the object stands in
+  -- a move onto a directory that the object is in
   over_itself : Path → Path → Reason
   -- a move of a directory onto what is none, or the reverse
   mixed : Path → Path → Reason
@@ -52,7 +52,7 @@ path_or_root (Some path) = path
 abbrev pub spelt : List ℕ → Path
 spelt text = path_or_root (path_of text)
 
--- what stands above a path is there: then the path is absent, or what stands above it is no directory
+-- what is above a path is there: then the path isn't there, or what is above it is no directory
 abbrev pub beside : List Entry → Path → NodeId → Reason
 beside tree path above = if is_dir (kind_at tree above) then absent path else no_directory (front path)
 

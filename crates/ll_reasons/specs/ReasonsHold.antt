@@ -61,7 +61,7 @@ is_regular Regular = true
 is_regular Device = false
 is_regular Other = false
 
--- an object of the tree has the path, and stands for a directory or doesn't
+-- an object of the tree has the path, and is a directory or isn't
 abbrev pub IsThere : List Entry → Path → Bool → Type 0
 IsThere tree path as_directory = (node : NodeId) × (node_at tree path ≡ Some node) × (is_dir (kind_at tree node) ≡ as_directory)
 

@@ -1,4 +1,4 @@
-//! Why calls are refused or not asked: definitions over the one fold of the semantics, which stand in `specs/`, the
+//! Why calls are refused or not asked: definitions over the one fold of the semantics, which are in `specs/`, the
 //! laws that hold of them, and which reason the tree gives for a moot call.
 #![tactic(auto)]
 

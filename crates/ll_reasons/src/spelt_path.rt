@@ -9,7 +9,7 @@ use ll_trace::PathText;
 use ll_tree::{NodeId, Tree, front_text};
 use std::marker::Model;
 
-/// A text that spells a path, as the path of a record or what stands above it. Contracts see the path.
+/// A text that spells a path, as the path of a record or what is above it. Contracts see the path.
 #[derive(Drop)]
 pub struct SpeltPath<'t> {
     text: &'t str,

@@ -19,7 +19,7 @@ pub enum Why<'t> {
     Root,
     /// The object would go where it is.
     Unmoved(SpeltPath<'t>),
-    /// The first object would go beneath itself, to the second path.
+    /// The first object would go under itself, to the second path.
     BeneathItself(SpeltPath<'t>, SpeltPath<'t>),
     /// The first object would take the place of the second, which it is in.
     OverItself(SpeltPath<'t>, SpeltPath<'t>),

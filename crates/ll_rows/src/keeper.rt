@@ -33,7 +33,7 @@ impl Wanted {
 }
 
 /// A hand that keeps the jobs which its caller wants. It gives a job back that isn't wanted, or that
-/// there is no memory for.
+/// it is out of memory for.
 #[derive(Drop)]
 pub struct Keeper<'c> {
     /// Which jobs its caller wants. It keeps no others.

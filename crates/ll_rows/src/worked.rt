@@ -1,4 +1,4 @@
-//! Worked traces: records with their answers, tried against all that stands between bytes and answers.
+//! Worked traces: records with their answers, tried against all that is between bytes and answers.
 
 use crate::keeper::Wanted;
 use crate::order::judge_greatest_first;

@@ -182,7 +182,7 @@ refused_so : (refusal : Option RuleRefusal) (told : RuleRefusal) → MatchOption
 refused_so None told is = absurd (no_memory told is)
 refused_so (Some refusal) told is = ap (λ (r : RuleRefusal). Some r) (sym (same_fault told refusal (same_failure (fault_of told) (fault_of refusal) is)))
 
--- writing what stands there changes nothing
+-- writing what is there changes nothing
 set_same : {X : Type 0} → (xs : List X) (i : ℕ) (x : X) → slice_get xs i ≡ Some x → set xs i x ≡ xs
 set_same {X = X} xs i x at = ap (λ (y : X). set xs i y) (sym (get_or_from_slice_get xs i x x at)) ∙ set-get_or xs i x
 

@@ -15,7 +15,7 @@ use Rattle.ll_rules.specs.declared.errno.RuleFault.{RuleFault}
 use Rattle.ll_trace.proofs.Numbers.{slice_get-push}
 use Rattle.ll_rulebook.proofs.Places.{slice_get-set, stands}
 
--- what stands in a list still stands there when more is pushed
+-- what is in a list is still there when more is pushed
 pub stands_on : {X : Type 0} (xs : List X) (k : ℕ) (x y : X) → slice_get xs k ≡ Some x → slice_get (xs ++ y ∷ []) k ≡ Some x
 stands_on xs k x y at =
     let within : k < length xs = slice_get_within xs k x at in

@@ -73,7 +73,7 @@ are_same_set tree kept rulesets place one other within are same = record {
       ];
 }
 
--- what stands at a place of the kept rulesets has one that is the same at this place of the others
+-- what is at a place of the kept rulesets has one that is the same at this place of the others
 pub record Other (tree : List Entry) (rulesets : List Layer) (place : ℕ) (one : RulesOn ℕ) : Type 0 where
   pub other : Layer
   pub stands : slice_get rulesets place ≡ Some other

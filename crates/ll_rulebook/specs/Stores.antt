@@ -23,7 +23,7 @@ pub record Stock : Type 0 where
   pub rulesets : List (RulesOn ℕ)
   pub layers : List (RulesOn ℕ)
 
--- what stands at a place of a list became another
+-- what was at a place of a list became another
 pub record Replaces {X : Type 0} (old new : List X) (place : ℕ) (Becomes : X → X → Type 0) : Type 0 where
   pub before : X
   pub after : X
@@ -50,7 +50,7 @@ pub record Extends (old new : List (RulesOn ℕ)) : Type 0 where
   pub is_more : new ≡ old ++ more
   pub one : length more ≤ 1
 
--- the answer to a call that adds a rule with this outcome, which is not want of memory
+-- the answer to a call that adds a rule with this outcome, other than out of memory
 abbrev pub IsAnswerTo : Result (Unit {0}) RuleFault → Note → Type 0
 IsAnswerTo (Ok done) note = note ≡ Answered Allowed
 IsAnswerTo (Err (faults.Errno error)) note = note ≡ Answered (fails error)

@@ -1,4 +1,4 @@
--- What is granted on a path, from its last name up: by the rules on the path itself, and on what stands above it.
+-- What is granted on a path, from its last name up: by the rules on the path itself, and on what is above it.
 use Rattle.std.proofs.Common.{◌≡◌, ℕ, ◌<◌, Bool, true, false, ◌&&◌, ◌||◌, eqb, List, [], ◌∷◌, map, length, refl, sym, ap, ◌∙◌}
 use Rattle.std.specs.Prelude.{All, Option, Some, None, IfSome, IfNone}
 use Rattle.std.specs.Str.{bytes_eq}

@@ -30,7 +30,7 @@ less_apart Less below = refl
 less_apart Equal below = absurd below
 less_apart Greater below = absurd below
 
--- what stands first joins a list of tests
+-- what is first joins a list of tests
 joined_first : (f p q rest : Bool) → ((f && (p || q)) || rest) ≡ ((f && q) || ((f && p) || rest))
 joined_first true true true rest = refl
 joined_first true true false rest = refl

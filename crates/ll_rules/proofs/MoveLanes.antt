@@ -80,7 +80,7 @@ granted_with : (tree : List Entry) (rules : RulesOn ℕ) (object : NodeId) (righ
 granted_with tree rules object right listed inside within =
     from_path (in_tree tree rules) (path_at tree object) (front (path_at tree object)) (granted_on_node rules object right) right (granted_on-node tree rules object right listed inside within) refl
 
--- handled, granted where the object stands, granted where it goes, counted, granted by its own rule
+-- handled, granted where the object is, granted where it goes, counted, granted by its own rule
 gained_bool : (h here there counted own : Bool) → ((((h && not here) && not (h && not there)) && counted) && not own) ≡ (there && (h && counted) && not (own || here))
 gained_bool true true true true true = refl
 gained_bool true true true true false = refl

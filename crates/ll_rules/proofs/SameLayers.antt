@@ -89,7 +89,7 @@ granted_within a b same (suc bound) (first ∷ others) right within =
     ∙ ap (λ (above : Bool). granted_on b (first ∷ others) right || above) (granted_within a b same bound (front (first ∷ others)) right shorter)
     ∙ sym (granted-split b first others right)
 
--- on every path, with what stands above it
+-- on every path, with what is above it
 pub granted-same : (a b : RulesOn Path) → SameRules a b → (path : Path) (right : FsRight) → granted a path right ≡ granted b path right
 granted-same a b same path right = granted_within a b same (length path) path right (omega arith)
 

@@ -1,4 +1,4 @@
--- Domains, and the layers of a domain that refuse what is asked of them.
+-- Domains, and the layers of a domain that refuse what is asked.
 -- Source: landlock(7), "Landlock rules"; the kernel's userspace document on Landlock, "Layers of file path access rights" and "Ruleset layers".
 use Rattle.std.specs.Prelude.{ℕ, ◌+◌, Bool, not, List, [], ◌∷◌, ◌++◌, if◌then◌else◌}
 use Rattle.ll_rights.specs.declared.fs.Fs.{Fs}

@@ -21,11 +21,11 @@ use Rattle.ll_rules.specs.Checks.{numbers_where}
 
 -- ---- the two directories
 
--- the directory that the moved object stands in
+-- the directory that the moved object is in
 abbrev pub source_of : List Entry → Move → Path
 source_of tree move = front (path_at tree move.moved)
 
--- the directory that it comes to stand in
+-- the directory that it comes to
 abbrev pub destination_of : List Entry → Target → Path
 destination_of tree (New directory) = path_at tree directory
 destination_of tree (Over there) = front (path_at tree there)
@@ -35,7 +35,7 @@ abbrev pub kind_there : List Entry → Target → Option Kind
 kind_there tree (New directory) = None
 kind_there tree (Over there) = Some (kind_at tree there)
 
--- ---- what is asked of them
+-- ---- what is asked on them
 
 -- a rename takes the object out of its directory, and an exchange puts another in its place
 abbrev pub asked_of_source : How → Kind → Option Kind → List FsRight
@@ -63,7 +63,7 @@ denies tree move layer =
 -- ---- moves from one directory to another
 
 -- Whether an object gains a right by going to a directory: one that the layer handles and that counts for the
--- object is granted there and not on the object as it stands.
+-- object is granted there and not on the object where it is.
 abbrev pub gains : RulesOn Path → Kind → Path → Path → Bool
 gains layer kind object directory = is_lacking (granted layer directory) (λ right. handles layer right && (is_dir kind || is_file_right right)) (granted layer object)
 

@@ -11,7 +11,7 @@ use Rattle.ll_rules.specs.declared.errno.RuleFault.TheVariants as faults
 use Rattle.ll_rules.specs.Layers.{RulesOn}
 use Rattle.ll_rules.specs.Rulesets.{RuleRefusal, add_path_refusal, add_port_refusal, with_error, without_object}
 
--- the fault that tells a refusal; want of memory tells none
+-- the fault that tells a refusal; out of memory tells none
 abbrev pub fault_of : RuleRefusal → RuleFault
 fault_of (with_error error) = faults.Errno error
 fault_of without_object = faults.Moot

@@ -33,7 +33,7 @@ create_fault abi handled_files handled_network =
 
 -- ---- rules
 
--- Why a rule isn't added where there is memory for it: the call fails, or there is no object for it to stand on.
+-- Why a rule isn't added where there is memory for it: the call fails, or there is no object for it.
 pub data RuleRefusal : Type 0 where
   with_error : Errno → RuleRefusal
   without_object : RuleRefusal
@@ -44,7 +44,7 @@ pub data RuleRefusal : Type 0 where
 abbrev pub are_file_rights : Fs → Bool
 are_file_rights wanted = files.every_right (λ right. not (files.has wanted right) || files.is_file_right right)
 
--- a rule needs an object to stand on, and one that isn't a directory has file rights alone
+-- a rule needs an object, and one that isn't a directory has file rights alone
 abbrev pub place_refusal : List Entry → Place → Fs → Option RuleRefusal
 place_refusal tree (Node node) wanted = if not (is_dir (kind_at tree node)) && not (are_file_rights wanted) then Some (with_error Inval) else None
 place_refusal tree (Gap node) wanted = Some without_object

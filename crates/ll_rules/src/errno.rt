@@ -29,7 +29,7 @@ pub enum RuleFault {
     Errno(Errno),
     /// The path names no object of the tree, so that there is nothing to answer.
     Moot,
-    /// There is no memory for the rule.
+    /// Out of memory for the rule.
     Memory,
 }
 
@@ -55,7 +55,7 @@ impl From<AllocError> for RuleFault {
     }
 }
 
-/// There is no memory for what was asked.
+/// Out of memory for what was asked.
 #[derive(Clone, Copy, Debug, PartialEq, Eq)]
 pub struct NoMemory;
 

@@ -63,16 +63,16 @@ pub enum Verdict {
     Refused(Errno, LayerSet),
 }
 
-/// Rights that are asked of a directory.
+/// Rights that are asked on a directory.
 #[derive(Clone, Copy)]
 pub struct Asked {
     /// The directory.
     pub directory: NodeId,
-    /// What is asked of it.
+    /// The rights.
     pub rights: Fs,
 }
 
-/// The directory that an object stands in; the root stands in itself.
+/// The directory that an object is in; the root is in itself.
 #[tactic(auto, unfolding(ll_tree::specs::Paths::front))]
 fn directory_of(tree: &Tree, object: NodeId) -> NodeId
     requires { IsNode tree.now object }
@@ -109,7 +109,7 @@ fn kind_of_target(tree: &Tree, target: Target) -> Option<Kind>
     }
 }
 
-/// What a move asks of the directory that the object stands in.
+/// What a move asks of the directory that the object is in.
 #[tactic(auto, using(crate::proofs::AskedRights::none_asked, crate::proofs::AskedRights::one_asked))]
 fn asked_of_source(how: How, moved: Kind, there: Option<Kind>) -> Fs
     ensures { (right : FsRight) → has result right ≡ list_any (is_right right) (asked_there how moved there) }
@@ -135,7 +135,7 @@ fn asked_of_destination(moved: Kind, there: Option<Kind>) -> Fs
     }
 }
 
-/// What a move asks of the directory that the object stands in, and of which.
+/// What a move asks of the directory that the object is in, and of which.
 pub fn leaving(tree: &Tree, attempt: &Move) -> Asked
     requires moved { IsNode tree.now attempt.now.moved }
     requires target { IsTargetIn tree.now attempt.now.target }

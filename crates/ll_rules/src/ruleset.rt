@@ -74,8 +74,8 @@ impl Layer {
     ghost use Rattle.ll_rules.specs.Checks.{lacks, lacks_on_port};
     ghost use Rattle.ll_rules.specs.Moves.{gains};
 
-    /// The rights that the rule on a node of this number grants, by the map of all rules. It is seldom asked,
-    /// and the loops that come here are quicker where it stands apart from them.
+    /// The rights that the rule on a node of this number grants, by the map of all rules. It is rarely asked,
+    /// and the loops that come here are quicker where it is apart from them.
     #[cold]
     #[inline(never)]
     fn rule_in_map(&self, number: u32) -> Fs
@@ -260,7 +260,7 @@ impl Ruleset {
         }
     }
 
-    /// The object that a rule for files stands on, or why there is no such rule.
+    /// The object that a rule for files is on, or why there is no such rule.
     fn node_for(&self, tree: &Tree, place: Place, files: Fs) -> Result<NodeId, RuleFault>
         requires { IsOfTree tree.now place }
         ensures fault { result_err result ≡ add_path_fault tree.now self.now place files }
@@ -281,7 +281,7 @@ impl Ruleset {
         Ok(node)
     }
 
-    /// Adds a rule that grants rights on an object and on all beneath it (landlock_add_rule(2)).
+    /// Adds a rule that grants rights on an object and on all under it (landlock_add_rule(2)).
     /// `ENOMSG` if there is no right, else `EINVAL` if one isn't handled, else moot if the place isn't an
     /// object, else `EINVAL` if the object isn't a directory and some right is for directories alone.
     /// Two rules on one object grant the rights of both.
@@ -328,7 +328,7 @@ impl Ruleset {
         Ok(())
     }
 
-    /// The layer that a process would add now; rules that are added later don't change it. It stands in the
+    /// The layer that a process would add now; rules that are added later don't change it. It is in the
     /// ruleset's own kind of memory.
     pub fn freeze(&self, _alloc: Global) -> Result<Layer, NoMemory>
         ensures { IfOk result (λ layer. layer ≡ self.now) }

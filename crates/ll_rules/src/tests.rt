@@ -577,7 +577,7 @@ const SMALL: &str = "{\"path\":\"/a\",\"kind\":\"dir\"}
 {\"path\":\"/b\",\"kind\":\"dir\"}
 ";
 
-/// Whether the layer that a ruleset would become refuses reading; nothing where there is no memory for it.
+/// Whether the layer that a ruleset would become refuses reading; nothing where memory runs out for it.
 fn refuses_reading(
     alloc: Global,
     tree: &Tree,
@@ -643,7 +643,7 @@ fn refuses_any(layer: &Layer, ports: &[u16]) -> bool {
         .any(|port| layer.refuses_on_port(*port, Net::BIND_TCP))
 }
 
-/// Where there is no memory for a rule, its ruleset is as it was, and a second try adds the rule.
+/// Where memory runs out for a rule, its ruleset is as it was, and a second try adds the rule.
 fn add_port_80(alloc: Global, rules: &mut Ruleset) -> Result<bool, Fail> {
     let added = rules.add_port(Abi::V4, 80, Net::BIND_TCP);
     if added == Ok(()) {
@@ -703,7 +703,7 @@ fn layer_before_a_rule(
     Ok(Some((layer, added)))
 }
 
-/// A layer is as it was frozen, whether its ruleset gets another rule or there is no memory for it.
+/// A layer is as it was frozen, whether its ruleset gets another rule or memory runs out for it.
 #[test]
 fn layer_stays_without_memory(rt: HostRuntime) -> Result<(), Fail> {
     let Ok(tree) = Tree::read(rt.alloc(), SMALL.as_bytes()) else {

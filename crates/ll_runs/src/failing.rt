@@ -16,7 +16,7 @@ pub struct FailingSource<'a> {
 }
 
 impl<'a> FailingSource<'a> {
-    /// A source that fails with a fault once it was asked for so many files. None has failed yet.
+    /// A source that fails with a fault once it was asked for this many files. None has failed yet.
     pub fn new(
         files: &'a [(&'a str, &'a [u8])],
         good_calls: u64,

@@ -64,7 +64,7 @@ with_layer s rules = record s { domain = s.domain ++ option_to_list rules }
 
 -- ---- the rulesets, one list for all processes
 
--- what stands at a place of the list becomes another
+-- what is at a place of the list becomes another
 abbrev pub changed_at : List Layer → Option ℕ → (Layer → Layer) → List Layer
 changed_at rulesets None f = rulesets
 changed_at rulesets (Some place) f = unwrap_or (option_map (λ old. slice_set rulesets place (f old)) (slice_get rulesets place)) rulesets

@@ -23,7 +23,7 @@ suits Exchange (New directory) = false
 suits Link (New directory) = true
 suits Link (Over other) = false
 
--- a move of an object of the tree that isn't the root, to what stands in the tree too
+-- a move of an object of the tree that isn't the root, to what is in the tree too
 pub record IsFitMove (tree : List Entry) (asked : Move) : Type 0 where
   pub moved : IsNode tree asked.moved
   pub not_root : is_root asked.moved ≡ false

@@ -26,12 +26,12 @@ is_mixed tree a b = if is_dir (kind_at tree a) then not (is_dir (kind_at tree b)
 abbrev pub move : NodeId → Target → How → Option Move
 move moved target how = Some (record { moved = moved; target = target; how = how })
 
--- a rename into a gap: nothing goes beneath itself
+-- a rename into a gap: nothing goes under itself
 unfoldable pub rename_into : List Entry → NodeId → NodeId → Bool → Option Move
 rename_into tree from directory exchange = if exchange then None else (if is_above tree from directory then None else move from (New directory) Rename)
 
--- A rename onto an object, or an exchange with it: not onto itself or the root, not beneath itself, not onto what
--- it stands in, and without exchange no directory onto a file or a file onto a directory.
+-- A rename onto an object, or an exchange with it: not onto itself or the root, not under itself, not onto what
+-- it is in, and without exchange no directory onto a file or a file onto a directory.
 unfoldable pub rename_onto : List Entry → NodeId → NodeId → Bool → Option Move
 rename_onto tree from to exchange =
     if is_root to then None

@@ -70,7 +70,7 @@ make_asks (Gap directory) rights = ask directory rights
 make_asks (Node node) rights = None
 make_asks Nowhere rights = None
 
--- removing an object of a kind from the directory that it stands in, which the root hasn't
+-- removing an object of a kind from the directory that it is in, which the root hasn't
 unfoldable pub remove_from : Kind → Option NodeId → Option Request
 remove_from kind None = None
 remove_from kind (Some directory) = ask directory (only (remove_right_of kind))

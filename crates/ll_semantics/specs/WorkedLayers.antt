@@ -12,7 +12,7 @@ use Rattle.ll_trace.specs.declared.op.Mode.TheVariants.{Read, Write, Both}
 use Rattle.ll_semantics.specs.declared.answer.Answer.{Answer}
 use Rattle.ll_semantics.specs.WorkedWords.{begins, ok, moot, refused, start, privileged_start, creates, adds, adds_port, opens}
 
--- a process confines itself to reading beneath one directory
+-- a process confines itself to reading under one directory
 abbrev pub confined : List (Record × Answer)
 confined =
     begins

@@ -1,4 +1,4 @@
-//! The semantics of a trace: what each call asks, what it is answered, and what it changes. The definitions stand
+//! The semantics of a trace: what each call asks, what it is answered, and what it changes. The definitions are
 //! in `specs/`; here are the types that they share with the code above, and what they say of small traces.
 #![tactic(auto)]
 

@@ -19,7 +19,7 @@ found (Fork' p zero one two three) key =
 abbrev pub found_in : {V : Type 0} → Four V → ℕ → Option V
 found_in four key = chosen key (found four.zero (key / 4)) (found four.one (key / 4)) (found four.two (key / 4)) (found four.three (key / 4))
 
--- a bound on the calls by which a key is given a value: a leaf may have to be parted from the key
+-- a bound on the calls by which a key is given a value: a leaf may have to be split from the key
 abbrev pub steps : {V : Type 0} → Node V → ℕ → ℕ
 steps Empty key = 0
 steps (Leaf known value) key = 2 * (known + key) + 1

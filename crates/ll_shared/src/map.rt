@@ -18,7 +18,7 @@ use std::marker::Model;
 /// eight).
 ///
 /// Keys that agree in many low bits lie deep. Whoever chooses the keys can make an entry cost 16 forks (1.7 KB where a
-/// value has eight bytes), 32 once the key from which it was parted is removed, and a change of a shared map 32. The
+/// value has eight bytes), 32 once the key from which it was split is removed, and a change of a shared map 32. The
 /// bits of keys aren't mixed first: a mixing that is known can be undone, and dense keys would lie further apart.
 ///
 /// A map takes memory by the entries that it has and not by those that it had: a fork goes with its last entry.

@@ -9,7 +9,7 @@ use std::alloc::{AllocError, Global};
 use std::sync::Arc;
 
 /// Entries by the bits of their keys, from the lowest on: in a fork the two lowest bits of a key say in which of
-/// the four its entry stands, and the four see the key without these two bits.
+/// the four its entry is, and the four see the key without these two bits.
 #[cycle(node)]
 #[derive(Drop)]
 pub(crate) enum Node<V> {
@@ -18,7 +18,7 @@ pub(crate) enum Node<V> {
     Fork(Arc<Four<V>>),
 }
 
-/// What stands under two lowest bits of 0, 1, 2 and 3.
+/// What is under two lowest bits of 0, 1, 2 and 3.
 #[cycle(node)]
 #[derive(Drop)]
 pub(crate) struct Four<V> {
@@ -61,7 +61,7 @@ impl<V: Copy> Node<V> {
         }
     }
 
-    /// A fork in which nothing stands goes.
+    /// A fork with nothing in it goes.
     fn prune(&mut self)
         ensures { (q : ℕ) → found self.new q ≡ found self.old q }
     {
@@ -116,7 +116,7 @@ impl<V> Node<V> {
         matches!(self, Node::Empty)
     }
 
-    /// Whether this is a fork in which nothing stands.
+    /// Whether this is a fork with nothing in it.
     fn is_bare(&self) -> bool
         ensures { IsTrue result → (q : ℕ) → found self.now q ≡ None }
     {
@@ -128,7 +128,7 @@ impl<V> Node<V> {
 }
 
 impl<V> Four<V> {
-    /// Whether nothing stands in the four.
+    /// Whether nothing is in the four.
     fn is_bare(&self) -> bool
         ensures { IsTrue result → (q : ℕ) → found_in self.now q ≡ None }
     {

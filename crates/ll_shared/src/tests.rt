@@ -127,7 +127,7 @@ fn a_thousand_keys(rt: HostRuntime) -> Result<(), Fail> {
     Ok(())
 }
 
-/// A map that shares its fork of the keys 0 and 4 with its clone; nothing where there is no memory for the fork.
+/// A map that shares its fork of the keys 0 and 4 with its clone; nothing where memory runs out for the fork.
 fn shared(alloc: Global) -> Result<Option<(SharedMap<u8>, SharedMap<u8>)>, Fail> {
     let mut map = SharedMap::new(alloc);
     if map.insert(0, 10).is_err() || map.insert(4, 14).is_err() {

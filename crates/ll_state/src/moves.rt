@@ -34,7 +34,7 @@ fn is_mixed(tree: &Tree, a: NodeId, b: NodeId) -> bool
     is_directory(tree, a) != is_directory(tree, b)
 }
 
-/// A rename into a gap: nothing goes beneath itself.
+/// A rename into a gap: nothing goes under itself.
 #[tactic(auto, unfolding(ll_semantics::specs::Moves::rename_into))]
 fn rename_into(tree: &Tree, from: NodeId, directory: NodeId, exchange: bool) -> Option<Move>
     requires from_is_node { IsNode tree.now from }
@@ -53,8 +53,8 @@ fn rename_into(tree: &Tree, from: NodeId, directory: NodeId, exchange: bool) -> 
     })
 }
 
-/// A rename onto an object, or an exchange with it: not onto the root, itself, what stands beneath it or what it
-/// stands in, and without exchange no directory onto a file or a file onto a directory.
+/// A rename onto an object, or an exchange with it: not onto the root, itself, what is under it or what it
+/// is in, and without exchange no directory onto a file or a file onto a directory.
 #[tactic(auto, unfolding(ll_semantics::specs::Moves::rename_onto))]
 fn rename_onto(tree: &Tree, from: NodeId, to: NodeId, exchange: bool) -> Option<Move>
     requires from_is_node { IsNode tree.now from }

@@ -111,7 +111,7 @@ pub fn make_asks(tree: &Tree, path: &PathText, rights: Fs) -> Option<Request>
     }
 }
 
-/// What removing an object of a kind asks of the directory that it stands in, which the root hasn't.
+/// What removing an object of a kind asks of the directory that it is in, which the root hasn't.
 #[tactic(auto, unfolding(ll_semantics::specs::Requests::remove_from))]
 fn remove_from(tree: &Tree, kind: Kind, node: NodeId) -> Option<Request>
     requires { IsNode tree.now node }

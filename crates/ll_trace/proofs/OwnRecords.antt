@@ -6,7 +6,7 @@ use Rattle.std.proofs.lemmas.Option.{none-some, same_Some}
 use Rattle.ll_trace.specs.declared.record.Record.{Record}
 use Rattle.ll_trace.specs.Processes.{own_from, own_records}
 
--- where a list has a place, something stands there
+-- where a list has a place, something is there
 pub stands_at : {A : Type 0} (xs : List A) (k : ℕ) → k < length xs → (x : A) × (slice_get xs k ≡ Some x)
 stands_at [] k within = absurd (omega arith)
 stands_at (x ∷ xs) zero within = (x, refl)
@@ -96,7 +96,7 @@ module _ (records : List Record) (p : ℕ) where
   unfolding own_records
   own_rising j l i k at there less = rising p 0 records j l i k at there less
 
-  -- no own record stands before the first place, and none between one place and the next
+  -- no own record is before the first place, and none between one place and the next
   pub first_own : (i m : ℕ) (r : Record) → slice_get (own_records records p) 0 ≡ Some i → slice_get records m ≡ Some r → r.process.0 ≡ p → i ≤ m
   first_own i m r first at own = by_place (own_place m r at own)
     where

@@ -1,4 +1,4 @@
--- How often a process stands in a list, and that equal counts add up to equal sums.
+-- How often a process is in a list, and that equal counts add up to equal sums.
 use Rattle.std.proofs.Common.{◌≡◌, ℕ, ◌+◌, ◌<◌, cond, eqb, List, [], ◌∷◌, ◌++◌, refl, inl, inr, arith}
 use Rattle.std.specs.Prelude.{◌==◌, sum_by}
 use Rattle.std.specs.List.{flat_map}
@@ -34,7 +34,7 @@ pub times-each : (p parent : ℕ) (f : ℕ → List ℕ) → ((q : ℕ) → time
 times-each p parent f each [] = rw (times-nil p, times-nil parent) refl
 times-each p parent f each (q ∷ qs) = rw flat_map-cons (omega (arith, times-append p (f q) (flat_map f qs), each q, times-each p parent f each qs, times-cons parent q qs))
 
--- a list without the first place at which a process stands
+-- a list without the first place at which a process is
 without : ℕ → List ℕ → List ℕ
 without p [] = []
 without p (x ∷ xs) = cond (eqb x p) xs (x ∷ without p xs)
@@ -54,7 +54,7 @@ unfolding times
 times-without q p xs some =
     omega (arith, weighs-without (λ other. cond (eqb other q) 1 0) p xs some, sum_by-cons (λ other. cond (eqb other q) 1 0) p [])
 
--- lists in which each process stands as often add up to the same, whatever number is given to each process
+-- lists in which each process is as often add up to the same, whatever number is given to each process
 pub equal_weights : (xs ys : List ℕ) → ((p : ℕ) → times p xs ≡ times p ys) → (w : ℕ → ℕ) → sum_by w xs ≡ sum_by w ys
 equal_weights [] [] same w = refl
 equal_weights [] (y ∷ ys) same w = absurd (omega (arith, same y, times-nil y, times-cons y y ys, times-same y y refl))

@@ -53,7 +53,7 @@ forked_at records k = number_if is_fork records k (slice_get records k)
 unfoldable pub children : List Record → ℕ → List ℕ
 children records process = filter_map (forked_at records) (own_records records process)
 
--- the children of all members of a list, each as often as its parent stands in it
+-- the children of all members of a list, each as often as its parent is in it
 unfoldable pub kids : List Record → List ℕ → List ℕ
 kids records processes = flat_map (children records) processes
 
@@ -87,7 +87,7 @@ only (Some found) = found
 abbrev pub parent_of : List Record → ℕ → Option ProcessId
 parent_of records process = only (slice_get (parents records) process)
 
--- how often a process stands in a list
+-- how often a process is in a list
 unfoldable pub times : ℕ → List ℕ → ℕ
 times process processes = count_by (λ other. other == process) processes
 

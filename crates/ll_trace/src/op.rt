@@ -33,7 +33,7 @@ pub enum Sort {
 /// A kind of rule (`enum landlock_rule_type` of landlock_add_rule(2)).
 #[derive(Clone, Copy, Debug, PartialEq, Eq)]
 pub enum RuleType {
-    /// Rights on an object and on all beneath it.
+    /// Rights on an object and on all under it.
     PathBeneath,
     /// Rights on one TCP port.
     NetPort,
@@ -62,7 +62,7 @@ pub enum Op {
         fs: Fs,
         net: Net,
     },
-    /// landlock_add_rule(2) beneath a path.
+    /// landlock_add_rule(2) under a path.
     AddPath {
         rs: u64,
         path: PathText,

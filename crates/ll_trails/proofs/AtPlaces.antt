@@ -20,7 +20,7 @@ use Rattle.ll_trails.specs.declared.trail.Trails.{Trails}
 use Rattle.ll_trails.specs.CaseTrails.{AreTrailsAt}
 use Rattle.ll_trails.specs.Trails.{AreTrails}
 
--- what is read at a place of the same list stands there
+-- what is read at a place of the same list is there
 pub read_there : {X : Type 0} (xs read : List X) (k : ℕ) (x : X) → read ≡ xs → k < length xs → x ≡ get_or read k x → slice_get xs k ≡ Some x
 read_there {X = X} xs read k x same within is = stands xs k x within (is ∙ ap (λ (ys : List X). get_or ys k x) same)
 

@@ -1,4 +1,4 @@
--- What stands at a number after changes.
+-- What is at a number after changes.
 use Rattle.std.proofs.Common.{◌≡◌, ◌==◌, ◌+◌, ◌<◌, ℕ, List, [], ◌∷◌, ◌++◌, Option, get_or, length, refl, sym, take, add-one, subst, arith, ap, ◌∙◌, ◌≤◌, if◌then◌else◌}
 use Rattle.std.proofs.Math.Seq.{take-suc}
 use Rattle.std.proofs.lemmas.List.{take_all}

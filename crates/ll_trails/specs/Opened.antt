@@ -5,7 +5,7 @@ use Rattle.std.specs.FinMap.{get}
 use Rattle.ll_trails.specs.declared.openings.Change.{Change}
 use Rattle.ll_trails.specs.declared.openings.Openings.{Openings}
 
--- what stands at a number after changes, the oldest first, of what stood there before
+-- what is at a number after changes, the oldest first, of what was there before
 unfoldable pub latest : List Change → ℕ → Option ℕ → Option ℕ
 latest [] fd before = before
 latest (change ∷ later) fd before = latest later fd (if change.fd == fd then change.opening else before)

@@ -32,7 +32,7 @@ fn layer_by(case: &Case, place: u32) -> Option<LayerId>
 }
 
 /// The layers of a process in the case that its records are of: those that the rulesets were frozen to which its
-/// `restrict` records named, the oldest first. An error says that there is no memory.
+/// `restrict` records named, the oldest first. An error says that memory ran out.
 pub fn domain_of(alloc: Global, case: &Case, trail: &Trail) -> Result<Vec<LayerId>, AllocError>
     ensures { IfOk result (λ ids. (place process : ℕ)
         → Follows trail.now (origins_at case.now.tree case.now.abi case.now.records place process)

@@ -11,7 +11,7 @@ use std::alloc::{AllocError, Global};
 /// How many changes wait before the map takes them.
 const WAITING: usize = 256;
 
-/// What a record leaves at a descriptor's number: the opening of what stands there now, if something does.
+/// What a record leaves at a descriptor's number: the opening of what is there now, if something is.
 #[derive(Clone, Copy)]
 pub(crate) struct Change {
     fd: u64,

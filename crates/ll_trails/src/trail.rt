@@ -137,7 +137,7 @@ impl Trails {
         &self.trails[process.0 as usize]
     }
 
-    /// Follows the record at a place of a case and its answer. Where there is no memory, what is kept serves no more.
+    /// Follows the record at a place of a case and its answer. Where memory runs out, what is kept is of no use.
     pub fn follow(
         &mut self,
         alloc: Global,

@@ -35,7 +35,7 @@ front_names (name ∷ next ∷ names) are =
     let parts = both (is_name name) (list_all is_name (next ∷ names)) are in
     rw parts.0 (front_names (next ∷ names) parts.1)
 
--- a list in which 47 stands last at a place, and is followed by no other 47
+-- a list in which 47 is last at a place, and is followed by no other 47
 last_slash : (text fore rest : List ℕ) (place : ℕ) → text ≡ fore ++ 47 ∷ rest → All (λ byte. is_slash byte ≡ false) rest → place < length text → get_or text place 0 ≡ 47 → ((i : ℕ) → place < i → i < length text → get_or text i 0 ≢ 47) → place ≡ length fore
 last_slash text fore rest place is clear within slash after =
     let size : length text ≡ length fore + suc (length rest) = ap length is ∙ length-append fore (47 ∷ rest) in
@@ -53,7 +53,7 @@ last_slash text fore rest place is clear within slash after =
     (cases_lt (length fore) place))
     (cases_lt place (length fore))
 
--- The last slash of a path's text stands first, and there is at most one name, or it stands after the text of the
+-- The last slash of a path's text is first, and there is at most one name, or it is after the text of the
 -- names before the last one.
 pub front_read : (text : List ℕ) (path : Path) (place : ℕ) → path_of text ≡ Some path → place < length text → get_or text place 0 ≡ 47 → ((i : ℕ) → place < i → i < length text → get_or text i 0 ≢ 47)
     → (place ≡ 0 → path_of (codes "/") ≡ Some (front path)) × (0 < place → path_of (take place text) ≡ Some (front path))

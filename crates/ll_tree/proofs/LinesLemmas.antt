@@ -5,7 +5,7 @@ use Rattle.std.proofs.lemmas.List.{take_rest}
 use Rattle.memchr.specs.Find.{NoneBefore, Nowhere, Passes, is_byte}
 use Rattle.ll_tree.specs.Lines.{lines, with_first, filled_from}
 
--- the byte is no line feed where none stands below the place
+-- the byte is no line feed where none is below the place
 abbrev pub NoLineFeed : List ℕ → ℕ → Type 0
 NoLineFeed bytes end = (k : ℕ) → k < end → eqb (slice_index bytes k) 10 ≡ true → ⊥
 

@@ -1,4 +1,4 @@
--- Where a path stands in a list of entries.
+-- Where a path is in a list of entries.
 use Rattle.std.proofs.Common.{◌≡◌, ℕ, suc, zero, ◌≤◌, ◌<◌, ◌∷◌, [], ◌++◌, List, Bool, true, false, ◌&&◌, length, Option, Some, None, cond, refl, sym, ap, ◌∙◌, subst, ⊎_elim, arith, get_or}
 use Rattle.std.specs.Prelude.{◌≢◌}
 use Rattle.std.specs.Option.{option_map}
@@ -46,7 +46,7 @@ not_later : (found : Option ℕ) → option_map (λ n. suc n) found ≡ None →
 not_later None is = refl
 not_later (Some before) is = absurd (none-some (suc before) (sym is))
 
--- what stands at the place that is found
+-- what is at the place that is found
 pub at_position : (path : Path) (entries : List Entry) (place : ℕ) → position_of path entries ≡ Some place → (place < length entries) × (path_in entries place ≡ path)
 unfolding position_of
 at_position path [] place is = absurd (none-some place is)
@@ -59,7 +59,7 @@ at_position path (entry ∷ entries) place is =
     subst (λ n. (n < suc (length entries)) × (path_in (entry ∷ entries) n ≡ path)) (sym found.2) (omega arith, there.1))
     (cases_Bool (path_eq entry.path path))
 
--- a path that stands in the list is found, there or earlier
+-- a path that is in the list is found, there or earlier
 pub position_of-some : (path : Path) (entries : List Entry) (place : ℕ) → place < length entries → path_in entries place ≡ path → (first : ℕ) × (position_of path entries ≡ Some first) × (first ≤ place)
 position_of-some path [] place within is = absurd (omega arith)
 position_of-some path (entry ∷ entries) zero within is = (0, position_of-here path entry entries (path_eq-same entry.path path is), omega arith)
@@ -103,7 +103,7 @@ position_of-kept path entries new place fresh found =
     let apart : path_eq new.path path ≡ false = path_eq-other new.path path (λ is. none-some place (sym fresh ∙ ap (λ p. position_of p entries) is ∙ found)) in
     position_of-push path entries new fresh ∙ rw apart found
 
--- a directory of the list stands somewhere in it
+-- a directory of the list is somewhere in it
 pub place_of_dir : (path : Path) (entries : List Entry) → is_dir_in entries path ≡ true → (place : ℕ) × (place < length entries) × (path_in entries place ≡ path) × (is_dir (get_or entries place root).kind ≡ true)
 unfolding is_dir_in
 place_of_dir path entries is =
@@ -112,7 +112,7 @@ place_of_dir path entries is =
     let tests = both (path_eq (get_or entries some.0 root).path path) (is_dir (get_or entries some.0 root).kind) (rw there at some.4) in
     (some.0, some.2, same_path (get_or entries some.0 root).path path tests.0, tests.1)
 
--- a directory that stands at a place is one of the list
+-- a directory that is at a place is one of the list
 pub is_dir_in-from_place : (path : Path) (entries : List Entry) (place : ℕ) → place < length entries → path_in entries place ≡ path → is_dir (get_or entries place root).kind ≡ true → is_dir_in entries path ≡ true
 unfolding is_dir_in
 is_dir_in-from_place path entries place within is dir =

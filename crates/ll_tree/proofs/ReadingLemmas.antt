@@ -9,7 +9,7 @@ use Rattle.ll_tree.specs.Lines.{Line, filled_lines}
 use Rattle.ll_tree.specs.Reading.{Format, entries_of, first_fault, IsGood, IsBad}
 use Rattle.ll_tree.specs.LineByLine.{with_line, read_lines, reading, MeetsFault}
 
--- the same, where these entries stand before the lines
+-- the same, where these entries are before the lines
 abbrev pub fault_from : {Entry : Type 0} → Format Entry → List Entry → List Line → Line → Option Cause
 fault_from format earlier before line = first_fault (format.entry_of_line line) (format.fault_after (earlier ++ entries_of format before))
 
@@ -34,7 +34,7 @@ not_nil (x ∷ before) after line e = cc
 faultless-nil : {Entry : Type 0} (format : Format Entry) (earlier : List Entry) → FaultlessFrom format earlier []
 faultless-nil format earlier before after line e = absurd (not_nil before after line e)
 
--- the entry of a line stands before the lines after it
+-- the entry of a line is before the lines after it
 fault_from-cons : {Entry : Type 0} (format : Format Entry) (earlier : List Entry) (line : Line) (entry : Entry) (before : List Line) (next : Line) → format.entry_of_line line ≡ Ok entry
     → fault_from format earlier (line ∷ before) next ≡ fault_from format (earlier ++ entry ∷ []) before next
 fault_from-cons format earlier line entry before next reads =

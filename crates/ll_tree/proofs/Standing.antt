@@ -1,4 +1,4 @@
--- What stands above a node.
+-- What is above a node.
 use Rattle.std.proofs.Common.{◌≡◌, ℕ, ◌≤◌, ◌<◌, ◌⊎◌, ◌∷◌, [], List, length, Option, Some, None, true, ⊎_elim, inl, inr, refl, sym, ap, ◌∙◌, subst, arith, get_or, take}
 use Rattle.std.specs.Prelude.{◌≢◌, IfSome, IfNone}
 use Rattle.std.specs.Option.{option_map}
@@ -21,7 +21,7 @@ pub is_root : (tree : List Entry) → IsTree tree → path_at tree (node 0) ≡ 
 unfolding path_at
 is_root tree listed = ap (λ (e : Entry). e.path) listed.begins.1
 
--- where something stands in what stands above a node, it is the only one of its path
+-- where something is in what is above a node, it is the only one of its path
 pub parent_of-root : (tree : List Entry) (path : Path) → path ≡ [] → parent_of tree path ≡ None
 unfolding parent_of
 parent_of-root tree [] is = refl
@@ -32,7 +32,7 @@ unfolding parent_of
 parent_of-other tree [] other = absurd (other refl)
 parent_of-other tree (name ∷ names) other = refl
 
--- a path that stands at a place of a tree is found there
+-- a path that is at a place of a tree is found there
 pub position_is : (tree : List Entry) (place : ℕ) → IsTree tree → place < length tree → position_of (path_in tree place) tree ≡ Some place
 unfolding path_at
 position_is tree place listed within =

@@ -28,7 +28,7 @@ pub rooted : (tree : List Entry) → IsTree tree → root ∷ below_root tree �
 rooted [] listed = absurd (let some = listed.begins.0 in omega arith)
 rooted (entry ∷ entries) listed = ap (λ (e : Entry). e ∷ entries) (sym listed.begins.1)
 
--- one more object stands below the root
+-- one more object is below the root
 below_root-push : (tree : List Entry) (entry : Entry) → IsTree tree → below_root (tree ++ entry ∷ []) ≡ below_root tree ++ entry ∷ []
 below_root-push [] entry listed = absurd (let some = listed.begins.0 in omega arith)
 below_root-push (first ∷ entries) entry listed = refl
@@ -75,7 +75,7 @@ unfolding place_or_gap
 not_there tree path None is = (refl, is)
 not_there tree path (Some here) is = cc
 
--- where a directory stands, there is a gap in it
+-- where a directory is, there is a gap in it
 no_dir : (tree : List Entry) (path : Path) → IsTree tree → gap_in tree (node_at tree path) ≡ places.Nowhere → is_dir_in tree path ≡ false
 unfolding node_at kind_at
 no_dir tree path listed is = false_from_ne_true (is_dir_in tree path) (λ dir.

@@ -34,7 +34,7 @@ read_lines format earlier (line ∷ others) = go_on line.number (λ entries. rea
 abbrev pub reading : {Entry : Type 0} → Format Entry → List ℕ → Result (List Entry) ReadFault
 reading format bytes = read_lines format [] (filled_lines bytes)
 
--- want of memory says nothing of the file, and any other fault is the one that reading meets
+-- out of memory says nothing of the file, and any other fault is the one that reading meets
 abbrev pub MeetsFault : {Entry : Type 0} → ℕ → Cause → Result (List Entry) ReadFault → Type 0
 MeetsFault line Memory read = Unit {0}
 MeetsFault line cause read = read ≡ Err (record { line = line; cause = cause })

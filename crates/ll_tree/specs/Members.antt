@@ -28,7 +28,7 @@ number_at name value = ok_or (option_and_then as_u64 (option_and_then as_number 
 unfoldable pub truth_at : List ℕ → Data → Result Bool Cause
 truth_at name value = ok_or (option_and_then as_bool (get name value)) Field
 
--- true or false, and false where the member is absent
+-- true or false, and false where the member is missing
 abbrev pub flag_in : Option Data → Result Bool Cause
 flag_in None = Ok false
 flag_in (Some value) = ok_or (as_bool value) Field
@@ -36,7 +36,7 @@ flag_in (Some value) = ok_or (as_bool value) Field
 unfoldable pub flag_at : List ℕ → Data → Result Bool Cause
 flag_at name value = flag_in (get name value)
 
--- the values of a list, and none where the member is absent
+-- the values of a list, and none where the member is missing
 abbrev pub items_in : Option Data → Result Items Cause
 items_in None = Ok no_items
 items_in (Some value) = ok_or (as_array value) Field

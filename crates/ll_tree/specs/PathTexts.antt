@@ -8,6 +8,6 @@ use Rattle.ll_tree.specs.Paths.{Path, is_name}
 unfoldable pub text_of : Path → List ℕ
 text_of path = 47 ∷ join_with_byte 47 path
 
--- the names can stand in a text of at most 4,096 bytes
+-- the names fit in a text of at most 4,096 bytes
 unfoldable pub is_path : Path → Bool
 is_path path = list_all is_name path && nat_le (length (text_of path)) 4096

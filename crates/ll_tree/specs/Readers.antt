@@ -4,7 +4,7 @@ use Rattle.std.specs.Prelude.{◌≡◌, Result, Ok, Err}
 use Rattle.ll_tree.specs.declared.fault.Cause.{Cause}
 use Rattle.ll_tree.specs.declared.fault.Cause.TheVariants.{Memory}
 
--- want of memory says nothing of what was read, and any other cause is the one that is there
+-- out of memory says nothing of what was read, and any other cause is the one that is there
 abbrev pub Fails : {Y : Type 0} → Cause → Result Y Cause → Type 0
 Fails Memory read = Unit {0}
 Fails cause read = read ≡ Err cause

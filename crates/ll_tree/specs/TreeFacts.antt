@@ -10,7 +10,7 @@ use Rattle.ll_tree.specs.Paths.{front, path_of}
 use Rattle.ll_tree.specs.PathTexts.{is_path}
 use Rattle.ll_tree.specs.Trees.{Entry, root, IsNode, path_at, kind_at, is_dir_in}
 
--- The root is the first entry and no other. Paths are distinct, and what stands above any other entry is a
+-- The root is the first entry and no other. Paths are distinct, and what is above any other entry is a
 -- directory listed before it.
 pub record IsTree (tree : List Entry) : Type 0 where
   pub begins : (0 < length tree) × (slice_index_or tree 0 root ≡ root)
@@ -18,7 +18,7 @@ pub record IsTree (tree : List Entry) : Type 0 where
   pub distinct : (a b : NodeId) → IsNode tree a → IsNode tree b → path_at tree a ≡ path_at tree b → a ≡ b
   pub above : (node : NodeId) → IsNode tree node → 0 < node.0 → IsTrue (is_dir_in (take node.0 tree) (front (path_at tree node)))
 
--- a directory that stands before a node, and whose path is the node's without its last name
+-- a directory that is before a node, and whose path is the node's without its last name
 pub record StandsIn (tree : List Entry) (node up : NodeId) : Type 0 where
   pub is_node : IsNode tree up
   pub is_front : path_at tree up ≡ front (path_at tree node)

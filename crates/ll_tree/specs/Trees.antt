@@ -42,7 +42,7 @@ is_dir Sock = false
 unfoldable pub is_dir_in : List Entry → Path → Bool
 is_dir_in tree path = list_any (λ entry. path_eq entry.path path && is_dir entry.kind) tree
 
--- where a path stands in the list
+-- where a path is in the list
 unfoldable pub position_of : Path → List Entry → Option ℕ
 position_of path [] = None
 position_of path (entry ∷ entries) = if path_eq entry.path path then Some 0 else option_map (λ place. suc place) (position_of path entries)
@@ -56,7 +56,7 @@ unfoldable pub parent_of : List Entry → Path → Option NodeId
 parent_of tree [] = None
 parent_of tree (name ∷ names) = node_at tree (front (name ∷ names))
 
--- the directory that a node stands in
+-- the directory that a node is in
 unfoldable pub parent_at : List Entry → NodeId → Option NodeId
 parent_at tree node = parent_of tree (path_at tree node)
 
@@ -65,7 +65,7 @@ unfoldable pub gap_in : List Entry → Option NodeId → Place
 gap_in tree None = places.Nowhere
 gap_in tree (Some node) = if is_dir (kind_at tree node) then places.Gap node else places.Nowhere
 
--- the place of a path: its node where it has one, else the gap in what stands above it
+-- the place of a path: its node where it has one, else the gap in what is above it
 unfoldable pub place_or_gap : List Entry → Path → Option NodeId → Place
 place_or_gap tree path (Some node) = places.Node node
 place_or_gap tree path None = gap_in tree (node_at tree (front path))

@@ -23,7 +23,7 @@ pub enum Cause {
     TooMany,
     /// No running process has the record's pid.
     UnknownProcess,
-    /// No memory was left while the line was read.
+    /// Out of memory while the line was read.
     Memory,
 }
 

@@ -69,7 +69,7 @@ impl<'a> FilledLines<'a> {
         Ok(parts)
     }
 
-    /// The lines up to the one in which the byte at this place stands, and the lines after it.
+    /// The lines up to the one with the byte at this place, and the lines after it.
     fn cut(self, place: usize) -> (FilledLines<'a>, FilledLines<'a>)
         ensures { self.entry ≡ result.0 ++ result.1 }
     {
@@ -123,7 +123,7 @@ fn cut_line(bytes: &[u8]) -> (&[u8], &[u8])
     }
 }
 
-/// The bytes up to the end of the line in which the byte at this place stands, with its line feed,
+/// The bytes up to the end of the line with the byte at this place, with its line feed,
 /// and the bytes after them.
 fn cut_behind_line(bytes: &[u8], place: usize) -> (&[u8], &[u8])
     ensures lines { (n : ℕ) → filled_from n bytes.now

@@ -45,7 +45,7 @@ pub fn truth_of(value: &Value, name: &str) -> Result<bool, Cause>
     value.get(name).and_then(Value::as_bool).ok_or(Cause::Field)
 }
 
-/// A member that is true or false, and false where it is absent.
+/// A member that is true or false, and false where it is missing.
 #[tactic(auto, unfolding(crate::specs::Members::flag_at))]
 pub fn flag_of(value: &Value, name: &str) -> Result<bool, Cause>
     ensures { Reads (λ flag. flag) result (flag_at name.now (view value.now)) }
@@ -56,7 +56,7 @@ pub fn flag_of(value: &Value, name: &str) -> Result<bool, Cause>
     }
 }
 
-/// The values of a member that is a list, and none where it is absent.
+/// The values of a member that is a list, and none where it is missing.
 #[tactic(auto, unfolding(crate::specs::Members::items_at))]
 pub fn items_of<'v>(value: &'v Value, name: &str) -> Result<&'v [Value], Cause>
     ensures { Reads (λ items. items_view items.now) result (items_at name.now (view value.now)) }

@@ -22,6 +22,6 @@ pub enum Place {
     Node(NodeId),
     /// A name that is missing in this directory.
     Gap(NodeId),
-    /// Neither: no path, or a path whose last name stands in no directory.
+    /// Neither: no path, or a path whose last name is in no directory.
     Nowhere,
 }

@@ -37,7 +37,7 @@ struct Object {
 }
 
 /// A listed file tree: the root, and objects in the order of their lines, each in a directory that
-/// stands before it.
+/// is before it.
 #[derive(Drop)]
 pub struct Tree {
     objects: Vec<Object>,
@@ -61,7 +61,7 @@ impl Tree {
     /// Reads a tree file: one JSON object on each line, with the path and the kind of an object.
     ///
     /// A file that does not read is refused with the number of its first faulty line and the first
-    /// fault of that line. For want of memory the line is the one that was being read.
+    /// fault of that line. Where memory ran out the line is the one that was being read.
     pub fn read(alloc: Global, bytes: &[u8]) -> Result<Tree, ReadFault>
         ensures ok { IfOk result (IsTreeOf bytes.now) }
         ensures err { IfErr result (λ fault. fault.cause ≢ Memory → IsBad tree_format bytes.now fault) }
@@ -200,7 +200,7 @@ impl Tree {
         self.object(node).kind
     }
 
-    /// The directory that a node stands in, and None for the root.
+    /// The directory that a node is in, and None for the root.
     pub fn parent(&self, node: NodeId) -> Option<NodeId>
         requires { IsNode self.now node }
         ensures exact { result ≡ parent_at self.now node }
@@ -211,7 +211,7 @@ impl Tree {
         self.object(node).parent
     }
 
-    /// How many directories stand above a node: 0 for the root.
+    /// How many directories are above a node: 0 for the root.
     pub fn depth(&self, node: NodeId) -> u32
         requires { IsNode self.now node }
         ensures { result ≡ depth_at self.now node }
@@ -219,7 +219,7 @@ impl Tree {
         self.object(node).depth
     }
 
-    /// Whether the first node is the second or a directory that stands over it.
+    /// Whether the first node is the second or a directory over it.
     pub fn is_above(&self, upper: NodeId, lower: NodeId) -> bool
         requires upper_is_node { IsNode self.now upper }
         requires lower_is_node { IsNode self.now lower }

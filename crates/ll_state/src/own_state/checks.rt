@@ -168,7 +168,7 @@ impl OwnState {
         self.open_place(tree, layers, fd, mode, place, request)
     }
 
-    /// The answer to what is asked of a TCP port.
+    /// The answer to rights asked on a TCP port.
     #[tactic(auto, using(crate::proofs::SameLayers::refusing_port_same))]
     pub(crate) fn ask_port(&self, layers: &[Layer], port: u16, wanted: Net) -> Answer
         ghost at: { Situation }

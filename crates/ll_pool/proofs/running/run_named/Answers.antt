@@ -1,4 +1,4 @@
--- What the caller and the workers did is all: each process stands in one piece.
+-- What the caller and the workers did is all: each process is in one piece.
 use Rattle.std.proofs.Common.{◌≡◌, ◌<◌, ◌++◌, ℕ, sym, ap, subst, ◌∙◌}
 use Rattle.crossbeam_queue.specs.Passes.{view}
 use Rattle.ll_process.specs.Cases.{Matter}

@@ -1,4 +1,4 @@
--- What is kept as the parent stands above the node.
+-- The kept parent is above the node.
 use Rattle.ll_tree.proofs.Standing.{if_none, if_some}
 use Rattle.ll_tree.proofs.tree.Tree.parent.Goals as goal
 

@@ -1,4 +1,4 @@
--- The place by what is found of a path, and of what stands above it.
+-- The place by what is found of a path, and of what is above it.
 use Rattle.std.proofs.Common.{◌∙◌}
 use Rattle.ll_tree.proofs.Finding.{place-node, place-gap, above_node}
 use Rattle.ll_tree.proofs.tree.Tree.place_of.Goals as goal
