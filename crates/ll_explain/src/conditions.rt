@@ -13,7 +13,7 @@ use crate::rights::{is_within, is_within_on_ports, push_port_rights_beyond, push
 use crate::words::{push_escaped, push_numbered};
 use ll_rights::{Abi, Fs, Net};
 use ll_rules::Errno;
-use ll_trace::{Op, Record};
+use ll_trace::{Op, Record, changes_nothing};
 use ll_trails::Trail;
 use std::alloc::AllocError;
 
@@ -255,28 +255,13 @@ pub(crate) fn push_condition(
         Op::Restrict { rs } => push_unrestricted(text, *rs, error),
         Op::Start { .. }
         | Op::Fork { .. }
-        | Op::Exit
         | Op::Nnp
         | Op::CloseRs { .. }
         | Op::OpenFile { .. }
         | Op::Adopt { .. }
         | Op::Dup { .. }
         | Op::Close { .. }
-        | Op::Ftruncate { .. }
-        | Op::Ioctl { .. }
-        | Op::Truncate { .. }
-        | Op::Exec { .. }
-        | Op::Mknod { .. }
-        | Op::Mkdir { .. }
-        | Op::Symlink { .. }
-        | Op::Unlink { .. }
-        | Op::Rmdir { .. }
-        | Op::Rename { .. }
-        | Op::Link { .. }
-        | Op::Mount
-        | Op::Bind { .. }
-        | Op::Connect { .. }
         | Op::CreateEmpty { .. }
-        | Op::LeaveOut { .. } => push_other(text),
+        | changes_nothing!() => push_other(text),
     }
 }

@@ -14,7 +14,7 @@ use crate::tables::Tables;
 use ll_rights::{Abi, Fs, Net};
 use ll_rules::{Errno, Layer, LayerSet, NoMemory, RuleFault, Ruleset};
 use ll_semantics::{Answer, Note};
-use ll_trace::{Op, PathText, Record};
+use ll_trace::{Op, PathText, Record, changes_nothing};
 use ll_tree::Tree;
 use std::alloc::Global;
 
@@ -215,27 +215,12 @@ impl Pass {
             Op::AddPort { rs, port, net } => self.add_port(abi, process, *rs, *port, *net),
             Op::CloseRs { rs } => self.close_rs(process, *rs),
             Op::Restrict { rs } => self.restrict(alloc, process, *rs),
-            Op::Exit
+            changes_nothing!()
             | Op::Nnp
             | Op::OpenFile { .. }
             | Op::Adopt { .. }
             | Op::Dup { .. }
-            | Op::Close { .. }
-            | Op::Ftruncate { .. }
-            | Op::Ioctl { .. }
-            | Op::Truncate { .. }
-            | Op::Exec { .. }
-            | Op::Mknod { .. }
-            | Op::Mkdir { .. }
-            | Op::Symlink { .. }
-            | Op::Unlink { .. }
-            | Op::Rmdir { .. }
-            | Op::Rename { .. }
-            | Op::Link { .. }
-            | Op::Mount
-            | Op::Bind { .. }
-            | Op::Connect { .. }
-            | Op::LeaveOut { .. } => Ok(Note::Open),
+            | Op::Close { .. } => Ok(Note::Open),
         }
     }
 

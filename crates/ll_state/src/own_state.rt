@@ -17,7 +17,7 @@ use ll_rights::{Fs, Net};
 use ll_rules::{Domain, Layer, NoMemory};
 use ll_semantics::{Answer, Descriptor, Note};
 use ll_shared::SharedMap;
-use ll_trace::Op;
+use ll_trace::{Op, changes_nothing};
 use ll_tree::Tree;
 use std::alloc::Global;
 
@@ -119,24 +119,9 @@ impl OwnState {
             Op::Adopt { fd, kind } => self.adopt(*fd, *kind),
             Op::Dup { fd, to } => self.dup(*fd, *to),
             Op::Close { fd } => self.close(*fd),
-            Op::Start { .. }
-            | Op::Fork { .. }
-            | Op::Exit
-            | Op::Ftruncate { .. }
-            | Op::Ioctl { .. }
-            | Op::Truncate { .. }
-            | Op::Exec { .. }
-            | Op::Mknod { .. }
-            | Op::Mkdir { .. }
-            | Op::Symlink { .. }
-            | Op::Unlink { .. }
-            | Op::Rmdir { .. }
-            | Op::Rename { .. }
-            | Op::Link { .. }
-            | Op::Mount
-            | Op::Bind { .. }
-            | Op::Connect { .. }
-            | Op::LeaveOut { .. } => Ok(self.answer(tree, layers, op)),
+            Op::Start { .. } | Op::Fork { .. } | changes_nothing!() => Ok(self.answer(
+                tree, layers, op,
+            )),
             Op::Create { .. }
             | Op::AddPath { .. }
             | Op::AddPort { .. }

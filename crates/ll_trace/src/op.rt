@@ -177,6 +177,30 @@ pub enum Op {
     },
 }
 
+/// The calls that change nothing, not even where they are allowed, as a pattern. Each `match` that takes
+/// operations together names the others one by one, so that a new operation has to be decided on.
+#[macro_export]
+macro_rules! changes_nothing {
+    () => {
+        $crate::Op::Exit
+            | $crate::Op::Ftruncate { .. }
+            | $crate::Op::Ioctl { .. }
+            | $crate::Op::Truncate { .. }
+            | $crate::Op::Exec { .. }
+            | $crate::Op::Mknod { .. }
+            | $crate::Op::Mkdir { .. }
+            | $crate::Op::Symlink { .. }
+            | $crate::Op::Unlink { .. }
+            | $crate::Op::Rmdir { .. }
+            | $crate::Op::Rename { .. }
+            | $crate::Op::Link { .. }
+            | $crate::Op::Mount
+            | $crate::Op::Bind { .. }
+            | $crate::Op::Connect { .. }
+            | $crate::Op::LeaveOut { .. }
+    };
+}
+
 impl Op {
     ghost use Rattle.ll_trace.specs.Entries.{is_start, is_exit, pid_started};
     ghost use Rattle.ll_trace.specs.Processes.{is_starting, forked_by};
@@ -247,7 +271,6 @@ impl Op {
             Op::AddPort { rs, port, net } => *self = port_added(*rs, *port, *net, abi),
             Op::Start { .. }
             | Op::Fork { .. }
-            | Op::Exit
             | Op::Nnp
             | Op::CloseRs { .. }
             | Op::Restrict { .. }
@@ -255,22 +278,8 @@ impl Op {
             | Op::Adopt { .. }
             | Op::Dup { .. }
             | Op::Close { .. }
-            | Op::Ftruncate { .. }
-            | Op::Truncate { .. }
-            | Op::Exec { .. }
-            | Op::Mknod { .. }
-            | Op::Mkdir { .. }
-            | Op::Symlink { .. }
-            | Op::Unlink { .. }
-            | Op::Rmdir { .. }
-            | Op::Rename { .. }
-            | Op::Link { .. }
-            | Op::Mount
-            | Op::Bind { .. }
-            | Op::Connect { .. }
-            | Op::Ioctl { .. }
             | Op::CreateEmpty { .. }
-            | Op::LeaveOut { .. } => {}
+            | changes_nothing!() => {}
         }
     }
 }

@@ -11,7 +11,7 @@ use ll_process::Case;
 use ll_rules::NoMemory;
 use ll_semantics::Answer;
 use ll_shared::SharedMap;
-use ll_trace::{Op, ProcessId, Record};
+use ll_trace::{Op, ProcessId, Record, changes_nothing};
 use std::alloc::{AllocError, Global};
 
 /// Where the layers, open descriptors and rulesets of one process come from: the records that made them, by their
@@ -81,25 +81,10 @@ impl Trail {
             Op::Close { fd } => self.openings.put(*fd, None)?,
             Op::Start { .. }
             | Op::Fork { .. }
-            | Op::Exit
             | Op::Nnp
             | Op::AddPath { .. }
             | Op::AddPort { .. }
-            | Op::Ftruncate { .. }
-            | Op::Ioctl { .. }
-            | Op::Truncate { .. }
-            | Op::Exec { .. }
-            | Op::Mknod { .. }
-            | Op::Mkdir { .. }
-            | Op::Symlink { .. }
-            | Op::Unlink { .. }
-            | Op::Rmdir { .. }
-            | Op::Rename { .. }
-            | Op::Link { .. }
-            | Op::Mount
-            | Op::Bind { .. }
-            | Op::Connect { .. }
-            | Op::LeaveOut { .. } => {}
+            | changes_nothing!() => {}
         }
         Ok(())
     }
