@@ -87,8 +87,10 @@ neighbouring versions with the same answer are named together.",
 const WORKERS_HELP: Help = Help {
     short: "Number of threads, 1 to 64",
     whole: "\
-Number of threads that read the trace and judge its processes, 1 to
-64. The report is the same for every number.",
+Number of threads beside the first that judge the trace's processes, 1
+to 64; where it is two or more, threads read the trace too. No more
+start than there can be work for. The report is the same for every
+number.",
 };
 
 const GRAIN_HELP: Help = Help {

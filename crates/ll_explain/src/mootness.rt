@@ -67,8 +67,8 @@ fn why_moot<'t>(tree: &Tree, trail: &Trail, op: &'t Op) -> Option<Why<'t>>
             Some(no_gap(tree, path))
         }
         Op::Unlink { path } | Op::Rmdir { path } => Some(not_removed(tree, path)),
-        Op::Rename { from, to, exchange } => Some(unrenamed(tree, from, to, *exchange)),
-        Op::Link { from, to } => Some(unlinked(tree, from, to)),
+        Op::Rename { from, to, exchange } => Some(unrenamed(tree, from, to.path(), *exchange)),
+        Op::Link { from, to } => Some(unlinked(tree, from, to.path())),
         Op::Start { .. }
         | Op::Fork { .. }
         | Op::Exit

@@ -37,8 +37,8 @@ fn said_of<'t>(tree: &Tree, op: &'t Op) -> (&'static str, &'t str) {
         Op::Truncate { path } => said(&no_object(tree, path)),
         Op::Unlink { path } => said(&not_removed(tree, path)),
         Op::Mkdir { path } => said(&no_gap(tree, path)),
-        Op::Rename { from, to, exchange } => said(&unrenamed(tree, from, to, *exchange)),
-        Op::Link { from, to } => said(&unlinked(tree, from, to)),
+        Op::Rename { from, to, exchange } => said(&unrenamed(tree, from, to.path(), *exchange)),
+        Op::Link { from, to } => said(&unlinked(tree, from, to.path())),
         _ => ("another call", "/"),
     }
 }

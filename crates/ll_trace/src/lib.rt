@@ -18,7 +18,7 @@ pub use laws::{
     traces_of_single_pids,
 };
 pub use op::{Mode, Op, RuleType, Sort};
-pub use path_text::PathText;
+pub use path_text::{PathText, SecondPath};
 pub use record::{ProcessId, Record};
 pub use rows::{calls_at_best_effort, faulty_traces, whole_traces};
 pub use trace::Trace;

@@ -4,7 +4,7 @@ ghost use Rattle.std.specs.Prelude.{◌≡◌};
 ghost use Rattle.ll_rights.specs.Supported.{supported_fs, supported_net};
 ghost use Rattle.ll_trace.specs.BestEffort.{at_best_effort, creates, adds_port};
 
-use crate::path_text::PathText;
+use crate::path_text::{PathText, SecondPath};
 use crate::record::ProcessId;
 use ll_rights::{Abi, Fs, Kind, Net};
 
@@ -140,13 +140,13 @@ pub enum Op {
     /// rename(2), renameat2(2).
     Rename {
         from: PathText,
-        to: PathText,
+        to: SecondPath,
         exchange: bool,
     },
     /// link(2).
     Link {
         from: PathText,
-        to: PathText,
+        to: SecondPath,
     },
     /// mount(2), pivot_root(2).
     Mount,

@@ -6,7 +6,7 @@ ghost use Rattle.ll_trace.specs.Operations.{start_at, create_at, add_path_at, ad
 
 use crate::members::{fs_of, made_kind_of, mode_of, net_of, path_of, port_of, sort_of};
 use crate::op::Op;
-use crate::path_text::PathText;
+use crate::path_text::{PathText, SecondPath};
 use ll_tree::Cause;
 use ll_tree::members::{flag_of, number_of, text_of, truth_of};
 use serde_json::Value;
@@ -178,7 +178,7 @@ fn rename_of(alloc: Global, value: &Value) -> Result<Op, Cause>
     let to = text_of(value, "to")?;
     let exchange = flag_of(value, "exchange")?;
     let from = PathText::read(alloc, from)?;
-    let to = PathText::read(alloc, to)?;
+    let to = SecondPath::read(alloc, to)?;
     Ok(Op::Rename { from, to, exchange })
 }
 
@@ -189,7 +189,7 @@ fn link_of(alloc: Global, value: &Value) -> Result<Op, Cause>
     let from = text_of(value, "from")?;
     let to = text_of(value, "to")?;
     let from = PathText::read(alloc, from)?;
-    let to = PathText::read(alloc, to)?;
+    let to = SecondPath::read(alloc, to)?;
     Ok(Op::Link { from, to })
 }
 

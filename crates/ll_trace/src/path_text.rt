@@ -49,3 +49,36 @@ impl PathText {
         self.text.as_str()
     }
 }
+
+/// The second path of an operation that has two, in memory of its own, so that the records of all other
+/// operations take no more for it. Contracts see its bytes.
+#[derive(Debug, Drop)]
+pub struct SecondPath {
+    path: Box<PathText>,
+}
+
+impl Model for SecondPath {
+    ghost use Rattle.std.specs.Prelude.{List, ℕ};
+
+    ghost Value = { List ℕ };
+
+    ghost view = { λ second. second.path.value };
+}
+
+impl SecondPath {
+    /// The path that a text is, or `BadPath` where it has not the shape of one.
+    pub(crate) fn read(alloc: Global, text: &str) -> Result<SecondPath, Cause>
+        ensures { Gives (λ second. second) result (path_in text.now) }
+    {
+        let path = PathText::read(alloc, text)?;
+        let path = Box::new(alloc, path)?;
+        Ok(SecondPath { path })
+    }
+
+    /// The path.
+    pub fn path(&self) -> &PathText
+        ensures { result.now ≡ self.now }
+    {
+        &self.path
+    }
+}

@@ -132,8 +132,9 @@ fn is_expected_later(place: usize, op: &Op) -> bool {
         19 => matches!(op, Op::Unlink { path } if path.as_str() == "/u"),
         20 => matches!(op, Op::Rmdir { path } if path.as_str() == "/r"),
         21 =>
-            matches!(op, Op::Rename { from, to, exchange: true } if from.as_str() == "/f" && to.as_str() == "/t"),
-        22 => matches!(op, Op::Link { from, to } if from.as_str() == "/f" && to.as_str() == "/t"),
+            matches!(op, Op::Rename { from, to, exchange: true } if from.as_str() == "/f" && to.path().as_str() == "/t"),
+        22 =>
+            matches!(op, Op::Link { from, to } if from.as_str() == "/f" && to.path().as_str() == "/t"),
         23 => matches!(op, Op::Mount),
         24 => matches!(op, Op::Bind { port: 0 }),
         25 => matches!(op, Op::Connect { port: 65535 }),
