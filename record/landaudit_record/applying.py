@@ -156,7 +156,7 @@ def _of_layer(policy: Policy, layer: FittedLayer, tree: Tree, rs: int) -> Iterat
 
 
 def at_best_effort(inserted: Iterable[Record], abi: int) -> Iterator[Record]:
-    """A policy's records as landaudit judges them at best effort: without the rights that an ABI lacks.
+    """A policy's records as landaudit judges them at best effort: without the rights that an ABI does not have.
 
     A rule that has none left is left out.
     """

@@ -24,8 +24,8 @@ class Step:
     """An ABI, against the one before it in the range.
 
     `breaks` are the kinds that are refused here and not there, all of them at the oldest ABI; `no_more` are those
-    whose calls were refused there and are not here, by whatever error. `warnings` are those that the newest ABI has
-    not.
+    whose calls were refused there and are not here, by whatever error. `warnings` are those that the newest ABI does
+    not have.
     """
 
     abi: int

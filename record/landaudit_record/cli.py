@@ -44,7 +44,7 @@ def parser() -> argparse.ArgumentParser:
 
 
 def parse(words: Sequence[str]) -> argparse.Namespace:
-    """The arguments of a subcommand; what stands behind the first `--` is a command of its own, in `behind`."""
+    """The arguments of a subcommand; what is behind the first `--` is a command of its own, in `behind`."""
     end = words.index("--") if "--" in words else len(words)
     arguments, left = parser().parse_known_args(words[:end])
     if left:

@@ -24,7 +24,7 @@ PATH_CALLS = frozenset({"open", "truncate", "exec", "mknod", "mkdir", "symlink",
 LEFT_OUT_ERRORS = frozenset({"EFAULT", "EOPNOTSUPP", "EBADFD", "EAFNOSUPPORT"})
 
 Stat = Callable[[str], os.stat_result | None]
-"""What stands at a path on this machine, if something does."""
+"""What is at a path on this machine, if something is."""
 
 
 class Class(enum.Enum):
@@ -88,7 +88,7 @@ def _on_itself(record: Record) -> bool:
 
 
 class Classes:
-    """Finds the class of a difference: by the call, the tree, the ABI, and what stands on this machine."""
+    """Finds the class of a difference: by the call, the tree, the ABI, and what is on this machine."""
 
     def __init__(self, tree: Tree, abi: int, stat_of: Stat) -> None:
         self._tree = tree
@@ -113,7 +113,7 @@ class Classes:
         return next((because for because, explains in self._tests if explains(call)), Class.UNNAMED)
 
     def _newer(self, call: Call) -> bool:
-        """A ruleset with rights that the ABI lacks is EINVAL there, and what comes of it is not there."""
+        """A ruleset with rights that the ABI does not have is EINVAL there, and what comes of it is not there."""
         if call.op == "create":
             return call.answer.error == "EINVAL" and bool(newer_rights(call.record, self._abi))
         return call.by_kernel.newer

@@ -1,6 +1,6 @@
-"""Why landaudit refuses a record, or does not ask the policy about it: what stands behind the record's own line.
+"""Why landaudit refuses a record, or does not ask the policy about it: what is behind the record's own line.
 
-These are the tables of docs/FORMATS.md, "Explanations". Paths stand there
+These are the tables of docs/FORMATS.md, "Explanations". Paths are there
 without quotes and may hold any words, so a line taken by itself may be read in
 several ways. The record tells which of them is meant:
 
@@ -106,7 +106,7 @@ class Refusing:
 
 @dataclass(frozen=True)
 class Condition:
-    """By which condition a record fails by itself. `of_abi` says that the ABI lacks what is asked for."""
+    """By which condition a record fails by itself. `of_abi` says that the ABI does not have what is asked for."""
 
     text: str
     of_abi: bool
@@ -230,7 +230,7 @@ def _objections(record: Record, text: str) -> tuple[Objection, ...]:
 
 
 def _of_move(moved: str, to: str, text: str) -> tuple[Objection, ...]:
-    """What a layer objects to in a move, by its paths: what both directories lack, what each of two objects gains."""
+    """What a layer objects to in a move, by its paths: what is missing on both directories, what each object gains."""
     source, target = directory_of(moved), directory_of(to)
     parts = [("", f" on {source}; "), ("", f" on {target}; ")]
     parts += [(f"{moved} would gain ", f" in {target}; "), (f"{to} would gain ", f" in {source}; ")]
@@ -244,7 +244,7 @@ def _of_move(moved: str, to: str, text: str) -> tuple[Objection, ...]:
 
 
 def _split(text: str, parts: Sequence[tuple[str, str]]) -> tuple[tuple[str, ...], ...] | None:
-    """The rights of each part, which stand between two texts; none of a part that is left out, None if it can't be."""
+    """The rights of each part, which are between two texts; none of a part that is left out, None if it can't be."""
     if not parts:
         return None if text else ()
     before, behind = parts[0]

@@ -1,4 +1,4 @@
-"""A policy as one ABI knows it, by best effort: what the ABI lacks is dropped, never asked for.
+"""A policy as one ABI knows it, by best effort: what the ABI does not have is dropped, never asked for.
 
 This is what the kernel's document advises and libraries do. A program that asks
 an older kernel for a right that it does not know gets EINVAL, and no layer.
@@ -14,7 +14,7 @@ from .rights import FILE_RIGHTS, FS, NET, Family, Rights
 
 @dataclass(frozen=True)
 class FittedPathRule:
-    """What a rule grants beneath its parents: by a group, a parent that is a file gets the rights for files alone."""
+    """What a rule grants under its parents: by a group, a parent that is a file gets the rights for files alone."""
 
     place: str
     parents: tuple[str, ...]
@@ -58,7 +58,7 @@ def fit(policy: Policy, abi: int) -> tuple[tuple[FittedLayer, ...], list[str]]:
 
 
 def _layer(layer: Layer, abi: int, notes: list[str]) -> FittedLayer | None:
-    """A layer without what the ABI lacks, or None where nothing that it handles is left."""
+    """A layer without what the ABI does not have, or None where nothing that it handles is left."""
     where = f"layer {layer.number}"
     handled_fs = _known(layer.handled_access_fs, FS, abi, f"{where}, handled_access_fs", notes)
     handled_net = _known(layer.handled_access_net, NET, abi, f"{where}, handled_access_net", notes)

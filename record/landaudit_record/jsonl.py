@@ -14,7 +14,7 @@ Record = dict[str, Any]
 
 _encode = json.JSONEncoder(ensure_ascii=False, separators=(",", ":")).encode
 _encode_escaped = json.JSONEncoder(separators=(",", ":")).encode
-#: Records repeat their texts: so many different ones are kept as they are written.
+#: Records repeat their texts: this many different ones are kept as they are written.
 _encode_text = lru_cache(16_384)(_encode)
 
 
@@ -54,7 +54,7 @@ def line(record: Record) -> str:
 
 
 def _line_bytes(record: Record) -> bytes:
-    """A record's line as bytes; a name that is not UTF-8 is told by escapes, from which it is read back."""
+    """A record's line as bytes; a name that is not UTF-8 is written by escapes, from which it is read back."""
     try:
         return line(record).encode()
     except UnicodeEncodeError:

@@ -44,7 +44,7 @@ class Answer:
 def find(named: str | None) -> Path:
     """The program that is named, else the one that `make landaudit` built, the installed one, or the one on PATH.
 
-    Where landaudit-record is installed, landaudit lies beside it.
+    Where landaudit-record is installed, landaudit is beside it.
     """
     if named is not None:
         if os.access(named, os.X_OK) and Path(named).is_file():
@@ -62,8 +62,8 @@ def find(named: str | None) -> Path:
 def audit(program: Path, abis: range, tree: Path, trace: Path, report: Path, *, best_effort: bool) -> int:
     """Runs landaudit once for all ABIs of a range, and writes its report with explanations to a file.
 
-    The status is 0, or 1 if some ABI refuses something. At best effort rulesets lose the rights that an ABI lacks; else
-    they are judged as they were recorded. A fault of the run is a Problem.
+    The status is 0, or 1 if some ABI refuses something. At best effort rulesets lose the rights that an ABI does not
+    have; else they are judged as they were recorded. A fault of the run is a Problem.
     """
     command = [str(program), "--abi", span(abis), *(["--best-effort"] if best_effort else []), "--explain"]
     command += [str(tree), str(trace)]
@@ -88,7 +88,7 @@ def answers(report: Path, abi: int | None = None) -> Iterator[Answer]:
 
 
 def _explained(lines: Iterable[str]) -> Iterator[tuple[str, tuple[str, ...]]]:
-    """The lines that stand by themselves, each with those that explain it."""
+    """The lines that are by themselves, each with those that explain it."""
     alone, explanation = "", []
     for line in lines:
         if line.startswith(EXPLAINS):
@@ -109,7 +109,7 @@ def _answer(text: str, explanation: tuple[str, ...], abi: int | None) -> Answer:
 
 
 def _answered(text: str, abi: int | None, line: str) -> str:
-    """What an ABI answers: where ABIs differ, each answer stands behind those that give it."""
+    """What an ABI answers: where ABIs differ, each answer is behind those that give it."""
     if not text[0].isdigit():
         return text
     found = next((found for found in _ANSWERED.finditer(text) if _is_among(abi, found)), None)

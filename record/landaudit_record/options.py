@@ -12,7 +12,7 @@ from .rights import NEWEST_ABI, OLDEST_ABI
 
 #: The words for single ABIs.
 _ABI_OF = {str(abi): abi for abi in range(OLDEST_ABI, NEWEST_ABI + 1)}
-OF_POLICY = "of the policy, rights that it lacks are dropped"
+OF_POLICY = "of the policy, rights that it does not have are dropped"
 
 
 def add_abi(parser: argparse.ArgumentParser, besides: str = OF_POLICY) -> None:
@@ -73,7 +73,7 @@ def add_abis(parser: argparse.ArgumentParser) -> None:
         action=_Once,
         default=range(OLDEST_ABI, NEWEST_ABI + 1),
         help=f"Landlock's ABI, or a range of them ({OLDEST_ABI}-{NEWEST_ABI} if it is left out): the newest is told in "
-        "full, behind it comes what breaks at each; of the policy, rights that an ABI lacks are dropped",
+        "full, behind it comes what breaks at each; of the policy, rights that an ABI does not have are dropped",
     )
 
 
@@ -83,7 +83,7 @@ def add_as_recorded(parser: argparse.ArgumentParser) -> None:
         "--as-recorded",
         action="store_true",
         help="judge the rulesets that the program makes itself as they were recorded (if it is left out, as a program "
-        "makes them that drops the rights which the ABI lacks)",
+        "makes them that drops the rights which the ABI does not have)",
     )
 
 

@@ -52,7 +52,7 @@ class Access:
 
 @dataclass(frozen=True)
 class PathRule:
-    """A rule beneath each of some paths. `place` names it, as `path_beneath 2`."""
+    """A rule under each of some paths. `place` names it, as `path_beneath 2`."""
 
     place: str
     allowed_access: Access
@@ -89,7 +89,7 @@ class Policy:
 
 @dataclass(frozen=True)
 class _Place:
-    """Where in a policy's file something stands, so that a fault can name it."""
+    """Where in a policy's file something is, so that a fault can name it."""
 
     path: Path
     steps: tuple[str, ...] = ()
@@ -104,7 +104,7 @@ class _Place:
 
 
 def read(path: Path) -> Policy:
-    """The policy in a file; whatever is wrong with it is a Problem that names the place and what would be right."""
+    """The policy in a file; whatever is wrong with it is a Problem that names where it is and what would be right."""
     try:
         with open(path, "rb") as file:
             document = tomllib.load(file)

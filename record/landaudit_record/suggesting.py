@@ -22,7 +22,7 @@ MOST_ROUNDS = 30
 
 @dataclass
 class Round:
-    """What one audit shows: what the policy's layers lack, refusals that no rule mends, and what the run made."""
+    """What one audit shows: what the policy's layers lack, refusals that no rule fixes, and what the run made."""
 
     wants: dict[int, Wants] = field(default_factory=dict)
     unmended: Counter[str] = field(default_factory=Counter)
@@ -34,7 +34,7 @@ class Round:
 class Suggestion:
     """The rules for each layer by its number, and what stays refused with them.
 
-    `unmended` are refusals of the policy's layers that no rule mends,
+    `unmended` are refusals of the policy's layers that no rule fixes,
     `of_program` those of layers that the program makes itself, both by call.
     `rounds` is how many audits it took; it is not `finished` where it took too many.
     """
@@ -47,10 +47,10 @@ class Suggestion:
 
 
 def suggest(tree: Tree, policy: Policy, abi: int, audit: Callable[[Policy], Iterable[Judged]]) -> Suggestion:
-    """Rules until no layer of the policy refuses what a rule would mend.
+    """Rules until no layer of the policy refuses what a rule would fix.
 
     `audit` answers the recording under a policy. Under the rules of one round
-    the next may show refusals that stood behind those which they mend.
+    the next may show refusals that were behind those which they fix.
     """
     found = Round()
     rules: dict[int, list[Rule]] = {}
@@ -122,7 +122,7 @@ def _refused(
 ) -> None:
     """Takes up one refused call, for each layer that refuses it.
 
-    Where one of its objections is not to be mended, rules for the others would
+    Where one of its objections can't be fixed, rules for the others would
     be in vain. So it is with `refer` at ABI 1, which no rule can grant there.
     """
     for layer in refusing(record, answer):

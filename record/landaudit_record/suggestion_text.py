@@ -23,7 +23,7 @@ def lines(suggestion: Suggestion, policy: Policy) -> Iterator[str]:
 
 
 def _of_layer(layer: Layer, rules: list[Rule], policy: Policy) -> Iterator[str]:
-    only = "" if len(policy.layers) == 1 else f": paste them beneath the [[layer]] of that number in {policy.path}"
+    only = "" if len(policy.layers) == 1 else f": paste them under the [[layer]] of that number in {policy.path}"
     yield f"# {counted(len(rules), 'rule')} for layer {layer.number}{only}"
     if needs_refer(layer, rules):
         handled = _list(FS.ordered(layer.handled_access_fs.rights | {"refer"}))
@@ -50,11 +50,11 @@ def _rule(rule: Rule) -> Iterator[str]:
 def _ending(suggestion: Suggestion) -> Iterator[str]:
     """What stays refused under the rules, or that nothing does."""
     if not suggestion.finished:
-        yield f"# after {suggestion.rounds} audits there is still more to mend: add these rules and run this again"
+        yield f"# after {suggestion.rounds} audits there is still more to fix: add these rules and run this again"
     elif suggestion.rules:
-        yield f"# with these rules no layer of the policy refuses what a rule can mend ({suggestion.rounds} audits)"
+        yield f"# with these rules no layer of the policy refuses what a rule can fix ({suggestion.rounds} audits)"
     else:
-        yield "# the policy refuses nothing that a rule can mend"
+        yield "# the policy refuses nothing that a rule can fix"
     yield from _staying(suggestion.unmended, "refused by layers of the policy whatever their rules are")
     yield from _staying(suggestion.of_program, "refused by layers that the program makes itself")
 

@@ -129,7 +129,7 @@ def _refused(summary: Summary, record: Record, answer: Answer, process: Process)
 def _without_ruleset(condition: Condition) -> str:
     """Why a program makes no ruleset, and what comes of it."""
     if condition.of_abi:
-        return f"{condition.text}; a program must drop what the kernel lacks, or it runs without that layer"
+        return f"{condition.text}; a program must drop what the kernel does not have, or it runs without that layer"
     return f"{condition.text}; the program runs without that layer"
 
 

@@ -19,7 +19,7 @@ MOST_NAMES = 3
 
 @dataclass(frozen=True)
 class Style:
-    """How words are marked; with `coloured` false they stand plain."""
+    """How words are marked; with `coloured` false they are plain."""
 
     coloured: bool
 
@@ -59,7 +59,7 @@ def lines(summary: Summary, title: str, style: Style) -> Iterator[str]:
 
 
 def by_abi(steps: Sequence[Step], style: Style) -> Iterator[str]:
-    """The lines of the table by ABI, which stands behind a summary."""
+    """The lines of the table by ABI, which is behind a summary."""
     yield ""
     yield style.bold("by ABI: what breaks there first, and what is refused no more")
     rows = [row for step in steps for row in _step_rows(step)]
@@ -67,7 +67,7 @@ def by_abi(steps: Sequence[Step], style: Style) -> Iterator[str]:
 
 
 def _step_rows(step: Step) -> Iterator[tuple[str, ...]]:
-    """The rows of an ABI: its counts stand in the first, and each says one thing that changes."""
+    """The rows of an ABI: its counts are in the first, and each says one thing that changes."""
     verdicts = (str(step.verdicts[verdict]) for verdict in ("allowed", "refused", "moot"))
     counts: tuple[str, ...] = (str(step.abi), *verdicts)
     for said in _changes(step) or [""]:
@@ -153,7 +153,7 @@ def _some(names: Sequence[str]) -> str:
 
 
 def _table(heads: Sequence[str], rows: Sequence[Sequence[str]], numbers: int = 1) -> Iterator[str]:
-    """Rows under heads: the first columns are numbers and stand flush right, the last is as long as it is."""
+    """Rows under heads: the first columns are numbers and are flush right, the last is as long as it is."""
     shown = [[printable(cell) for cell in row] for row in (heads, *rows)]
     widths = [max(map(len, column)) for column in zip(*shown)]
     for row in shown:

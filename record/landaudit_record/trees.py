@@ -18,7 +18,7 @@ class LinkLoop(Exception):
 
 
 def directory_of(path: str) -> str:
-    """The directory that an object stands in; the root stands in itself."""
+    """The directory that an object is in; the root is in itself."""
     return path.rpartition("/")[0] or ROOT
 
 
@@ -53,7 +53,7 @@ class Tree:
     def resolved(self, path: str) -> str:
         """An absolute path without symbolic links, `.`, `..` and doubled slashes, as the kernel walks it.
 
-        What comes after a component that is not listed stands as it is written.
+        What comes after a component that is not listed is as it is written.
         """
         todo = path.split("/")[::-1]
         here, links = ROOT, 0

@@ -32,7 +32,7 @@ class Rule:
 
 
 def unite(wants: dict[Place, Lacking], more: dict[Place, Lacking]) -> None:
-    """Adds to what is lacking what more calls lack."""
+    """Adds to what is lacking what is lacking for more calls."""
     for place, rights in more.items():
         here = wants.setdefault(place, {})
         for right, calls in rights.items():
@@ -42,9 +42,10 @@ def unite(wants: dict[Place, Lacking], more: dict[Place, Lacking]) -> None:
 def rules(tree: Tree, wants: Wants, made: set[str]) -> list[Rule]:
     """The rules that grant what is lacking, those first for which most calls ask.
 
-    A rule stands on what can be opened before the run: for an object that is
-    made in it, and for a symbolic link, on the directory over that. What several
-    files of one directory lack is granted on the directory, but for the root.
+    A rule is on what can be opened before the run: for an object that is
+    made in it, and for a symbolic link, on the directory over that. What is
+    lacking on several files of one directory is granted on the directory,
+    except for the root.
     """
     found = _path_rules(_together(tree, _lasting(tree, wants, made))) + _port_rules(wants)
     return sorted(found, key=lambda rule: -rule.calls)
@@ -69,7 +70,7 @@ def _there_before(tree: Tree, path: str, made: set[str]) -> str:
 
 
 def _together(tree: Tree, wants: OnPaths) -> OnPaths:
-    """What several files of a directory lack, on the directory; all else as it is."""
+    """What is lacking on several files of a directory, on the directory; all else as it is."""
     files = {path: directory_of(path) for path in wants if not tree.is_dir(path) and directory_of(path) != ROOT}
     alike = Counter((directory, right) for path, directory in files.items() for right in wants[path])
     together: OnPaths = {}
@@ -91,7 +92,7 @@ def _path_rules(wants: OnPaths) -> list[Rule]:
 
 
 def _port_rules(wants: Wants) -> list[Rule]:
-    """One rule for all ports that lack the same rights."""
+    """One rule for all ports on which the same rights are lacking."""
     ports: dict[Rights, list[int]] = defaultdict(list)
     calls: dict[Rights, set[int]] = defaultdict(set)
     for port in sorted(place for place in wants if isinstance(place, int)):

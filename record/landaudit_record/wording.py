@@ -1,4 +1,4 @@
-"""Words for a person: counted things, and texts that stand on one line."""
+"""Words for a person: counted things, and texts that are on one line."""
 
 from __future__ import annotations
 

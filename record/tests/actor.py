@@ -7,7 +7,7 @@ own, again and again. Calls that fail are part of it.
 
 The skeleton (directories, the files `r`, the programs) stays as it is for the whole run, so a rule on one of its
 objects means the same at every call: the kernel ties a rule to an object, a trace ties it to a path. Any other name
-tells the kind of what may stand there, so a path has one kind for the whole run.
+tells the kind of what may be there, so a path has one kind for the whole run.
 """
 
 from __future__ import annotations
@@ -201,12 +201,12 @@ class Actor:
         return self.path(self.present(self.kind_to_open()))
 
     def kind_to_open(self) -> str:
-        """Any kind but a socket."""
+        """Any kind except a socket."""
         kind = self.random.choice(WEIGHTED_KINDS)
         return kind if kind != "sock" or self.forbidden() else "file"
 
     def kind_to_unlink(self) -> str:
-        """Any kind but a directory."""
+        """Any kind except a directory."""
         kind = self.random.choice(WEIGHTED_KINDS)
         return kind if kind != "dir" or self.forbidden() else "file"
 
@@ -390,7 +390,7 @@ class Actor:
         os.link(self.path(self.present(kind)), self.path(self.absent(kind)), follow_symlinks=False)
 
     def truncate(self) -> None:
-        """Cuts what stands at a path."""
+        """Cuts what is at a path."""
         os.truncate(self.any_path(), self.random.randrange(100))
 
     # The process
@@ -467,7 +467,7 @@ class Actor:
         return ruleset
 
     def add_rule(self, ruleset: int, handled: list[str]) -> None:
-        """One more rule, of rights that the ruleset handles but for a mistake now and then."""
+        """One more rule, of rights that the ruleset handles except for a mistake now and then."""
         place = self.random.choice(SKELETON + FIXED_FILES + ("", "", "/", "/dev", "/usr"))
         allowed = self.subset(handled, 0.7)
         if self.random.random() < 0.05:

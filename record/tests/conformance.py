@@ -96,7 +96,7 @@ class Quiet(http.server.SimpleHTTPRequestHandler):
 
 
 def record(run: Run, out: Path, abi: int) -> None:
-    """Records a run in a folder, in work that is filled anew."""
+    """Records a run in a folder, in work that is filled again."""
     workshop.fill()
     if run.acts:
         actor.fill(ACTED_IN)

@@ -31,7 +31,7 @@ class Step:
 
 
 def steps(document: Path) -> list[Step]:
-    """The commands of a document that stand behind `$` in indented blocks."""
+    """The commands of a document that are behind `$` in indented blocks."""
     found: list[Step] = []
     block: Step | None = None
     for line in document.read_text(encoding="utf-8").splitlines():

@@ -47,7 +47,7 @@ def confined(fs: list[str], net: list[str] | None = None, rs: int = 3) -> list[R
 
 
 def compared(rows: list[Row], abi: int = 5, standing: dict[str, os.stat_result] | None = None) -> Tally:
-    """Compares a trace of one process, of which `start` and nnp stand before the rows."""
+    """Compares a trace of one process, of which `start` and nnp come before the rows."""
     begun: list[Row] = [({"op": "start"}, "allowed"), ({"op": "nnp"}, "allowed")]
     records = [({"pid": PID, **record}, answer) for record, answer in begun + rows]
     with tempfile.TemporaryDirectory() as folder:

@@ -1,4 +1,4 @@
-"""A policy at an older ABI, which knows the rights of docs/FORMATS.md, "Names of rights"; what it lacks is dropped."""
+"""A policy at an older ABI, which knows the rights of docs/FORMATS.md, "Names of rights"; all others are dropped."""
 
 from __future__ import annotations
 

@@ -1,4 +1,4 @@
-"""Values as they stand in a line of JSON."""
+"""Values as they are in a line of JSON."""
 
 from __future__ import annotations
 

@@ -27,7 +27,7 @@ RULE = "[[layer.path_beneath]]\n"
 
 
 def read(text: str | bytes) -> Policy:
-    """The policy of a text, which stands in a file P.toml."""
+    """The policy of a text, which is in a file P.toml."""
     with tempfile.TemporaryDirectory() as folder:
         path = Path(folder, "P.toml")
         path.write_bytes(text if isinstance(text, bytes) else text.encode())

@@ -276,7 +276,7 @@ class Text(unittest.TestCase):
     def test_with_several_layers_each_is_named(self) -> None:
         rule = Rule("/a", frozenset({"read_file"}), 2)
         written = list(suggestion_text.lines(Suggestion({2: [rule]}, NONE, NONE, 1, True), policy(DENY + DENY)))
-        self.assertRegex(written[0], "^# 1 rule for layer 2: paste them beneath the .*layer.* of that number")
+        self.assertRegex(written[0], "^# 1 rule for layer 2: paste them under the .*layer.* of that number")
 
     def test_what_stays_refused_is_said(self) -> None:
         found = suggested([*layer(), MOUNT])

@@ -187,7 +187,7 @@ class Trying(unittest.TestCase):
             "    3        7        1     0",
             "    4        7        1     0",
         ])
-        lacking = "landaudit-record: note: ABI {0} lacks rights of the policy: see --abi {0} (3 notes)"
+        lacking = "landaudit-record: note: ABI {0} is missing rights of the policy: see --abi {0} (3 notes)"
         self.assertEqual(errors.splitlines(), [lacking.format(abi) for abi in (1, 2)])
         self.assertEqual(self.ran(), ["1-4 --best-effort --explain"])
 

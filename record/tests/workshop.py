@@ -1,6 +1,6 @@
-"""The folder in which the programs of the conformance run work: filled anew before each, always alike.
+"""The folder in which the programs of the conformance run work: filled again before each, always alike.
 
-It holds what stands in `work` beside this file, and what is made from it: many words, a tree, an archive, a repository.
+It holds what is in `work` beside this file, and what is made from it: many words, a tree, an archive, a repository.
 """
 
 from __future__ import annotations

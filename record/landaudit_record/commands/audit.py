@@ -83,7 +83,7 @@ class _Trying:
     places: Plan
 
     def note(self, abis: range) -> None:
-        """Prints notes on what the ABIs lack of the policy: on the newest all, on each older one how many."""
+        """Prints notes on what of the policy the ABIs do not have: on the newest all, on each older one how many."""
         for abi in abis:
             _, notes = fitting.fit(self.policy, abi)
             note(notes if abi == abis[-1] else _in_short(notes, abi))
@@ -121,7 +121,8 @@ def _trying(recording: Finished, arguments: argparse.Namespace) -> _Trying:
 
 def _in_short(notes: list[str], abi: int) -> list[str]:
     """One note for all those on an ABI that is not told in full."""
-    return [f"ABI {abi} lacks rights of the policy: see --abi {abi} ({counted(len(notes), 'note')})"] if notes else []
+    note = f"ABI {abi} is missing rights of the policy: see --abi {abi} ({counted(len(notes), 'note')})"
+    return [note] if notes else []
 
 
 def _print(summaries: list[Summary], arguments: argparse.Namespace) -> None:

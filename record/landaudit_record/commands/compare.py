@@ -67,7 +67,7 @@ def _keep(differences: Iterable[Difference], file: Path | None) -> None:
 
 
 def _stat_of(path: str) -> os.stat_result | None:
-    """What stands at a path on this machine now."""
+    """What is at a path on this machine now."""
     try:
         return os.stat(path)
     except OSError:

@@ -30,7 +30,7 @@ def add_arguments(parser: argparse.ArgumentParser) -> None:
 
 
 def run(arguments: argparse.Namespace) -> int:
-    """Prints the rules; the status is 1 if calls stay refused that no rule of the policy mends."""
+    """Prints the rules; the status is 1 if calls stay refused that no rule of the policy fixes."""
     program = landaudit.find(arguments.landaudit)
     recording = finished.opened(arguments.recording)
     tree = trees.read(recording.tree)

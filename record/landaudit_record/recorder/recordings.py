@@ -1,4 +1,4 @@
-"""A recording's folder: how it was made, and what stood there before the run."""
+"""A recording's folder: how it was made, and what was there before the run."""
 
 from __future__ import annotations
 
@@ -94,7 +94,7 @@ def watch(folder: Path, directories: list[str]) -> tuple[list[str], list[str]]:
 
 
 def read_before(folder: Path) -> dict[str, Seen]:
-    """What stood in the watched directories before the run."""
+    """What was in the watched directories before the run."""
     file = folder / BEFORE
     if not file.is_file():
         return {}

@@ -1,4 +1,4 @@
-"""Where a conversion stands: names, processes and what was written so far, with the words that all calls share."""
+"""How far a conversion is: names, processes and what was written so far, with the words that all calls share."""
 
 from __future__ import annotations
 

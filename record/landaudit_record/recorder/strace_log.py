@@ -30,7 +30,7 @@ _ENDING = re.compile(_RESULT)
 _ERROR = re.compile(r" (E[A-Z0-9]+) ")
 _SUPERSEDED = re.compile(r"superseded by execve in pid (\d+)")
 _PIECE = re.compile(r'"[^"\\]*(?:\\.[^"\\]*)*"|/\*.*?\*/|<[^<>]*(?:<[^<>]*>[^<>]*)*>|[()\[\]{},]')
-#: What most arguments are made of: no brackets, and no comma in a text, a comment or what stands behind a descriptor.
+#: What most arguments are made of: no brackets, and no comma in a text, a comment or what is behind a descriptor.
 _USUAL_PARTS = (
     r'[^"/<>()\[\]{}]++',
     r'"[^"\\,]*+(?:\\[^,][^"\\,]*+)*+"',
@@ -117,7 +117,7 @@ class Births:
 
 
 def open_log(path: Path) -> TextIO:
-    """The log as text; strace writes nothing but ASCII."""
+    """The log as text; strace writes only ASCII."""
     if path.suffix == ".gz":
         return gzip.open(path, "rt", encoding="latin-1", newline="\n")
     return open(path, encoding="latin-1", newline="\n")
@@ -239,7 +239,7 @@ def _parts(text: str) -> tuple[str, list[str], str, str] | None:
 
 
 def split_arguments(text: str, start: int) -> tuple[list[str], int]:
-    """The arguments that begin at `start`, and the place of the bracket that closes them."""
+    """The arguments that begin at `start`, and the index of the bracket that closes them."""
     arguments: list[str] = []
     depth, begin = 0, start
     for piece in _PIECE.finditer(text, start):

@@ -9,7 +9,7 @@ from functools import lru_cache
 _ESCAPE = re.compile(rb"\\(x[0-9a-f]{2}|[0-7]{1,3}|.)", re.DOTALL)
 _LETTERS = {b"n": b"\n", b"t": b"\t", b"r": b"\r", b"v": b"\v", b"f": b"\f"}
 _COMMENT = re.compile(r"\s*/\*.*?\*/")
-#: Programs repeat themselves: so many different arguments are kept with what they say.
+#: Programs repeat themselves: this many different arguments are kept with what they say.
 KEPT = 16_384
 
 _NUMBER = re.compile(r"\s*(-?0x[0-9a-f]+|-?\d+)")
@@ -80,7 +80,7 @@ def number(argument: str) -> int:
 
 @lru_cache(KEPT)
 def descriptor(argument: str) -> Descriptor | None:
-    """A descriptor with what stands behind it."""
+    """A descriptor with what is behind it."""
     match = _DESCRIPTOR.match(argument)
     if match is None:
         return None

@@ -25,7 +25,7 @@ class CannotSay(Exception):
 class Tree:
     """The objects that the run met, each under one path with one kind.
 
-    A path at which first one kind of object stands and later another lists the second one under a
+    A path at which first one kind of object is and later another lists the second one under a
     name that tells its kind.
     """
 

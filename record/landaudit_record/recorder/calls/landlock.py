@@ -31,7 +31,7 @@ def named(bits: int, family: Family) -> list[str] | None:
 def _handled(scene: Scene, thread: Thread, call: Call) -> tuple[list[str] | None, list[str] | None, bool]:
     """Handled rights for files and for ports, and whether there are scopes.
 
-    strace before 6.7 prints nothing but an ellipsis of what stands behind the rights for files.
+    strace before 6.7 prints nothing but an ellipsis of what is behind the rights for files.
     """
     argument = call.arguments[0]
     files, ports, scoped = (_member(argument, name) for name in ("handled_access_fs", "handled_access_net", "scoped"))
@@ -91,7 +91,7 @@ def _add_path(scene: Scene, thread: Thread, call: Call, number: int) -> None:
     allowed = values.member(call.arguments[2], "allowed_access")
     path = scene.descriptor(parent).path if parent is not None else None
     if path is None or allowed is None:
-        raise CannotSay("a rule beneath what has no path")
+        raise CannotSay("a rule under what has no path")
     node = scene.names.at(path) or Node("dir")
     spot = scene.present(path, node.kind)
     granted = named(values.number(allowed), FS)
