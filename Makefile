@@ -10,7 +10,7 @@ TREE := examples/first-path/tree.jsonl
 TRACE := examples/first-path/trace.jsonl
 ABI := 4
 
-# Where `make install` puts what it installs, beneath DESTDIR if that is set.
+# Where `make install` puts what it installs, under DESTDIR if that is set.
 PREFIX := /usr/local
 ROOT := $(DESTDIR)$(PREFIX)
 INSTALLED := bin/landaudit bin/landaudit-record \
@@ -30,7 +30,7 @@ example:
 
 # Proves landaudit and builds it, at crates/landaudit/out/landaudit.
 landaudit:
-	@echo 'proving each crate after those that it stands on, and building landaudit: 20 minutes or more'
+	@echo 'proving each crate after those that it depends on, and building landaudit: 20 minutes or more'
 	@cd crates/landaudit && ../../packaging/progress rt run -- --help
 	@echo '$(PROGRAM) is there; sudo make install puts it into $(PREFIX)'
 

@@ -1,6 +1,6 @@
 # Completion of landaudit-record for bash.
 
-# The options of a subcommand, or what can stand in its place.
+# The options of a subcommand, or what can come instead of one.
 _landaudit_record_words() {
     case $1 in
         run) echo '-h --help --watch --port-rules --' ;;
@@ -19,7 +19,7 @@ _landaudit_record_abis() {
     [[ $1 != audit ]] || echo '1-2 1-3 1-4 1-5 2-3 2-4 2-5 3-4 3-5 4-5'
 }
 
-# The command behind the dashes, which stand at a place of the line.
+# The command behind the dashes, which are at an index of the line.
 _landaudit_record_command() {
     if declare -F _command_offset > /dev/null; then
         _command_offset $(($1 + 1))

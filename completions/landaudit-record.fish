@@ -1,11 +1,11 @@
 # Completion of landaudit-record for fish.
 
-function __landaudit_record_has --description 'The subcommand is one of these, and no command stands behind it yet'
+function __landaudit_record_has --description 'The subcommand is one of these, and no command is behind it yet'
     set -l words (commandline -opc)
     contains -- "$words[2]" $argv; and not contains -- -- $words
 end
 
-function __landaudit_record_runs --description 'A command of its own stands behind the dashes'
+function __landaudit_record_runs --description 'A command of its own is behind the dashes'
     set -l words (commandline -opc)
     test "$words[2]" = run; and contains -- -- $words
 end

@@ -14,7 +14,7 @@ from . import options
 from .places import MAN, TOP
 
 DOCUMENTS = [TOP / "README.md", TOP / "CONTRIBUTING.md", *(TOP / "docs").glob("*.md"), *MAN.iterdir()]
-#: What stands behind a prompt: one command, or a pipe of several.
+#: What is behind a prompt: one command, or a pipe of several.
 PROMPTED = re.compile(r"\$ ([^\n]*)")
 #: A command of a pipe; where its output goes is no part of it.
 SHOWN = re.compile(r"(?:^|\| )(landaudit(?:-record)? [^|>]*)")

@@ -22,12 +22,12 @@ BASH_COMPLETION = Path("/usr/share/bash-completion/bash_completion")
 
 
 def files(root: Path) -> set[str]:
-    """What is beneath a folder and is no folder."""
+    """What is under a folder and is no folder."""
     return {str(path.relative_to(root)) for path in root.rglob("*") if path.is_symlink() or not path.is_dir()}
 
 
 def everything(root: Path) -> dict[str, int]:
-    """All that is beneath a folder, with its mode."""
+    """All that is under a folder, with its mode."""
     return {str(path.relative_to(root)): path.lstat().st_mode for path in root.rglob("*")}
 
 
@@ -41,7 +41,7 @@ class Install(unittest.TestCase):
         self.prefix = self.scratch / "opt" / "landaudit"
 
     def make(self, target: str, *variables: str) -> subprocess.CompletedProcess[str]:
-        """Runs make beneath the scratch root; the program is a stand-in unless another is named."""
+        """Runs make under the scratch root; the program is a stand-in unless another is named."""
         words = ["make", "-C", TOP, "--no-print-directory", target, f"DESTDIR={self.scratch}", "PREFIX=/opt/landaudit"]
         words += variables or (f"PROGRAM={self.stand_in}",)
         environment = {name: value for name, value in os.environ.items() if not name.startswith("MAKE")}

@@ -12,7 +12,7 @@ from .places import TOP
 
 EXAMPLE = TOP / "examples" / "first-path"
 
-#: Says on standard error how it was called, and does what the test wants of it.
+#: Says on standard error how it was called, and does what the test asks of it.
 STAND_IN = '#!/bin/sh\necho "a stand-in for rt, in ${PWD##*/}: $*" >&2\n%s\n'
 
 

@@ -23,7 +23,7 @@ def said(*words: str | Path) -> list[str]:
 
 
 def of_other_pages(line: str) -> bool:
-    """Whether a line of mandoc's is about pages that this machine lacks, or about its index of them."""
+    """Whether a line of mandoc's is about pages that this machine does not have, or about its index of them."""
     return "referenced manual not found" in line or "outdated mandoc.db" in line
 
 
