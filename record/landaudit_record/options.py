@@ -72,8 +72,9 @@ def add_abis(parser: argparse.ArgumentParser) -> None:
         type=abis,
         action=_Once,
         default=range(OLDEST_ABI, NEWEST_ABI + 1),
-        help=f"Landlock's ABI, or a range of them ({OLDEST_ABI}-{NEWEST_ABI} if it is left out): the newest is told in "
-        "full, behind it comes what breaks at each; of the policy, rights that an ABI does not have are dropped",
+        help=f"Landlock's ABI, or a range of them ({OLDEST_ABI}-{NEWEST_ABI} if it is left out): the newest is "
+        "described in full, after it comes what breaks at each; of the policy, rights that an ABI does not have are "
+        "dropped",
     )
 
 

@@ -123,7 +123,7 @@ def _refused(
     """Takes up one refused call, for each layer that refuses it.
 
     Where one of its objections can't be fixed, rules for the others would
-    be in vain. So it is with `refer` at ABI 1, which no rule can grant there.
+    not help. So it is with `refer` at ABI 1, which no rule can grant there.
     """
     for layer in refusing(record, answer):
         number = process.domain[layer.layer - 1].policy

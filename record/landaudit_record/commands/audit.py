@@ -120,7 +120,7 @@ def _trying(recording: Finished, arguments: argparse.Namespace) -> _Trying:
 
 
 def _in_short(notes: list[str], abi: int) -> list[str]:
-    """One note for all those on an ABI that is not told in full."""
+    """One note for all those on an ABI that is not described in full."""
     note = f"ABI {abi} is missing rights of the policy: see --abi {abi} ({counted(len(notes), 'note')})"
     return [note] if notes else []
 
