@@ -7,7 +7,7 @@ use Rattle.ll_rights.specs.Abis.{number_of}
 use Rattle.ll_rights.specs.declared.abi.Abi.{Abi}
 use Rattle.ll_tree.specs.TreeReading.{IsTreeOf, tree_format}
 use Rattle.ll_tree.specs.Trees.{Entry, root}
-use Rattle.ll_tree.proofs.ReadingLemmas.{reading-good}
+use Rattle.ll_lines.proofs.ReadingLemmas.{reading-good}
 use Rattle.ll_trace.specs.declared.record.Record.{Record}
 use Rattle.ll_trace.proofs.LawLemmas.{one_trace}
 use Rattle.ll_explain.specs.Explained.{text_at}

@@ -1,7 +1,7 @@
 -- Why a part of an audit gives nothing: a file that doesn't read, or being out of memory or threads.
 -- Source: docs/FORMATS.md, "Faults of a run".
 use Rattle.std.specs.Prelude.{◌≡◌, ◌⊎◌, ℕ, List}
-use Rattle.ll_tree.specs.Reading.{IsBad}
+use Rattle.ll_lines.specs.Reading.{IsBad}
 use Rattle.ll_tree.specs.TreeReading.{tree_format}
 use Rattle.ll_trace.specs.Entries.{trace_file}
 use Rattle.ll_pool.specs.declared.running.PoolFault.{PoolFault}

@@ -3,9 +3,9 @@
 use Rattle.std.specs.Prelude.{◌≡◌, ◌⊎◌, ◌<◌, ℕ, List, ⊤, Option, Some, None, IfSome}
 use Rattle.std.specs.Io.KnownBytes.{Appends}
 use Rattle.clap.specs.Words.{Text}
-use Rattle.ll_tree.specs.Reading.{Format, IsBad}
+use Rattle.ll_lines.specs.Reading.{Format, IsBad}
 use Rattle.ll_tree.specs.TreeReading.{tree_format}
-use Rattle.ll_tree.specs.declared.fault.ReadFault.{ReadFault}
+use Rattle.ll_lines.specs.declared.fault.ReadFault.{ReadFault}
 use Rattle.ll_trace.specs.Entries.{trace_file}
 use Rattle.ll_audit.specs.declared.lines.Failure.{Failure}
 use Rattle.ll_audit.specs.declared.lines.Failure.TheVariants as failure

@@ -2,8 +2,8 @@
 -- Source: docs/FORMATS.md, "The report"; the errors' names are those of errno(3).
 use Rattle.std.specs.Prelude.{◌≡◌, ℕ, List, Ok, codes}
 use Rattle.serde_json.specs.Data.{Data}
-use Rattle.ll_tree.specs.Lines.{Line}
-use Rattle.ll_tree.specs.Members.{text_at, value_at}
+use Rattle.ll_lines.specs.Lines.{Line}
+use Rattle.ll_lines.specs.Members.{text_at, value_at}
 use Rattle.ll_rules.specs.declared.errno.Errno.{Errno}
 use Rattle.ll_rules.specs.declared.errno.Errno.TheVariants as errno
 use Rattle.ll_trace.specs.declared.op.Op.{Op}

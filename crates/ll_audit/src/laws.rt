@@ -5,7 +5,7 @@ ghost use Rattle.clap.specs.Words.{Text};
 ghost use Rattle.clap.specs.declared.error.kind.ErrorKind.TheVariants as kind;
 ghost use Rattle.ll_rights.specs.declared.abi.Abi.{Abi as Version};
 ghost use Rattle.ll_rights.specs.declared.abi.Abi.TheVariants.{V1, V4, V5};
-ghost use Rattle.ll_tree.specs.Lines.{Line};
+ghost use Rattle.ll_lines.specs.Lines.{Line};
 ghost use Rattle.ll_tree.specs.WorkedTree.{worked_tree};
 ghost use Rattle.ll_trace.specs.declared.record.Record.{Record};
 ghost use Rattle.ll_trace.specs.Entries.{entry_at};

@@ -1,10 +1,10 @@
 -- Laws of reading traces.
 use Rattle.std.proofs.Common.{◌≡◌, ℕ, ◌||◌, Bool, true, false, List, [], ◌∷◌, map, reverse, Option, Some, None, Result, Ok, Err, ◌⊎◌, inl, inr, cond, refl, sym, ap, ◌∙◌}
-use Rattle.ll_tree.specs.declared.fault.Cause.{Cause}
-use Rattle.ll_tree.specs.declared.fault.Cause.TheVariants.{Twice, TooMany, UnknownProcess}
-use Rattle.ll_tree.specs.declared.fault.ReadFault.{ReadFault}
-use Rattle.ll_tree.specs.Reading.{first_fault, entries_of, IsGood, IsBad}
-use Rattle.ll_tree.proofs.ReadingLemmas.{good_or_bad, good_or_else_bad, one_fault, reading-good}
+use Rattle.ll_lines.specs.declared.fault.Cause.{Cause}
+use Rattle.ll_lines.specs.declared.fault.Cause.TheVariants.{Twice, TooMany, UnknownProcess}
+use Rattle.ll_lines.specs.declared.fault.ReadFault.{ReadFault}
+use Rattle.ll_lines.specs.Reading.{first_fault, entries_of, IsGood, IsBad}
+use Rattle.ll_lines.proofs.ReadingLemmas.{good_or_bad, good_or_else_bad, one_fault, reading-good}
 use Rattle.ll_trace.specs.declared.record.Record.{Record}
 use Rattle.ll_trace.specs.Entries.{Entry, entry_at, is_start_of, is_end_of, is_live, is_live_pid, is_unknown, is_twice, is_too_many, misplacement, started_pid, trace_file}
 use Rattle.ll_trace.specs.Records.{entry_of, records_after, IsTrace}

@@ -3,7 +3,7 @@ use Rattle.std.proofs.Common.{◌≡◌, ℕ, ◌+◌, ◌<◌, ◌≤◌, Bool,
 use Rattle.std.specs.Prelude.{is_some, nat_le}
 use Rattle.std.proofs.lemmas.Bool.{leb-false}
 use Rattle.std.proofs.lemmas.List.{length-map}
-use Rattle.ll_tree.specs.declared.fault.Cause.TheVariants.{Twice, TooMany, UnknownProcess}
+use Rattle.ll_lines.specs.declared.fault.Cause.TheVariants.{Twice, TooMany, UnknownProcess}
 use Rattle.ll_trace.specs.declared.record.Record.{Record}
 use Rattle.ll_trace.specs.Entries as entries
 use Rattle.ll_trace.specs.Entries.{Entry, started_pid, is_unknown, is_twice, is_too_many, misplacement}

@@ -3,8 +3,8 @@ use Rattle.std.proofs.Common.{◌≡◌, ℕ, zero, suc, ◌+◌, ◌<◌, ◌�
 use Rattle.std.specs.Prelude.{slice_get, is_some, unwrap_or}
 use Rattle.std.proofs.lemmas.Bool.{cases_Bool}
 use Rattle.std.proofs.lemmas.Option.{none-some, same_Some}
-use Rattle.ll_tree.specs.declared.fault.Cause.{Cause}
-use Rattle.ll_tree.specs.declared.fault.Cause.TheVariants.{UnknownProcess}
+use Rattle.ll_lines.specs.declared.fault.Cause.{Cause}
+use Rattle.ll_lines.specs.declared.fault.Cause.TheVariants.{UnknownProcess}
 use Rattle.ll_trace.specs.declared.record.Record.{Record}
 use Rattle.ll_trace.specs.Entries as entries
 use Rattle.ll_trace.specs.Entries.{Entry, pid_started, started_pid, is_pid, is_start_of, is_end_of, is_live, process_named, misplacement}

@@ -4,10 +4,10 @@ use Rattle.std.specs.Str.{is_utf8, chars}
 use Rattle.serde_json.proofs.OnLiterals.{serde_json_on_literals}
 use Rattle.ll_rights.specs.Rights as files
 use Rattle.ll_rights.specs.NetRights as network
-use Rattle.ll_tree.specs.Lines.{lines}
-use Rattle.ll_tree.specs.Members.{value_at, text_at, number_at, truth_at, flag_at, items_at, text_in, fold_texts}
+use Rattle.ll_lines.specs.Lines.{lines}
+use Rattle.ll_lines.specs.Members.{value_at, text_at, number_at, truth_at, flag_at, items_at, text_in, fold_texts}
 use Rattle.ll_tree.specs.Paths.{is_name, names_in, after_slash, path_of}
-use Rattle.ll_tree.specs.LineByLine.{read_lines}
+use Rattle.ll_lines.specs.LineByLine.{read_lines}
 use Rattle.ll_trace.specs.Members.{path_in, path_at, fs_at, net_at, mode_at, sort_at, made_kind_at, port_at}
 use Rattle.ll_trace.specs.Operations.{start_at, create_at, add_path_at, add_port_at, open_at, adopt_at, dup_at, mknod_at, rename_at, link_at, ioctl_at, operation_named, operation_at}
 use Rattle.ll_trace.specs.Entries.{entry_at, is_start, is_exit, pid_started}

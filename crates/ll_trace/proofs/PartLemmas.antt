@@ -2,13 +2,13 @@
 use Rattle.std.proofs.Common.{◌≡◌, ℕ, List, [], ◌∷◌, ◌++◌, Option, Some, None, Ok, refl, sym, ap, ◌∙◌, subst, flat_map}
 use Rattle.std.specs.List.{AllZip}
 use Rattle.std.proofs.lemmas.List.Concat.{flat_map-cons}
-use Rattle.ll_tree.specs.declared.fault.Cause.{Cause}
-use Rattle.ll_tree.specs.declared.fault.Cause.TheVariants.{Json, Field, BadPath, NoParent, Twice, TooMany, UnknownProcess, Memory}
-use Rattle.ll_tree.specs.declared.fault.ReadFault.{ReadFault}
-use Rattle.ll_tree.specs.Lines.{Line}
-use Rattle.ll_tree.specs.LineByLine.{read_lines, with_entry, with_line, MeetsFault}
-use Rattle.ll_tree.specs.Readers.{Fails}
-use Rattle.ll_tree.proofs.ReadingLemmas.{read_lines_next, read_lines_fault, read_lines_end}
+use Rattle.ll_lines.specs.declared.fault.Cause.{Cause}
+use Rattle.ll_lines.specs.declared.fault.Cause.TheVariants.{Json, Field, BadPath, NoParent, Twice, TooMany, UnknownProcess, Memory}
+use Rattle.ll_lines.specs.declared.fault.ReadFault.{ReadFault}
+use Rattle.ll_lines.specs.Lines.{Line}
+use Rattle.ll_lines.specs.LineByLine.{read_lines, with_entry, with_line, MeetsFault}
+use Rattle.ll_lines.specs.Readers.{Fails}
+use Rattle.ll_lines.proofs.ReadingLemmas.{read_lines_next, read_lines_fault, read_lines_end}
 use Rattle.ll_trace.specs.declared.parts.PartRead.{PartRead}
 use Rattle.ll_trace.specs.declared.reader.Entry as declared
 use Rattle.ll_trace.specs.Entries.{Entry, entry_at, trace_file}

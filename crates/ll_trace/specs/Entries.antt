@@ -1,12 +1,12 @@
 -- The entries of a trace file: which of them start or end a process, which pid is live, and what has no place after earlier entries.
 -- Source: docs/FORMATS.md, "The trace file".
 use Rattle.std.specs.Prelude.{ℕ, ◌+◌, ◌==◌, ◌&&◌, ◌||◌, Bool, true, false, not, nat_le, List, [], ◌∷◌, length, reverse, Option, Some, None, is_some, codes, Result, Ok, if◌then◌else◌}
-use Rattle.ll_tree.specs.declared.fault.Cause.{Cause}
-use Rattle.ll_tree.specs.declared.fault.Cause.TheVariants.{Twice, TooMany, UnknownProcess}
-use Rattle.ll_tree.specs.Fault.{◌>>=◌}
-use Rattle.ll_tree.specs.Lines.{Line}
-use Rattle.ll_tree.specs.Members.{value_at, number_at}
-use Rattle.ll_tree.specs.Reading.{Format}
+use Rattle.ll_lines.specs.declared.fault.Cause.{Cause}
+use Rattle.ll_lines.specs.declared.fault.Cause.TheVariants.{Twice, TooMany, UnknownProcess}
+use Rattle.ll_lines.specs.Fault.{◌>>=◌}
+use Rattle.ll_lines.specs.Lines.{Line}
+use Rattle.ll_lines.specs.Members.{value_at, number_at}
+use Rattle.ll_lines.specs.Reading.{Format}
 use Rattle.ll_trace.specs.declared.op.Op.{Op}
 use Rattle.ll_trace.specs.declared.op.Op.TheVariants.{Start, Fork, Exit}
 use Rattle.ll_trace.specs.Operations.{operation_at}

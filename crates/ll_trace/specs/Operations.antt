@@ -2,10 +2,10 @@
 -- Source: docs/FORMATS.md, "The trace file".
 use Rattle.std.specs.Prelude.{ℕ, List, codes, bytes_eq, Result, Ok, Err, if◌then◌else◌}
 use Rattle.serde_json.specs.Data.{Data}
-use Rattle.ll_tree.specs.declared.fault.Cause.{Cause}
-use Rattle.ll_tree.specs.declared.fault.Cause.TheVariants.{Field}
-use Rattle.ll_tree.specs.Fault.{◌>>=◌}
-use Rattle.ll_tree.specs.Members.{text_at, number_at, truth_at, flag_at}
+use Rattle.ll_lines.specs.declared.fault.Cause.{Cause}
+use Rattle.ll_lines.specs.declared.fault.Cause.TheVariants.{Field}
+use Rattle.ll_lines.specs.Fault.{◌>>=◌}
+use Rattle.ll_lines.specs.Members.{text_at, number_at, truth_at, flag_at}
 use Rattle.ll_trace.specs.declared.op.Op.{Op}
 use Rattle.ll_trace.specs.declared.op.Op.TheVariants.{Start, Fork, Exit, Nnp, Create, AddPath, AddPort, CloseRs, Restrict, OpenFile, Adopt, Dup, Close, Ftruncate, Truncate, Exec, Mknod, Mkdir, Symlink, Unlink, Rmdir, Rename, Link, Mount, Bind, Connect, Ioctl}
 use Rattle.ll_trace.specs.Members.{path_in, path_at, fs_at, net_at, mode_at, sort_at, made_kind_at, port_at}

@@ -1,9 +1,9 @@
 -- What a part of the lines of a trace file reads as, before its entries have their places.
 -- Source: docs/FORMATS.md, "What does not read".
 use Rattle.std.specs.Prelude.{◌≡◌, List, [], ◌∷◌, Option, Some, None, Ok}
-use Rattle.ll_tree.specs.declared.fault.ReadFault.{ReadFault}
-use Rattle.ll_tree.specs.Lines.{Line}
-use Rattle.ll_tree.specs.Readers.{Fails}
+use Rattle.ll_lines.specs.declared.fault.ReadFault.{ReadFault}
+use Rattle.ll_lines.specs.Lines.{Line}
+use Rattle.ll_lines.specs.Readers.{Fails}
 use Rattle.ll_trace.specs.declared.parts.PartRead.{PartRead}
 use Rattle.ll_trace.specs.declared.reader.Entry as declared
 use Rattle.ll_trace.specs.Entries.{entry_at}

@@ -1,7 +1,7 @@
 -- The records of a trace: its entries, each with the process that it belongs to.
 -- Source: docs/FORMATS.md, "The trace file".
 use Rattle.std.specs.Prelude.{◌≡◌, ℕ, List, [], ◌∷◌, map, unwrap_or, if◌then◌else◌}
-use Rattle.ll_tree.specs.Reading.{IsGood}
+use Rattle.ll_lines.specs.Reading.{IsGood}
 use Rattle.ll_trace.specs.declared.record.Record.{Record}
 use Rattle.ll_trace.specs.Entries.{Entry, is_start, process_count, process_named, trace_file}
 

@@ -1,9 +1,9 @@
 -- The stricter rule that a pid is never used again, for the law that traces which keep to it read as they did.
 -- Source: docs/FORMATS.md, "A pid that is used again".
 use Rattle.std.specs.Prelude.{◌≡◌, ℕ, ◌||◌, Bool, false, List, [], ◌∷◌, map, reverse, Option, Some, None, if◌then◌else◌}
-use Rattle.ll_tree.specs.declared.fault.Cause.{Cause}
-use Rattle.ll_tree.specs.declared.fault.Cause.TheVariants.{Twice, TooMany, UnknownProcess}
-use Rattle.ll_tree.specs.Reading.{Format, IsGood}
+use Rattle.ll_lines.specs.declared.fault.Cause.{Cause}
+use Rattle.ll_lines.specs.declared.fault.Cause.TheVariants.{Twice, TooMany, UnknownProcess}
+use Rattle.ll_lines.specs.Reading.{Format, IsGood}
 use Rattle.ll_trace.specs.declared.record.Record.{Record}
 use Rattle.ll_trace.specs.Entries.{Entry, entry_at, is_start_of, is_unknown, is_too_many, started_pid}
 use Rattle.ll_trace.specs.Records.{entry_of, records_after}

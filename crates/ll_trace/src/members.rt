@@ -1,24 +1,24 @@
 //! The members of a record's line.
 
-ghost use Rattle.serde_json.specs.View.{view, items_view};
 ghost use Rattle.ll_rights.specs.Rights as files;
 ghost use Rattle.ll_rights.specs.NetRights as network;
-ghost use Rattle.ll_tree.specs.Readers.{Gives, Reads};
-ghost use Rattle.ll_tree.specs.Members.{fold_texts};
+ghost use Rattle.ll_lines.specs.Readers.{Gives, Reads};
+ghost use Rattle.ll_lines.specs.Members.{fold_texts};
+ghost use Rattle.ll_lines.specs.Values.{value_data, items_data};
 ghost use Rattle.ll_trace.specs.Members.{path_at, with_fs, fs_at, with_net, net_at, mode_at, sort_at, made_kind_at, port_at};
 
 use crate::op::{Mode, Sort};
 use crate::path_text::PathText;
+use json::Value;
+use ll_lines::Cause;
+use ll_lines::members::{items_of, number_of, text_in_list, text_of};
 use ll_rights::{Fs, Kind, Net, fs_of_name, net_of_name};
-use ll_tree::Cause;
-use ll_tree::members::{items_of, number_of, text_in_list, text_of};
-use serde_json::Value;
 use std::alloc::Global;
 
 /// The path of the member `path`.
 #[tactic(auto, unfolding(crate::specs::Members::path_at))]
-pub fn path_of(alloc: Global, value: &Value) -> Result<PathText, Cause>
-    ensures { Gives (λ path. path) result (path_at (view value.now)) }
+pub fn path_of(alloc: Global, value: &Value<'_>) -> Result<PathText, Cause>
+    ensures { Gives (λ path. path) result (path_at (value_data value.now)) }
 {
     let text = text_of(value, "path")?;
     PathText::read(alloc, text)
@@ -26,17 +26,17 @@ pub fn path_of(alloc: Global, value: &Value) -> Result<PathText, Cause>
 
 /// The rights for files of the member `fs`.
 #[tactic(auto, unfolding(crate::specs::Members::fs_at))]
-pub fn fs_of(value: &Value) -> Result<Fs, Cause>
-    ensures { Reads (λ set. set) result (fs_at (view value.now)) }
+pub fn fs_of(value: &Value<'_>) -> Result<Fs, Cause>
+    ensures { Reads (λ set. set) result (fs_at (value_data value.now)) }
 {
     let names = items_of(value, "fs")?;
     fs_in_list(names)
 }
 
-#[tactic(auto, using(ll_tree::proofs::MembersLemmas::fold_texts_fault, ll_tree::proofs::MembersLemmas::fold_texts_end))]
-fn fs_in_list(names: &[Value]) -> Result<Fs, Cause>
+#[tactic(auto, using(ll_lines::proofs::MembersLemmas::fold_texts_fault, ll_lines::proofs::MembersLemmas::fold_texts_end))]
+fn fs_in_list(names: &[Value<'_>]) -> Result<Fs, Cause>
     ensures { Reads (λ set. set) result
-        (fold_texts with_fs files.no_right (items_view names.now)) }
+        (fold_texts with_fs files.no_right (items_data names.now)) }
 {
     let mut set = Fs::NONE;
     for name in names {
@@ -47,17 +47,17 @@ fn fs_in_list(names: &[Value]) -> Result<Fs, Cause>
 
 /// The rights for the network of the member `net`.
 #[tactic(auto, unfolding(crate::specs::Members::net_at))]
-pub fn net_of(value: &Value) -> Result<Net, Cause>
-    ensures { Reads (λ set. set) result (net_at (view value.now)) }
+pub fn net_of(value: &Value<'_>) -> Result<Net, Cause>
+    ensures { Reads (λ set. set) result (net_at (value_data value.now)) }
 {
     let names = items_of(value, "net")?;
     net_in_list(names)
 }
 
-#[tactic(auto, using(ll_tree::proofs::MembersLemmas::fold_texts_fault, ll_tree::proofs::MembersLemmas::fold_texts_end))]
-fn net_in_list(names: &[Value]) -> Result<Net, Cause>
+#[tactic(auto, using(ll_lines::proofs::MembersLemmas::fold_texts_fault, ll_lines::proofs::MembersLemmas::fold_texts_end))]
+fn net_in_list(names: &[Value<'_>]) -> Result<Net, Cause>
     ensures { Reads (λ set. set) result
-        (fold_texts with_net network.no_right (items_view names.now)) }
+        (fold_texts with_net network.no_right (items_data names.now)) }
 {
     let mut set = Net::NONE;
     for name in names {
@@ -67,8 +67,8 @@ fn net_in_list(names: &[Value]) -> Result<Net, Cause>
 }
 
 #[tactic(auto, unfolding(crate::specs::Members::mode_at))]
-pub fn mode_of(value: &Value) -> Result<Mode, Cause>
-    ensures { Reads (λ mode. mode) result (mode_at (view value.now)) }
+pub fn mode_of(value: &Value<'_>) -> Result<Mode, Cause>
+    ensures { Reads (λ mode. mode) result (mode_at (value_data value.now)) }
 {
     match text_of(value, "mode")? {
         "r" => Ok(Mode::Read),
@@ -80,8 +80,8 @@ pub fn mode_of(value: &Value) -> Result<Mode, Cause>
 
 /// What an adopted descriptor refers to.
 #[tactic(auto, unfolding(crate::specs::Members::sort_at))]
-pub fn sort_of(value: &Value) -> Result<Sort, Cause>
-    ensures { Reads (λ sort. sort) result (sort_at (view value.now)) }
+pub fn sort_of(value: &Value<'_>) -> Result<Sort, Cause>
+    ensures { Reads (λ sort. sort) result (sort_at (value_data value.now)) }
 {
     match text_of(value, "kind")? {
         "reg" => Ok(Sort::Regular),
@@ -93,8 +93,8 @@ pub fn sort_of(value: &Value) -> Result<Sort, Cause>
 
 /// The kind of what mknod(2) makes.
 #[tactic(auto, unfolding(crate::specs::Members::made_kind_at))]
-pub fn made_kind_of(value: &Value) -> Result<Kind, Cause>
-    ensures { Reads (λ kind. kind) result (made_kind_at (view value.now)) }
+pub fn made_kind_of(value: &Value<'_>) -> Result<Kind, Cause>
+    ensures { Reads (λ kind. kind) result (made_kind_at (value_data value.now)) }
 {
     match text_of(value, "kind")? {
         "reg" => Ok(Kind::Reg),
@@ -108,8 +108,8 @@ pub fn made_kind_of(value: &Value) -> Result<Kind, Cause>
 
 /// The TCP port of the member `port`.
 #[tactic(auto, unfolding(crate::specs::Members::port_at))]
-pub fn port_of(value: &Value) -> Result<u16, Cause>
-    ensures { Reads (λ port. port) result (port_at (view value.now)) }
+pub fn port_of(value: &Value<'_>) -> Result<u16, Cause>
+    ensures { Reads (λ port. port) result (port_at (value_data value.now)) }
 {
     let port = number_of(value, "port")?;
     u16::try_from(port).ok().ok_or(Cause::Field)

@@ -1,29 +1,29 @@
 //! The operation of a record's line, by its name.
 
-ghost use Rattle.serde_json.specs.View.{view};
-ghost use Rattle.ll_tree.specs.Readers.{Gives, Reads};
+ghost use Rattle.ll_lines.specs.Readers.{Gives, Reads};
+ghost use Rattle.ll_lines.specs.Values.{value_data};
 ghost use Rattle.ll_trace.specs.Operations.{start_at, create_at, add_path_at, add_port_at, open_at, adopt_at, dup_at, mknod_at, rename_at, link_at, ioctl_at, operation_named, operation_at};
 
 use crate::members::{fs_of, made_kind_of, mode_of, net_of, path_of, port_of, sort_of};
 use crate::op::Op;
 use crate::path_text::{PathText, SecondPath};
-use ll_tree::Cause;
-use ll_tree::members::{flag_of, number_of, text_of, truth_of};
-use serde_json::Value;
+use json::Value;
+use ll_lines::Cause;
+use ll_lines::members::{flag_of, number_of, text_of, truth_of};
 use std::alloc::Global;
 
 /// The operation that an object says: its name is the member `op`.
 #[tactic(auto, unfolding(crate::specs::Operations::operation_at))]
-pub fn operation_of(alloc: Global, value: &Value) -> Result<Op, Cause>
-    ensures { Gives (λ op. op) result (operation_at (view value.now)) }
+pub fn operation_of(alloc: Global, value: &Value<'_>) -> Result<Op, Cause>
+    ensures { Gives (λ op. op) result (operation_at (value_data value.now)) }
 {
     let name = text_of(value, "op")?;
     operation_by_name(alloc, name, value)
 }
 
 #[tactic(auto, unfolding(crate::specs::Operations::operation_named))]
-fn operation_by_name(alloc: Global, name: &str, value: &Value) -> Result<Op, Cause>
-    ensures { Gives (λ op. op) result (operation_named name.now (view value.now)) }
+fn operation_by_name(alloc: Global, name: &str, value: &Value<'_>) -> Result<Op, Cause>
+    ensures { Gives (λ op. op) result (operation_named name.now (value_data value.now)) }
 {
     match name {
         "start" => start_of(value),
@@ -84,8 +84,8 @@ fn operation_by_name(alloc: Global, name: &str, value: &Value) -> Result<Op, Cau
 }
 
 #[tactic(auto, unfolding(crate::specs::Operations::start_at))]
-fn start_of(value: &Value) -> Result<Op, Cause>
-    ensures { Reads (λ op. op) result (start_at (view value.now)) }
+fn start_of(value: &Value<'_>) -> Result<Op, Cause>
+    ensures { Reads (λ op. op) result (start_at (value_data value.now)) }
 {
     let nnp = flag_of(value, "nnp")?;
     let admin = flag_of(value, "admin")?;
@@ -93,8 +93,8 @@ fn start_of(value: &Value) -> Result<Op, Cause>
 }
 
 #[tactic(auto, unfolding(crate::specs::Operations::create_at))]
-fn create_of(value: &Value) -> Result<Op, Cause>
-    ensures { Reads (λ op. op) result (create_at (view value.now)) }
+fn create_of(value: &Value<'_>) -> Result<Op, Cause>
+    ensures { Reads (λ op. op) result (create_at (value_data value.now)) }
 {
     let rs = number_of(value, "rs")?;
     let fs = fs_of(value)?;
@@ -103,8 +103,8 @@ fn create_of(value: &Value) -> Result<Op, Cause>
 }
 
 #[tactic(auto, unfolding(crate::specs::Operations::add_path_at))]
-fn add_path_of(alloc: Global, value: &Value) -> Result<Op, Cause>
-    ensures { Gives (λ op. op) result (add_path_at (view value.now)) }
+fn add_path_of(alloc: Global, value: &Value<'_>) -> Result<Op, Cause>
+    ensures { Gives (λ op. op) result (add_path_at (value_data value.now)) }
 {
     let rs = number_of(value, "rs")?;
     let path = text_of(value, "path")?;
@@ -114,8 +114,8 @@ fn add_path_of(alloc: Global, value: &Value) -> Result<Op, Cause>
 }
 
 #[tactic(auto, unfolding(crate::specs::Operations::add_port_at))]
-fn add_port_of(value: &Value) -> Result<Op, Cause>
-    ensures { Reads (λ op. op) result (add_port_at (view value.now)) }
+fn add_port_of(value: &Value<'_>) -> Result<Op, Cause>
+    ensures { Reads (λ op. op) result (add_port_at (value_data value.now)) }
 {
     let rs = number_of(value, "rs")?;
     let port = number_of(value, "port")?;
@@ -124,8 +124,8 @@ fn add_port_of(value: &Value) -> Result<Op, Cause>
 }
 
 #[tactic(auto, unfolding(crate::specs::Operations::open_at))]
-fn open_of(alloc: Global, value: &Value) -> Result<Op, Cause>
-    ensures { Gives (λ op. op) result (open_at (view value.now)) }
+fn open_of(alloc: Global, value: &Value<'_>) -> Result<Op, Cause>
+    ensures { Gives (λ op. op) result (open_at (value_data value.now)) }
 {
     let path = text_of(value, "path")?;
     let fd = number_of(value, "fd")?;
@@ -143,8 +143,8 @@ fn open_of(alloc: Global, value: &Value) -> Result<Op, Cause>
 }
 
 #[tactic(auto, unfolding(crate::specs::Operations::adopt_at))]
-fn adopt_of(value: &Value) -> Result<Op, Cause>
-    ensures { Reads (λ op. op) result (adopt_at (view value.now)) }
+fn adopt_of(value: &Value<'_>) -> Result<Op, Cause>
+    ensures { Reads (λ op. op) result (adopt_at (value_data value.now)) }
 {
     let fd = number_of(value, "fd")?;
     let kind = sort_of(value)?;
@@ -152,8 +152,8 @@ fn adopt_of(value: &Value) -> Result<Op, Cause>
 }
 
 #[tactic(auto, unfolding(crate::specs::Operations::dup_at))]
-fn dup_of(value: &Value) -> Result<Op, Cause>
-    ensures { Reads (λ op. op) result (dup_at (view value.now)) }
+fn dup_of(value: &Value<'_>) -> Result<Op, Cause>
+    ensures { Reads (λ op. op) result (dup_at (value_data value.now)) }
 {
     let fd = number_of(value, "fd")?;
     let to = number_of(value, "to")?;
@@ -161,8 +161,8 @@ fn dup_of(value: &Value) -> Result<Op, Cause>
 }
 
 #[tactic(auto, unfolding(crate::specs::Operations::mknod_at))]
-fn mknod_of(alloc: Global, value: &Value) -> Result<Op, Cause>
-    ensures { Gives (λ op. op) result (mknod_at (view value.now)) }
+fn mknod_of(alloc: Global, value: &Value<'_>) -> Result<Op, Cause>
+    ensures { Gives (λ op. op) result (mknod_at (value_data value.now)) }
 {
     let path = text_of(value, "path")?;
     let kind = made_kind_of(value)?;
@@ -171,8 +171,8 @@ fn mknod_of(alloc: Global, value: &Value) -> Result<Op, Cause>
 }
 
 #[tactic(auto, unfolding(crate::specs::Operations::rename_at))]
-fn rename_of(alloc: Global, value: &Value) -> Result<Op, Cause>
-    ensures { Gives (λ op. op) result (rename_at (view value.now)) }
+fn rename_of(alloc: Global, value: &Value<'_>) -> Result<Op, Cause>
+    ensures { Gives (λ op. op) result (rename_at (value_data value.now)) }
 {
     let from = text_of(value, "from")?;
     let to = text_of(value, "to")?;
@@ -183,8 +183,8 @@ fn rename_of(alloc: Global, value: &Value) -> Result<Op, Cause>
 }
 
 #[tactic(auto, unfolding(crate::specs::Operations::link_at))]
-fn link_of(alloc: Global, value: &Value) -> Result<Op, Cause>
-    ensures { Gives (λ op. op) result (link_at (view value.now)) }
+fn link_of(alloc: Global, value: &Value<'_>) -> Result<Op, Cause>
+    ensures { Gives (λ op. op) result (link_at (value_data value.now)) }
 {
     let from = text_of(value, "from")?;
     let to = text_of(value, "to")?;
@@ -194,8 +194,8 @@ fn link_of(alloc: Global, value: &Value) -> Result<Op, Cause>
 }
 
 #[tactic(auto, unfolding(crate::specs::Operations::ioctl_at))]
-fn ioctl_of(value: &Value) -> Result<Op, Cause>
-    ensures { Reads (λ op. op) result (ioctl_at (view value.now)) }
+fn ioctl_of(value: &Value<'_>) -> Result<Op, Cause>
+    ensures { Reads (λ op. op) result (ioctl_at (value_data value.now)) }
 {
     let fd = number_of(value, "fd")?;
     let driver = truth_of(value, "driver")?;

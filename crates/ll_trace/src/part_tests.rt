@@ -1,7 +1,7 @@
 //! That a trace file reads alike by every number of threads, wherever that cuts it.
 
 use super::*;
-use ll_tree::Cause;
+use ll_lines::Cause;
 use std::alloc::Global;
 use std::test::Fail;
 use std::thread::Threads;

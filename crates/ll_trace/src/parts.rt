@@ -3,12 +3,12 @@
 
 ghost use Rattle.std.specs.Prelude.{◌≡◌, ◌≢◌, ◌++◌, ◌∷◌, [], ℕ, List, flat_map, OnOk, OnErr, IfOk, IfErr};
 ghost use Rattle.std.specs.List.{AllZip};
-ghost use Rattle.ll_tree.specs.declared.fault.Cause.TheVariants.{Memory};
-ghost use Rattle.ll_tree.specs.Lines.{Line, filled_lines};
-ghost use Rattle.ll_tree.specs.LineView.{line_view};
-ghost use Rattle.ll_tree.specs.LineByLine.{read_lines, GivesReading, MeetsFault};
-ghost use Rattle.ll_tree.specs.Readers.{Fails};
-ghost use Rattle.ll_tree.specs.Reading.{IsBad};
+ghost use Rattle.ll_lines.specs.declared.fault.Cause.TheVariants.{Memory};
+ghost use Rattle.ll_lines.specs.Lines.{Line, filled_lines};
+ghost use Rattle.ll_lines.specs.LineView.{line_view};
+ghost use Rattle.ll_lines.specs.LineByLine.{read_lines, GivesReading, MeetsFault};
+ghost use Rattle.ll_lines.specs.Readers.{Fails};
+ghost use Rattle.ll_lines.specs.Reading.{IsBad};
 ghost use Rattle.ll_trace.specs.Entries.{entry_at, trace_file};
 ghost use Rattle.ll_trace.specs.Kept.{IsKept, entries};
 ghost use Rattle.ll_trace.specs.Parts.{Covers, IsReadOf};
@@ -17,8 +17,9 @@ ghost use Rattle.ll_trace.specs.Records.{IsTrace};
 
 use crate::reader::{Entry, Reader, entry_of};
 use crate::record::Record;
-use ll_tree::lines::{FileLine, FilledLines};
-use ll_tree::{Cause, ReadFault};
+use json::Scratch;
+use ll_lines::lines::{FileLine, FilledLines};
+use ll_lines::{Cause, ReadFault};
 use rayon::prelude::*;
 use std::alloc::{AllocError, Global};
 use std::thread::Threads;
@@ -33,14 +34,19 @@ struct PartRead {
 
 /// Adds the entry that a line reads as.
 #[tactic(auto, using(crate::proofs::PartLemmas::covers_more))]
-fn take_line(alloc: Global, line: &FileLine, entries: &mut Vec<Entry>) -> Result<(), Cause>
+fn take_line(
+    alloc: Global,
+    line: &FileLine,
+    scratch: &mut Scratch,
+    entries: &mut Vec<Entry>,
+) -> Result<(), Cause>
     ensures covers { OnOk result ((lines others : List Line)
         → Covers lines entries.old.items (line_view line.now ∷ others)
         → Covers lines entries.new.items others) }
     ensures fails { IfErr result (λ cause. Fails cause (entry_at (line_view line.now))) }
     ensures unchanged { OnErr result (entries.new.items ≡ entries.old.items) }
 {
-    let entry = entry_of(alloc, line)?;
+    let entry = entry_of(alloc, line, scratch)?;
     entries.push(entry)?;
     Ok(())
 }
@@ -49,8 +55,9 @@ fn read_part(alloc: Global, lines: FilledLines) -> PartRead
     ensures { IsReadOf lines.entry result }
 {
     let mut entries = Vec::new(alloc);
+    let mut scratch = Scratch::new(alloc);
     for line in lines {
-        if let Err(cause) = take_line(alloc, &line, &mut entries) {
+        if let Err(cause) = take_line(alloc, &line, &mut scratch, &mut entries) {
             let fault = Some(ReadFault {
                 line: line.number,
                 cause,
@@ -126,7 +133,7 @@ fn read_parts<R: Threads + Sync>(
 }
 
 /// The records of a trace file, or the first fault of its first faulty line.
-#[tactic(auto, using(ll_tree::proofs::ReadingLemmas::good_from_reading, ll_tree::proofs::ReadingLemmas::bad_from_fault))]
+#[tactic(auto, using(ll_lines::proofs::ReadingLemmas::good_from_reading, ll_lines::proofs::ReadingLemmas::bad_from_fault))]
 pub fn read_records_by<R: Threads + Sync>(
     rt: &R,
     alloc: Global,

@@ -2,10 +2,11 @@
 
 ghost use Rattle.std.specs.Prelude.{◌≡◌, IsTrue, is_some};
 ghost use Rattle.ll_tree.specs.Paths.{path_of};
-ghost use Rattle.ll_tree.specs.Readers.{Gives};
+ghost use Rattle.ll_lines.specs.Readers.{Gives};
 ghost use Rattle.ll_trace.specs.Members.{path_in};
 
-use ll_tree::{Cause, path_ok};
+use ll_lines::Cause;
+use ll_tree::path_ok;
 use std::alloc::Global;
 use std::marker::Model;
 

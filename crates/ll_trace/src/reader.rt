@@ -1,11 +1,11 @@
 //! The reading of a trace file, record after record.
 
 ghost use Rattle.std.specs.Prelude.{◌≡◌, ◌≢◌, ◌+◌, ◌<◌, ◌∷◌, [], List, OnOk, IfOk, IfErr, None, Ok, unwrap_or};
-ghost use Rattle.ll_tree.specs.declared.fault.Cause.TheVariants.{Memory};
-ghost use Rattle.ll_tree.specs.Readers.{Gives};
-ghost use Rattle.ll_tree.specs.LineView.{line_view};
-ghost use Rattle.ll_tree.specs.LineByLine.{with_entry, with_line, reading, GivesReading};
-ghost use Rattle.ll_tree.specs.Reading.{IsBad};
+ghost use Rattle.ll_lines.specs.declared.fault.Cause.TheVariants.{Memory};
+ghost use Rattle.ll_lines.specs.Readers.{Gives};
+ghost use Rattle.ll_lines.specs.LineView.{line_view};
+ghost use Rattle.ll_lines.specs.LineByLine.{with_entry, with_line, reading, GivesReading};
+ghost use Rattle.ll_lines.specs.Reading.{IsBad};
 ghost use Rattle.ll_trace.specs.Entries.{Entry as Seen, entry_at, is_live as is_live_in, is_unknown as is_unknown_in, is_twice as is_twice_in, is_too_many, is_end_of, misplacement, process_count, started_pid, trace_file};
 ghost use Rattle.ll_trace.specs.Records.{process_of, IsTrace};
 ghost use Rattle.ll_trace.specs.RecordFacts.{AreRecords};
@@ -14,9 +14,10 @@ ghost use Rattle.ll_trace.specs.Kept.{IsKept, IsNoted, Begins, Stops, entries, e
 use crate::op::Op;
 use crate::operations::operation_of;
 use crate::record::{ProcessId, Record};
-use ll_tree::lines::{FileLine, FilledLines};
-use ll_tree::members::{number_of, value_of};
-use ll_tree::{Cause, ReadFault};
+use json::Scratch;
+use ll_lines::lines::{FileLine, FilledLines};
+use ll_lines::members::number_of;
+use ll_lines::{Cause, ReadFault, value_of};
 use std::alloc::Global;
 use std::collections::BTreeMap;
 
@@ -50,11 +51,15 @@ pub(crate) struct Reader {
 }
 
 #[tactic(auto, unfolding(crate::specs::Entries::entry_at))]
-pub(crate) fn entry_of(alloc: Global, line: &FileLine) -> Result<Entry, Cause>
+pub(crate) fn entry_of(
+    alloc: Global,
+    line: &FileLine,
+    scratch: &mut Scratch,
+) -> Result<Entry, Cause>
     ensures gives { Gives entry_view result (entry_at (line_view line.now)) }
     ensures line { IfOk result (λ entry. entry.line ≡ line.now.number) }
 {
-    let value = value_of(alloc, line.bytes)?;
+    let value = value_of(alloc, line.bytes, scratch)?;
     let pid = number_of(&value, "pid")?;
     let op = operation_of(alloc, &value)?;
     Ok(Entry {
@@ -184,13 +189,18 @@ impl Reader {
         Ok(())
     }
 
-    fn read_line(&mut self, alloc: Global, line: &FileLine) -> Result<(), Cause>
+    fn read_line(
+        &mut self,
+        alloc: Global,
+        line: &FileLine,
+        scratch: &mut Scratch,
+    ) -> Result<(), Cause>
         requires { IsKept self.old }
         ensures gives { Gives (λ _. entries self.new) result
             (with_line trace_file (entries self.old) (line_view line.now)) }
         ensures kept { OnOk result (IsKept self.new) }
     {
-        let entry = entry_of(alloc, line)?;
+        let entry = entry_of(alloc, line, scratch)?;
         self.admit(entry)
     }
 
@@ -251,14 +261,15 @@ fn process_or_first(owner: Option<Owner>) -> ProcessId
     }
 }
 
-#[tactic(auto, using(ll_tree::proofs::ReadingLemmas::read_lines_next, ll_tree::proofs::ReadingLemmas::read_lines_fault, ll_tree::proofs::ReadingLemmas::read_lines_end))]
+#[tactic(auto, using(ll_lines::proofs::ReadingLemmas::read_lines_next, ll_lines::proofs::ReadingLemmas::read_lines_fault, ll_lines::proofs::ReadingLemmas::read_lines_end))]
 fn read_all(alloc: Global, bytes: &[u8]) -> Result<Reader, ReadFault>
     ensures gives { GivesReading entries result (reading trace_file bytes.now) }
     ensures kept { IfOk result IsKept }
 {
     let mut reader = Reader::new(alloc);
+    let mut scratch = Scratch::new(alloc);
     for line in FilledLines::new(bytes) {
-        if let Err(cause) = reader.read_line(alloc, &line) {
+        if let Err(cause) = reader.read_line(alloc, &line, &mut scratch) {
             return Err(ReadFault {
                 line: line.number,
                 cause,
@@ -269,7 +280,7 @@ fn read_all(alloc: Global, bytes: &[u8]) -> Result<Reader, ReadFault>
 }
 
 /// The records of a trace file, or the first fault of its first faulty line.
-#[tactic(auto, using(ll_tree::proofs::ReadingLemmas::good_from_reading, ll_tree::proofs::ReadingLemmas::bad_from_fault))]
+#[tactic(auto, using(ll_lines::proofs::ReadingLemmas::good_from_reading, ll_lines::proofs::ReadingLemmas::bad_from_fault))]
 pub fn read_records(alloc: Global, bytes: &[u8]) -> Result<Vec<Record>, ReadFault>
     ensures good { IfOk result (λ records. IsTrace bytes.now records.items) }
     ensures records { IfOk result (λ records. AreRecords records.items) }

@@ -2,8 +2,8 @@
 //! definitions do.
 
 ghost use Rattle.std.specs.Prelude.{codes, [], ◌∷◌, true, false};
-ghost use Rattle.ll_tree.specs.declared.fault.Cause.TheVariants.{Json, Field, BadPath, UnknownProcess, Twice};
-ghost use Rattle.ll_tree.specs.Reading.{IsBad};
+ghost use Rattle.ll_lines.specs.declared.fault.Cause.TheVariants.{Json, Field, BadPath, UnknownProcess, Twice};
+ghost use Rattle.ll_lines.specs.Reading.{IsBad};
 ghost use Rattle.ll_trace.specs.Entries.{trace_file};
 ghost use Rattle.ll_trace.specs.Records.{IsTrace};
 ghost use Rattle.std.specs.Prelude.{◌≡◌};

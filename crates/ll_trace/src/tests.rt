@@ -1,8 +1,8 @@
 //! That traces read where memory is left, and the limits and shapes that no clause shows.
 
 use super::*;
+use ll_lines::Cause;
 use ll_rights::{Abi, Fs, Kind, Net};
-use ll_tree::Cause;
 use std::alloc::{AllocError, Global};
 use std::test::Fail;
 

@@ -1,8 +1,8 @@
 //! A trace that was read.
 
 ghost use Rattle.std.specs.Prelude.{◌≡◌, ◌≢◌, ◌<◌, ◌≤◌, length, option_map, All, IfOk, IfErr, IfSome};
-ghost use Rattle.ll_tree.specs.declared.fault.Cause.TheVariants.{Memory};
-ghost use Rattle.ll_tree.specs.Reading.{IsBad};
+ghost use Rattle.ll_lines.specs.declared.fault.Cause.TheVariants.{Memory};
+ghost use Rattle.ll_lines.specs.Reading.{IsBad};
 ghost use Rattle.ll_trace.specs.Entries.{trace_file};
 ghost use Rattle.ll_trace.specs.RecordFacts.{AreRecords};
 ghost use Rattle.ll_trace.specs.Records.{IsTrace};
@@ -13,8 +13,8 @@ use crate::parts::read_records_by;
 use crate::reader::read_records;
 use crate::record::{ProcessId, Record};
 use crate::tables::{Tables, index};
+use ll_lines::{Cause, ReadFault};
 use ll_rights::Abi;
-use ll_tree::{Cause, ReadFault};
 use std::alloc::Global;
 use std::marker::Model;
 use std::thread::Threads;

@@ -12,8 +12,4 @@ pub mod Climbing
 pub mod Growing
 pub mod Keeping
 pub mod RootAlone
-pub mod LinesLemmas
-pub mod PartsLemmas
-pub mod MembersLemmas
-pub mod ReadingLemmas
 pub mod TreeLines

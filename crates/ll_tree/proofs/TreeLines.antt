@@ -5,19 +5,19 @@ use Rattle.std.specs.Option.{option_map}
 use Rattle.std.proofs.lemmas.Bool.{false_from_ne_true}
 use Rattle.std.proofs.lemmas.Option.{none-some}
 use Rattle.ll_rights.specs.declared.kind.Kind.{Kind}
-use Rattle.ll_tree.specs.declared.fault.Cause.{Cause}
-use Rattle.ll_tree.specs.declared.fault.Cause.TheVariants.{Twice, NoParent, TooMany, Memory}
-use Rattle.ll_tree.specs.declared.fault.ReadFault.{ReadFault}
+use Rattle.ll_lines.specs.declared.fault.Cause.{Cause}
+use Rattle.ll_lines.specs.declared.fault.Cause.TheVariants.{Twice, NoParent, TooMany, Memory}
+use Rattle.ll_lines.specs.declared.fault.ReadFault.{ReadFault}
 use Rattle.ll_tree.specs.declared.place.NodeId.{NodeId}
 use Rattle.ll_tree.specs.declared.place.Place.TheVariants as places
 use Rattle.ll_tree.specs.Paths.{Path, path_of, path_eq, front}
 use Rattle.ll_tree.specs.Trees.{Entry, root, is_dir, is_dir_in, kind_at, position_of, node_at, gap_in, place_or_gap, place_of, place}
 use Rattle.ll_tree.specs.TreeFacts.{named, IsTree}
-use Rattle.ll_tree.specs.LineByLine.{with_entry, add_unless, reading, GivesReading}
-use Rattle.ll_tree.specs.Reading.{IsBad}
+use Rattle.ll_lines.specs.LineByLine.{with_entry, add_unless, reading, GivesReading}
+use Rattle.ll_lines.specs.Reading.{IsBad}
 use Rattle.ll_tree.specs.TreeReading.{is_listed, fault_in, tree_format, IsTreeOf}
 use Rattle.ll_tree.specs.TreeByLine.{below_root, IsRooted}
-use Rattle.ll_tree.proofs.ReadingLemmas.{good_from_reading, bad_from_fault}
+use Rattle.ll_lines.proofs.ReadingLemmas.{good_from_reading, bad_from_fault}
 use Rattle.ll_tree.proofs.Finding.{read_of}
 use Rattle.ll_tree.proofs.Growing.{gap_fits, above_at, not_at}
 use Rattle.ll_tree.proofs.Positions.{place_of_dir, is_dir_in-from_place}

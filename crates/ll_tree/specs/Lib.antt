@@ -3,13 +3,6 @@ pub mod PathTexts
 pub mod Trees
 pub mod TreeFacts
 pub mod Kept
-pub mod Fault
-pub mod Readers
-pub mod Lines
-pub mod LineView
-pub mod Members
-pub mod Reading
-pub mod LineByLine
 pub mod TreeReading
 pub mod TreeByLine
 pub mod WorkedTree

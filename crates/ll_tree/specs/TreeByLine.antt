@@ -2,9 +2,9 @@
 -- Source: docs/FORMATS.md, "The tree file".
 use Rattle.std.specs.Prelude.{◌≡◌, List, ◌∷◌, drop, Result}
 use Rattle.serde_json.specs.Data.{Data}
-use Rattle.ll_tree.specs.declared.fault.Cause.{Cause}
-use Rattle.ll_tree.specs.Fault.{◌>>=◌}
-use Rattle.ll_tree.specs.LineByLine.{with_entry}
+use Rattle.ll_lines.specs.declared.fault.Cause.{Cause}
+use Rattle.ll_lines.specs.Fault.{◌>>=◌}
+use Rattle.ll_lines.specs.LineByLine.{with_entry}
 use Rattle.ll_tree.specs.Trees.{Entry, root}
 use Rattle.ll_tree.specs.TreeReading.{entry_in, tree_format}
 

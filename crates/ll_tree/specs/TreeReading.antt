@@ -6,11 +6,11 @@ use Rattle.std.specs.Str.{bytes_eq}
 use Rattle.serde_json.specs.Data.{Data}
 use Rattle.ll_rights.specs.declared.kind.Kind.{Kind}
 use Rattle.ll_rights.specs.declared.kind.Kind.TheVariants.{Dir, Reg, Sym, Char, Block, Fifo, Sock}
-use Rattle.ll_tree.specs.declared.fault.Cause.{Cause}
-use Rattle.ll_tree.specs.declared.fault.Cause.TheVariants.{Field, BadPath, Twice, NoParent, TooMany}
-use Rattle.ll_tree.specs.Fault.{◌>>=◌}
-use Rattle.ll_tree.specs.Members.{value_at, text_at}
-use Rattle.ll_tree.specs.Reading.{Format, IsGood}
+use Rattle.ll_lines.specs.declared.fault.Cause.{Cause}
+use Rattle.ll_lines.specs.declared.fault.Cause.TheVariants.{Field, BadPath, Twice, NoParent, TooMany}
+use Rattle.ll_lines.specs.Fault.{◌>>=◌}
+use Rattle.ll_lines.specs.Members.{value_at, text_at}
+use Rattle.ll_lines.specs.Reading.{Format, IsGood}
 use Rattle.ll_tree.specs.Paths.{Path, path_of, path_eq, front}
 use Rattle.ll_tree.specs.Trees.{Entry, root, is_dir_in}
 

@@ -2,9 +2,9 @@
 -- Source: docs/FORMATS.md, "The tree file".
 use Rattle.std.specs.Prelude.{◌≡◌, ℕ, List, [], ◌∷◌, ◌++◌, codes, Ok, Err}
 use Rattle.ll_rights.specs.declared.kind.Kind.TheVariants.{Dir, Reg, Char}
-use Rattle.ll_tree.specs.declared.fault.Cause.{Cause}
+use Rattle.ll_lines.specs.declared.fault.Cause.{Cause}
 use Rattle.ll_tree.specs.Trees.{Entry, root}
-use Rattle.ll_tree.specs.LineByLine.{reading}
+use Rattle.ll_lines.specs.LineByLine.{reading}
 use Rattle.ll_tree.specs.TreeReading.{tree_format}
 
 abbrev pub line : List ℕ → List ℕ

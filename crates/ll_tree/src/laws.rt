@@ -1,15 +1,15 @@
 //! What holds of the definitions: of every tree file, and of a small one.
 
 ghost use Rattle.std.specs.Prelude.{◌≡◌, ◌⊎◌, ℕ, List, [], ◌∷◌, ◌++◌, codes, Some, None};
-ghost use Rattle.ll_tree.specs.declared.fault.ReadFault.{ReadFault as Fault};
+ghost use Rattle.ll_lines.specs.declared.fault.ReadFault.{ReadFault as Fault};
 ghost use Rattle.ll_tree.specs.Paths.{path_of};
-ghost use Rattle.ll_tree.specs.Reading.{IsBad};
+ghost use Rattle.ll_lines.specs.Reading.{IsBad};
 ghost use Rattle.ll_tree.specs.Trees.{Entry, place};
 ghost use Rattle.ll_tree.specs.TreeReading.{IsTreeOf, tree_format};
 ghost use Rattle.ll_tree.specs.WorkedTree.{line, worked_file, worked_entries, worked_tree, ReadsAs, IsRefused};
 
-use crate::fault::Cause;
 use crate::place::Place;
+use ll_lines::Cause;
 
 /// A tree file is one tree, or has one first fault, and never both.
 pub fn a_tree_file_reads_in_one_way()

@@ -1,17 +1,17 @@
 //! The object that a line of the tree file describes.
 
 ghost use Rattle.std.specs.Prelude.{◌≡◌, IsTrue, IfOk, is_some};
-ghost use Rattle.serde_json.specs.View.{view};
-ghost use Rattle.ll_tree.specs.Readers.{Reads};
+ghost use Rattle.ll_lines.specs.Readers.{Reads};
+ghost use Rattle.ll_lines.specs.Values.{value_data};
 ghost use Rattle.ll_tree.specs.Paths.{path_of};
 ghost use Rattle.ll_tree.specs.TreeFacts.{named};
 ghost use Rattle.ll_tree.specs.TreeReading.{kind_named, entry_in};
 
-use crate::fault::Cause;
-use crate::members::text_of;
 use crate::path::path_ok;
+use json::Value;
+use ll_lines::Cause;
+use ll_lines::members::text_of;
 use ll_rights::Kind;
-use serde_json::Value;
 
 /// The kind that a name stands for.
 #[tactic(auto, unfolding(crate::specs::TreeReading::kind_named))]
@@ -32,8 +32,8 @@ fn kind_of(name: &str) -> Option<Kind>
 
 /// The path and the kind of the object that a value describes.
 #[tactic(auto, unfolding(crate::specs::TreeReading::entry_in))]
-pub(crate) fn object_of(value: &Value) -> Result<(&str, Kind), Cause>
-    ensures entry { Reads (λ object. named object.0.now object.1) result (entry_in (view value.now)) }
+pub(crate) fn object_of<'v>(value: &'v Value<'_>) -> Result<(&'v str, Kind), Cause>
+    ensures entry { Reads (λ object. named object.0.now object.1) result (entry_in (value_data value.now)) }
     ensures shape { IfOk result (λ object. IsTrue (is_some (path_of object.0.now))) }
 {
     let text = text_of(value, "path")?;

@@ -4,7 +4,7 @@ ghost use Rattle.std.specs.Prelude.{IfOk};
 ghost use Rattle.ll_tree.specs.Trees.{IsNode};
 
 use super::*;
-use crate::lines::FilledLines;
+use ll_lines::lines::FilledLines;
 use ll_rights::Kind;
 use std::alloc::{AllocError, Global};
 use std::test::*;

@@ -1,26 +1,25 @@
 //! The tree in memory.
 
 ghost use Rattle.std.specs.Prelude.{◌≡◌, ◌≤◌, ◌<◌, [], ◌∷◌, ◌++◌, length, Some, ◌≢◌, IfOk, IfErr, OnOk, OnErr, IsTrue, is_some, IfSome, IfNone};
-ghost use Rattle.ll_tree.specs.declared.fault.Cause.TheVariants.{Memory};
-ghost use Rattle.serde_json.specs.View.{view};
-ghost use Rattle.ll_tree.specs.Readers.{Gives};
-ghost use Rattle.ll_tree.specs.LineView.{line_view};
-ghost use Rattle.ll_tree.specs.Reading.{IsBad};
-ghost use Rattle.ll_tree.specs.LineByLine.{GivesReading, reading, with_line, with_entry};
+ghost use Rattle.ll_lines.specs.declared.fault.Cause.TheVariants.{Memory};
+ghost use Rattle.ll_lines.specs.Readers.{Gives};
+ghost use Rattle.ll_lines.specs.Values.{value_data};
+ghost use Rattle.ll_lines.specs.LineView.{line_view};
+ghost use Rattle.ll_lines.specs.Reading.{IsBad};
+ghost use Rattle.ll_lines.specs.LineByLine.{GivesReading, reading, with_line, with_entry};
 ghost use Rattle.ll_tree.specs.TreeReading.{IsTreeOf, tree_format};
 ghost use Rattle.ll_tree.specs.TreeByLine.{IsRooted, below_root, with_value};
 ghost use Rattle.ll_tree.specs.Paths.{Path, path_of, is_prefix};
 ghost use Rattle.ll_tree.specs.Trees.{Entry, root, IsNode, path_at, kind_at, parent_at, node_at, gap_in, place};
 ghost use Rattle.ll_tree.specs.TreeFacts.{named, IsTree, IsPlace, StandsIn, depth_at};
 
-use crate::fault::{Cause, ReadFault};
-use crate::lines::{FileLine, FilledLines};
-use crate::members::value_of;
 use crate::object::object_of;
 use crate::path::{front_text, path_ok};
 use crate::place::{NodeId, Place};
+use json::{Scratch, Value};
+use ll_lines::lines::{FileLine, FilledLines};
+use ll_lines::{Cause, ReadFault, value_of};
 use ll_rights::Kind;
-use serde_json::Value;
 use std::alloc::{AllocError, Global};
 use std::collections::BTreeMap;
 use std::marker::Model;
@@ -80,8 +79,9 @@ impl Tree {
                 cause: Cause::Memory,
             });
         };
+        let mut scratch = Scratch::new(alloc);
         for line in FilledLines::new(bytes) {
-            if let Err(cause) = tree.read_line(alloc, &line) {
+            if let Err(cause) = tree.read_line(alloc, &line, &mut scratch) {
                 return Err(ReadFault {
                     line: line.number,
                     cause,
@@ -93,19 +93,24 @@ impl Tree {
 
     /// Reads the object on a line.
     #[tactic(auto, unfolding(crate::specs::TreeReading::entry_on))]
-    fn read_line(&mut self, alloc: Global, line: &FileLine) -> Result<(), Cause>
+    fn read_line(
+        &mut self,
+        alloc: Global,
+        line: &FileLine,
+        scratch: &mut Scratch,
+    ) -> Result<(), Cause>
         ensures line { Gives (λ _. below_root self.new) result
             (with_line tree_format (below_root self.old) (line_view line.now)) }
         ensures rooted { OnOk result (IsRooted self.new) }
     {
-        let value = value_of(alloc, line.bytes)?;
+        let value = value_of(alloc, line.bytes, scratch)?;
         self.read_value(alloc, &value)
     }
 
     /// Reads the object that a value describes.
-    fn read_value(&mut self, alloc: Global, value: &Value) -> Result<(), Cause>
+    fn read_value(&mut self, alloc: Global, value: &Value<'_>) -> Result<(), Cause>
         ensures value { Gives (λ _. below_root self.new) result
-            (with_value (below_root self.old) (view value.now)) }
+            (with_value (below_root self.old) (value_data value.now)) }
         ensures rooted { OnOk result (IsRooted self.new) }
     {
         let (path, kind) = object_of(value)?;

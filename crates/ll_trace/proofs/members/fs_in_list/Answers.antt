@@ -1,7 +1,7 @@
 use Rattle.std.proofs.Common.{◌≡◌, ap, sym, ◌∙◌}
 use Rattle.ll_rights.specs.declared.fs.Fs.{Fs}
 use Rattle.ll_rights.specs.Rights as files
-use Rattle.ll_tree.proofs.MembersLemmas.{fold_texts_next}
+use Rattle.ll_lines.proofs.MembersLemmas.{fold_texts_next}
 use Rattle.ll_trace.specs.Members.{with_fs}
 use Rattle.ll_trace.proofs.members.fs_in_list.Goals as goal
 

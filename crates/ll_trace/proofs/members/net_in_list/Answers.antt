@@ -1,7 +1,7 @@
 use Rattle.std.proofs.Common.{◌≡◌, ap, sym, ◌∙◌}
 use Rattle.ll_rights.specs.declared.net.Net.{Net}
 use Rattle.ll_rights.specs.NetRights as network
-use Rattle.ll_tree.proofs.MembersLemmas.{fold_texts_next}
+use Rattle.ll_lines.proofs.MembersLemmas.{fold_texts_next}
 use Rattle.ll_trace.specs.Members.{with_net}
 use Rattle.ll_trace.proofs.members.net_in_list.Goals as goal
 

@@ -1,6 +1,6 @@
 use Rattle.std.proofs.Common.{List}
 use Rattle.std.specs.Vec.Iter.{into_iter_items}
-use Rattle.ll_tree.specs.Lines.{Line}
+use Rattle.ll_lines.specs.Lines.{Line}
 use Rattle.ll_trace.specs.Kept.{entries, IsKept}
 use Rattle.ll_trace.specs.Parts.{IsReadOf}
 use Rattle.ll_trace.proofs.PartLemmas.{Goes}

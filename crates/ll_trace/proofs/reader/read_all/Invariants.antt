@@ -1,5 +1,5 @@
 use Rattle.std.proofs.Common.{◌≡◌}
-use Rattle.ll_tree.specs.LineByLine.{reading, read_lines}
+use Rattle.ll_lines.specs.LineByLine.{reading, read_lines}
 use Rattle.ll_trace.specs.Entries.{trace_file}
 use Rattle.ll_trace.specs.Kept.{entries, IsKept}
 use Rattle.ll_trace.proofs.reader.read_all.Given as goal

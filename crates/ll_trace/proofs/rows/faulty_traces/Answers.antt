@@ -1,5 +1,5 @@
 use Rattle.std.proofs.Common.{refl}
-use Rattle.ll_tree.proofs.ReadingLemmas.{bad_from_reading}
+use Rattle.ll_lines.proofs.ReadingLemmas.{bad_from_reading}
 use Rattle.ll_trace.proofs.OnLiterals.{traces_on_literals}
 use Rattle.ll_trace.proofs.rows.faulty_traces.Goals as goal
 

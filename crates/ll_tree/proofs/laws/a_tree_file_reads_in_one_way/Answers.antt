@@ -2,7 +2,7 @@
 use Rattle.std.proofs.Common.{◌≡◌, ◌∷◌, inl, inr, refl, sym, ap, ◌∙◌}
 use Rattle.ll_tree.specs.Trees.{root}
 use Rattle.ll_tree.specs.TreeReading.{tree_format}
-use Rattle.ll_tree.proofs.ReadingLemmas.{good_or_bad, good_or_else_bad, one_fault, reading-good}
+use Rattle.ll_lines.proofs.ReadingLemmas.{good_or_bad, good_or_else_bad, one_fault, reading-good}
 use Rattle.ll_tree.proofs.laws.a_tree_file_reads_in_one_way.Goals as goal
 
 pub returns-clause-either : goal.returns-clause-either

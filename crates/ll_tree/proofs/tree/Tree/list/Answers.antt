@@ -1,7 +1,7 @@
 -- The place of the path tells the fault.
 use Rattle.std.proofs.Common.{◌≡◌, ◌∙◌, ap, ltb, length, true, false, Some, None, cond, arith}
 use Rattle.std.proofs.lemmas.Bool.Decides.{nat_tests}
-use Rattle.ll_tree.specs.declared.fault.Cause.TheVariants.{Twice, NoParent, TooMany}
+use Rattle.ll_lines.specs.declared.fault.Cause.TheVariants.{Twice, NoParent, TooMany}
 use Rattle.ll_tree.specs.TreeFacts.{named}
 use Rattle.ll_tree.proofs.TreeLines.{fault-node, fault-nowhere, fault-gap, with_entry-fault, with_entry-added, rooted_later}
 use Rattle.ll_tree.proofs.tree.Tree.list.Goals as goal

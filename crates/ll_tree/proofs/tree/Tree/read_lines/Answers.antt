@@ -1,12 +1,12 @@
 -- Each line is read past, or its fault is answered.
 use Rattle.std.proofs.Common.{◌≡◌, List, ◌∷◌, Result, sym, ap, ◌∙◌, subst}
-use Rattle.ll_tree.specs.declared.fault.ReadFault.{ReadFault}
-use Rattle.ll_tree.specs.LineView.{line_view}
-use Rattle.ll_tree.specs.LineByLine.{read_lines, reading, MeetsFault}
+use Rattle.ll_lines.specs.declared.fault.ReadFault.{ReadFault}
+use Rattle.ll_lines.specs.LineView.{line_view}
+use Rattle.ll_lines.specs.LineByLine.{read_lines, reading, MeetsFault}
 use Rattle.ll_tree.specs.Trees.{Entry}
 use Rattle.ll_tree.specs.TreeReading.{tree_format}
 use Rattle.ll_tree.specs.TreeByLine.{below_root}
-use Rattle.ll_tree.proofs.ReadingLemmas.{read_lines_next, read_lines_fault, read_lines_end}
+use Rattle.ll_lines.proofs.ReadingLemmas.{read_lines_next, read_lines_fault, read_lines_end}
 use Rattle.ll_tree.proofs.tree.Tree.read_lines.Goals as goal
 
 pub returns-in-Err-clause-reading : goal.returns-in-Err-clause-reading

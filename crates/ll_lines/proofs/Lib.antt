@@ -1,0 +1,5 @@
+pub mod LinesLemmas
+pub mod PartsLemmas
+pub mod ValueLemmas
+pub mod MembersLemmas
+pub mod ReadingLemmas

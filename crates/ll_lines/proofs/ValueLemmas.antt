@@ -1,0 +1,257 @@
+-- The value that json reads is the one that serde_json says, where every number of it is in range.
+use Rattle.std.proofs.Common.{◌≡◌, ℕ, ◌&&◌, List, Bool, true, false, Option, Some, None, Result, Ok, Err, cond, option_map, refl, sym, ap, ◌∙◌, true≢false}
+use Rattle.std.specs.Prelude.{IsUtf8, is_some, option_and_then, ok_or}
+use Rattle.std.specs.Str.{is_utf8, bytes_eq}
+use Rattle.std.specs.declared.alloc.Global.{Global}
+use Rattle.std.proofs.lemmas.Slice.Eq.{bytes_eq-Decides}
+use Rattle.std.proofs.lemmas.Str.{is_utf8-from_IsUtf8, IsUtf8-from_is_utf8}
+use Rattle.json.specs.Json as json
+use Rattle.json.specs.Find as json_find
+use Rattle.serde_json.specs.Data.{Num, Data, number, array, object, item, Members, no_members, put}
+use Rattle.serde_json.specs.Read.{number_of, of_json, of_items, of_members, read}
+use Rattle.serde_json.specs.Find.{get, get_member, as_str, as_number, as_u64, as_bool, as_array}
+use Rattle.serde_json.proofs.Views.{get_member-put, get_member-put_other}
+use Rattle.ll_lines.specs.declared.fault.Cause.{Cause}
+use Rattle.ll_lines.specs.declared.fault.Cause.TheVariants.{Json, Field, BadPath, NoParent, Twice, TooMany, UnknownProcess, Memory}
+use Rattle.ll_lines.specs.Readers.{Fails}
+use Rattle.ll_lines.specs.Members.{value_of, value_at, text_at, number_at, truth_at, flag_at, flag_in, items_at, items_in, text_in}
+use Rattle.ll_lines.specs.Values.{number_or_null, data_of, data_of_items, data_of_members, is_in_range, are_in_range, have_range, parsed}
+
+both : (a b : Bool) → (a && b) ≡ true → (a ≡ true) × (b ≡ true)
+both true b e = (refl, e)
+both false b e = absurd (true≢false (sym e))
+
+a_number : (n : Option Num) → is_some n ≡ true → option_map number n ≡ Some (number_or_null n)
+a_number (Some n) e = refl
+a_number None e = absurd (true≢false (sym e))
+
+no_number : (n : Option Num) → is_some n ≡ false → option_map number n ≡ None
+no_number None e = refl
+no_number (Some n) e = absurd (true≢false e)
+
+-- what has its numbers in range converts
+mutual
+  converts : (value : json.Json) → is_in_range value ≡ true → of_json value ≡ Some (data_of value)
+  converts json.null e = refl
+  converts (json.boolean b) e = refl
+  converts (json.number text) e = a_number (number_of text) e
+  converts (json.string text) e = refl
+  converts (json.array values) e = ap (option_map array) (items_convert values e)
+  converts (json.object entries) e = ap (option_map object) (members_convert entries no_members e)
+
+  items_convert : (values : json.Items) → are_in_range values ≡ true → of_items values ≡ Some (data_of_items values)
+  items_convert json.no_items e = refl
+  items_convert (json.item value others) e = let in_range = both (is_in_range value) (are_in_range others) e in rw (converts value in_range.0, items_convert others in_range.1) refl
+
+  members_convert : (entries : json.Members) (earlier : Members) → have_range entries ≡ true → of_members entries earlier ≡ Some (data_of_members entries earlier)
+  members_convert json.no_members earlier e = refl
+  members_convert (json.member name value others) earlier e =
+      let in_range = both (is_in_range value) (have_range others) e in
+      rw (converts value in_range.0) (members_convert others (put name (data_of value) earlier) in_range.1)
+
+-- and what has not has no value
+item_refused : (value : json.Json) (others : json.Items) (b : Bool) → is_in_range value ≡ b → (b && are_in_range others) ≡ false → (is_in_range value ≡ false → of_json value ≡ None)
+    → (are_in_range others ≡ false → of_items others ≡ None) → of_items (json.item value others) ≡ None
+item_refused value others true is e value_refused others_refused = rw (converts value is, others_refused e) refl
+item_refused value others false is e value_refused others_refused = rw (value_refused is) refl
+
+member_refused : (name : List ℕ) (value : json.Json) (others : json.Members) (earlier : Members) (b : Bool) → is_in_range value ≡ b → (b && have_range others) ≡ false
+    → (is_in_range value ≡ false → of_json value ≡ None) → ((e : Members) → have_range others ≡ false → of_members others e ≡ None) → of_members (json.member name value others) earlier ≡ None
+member_refused name value others earlier true is e value_refused others_refused = rw (converts value is) (others_refused (put name (data_of value) earlier) e)
+member_refused name value others earlier false is e value_refused others_refused = rw (value_refused is) refl
+
+mutual
+  refused : (value : json.Json) → is_in_range value ≡ false → of_json value ≡ None
+  refused json.null e = absurd (true≢false e)
+  refused (json.boolean b) e = absurd (true≢false e)
+  refused (json.number text) e = no_number (number_of text) e
+  refused (json.string text) e = absurd (true≢false e)
+  refused (json.array values) e = ap (option_map array) (items_refused values e)
+  refused (json.object entries) e = ap (option_map object) (members_refused entries no_members e)
+
+  items_refused : (values : json.Items) → are_in_range values ≡ false → of_items values ≡ None
+  items_refused json.no_items e = absurd (true≢false e)
+  items_refused (json.item value others) e = item_refused value others (is_in_range value) refl e (refused value) (items_refused others)
+
+  members_refused : (entries : json.Members) (earlier : Members) → have_range entries ≡ false → of_members entries earlier ≡ None
+  members_refused json.no_members earlier e = absurd (true≢false e)
+  members_refused (json.member name value others) earlier e = member_refused name value others earlier (is_in_range value) refl e (refused value) (members_refused others)
+
+abbrev or_earlier : Option Data → Option Data → Option Data
+or_earlier (Some value) earlier = Some value
+or_earlier None earlier = earlier
+
+found_or : (name key : List ℕ) (value : json.Json) (earlier : Members) (r : Option json.Json) (same : Bool) → bytes_eq key name ≡ same
+    → or_earlier (option_map data_of r) (get_member name (put key (data_of value) earlier))
+    ≡ or_earlier (option_map data_of (json_find.later_or r (cond same (Some value) None))) (get_member name earlier)
+found_or name key value earlier (Some later) same is = refl
+found_or name key value earlier None true is =
+    let same : key ≡ name = (bytes_eq-Decides key name).0 is in
+    rw (← same) (get_member-put key (data_of value) earlier)
+found_or name key value earlier None false is =
+    get_member-put_other name key (data_of value) earlier (λ same. true≢false (sym ((bytes_eq-Decides key name).1 (sym same)) ∙ is))
+
+-- the last member of a name is the one that is kept
+last_member : (name : List ℕ) (entries : json.Members) (earlier : Members)
+    → get_member name (data_of_members entries earlier) ≡ or_earlier (option_map data_of (json_find.get_member name entries)) (get_member name earlier)
+last_member name json.no_members earlier = refl
+last_member name (json.member key value others) earlier =
+    last_member name others (put key (data_of value) earlier) ∙ found_or name key value earlier (json_find.get_member name others) (bytes_eq key name) refl
+
+or_none : (r : Option Data) → or_earlier r None ≡ r
+or_none (Some value) = refl
+or_none None = refl
+
+no_member : (name : List ℕ) (n : Option Num) → get name (number_or_null n) ≡ None
+no_member name (Some n) = refl
+no_member name None = refl
+
+member_of : (name : List ℕ) (value : json.Json) → get name (data_of value) ≡ option_map data_of (json_find.get name value)
+member_of name json.null = refl
+member_of name (json.boolean b) = refl
+member_of name (json.number text) = no_member name (number_of text)
+member_of name (json.string text) = refl
+member_of name (json.array values) = refl
+member_of name (json.object entries) = last_member name entries no_members ∙ or_none _
+
+number_no_text : (n : Option Num) → as_str (number_or_null n) ≡ None
+number_no_text (Some n) = refl
+number_no_text None = refl
+
+text_is : (value : json.Json) → as_str (data_of value) ≡ json_find.as_str value
+text_is json.null = refl
+text_is (json.boolean b) = refl
+text_is (json.number text) = number_no_text (number_of text)
+text_is (json.string text) = refl
+text_is (json.array values) = refl
+text_is (json.object entries) = refl
+
+number_no_truth : (n : Option Num) → as_bool (number_or_null n) ≡ None
+number_no_truth (Some n) = refl
+number_no_truth None = refl
+
+truth_is : (value : json.Json) → as_bool (data_of value) ≡ json_find.as_bool value
+truth_is json.null = refl
+truth_is (json.boolean b) = refl
+truth_is (json.number text) = number_no_truth (number_of text)
+truth_is (json.string text) = refl
+truth_is (json.array values) = refl
+truth_is (json.object entries) = refl
+
+number_itself : (n : Option Num) → as_number (number_or_null n) ≡ n
+number_itself (Some n) = refl
+number_itself None = refl
+
+number_is : (value : json.Json) → as_number (data_of value) ≡ option_and_then number_of (json_find.as_number value)
+number_is json.null = refl
+number_is (json.boolean b) = refl
+number_is (json.number text) = number_itself (number_of text)
+number_is (json.string text) = refl
+number_is (json.array values) = refl
+number_is (json.object entries) = refl
+
+number_no_list : (n : Option Num) → as_array (number_or_null n) ≡ None
+number_no_list (Some n) = refl
+number_no_list None = refl
+
+list_is : (value : json.Json) → as_array (data_of value) ≡ option_map data_of_items (json_find.as_array value)
+list_is json.null = refl
+list_is (json.boolean b) = refl
+list_is (json.number text) = number_no_list (number_of text)
+list_is (json.string text) = refl
+list_is (json.array values) = refl
+list_is (json.object entries) = refl
+
+text_of_member : (r : Option json.Json) → ok_or (option_and_then as_str (option_map data_of r)) Field ≡ ok_or (option_and_then json_find.as_str r) Field
+text_of_member None = refl
+text_of_member (Some value) = rw (text_is value) refl
+
+pub text_at_data : (name : List ℕ) (value : json.Json) → text_at name (data_of value) ≡ ok_or (option_and_then json_find.as_str (json_find.get name value)) Field
+unfolding text_at
+text_at_data name value = rw (member_of name value) (text_of_member (json_find.get name value))
+
+truth_of_member : (r : Option json.Json) → ok_or (option_and_then as_bool (option_map data_of r)) Field ≡ ok_or (option_and_then json_find.as_bool r) Field
+truth_of_member None = refl
+truth_of_member (Some value) = rw (truth_is value) refl
+
+pub truth_at_data : (name : List ℕ) (value : json.Json) → truth_at name (data_of value) ≡ ok_or (option_and_then json_find.as_bool (json_find.get name value)) Field
+unfolding truth_at
+truth_at_data name value = rw (member_of name value) (truth_of_member (json_find.get name value))
+
+abbrev pub whole : List ℕ → Option ℕ
+whole text = option_and_then as_u64 (number_of text)
+
+whole_of_text : (r : Option (List ℕ)) → option_and_then as_u64 (option_and_then number_of r) ≡ option_and_then whole r
+whole_of_text None = refl
+whole_of_text (Some text) = refl
+
+number_of_member : (r : Option json.Json)
+    → ok_or (option_and_then as_u64 (option_and_then as_number (option_map data_of r))) Field ≡ ok_or (option_and_then whole (option_and_then json_find.as_number r)) Field
+number_of_member None = refl
+number_of_member (Some value) = rw (number_is value) (ap (λ n. ok_or n Field) (whole_of_text (json_find.as_number value)))
+
+pub number_at_data : (name : List ℕ) (value : json.Json)
+    → number_at name (data_of value) ≡ ok_or (option_and_then whole (option_and_then json_find.as_number (json_find.get name value))) Field
+unfolding number_at
+number_at_data name value = rw (member_of name value) (number_of_member (json_find.get name value))
+
+pub flag_at_none : (name : List ℕ) (value : json.Json) → json_find.get name value ≡ None → flag_at name (data_of value) ≡ Ok false
+unfolding flag_at
+flag_at_none name value none = rw (member_of name value, none) refl
+
+pub flag_at_some : (name : List ℕ) (value flag : json.Json) → json_find.get name value ≡ Some flag → flag_at name (data_of value) ≡ ok_or (json_find.as_bool flag) Field
+unfolding flag_at
+flag_at_some name value flag some = rw (member_of name value, some, truth_is flag) refl
+
+pub items_at_none : (name : List ℕ) (value : json.Json) → json_find.get name value ≡ None → items_at name (data_of value) ≡ items_in None
+unfolding items_at
+items_at_none name value none = rw (member_of name value, none) refl
+
+pub items_at_some : (name : List ℕ) (value list : json.Json) → json_find.get name value ≡ Some list → items_at name (data_of value) ≡ ok_or (option_map data_of_items (json_find.as_array list)) Field
+unfolding items_at
+items_at_some name value list some = rw (member_of name value, some, list_is list) refl
+
+pub text_in_data : (value : json.Json) → text_in (data_of value) ≡ ok_or (json_find.as_str value) Field
+unfolding text_in
+text_in_data value = rw (text_is value) refl
+
+-- a line's value, by what json parses
+
+if_text : {V : Type 0} (line : List ℕ) (is_text : Bool) (r : Option V) → is_utf8 line ≡ is_text → (IsUtf8 line → ⊥) → cond is_text r None ≡ None
+if_text line true r e other = absurd (other (IsUtf8-from_is_utf8 line e))
+if_text line false r e other = refl
+
+pub no_text : (line : List ℕ) → (IsUtf8 line → ⊥) → value_at line ≡ Err Json
+unfolding value_at
+no_text line other = rw (if_text line (is_utf8 line) (read line) refl other) refl
+
+text : (line : List ℕ) → IsUtf8 line → value_at line ≡ ok_or (option_and_then of_json (parsed line)) Json
+unfolding value_at
+text line utf8 = rw (is_utf8-from_IsUtf8 line utf8) refl
+
+nothing_parsed : (r : Option json.Json) (cause : Cause) → ok_or r Json ≡ Err cause → ok_or (option_and_then of_json r) Json ≡ Err cause
+nothing_parsed None cause e = let same : Json ≡ cause = cc in ap Err same
+nothing_parsed (Some value) cause e = absurd (let no = e in cc)
+
+parsed_as : (r : Option json.Json) (value : json.Json) → ok_or r Json ≡ Ok value → r ≡ Some value
+parsed_as None value e = absurd (let no = e in cc)
+parsed_as (Some other) value e = let same : other ≡ value = cc in ap Some same
+
+not_parsed : (line : List ℕ) (cause : Cause) → IsUtf8 line → ok_or (parsed line) Json ≡ Err cause → value_at line ≡ Err cause
+not_parsed line cause utf8 e = text line utf8 ∙ nothing_parsed (parsed line) cause e
+
+pub parse_fails : (line : List ℕ) (cause : Cause) → IsUtf8 line → Fails cause (ok_or (parsed line) Json) → Fails cause (value_at line)
+parse_fails line Memory utf8 e = tt
+parse_fails line Json utf8 e = not_parsed line Json utf8 e
+parse_fails line Field utf8 e = not_parsed line Field utf8 e
+parse_fails line BadPath utf8 e = not_parsed line BadPath utf8 e
+parse_fails line NoParent utf8 e = not_parsed line NoParent utf8 e
+parse_fails line Twice utf8 e = not_parsed line Twice utf8 e
+parse_fails line TooMany utf8 e = not_parsed line TooMany utf8 e
+parse_fails line UnknownProcess utf8 e = not_parsed line UnknownProcess utf8 e
+
+pub in_range : (line : List ℕ) (value : json.Json) → IsUtf8 line → ok_or (parsed line) Json ≡ Ok value → is_in_range value ≡ true → value_at line ≡ Ok (data_of value)
+in_range line value utf8 e range = text line utf8 ∙ rw (parsed_as (parsed line) value e, converts value range) refl
+
+pub out_of_range : (line : List ℕ) (value : json.Json) → IsUtf8 line → ok_or (parsed line) Json ≡ Ok value → is_in_range value ≡ false → value_at line ≡ Err Json
+out_of_range line value utf8 e range = text line utf8 ∙ rw (parsed_as (parsed line) value e, refused value range) refl

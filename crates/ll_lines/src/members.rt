@@ -1,0 +1,133 @@
+//! The members of an object.
+
+ghost use Rattle.std.specs.Prelude.{◌≡◌, [], true, is_ok, option_map, ok_or, IfOk};
+ghost use Rattle.json.specs.Find.{as_array};
+ghost use Rattle.json.specs.Value.{value_view};
+ghost use Rattle.ll_lines.specs.declared.fault.Cause.TheVariants.{Field};
+ghost use Rattle.ll_lines.specs.Readers.{Reads};
+ghost use Rattle.ll_lines.specs.Members.{text_at, number_at, truth_at, flag_at, items_at, text_in};
+ghost use Rattle.ll_lines.specs.Values.{value_data, items_data, data_of_items};
+
+use crate::fault::Cause;
+use crate::numbers::whole_number;
+use json::Value;
+
+/// The text of a member.
+#[tactic(auto, using(crate::proofs::ValueLemmas::text_at_data))]
+pub fn text_of<'v>(value: &'v Value<'_>, name: &str) -> Result<&'v str, Cause>
+    ensures { Reads (λ text. text.now) result (text_at name.now (value_data value.now)) }
+{
+    value.get(name).and_then(Value::as_str).ok_or(Cause::Field)
+}
+
+/// The number of a member.
+#[tactic(auto, using(crate::proofs::ValueLemmas::number_at_data))]
+pub fn number_of(value: &Value<'_>, name: &str) -> Result<u64, Cause>
+    ensures { Reads (λ number. number) result (number_at name.now (value_data value.now)) }
+{
+    value
+        .get(name)
+        .and_then(Value::as_number)
+        .and_then(whole_number)
+        .ok_or(Cause::Field)
+}
+
+/// A member that is true or false.
+#[tactic(auto, using(crate::proofs::ValueLemmas::truth_at_data))]
+pub fn truth_of(value: &Value<'_>, name: &str) -> Result<bool, Cause>
+    ensures { Reads (λ truth. truth) result (truth_at name.now (value_data value.now)) }
+{
+    value.get(name).and_then(Value::as_bool).ok_or(Cause::Field)
+}
+
+/// A member that is true or false, and false where it is missing.
+#[tactic(auto, using(crate::proofs::ValueLemmas::flag_at_none, crate::proofs::ValueLemmas::flag_at_some))]
+pub fn flag_of(value: &Value<'_>, name: &str) -> Result<bool, Cause>
+    ensures { Reads (λ flag. flag) result (flag_at name.now (value_data value.now)) }
+{
+    match value.get(name) {
+        None => Ok(false),
+        Some(flag) => flag.as_bool().ok_or(Cause::Field),
+    }
+}
+
+/// The values of a member that is a list, and none where it is missing.
+#[tactic(auto, using(crate::proofs::ValueLemmas::items_at_none, crate::proofs::ValueLemmas::items_at_some))]
+pub fn items_of<'v, 'l>(value: &'v Value<'l>, name: &str) -> Result<&'v [Value<'l>], Cause>
+    ensures { Reads (λ items. items_data items.now) result (items_at name.now (value_data value.now)) }
+{
+    let Some(list) = value.get(name) else {
+        return no_items();
+    };
+    items_in(list)
+}
+
+fn no_items<'v, 'l>() -> Result<&'v [Value<'l>], Cause>
+    ensures ok { is_ok result ≡ true }
+    ensures none { IfOk result (λ items. items.now ≡ []) }
+{
+    let none: &[Value<'l>] = &[];
+    Ok(none)
+}
+
+fn items_in<'v, 'l>(list: &'v Value<'l>) -> Result<&'v [Value<'l>], Cause>
+    ensures { Reads (λ items. items_data items.now) result
+        (ok_or (option_map data_of_items (as_array (value_view list.now))) Field) }
+{
+    if let Value::Array(items) = list {
+        Ok(items.as_slice())
+    } else {
+        Err(Cause::Field)
+    }
+}
+
+/// The text that a value of a list is.
+#[tactic(auto, using(crate::proofs::ValueLemmas::text_in_data))]
+pub fn text_in_list<'v>(value: &'v Value<'_>) -> Result<&'v str, Cause>
+    ensures { Reads (λ text. text.now) result (text_in (value_data value.now)) }
+{
+    value.as_str().ok_or(Cause::Field)
+}
+
+#[cfg(test)]
+mod tests {
+    use super::*;
+    use crate::lines::FilledLines;
+    use crate::reading::every_file_is_good_or_bad;
+    use crate::value::value_of;
+    use json::Scratch;
+    use std::test::Fail;
+
+    const FILE: &str =
+        "\n \t\r\n{\"text\":\"a\",\"text\":\"b\",\"number\":7,\"truth\":true,\"list\":[\"c\",1]}\r\n\n[]";
+
+    #[test]
+    fn lines_and_members(rt: HostRuntime) -> Result<(), Fail> {
+        every_file_is_good_or_bad::<u64>();
+        let mut lines = FilledLines::new(FILE.as_bytes());
+        let first = lines.next().ok_or("two lines are filled")?;
+        let second = lines.next().ok_or("two lines are filled")?;
+        assert_eq!(rt; (first.number, second.number), (3, 5));
+        assert!(rt; lines.next().is_none());
+        let mut scratch = Scratch::new(rt.alloc());
+        let value = value_of(rt.alloc(), first.bytes, &mut scratch)
+            .ok()
+            .ok_or("the line is a value")?;
+        assert_eq!(rt; text_of(&value, "text"), Ok("b"));
+        assert_eq!(rt; number_of(&value, "number"), Ok(7));
+        assert_eq!(rt; truth_of(&value, "truth"), Ok(true));
+        assert_eq!(rt; truth_of(&value, "absent"), Err(Cause::Field));
+        assert_eq!(rt; flag_of(&value, "truth"), Ok(true));
+        assert_eq!(rt; flag_of(&value, "absent"), Ok(false));
+        let items = items_of(&value, "list").ok().ok_or("the list is there")?;
+        assert_eq!(rt; items.len(), 2);
+        assert_eq!(rt; text_in_list(&items[0]), Ok("c"));
+        assert_eq!(rt; text_in_list(&items[1]), Err(Cause::Field));
+        drop(value);
+        let list = value_of(rt.alloc(), second.bytes, &mut scratch)
+            .ok()
+            .ok_or("the line is a value")?;
+        assert_eq!(rt; number_of(&list, "number"), Err(Cause::Field));
+        Ok(())
+    }
+}

@@ -1,0 +1,95 @@
+//! The numbers in a JSON value: each has to be one that `serde_json` has.
+
+ghost use Rattle.std.specs.Prelude.{◌≡◌, ◌==◌, ◌<◌, length, slice_index, option_and_then, is_some, IsTrue};
+ghost use Rattle.json.specs.Value.{value_view, items_view, members_view};
+ghost use Rattle.serde_json.specs.Read.{number_of, number_from};
+ghost use Rattle.serde_json.specs.Find.{as_u64};
+ghost use Rattle.ll_lines.specs.Values.{is_in_range as in_range, are_in_range, have_range, is_whole};
+
+use fast_float::Numeral;
+use json::Value;
+
+/// The whole number below 2 ^ 64 that a number's text stands for.
+pub(crate) fn whole_number(text: &str) -> Option<u64>
+    ensures { result ≡ option_and_then as_u64 (number_of text.now) }
+{
+    let (negative, numeral) = signed(text);
+    if negative { None } else { numeral.to_u64() }
+}
+
+/// Whether a number is a whole number of 64 bits, or is not too large for a float.
+fn is_number_in_range(text: &str) -> bool
+    ensures { result ≡ is_some (number_of text.now) }
+{
+    let (negative, numeral) = signed(text);
+    is_integer(negative, &numeral) || numeral.to_float::<f64>(negative).is_finite()
+}
+
+/// Whether a number is in range, with every number in it if it is a list or an object.
+#[cycle(range)]
+pub(crate) fn is_in_range(value: &Value<'_>) -> bool
+    ensures { result ≡ in_range (value_view value.now) }
+{
+    match value {
+        Value::Null | Value::Bool(_) | Value::String(_) => true,
+        Value::Number(text) => is_number_in_range(text),
+        Value::Array(items) => items_in_range(items),
+        Value::Object(members) => members_in_range(members),
+    }
+}
+
+#[cycle(range)]
+fn items_in_range(items: &Vec<Value<'_>>) -> bool
+    ensures { result ≡ are_in_range (items_view items.now.items) }
+{
+    for item in items {
+        if !is_in_range(item) {
+            return false;
+        }
+    }
+    true
+}
+
+#[cycle(range)]
+fn members_in_range<'a>(members: &Vec<(&'a str, Value<'a>)>) -> bool
+    ensures { result ≡ have_range (members_view members.now.items) }
+{
+    for member in members {
+        if !is_in_range(&member.1) {
+            return false;
+        }
+    }
+    true
+}
+
+fn is_integer(negative: bool, numeral: &Numeral<'_>) -> bool
+    ensures { result ≡ is_whole negative numeral.now }
+{
+    if negative {
+        numeral.to_i64(true).is_some_and(|n| n < 0)
+    } else {
+        numeral.to_u64().is_some()
+    }
+}
+
+/// Whether a number has a minus, and the numeral behind it.
+fn signed(text: &str) -> (bool, Numeral<'_>)
+    ensures { number_of text.now ≡ number_from result.0 result.1 }
+{
+    let bytes = text.as_bytes();
+    if has_minus(bytes) {
+        (true, Numeral::scan(&bytes[1..]))
+    } else {
+        (false, Numeral::scan(bytes))
+    }
+}
+
+fn has_minus(bytes: &[u8]) -> bool
+    ensures minus { result ≡ (slice_index bytes.now 0 == 45) }
+    ensures some { IsTrue result → 0 < length bytes.now }
+{
+    match bytes.first() {
+        None => false,
+        Some(first) => *first == b'-',
+    }
+}
