@@ -7,7 +7,7 @@ use Rattle.std.proofs.lemmas.Slice.Eq.{bytes_eq-Decides}
 use Rattle.std.proofs.lemmas.Str.{is_utf8-from_IsUtf8, IsUtf8-from_is_utf8}
 use Rattle.json.specs.Json as json
 use Rattle.json.specs.Find as json_find
-use Rattle.serde_json.specs.Data.{Num, Data, number, array, object, item, Members, no_members, put}
+use Rattle.serde_json.specs.Data.{Num, Data, null, number, array, object, item, Members, no_members, put}
 use Rattle.serde_json.specs.Read.{number_of, of_json, of_items, of_members, read}
 use Rattle.serde_json.specs.Find.{get, get_member, as_str, as_number, as_u64, as_bool, as_array}
 use Rattle.serde_json.proofs.Views.{get_member-put, get_member-put_other}
@@ -28,6 +28,10 @@ a_number None e = absurd (true≢false (sym e))
 no_number : (n : Option Num) → is_some n ≡ false → option_map number n ≡ None
 no_number None e = refl
 no_number (Some n) e = absurd (true≢false e)
+
+-- the whole number below 2 ^ 64 that a number's text is
+abbrev pub whole : List ℕ → Option ℕ
+whole text = option_and_then as_u64 (number_of text)
 
 -- what has its numbers in range converts
 mutual
@@ -60,6 +64,11 @@ member_refused : (name : List ℕ) (value : json.Json) (others : json.Members) (
 member_refused name value others earlier true is e value_refused others_refused = rw (converts value is) (others_refused (put name (data_of value) earlier) e)
 member_refused name value others earlier false is e value_refused others_refused = rw (value_refused is) refl
 
+-- the later of two values of a name
+abbrev or_earlier : Option Data → Option Data → Option Data
+or_earlier (Some value) earlier = Some value
+or_earlier None earlier = earlier
+
 mutual
   refused : (value : json.Json) → is_in_range value ≡ false → of_json value ≡ None
   refused json.null e = absurd (true≢false e)
@@ -76,10 +85,6 @@ mutual
   members_refused : (entries : json.Members) (earlier : Members) → have_range entries ≡ false → of_members entries earlier ≡ None
   members_refused json.no_members earlier e = absurd (true≢false e)
   members_refused (json.member name value others) earlier e = member_refused name value others earlier (is_in_range value) refl e (refused value) (members_refused others)
-
-abbrev or_earlier : Option Data → Option Data → Option Data
-or_earlier (Some value) earlier = Some value
-or_earlier None earlier = earlier
 
 found_or : (name key : List ℕ) (value : json.Json) (earlier : Members) (r : Option json.Json) (same : Bool) → bytes_eq key name ≡ same
     → or_earlier (option_map data_of r) (get_member name (put key (data_of value) earlier))
@@ -102,38 +107,32 @@ or_none : (r : Option Data) → or_earlier r None ≡ r
 or_none (Some value) = refl
 or_none None = refl
 
-no_member : (name : List ℕ) (n : Option Num) → get name (number_or_null n) ≡ None
-no_member name (Some n) = refl
-no_member name None = refl
+-- what neither a number nor null has, the data of a number has not
+module _ {A : Type 0} (f : Data → Option A) (no_null : f null ≡ None) (no_number : (n : Num) → f (number n) ≡ None) where
+  none_of : (n : Option Num) → f (number_or_null n) ≡ None
+  none_of (Some n) = no_number n
+  none_of None = no_null
 
 member_of : (name : List ℕ) (value : json.Json) → get name (data_of value) ≡ option_map data_of (json_find.get name value)
 member_of name json.null = refl
 member_of name (json.boolean b) = refl
-member_of name (json.number text) = no_member name (number_of text)
+member_of name (json.number text) = none_of (get name) refl (λ n. refl) (number_of text)
 member_of name (json.string text) = refl
 member_of name (json.array values) = refl
 member_of name (json.object entries) = last_member name entries no_members ∙ or_none _
 
-number_no_text : (n : Option Num) → as_str (number_or_null n) ≡ None
-number_no_text (Some n) = refl
-number_no_text None = refl
-
 text_is : (value : json.Json) → as_str (data_of value) ≡ json_find.as_str value
 text_is json.null = refl
 text_is (json.boolean b) = refl
-text_is (json.number text) = number_no_text (number_of text)
+text_is (json.number text) = none_of as_str refl (λ n. refl) (number_of text)
 text_is (json.string text) = refl
 text_is (json.array values) = refl
 text_is (json.object entries) = refl
 
-number_no_truth : (n : Option Num) → as_bool (number_or_null n) ≡ None
-number_no_truth (Some n) = refl
-number_no_truth None = refl
-
 truth_is : (value : json.Json) → as_bool (data_of value) ≡ json_find.as_bool value
 truth_is json.null = refl
 truth_is (json.boolean b) = refl
-truth_is (json.number text) = number_no_truth (number_of text)
+truth_is (json.number text) = none_of as_bool refl (λ n. refl) (number_of text)
 truth_is (json.string text) = refl
 truth_is (json.array values) = refl
 truth_is (json.object entries) = refl
@@ -150,36 +149,27 @@ number_is (json.string text) = refl
 number_is (json.array values) = refl
 number_is (json.object entries) = refl
 
-number_no_list : (n : Option Num) → as_array (number_or_null n) ≡ None
-number_no_list (Some n) = refl
-number_no_list None = refl
-
 list_is : (value : json.Json) → as_array (data_of value) ≡ option_map data_of_items (json_find.as_array value)
 list_is json.null = refl
 list_is (json.boolean b) = refl
-list_is (json.number text) = number_no_list (number_of text)
+list_is (json.number text) = none_of as_array refl (λ n. refl) (number_of text)
 list_is (json.string text) = refl
 list_is (json.array values) = refl
 list_is (json.object entries) = refl
 
-text_of_member : (r : Option json.Json) → ok_or (option_and_then as_str (option_map data_of r)) Field ≡ ok_or (option_and_then json_find.as_str r) Field
-text_of_member None = refl
-text_of_member (Some value) = rw (text_is value) refl
+-- what a reader finds in a member's data, it finds in the member
+module _ {A : Type 0} (f : Data → Option A) (g : json.Json → Option A) (same : (value : json.Json) → f (data_of value) ≡ g value) where
+  in_member : (r : Option json.Json) → ok_or (option_and_then f (option_map data_of r)) Field ≡ ok_or (option_and_then g r) Field
+  in_member None = refl
+  in_member (Some value) = rw (same value) refl
 
 pub text_at_data : (name : List ℕ) (value : json.Json) → text_at name (data_of value) ≡ ok_or (option_and_then json_find.as_str (json_find.get name value)) Field
 unfolding text_at
-text_at_data name value = rw (member_of name value) (text_of_member (json_find.get name value))
-
-truth_of_member : (r : Option json.Json) → ok_or (option_and_then as_bool (option_map data_of r)) Field ≡ ok_or (option_and_then json_find.as_bool r) Field
-truth_of_member None = refl
-truth_of_member (Some value) = rw (truth_is value) refl
+text_at_data name value = rw (member_of name value) (in_member as_str json_find.as_str text_is (json_find.get name value))
 
 pub truth_at_data : (name : List ℕ) (value : json.Json) → truth_at name (data_of value) ≡ ok_or (option_and_then json_find.as_bool (json_find.get name value)) Field
 unfolding truth_at
-truth_at_data name value = rw (member_of name value) (truth_of_member (json_find.get name value))
-
-abbrev pub whole : List ℕ → Option ℕ
-whole text = option_and_then as_u64 (number_of text)
+truth_at_data name value = rw (member_of name value) (in_member as_bool json_find.as_bool truth_is (json_find.get name value))
 
 whole_of_text : (r : Option (List ℕ)) → option_and_then as_u64 (option_and_then number_of r) ≡ option_and_then whole r
 whole_of_text None = refl
