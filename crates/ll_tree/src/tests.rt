@@ -311,6 +311,7 @@ fn lines_keep_their_numbers_in_parts(rt: HostRuntime) -> Result<(), Fail> {
     for most in [0, 1, 2, 3, 8, usize::MAX] {
         let parts = FilledLines::new(LINES).in_parts(rt.alloc(), most)?;
         assert!(rt; parts.len() <= most.max(1));
+        assert!(rt; most < usize::MAX || parts.len() >= 4);
         let mut numbers = Vec::new(rt.alloc());
         for part in parts {
             for line in part {
