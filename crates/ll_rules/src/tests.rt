@@ -171,19 +171,6 @@ fn has_just(set: LayerSet, numbers: &[u32]) -> bool {
     (0..18).all(|number| set.has(number) == numbers.contains(&number))
 }
 
-fn refused_on_path(
-    alloc: Global,
-    all: &[Wanted],
-    path: &str,
-    wanted: &str,
-) -> Result<LayerSet, Fail> {
-    let tree = worked_tree(alloc)?;
-    let layers = layers_of(alloc, &tree, all)?;
-    let domain = stacked(&layers)?;
-    let node = node_named(&tree, path)?;
-    Ok(check_path(&tree, &layers, &domain, node, fs(wanted)))
-}
-
 fn refused_on_port(layers: &[Layer], port: u16, network: &str) -> Result<LayerSet, Fail> {
     let domain = stacked(layers)?;
     Ok(check_port(layers, &domain, port, net(network)))
@@ -196,88 +183,6 @@ const fn on_paths<'a>(files: &'a str, on_paths: &'a [(&'a str, &'a str)]) -> Wan
         network: "",
         on_paths,
     }
-}
-
-#[test]
-fn paths(rt: HostRuntime) -> Result<(), Fail> {
-    let alloc = rt.alloc();
-    let parted = [on_paths(
-        "read_file,write_file",
-        &[("/a", "write_file"), ("/a/f", "read_file")],
-    )];
-    let both = [
-        on_paths("read_file", &[("/a", "read_file")]),
-        on_paths("read_file", &[("/b", "read_file")]),
-    ];
-    let set = refused_on_path(alloc, &parted, "/a/f", "read_file,write_file")?;
-    assert!(rt; set.is_empty());
-    let set = refused_on_path(alloc, &parted, "/b/g", "read_file,write_file")?;
-    assert!(rt; has_just(set, &[1]));
-    for (path, numbers) in [("/a/f", [2, 2]), ("/b/g", [1, 1]), ("/dev/tty", [1, 2])] {
-        let set = refused_on_path(alloc, &both, path, "read_file")?;
-        assert!(rt; has_just(set, &numbers), "{path}");
-    }
-    Ok(())
-}
-
-#[test]
-fn creations(rt: HostRuntime) {
-    for (abi, files, network, fault) in [
-        (Abi::V1, "refer", "", Some(Errno::Inval)),
-        (Abi::V2, "truncate", "", Some(Errno::Inval)),
-        (Abi::V2, "", "", Some(Errno::NoMsg)),
-        (Abi::V3, "", "bind_tcp", Some(Errno::TooBig)),
-        (Abi::V3, "nosuch", "bind_tcp", Some(Errno::TooBig)),
-        (Abi::V3, "nosuch", "", Some(Errno::Inval)),
-        (Abi::V4, "", "bind_tcp", None),
-        (Abi::V4, "ioctl_dev", "", Some(Errno::Inval)),
-        (Abi::V5, "ioctl_dev", "", None),
-    ] {
-        let answer = Ruleset::create(rt.alloc(), abi, fs(files), net(network)).err();
-        assert_eq!(rt; answer, fault, "{files} {network}");
-    }
-}
-
-#[test]
-fn rules(rt: HostRuntime) -> Result<(), Fail> {
-    let listed = worked_tree(rt.alloc())?;
-    let tree = &listed;
-    let handled = Wanted {
-        files: "read_file,read_dir",
-        network: "bind_tcp",
-        on_paths: &[],
-    };
-    let mut rules = rules_of(rt.alloc(), tree, &handled)?;
-    let inval = Err(RuleFault::Errno(Errno::Inval));
-    let no_message = Err(RuleFault::Errno(Errno::NoMsg));
-    for (path, files, answer) in [
-        ("/a", "", no_message),
-        ("/none", "write_file", inval),
-        ("/none", "read_file", Err(RuleFault::Moot)),
-        ("/none/x", "read_file", Err(RuleFault::Moot)),
-        ("/a/f", "read_dir", inval),
-        ("/a", "read_dir", Ok(())),
-    ] {
-        assert_eq!(rt;
-            add_path(&mut rules, tree, path, fs(files)),
-            answer,
-            "{path} {files}"
-        );
-    }
-    for (abi, port, network, answer) in [
-        (Abi::V4, 80, "", no_message),
-        (Abi::V4, 80, "connect_tcp", inval),
-        (Abi::V4, 65536, "bind_tcp", inval),
-        (Abi::V4, 65535, "bind_tcp", Ok(())),
-        (Abi::V3, 80, "", inval),
-    ] {
-        assert_eq!(rt;
-            rules.add_port(abi, port, net(network)),
-            answer,
-            "{port} {network}"
-        );
-    }
-    Ok(())
 }
 
 #[test]
@@ -297,25 +202,6 @@ fn a_frozen_layer_stays(rt: HostRuntime) -> Result<(), Fail> {
 }
 
 #[test]
-fn sixteen_layers(rt: HostRuntime) -> Result<(), Fail> {
-    let mut domain = Domain::new();
-    for _ in 0..16 {
-        assert_eq!(rt; domain.push(LayerId(0)), Ok(()));
-    }
-    assert_eq!(rt; domain.push(LayerId(0)), Err(Full));
-    assert_eq!(rt; domain.layers().len(), 16);
-    let all = [on_paths("read_file", &[]); 16];
-    let set = refused_on_path(rt.alloc(), &all, "/a/f", "read_file")?;
-    assert!(rt;
-        has_just(
-            set,
-            &[1, 2, 3, 4, 5, 6, 7, 8, 9, 10, 11, 12, 13, 14, 15, 16]
-        )
-    );
-    Ok(())
-}
-
-#[test]
 fn sets_of_layers(rt: HostRuntime) {
     let none = LayerSet::new();
     assert!(rt; none.is_empty());
@@ -328,182 +214,12 @@ fn sets_of_layers(rt: HostRuntime) {
     assert_ne!(rt; first, second);
 }
 
-#[test]
-fn ports_and_mounts(rt: HostRuntime) -> Result<(), Fail> {
-    let alloc = rt.alloc();
-    let tree = worked_tree(alloc)?;
-    let handled = Wanted {
-        files: "",
-        network: "bind_tcp,connect_tcp",
-        on_paths: &[],
-    };
-    let mut rules = rules_of(alloc, &tree, &handled)?;
-    for (port, network) in [
-        (443, "connect_tcp"),
-        (8080, "bind_tcp"),
-        (8080, "connect_tcp"),
-    ] {
-        assert_eq!(rt; rules.add_port(Abi::V4, port, net(network)), Ok(()));
-    }
-    let without_zero = frozen(alloc, &rules)?;
-    assert_eq!(rt; rules.add_port(Abi::V4, 0, net("bind_tcp")), Ok(()));
-    let layers = [frozen(alloc, &rules)?];
-    assert!(rt; without_zero.refuses_on_port(0, Net::BIND_TCP));
-    for (port, network, refused) in [
-        (0, "bind_tcp", false),
-        (80, "bind_tcp", true),
-        (443, "connect_tcp", false),
-        (443, "bind_tcp", true),
-        (8080, "bind_tcp", false),
-        (8080, "connect_tcp", false),
-    ] {
-        let set = refused_on_port(&layers, port, network)?;
-        assert!(rt;
-            has_just(set, if refused { &[1] } else { &[] }),
-            "{port} {network}"
-        );
-    }
-    let layers = layers_of(alloc, &tree, &[handled, on_paths("read_dir", &[])])?;
-    assert!(rt; has_just(check_mount(&layers, &stacked(&layers)?), &[2]));
-    assert!(rt; check_mount(&layers, &Domain::new()).is_empty());
-    Ok(())
-}
-
-/// What one layer answers to moves.
-fn answered(alloc: Global, layer: Wanted, from: &str, to: &str, how: How) -> Result<Verdict, Fail> {
-    let tree = worked_tree(alloc)?;
-    let layers = layers_of(alloc, &tree, &[layer])?;
-    let domain = stacked(&layers)?;
-    let attempt = Move {
-        moved: node_named(&tree, from)?,
-        target: target_named(&tree, to)?,
-        how,
-    };
-    Ok(check_move(&tree, &layers, &domain, &attempt))
-}
-
 /// A rename into another directory, or a link, that is refused by the one layer, or passes.
 fn refused(error: Option<Errno>) -> Verdict {
     match error {
         None => Verdict::Passed,
         Some(error) => Verdict::Refused(error, LayerSet::new().noted(1, true)),
     }
-}
-
-#[test]
-fn moves_without_refer(rt: HostRuntime) -> Result<(), Fail> {
-    let network = Wanted {
-        files: "",
-        network: "bind_tcp",
-        on_paths: &[],
-    };
-    let reading = on_paths("read_file", &[]);
-    let half = on_paths(
-        "make_reg,remove_file",
-        &[("/a", "make_reg,remove_file"), ("/b", "remove_file")],
-    );
-    let making = on_paths("remove_file,make_reg", &[("/a", "make_reg")]);
-    for (layer, to, how, error) in [
-        (reading, "/a/h", How::Rename, None),
-        (reading, "/b/h", How::Rename, Some(Errno::XDev)),
-        (reading, "/b/h", How::Link, Some(Errno::XDev)),
-        (reading, "/a/h", How::Link, None),
-        (network, "/b/h", How::Rename, None),
-        (network, "/b/h", How::Link, None),
-        (half, "/b/h", How::Rename, Some(Errno::Acces)),
-        (half, "/a/h", How::Rename, None),
-        (making, "/a/h", How::Rename, Some(Errno::Acces)),
-        (making, "/a/h", How::Link, None),
-    ] {
-        let verdict = answered(rt.alloc(), layer, "/a/f", to, how)?;
-        assert_eq!(rt; verdict, refused(error), "{to} {how:?}");
-    }
-    Ok(())
-}
-
-/// What lets files cross between directories, and run.
-const CROSSING: &str = "refer,make_reg,remove_file,execute";
-
-#[test]
-fn moves(rt: HostRuntime) -> Result<(), Fail> {
-    let gaining = on_paths(
-        CROSSING,
-        &[("/a", "refer,make_reg,remove_file"), ("/b", CROSSING)],
-    );
-    let had = on_paths(
-        CROSSING,
-        &[
-            ("/a", "refer,make_reg,remove_file"),
-            ("/b", CROSSING),
-            ("/a/f", "execute"),
-        ],
-    );
-    let not_made = on_paths(
-        CROSSING,
-        &[
-            ("/a", "refer,make_reg,remove_file"),
-            ("/b", "refer,remove_file,execute"),
-        ],
-    );
-    let directories = on_paths(
-        "refer,make_dir,remove_dir,read_dir",
-        &[
-            ("/a", "refer,make_dir,remove_dir"),
-            ("/b", "refer,make_dir,read_dir"),
-        ],
-    );
-    let devices = on_paths(
-        "refer,make_reg,remove_file,ioctl_dev",
-        &[
-            ("/a", "refer,make_reg,remove_file"),
-            ("/b", "refer,make_reg,ioctl_dev"),
-        ],
-    );
-    for (layer, from, to, how, error) in [
-        (gaining, "/a/f", "/b/h", How::Rename, Some(Errno::XDev)),
-        (gaining, "/b/g", "/a/h", How::Rename, None),
-        (gaining, "/b/g", "/a/h", How::Link, None),
-        (gaining, "/b/g", "/a/f", How::Exchange, Some(Errno::XDev)),
-        (had, "/a/f", "/b/h", How::Rename, None),
-        (had, "/b/g", "/a/h", How::Rename, None),
-        (had, "/b/g", "/a/h", How::Link, None),
-        (had, "/b/g", "/a/f", How::Exchange, None),
-        (not_made, "/a/f", "/b/h", How::Rename, Some(Errno::Acces)),
-        (directories, "/a/s", "/b/x", How::Rename, Some(Errno::XDev)),
-        (devices, "/a/f", "/b/h", How::Rename, Some(Errno::XDev)),
-    ] {
-        let verdict = answered(rt.alloc(), layer, from, to, how)?;
-        assert_eq!(rt; verdict, refused(error), "{from} {to} {how:?}");
-    }
-    Ok(())
-}
-
-#[test]
-fn what_a_new_file_and_a_removal_ask(rt: HostRuntime) -> Result<(), Fail> {
-    let making = [on_paths(
-        "make_reg,make_dir,write_file,truncate,remove_file,execute",
-        &[("/a", "make_reg,write_file")],
-    )];
-    for (path, wanted, refused) in [
-        ("/a", "make_reg,write_file", false),
-        ("/a", "truncate", true),
-        ("/b", "make_reg,write_file", true),
-        ("/a/f", "write_file,truncate", true),
-        ("/a", "make_dir", true),
-        ("/a", "make_reg", false),
-        ("/a", "make_fifo", false),
-        ("/a", "make_sym", false),
-        ("/a", "remove_file", true),
-        ("/a", "remove_dir", false),
-        ("/a/f", "execute", true),
-    ] {
-        let set = refused_on_path(rt.alloc(), &making, path, wanted)?;
-        assert!(rt;
-            has_just(set, if refused { &[1] } else { &[] }),
-            "{path} {wanted}"
-        );
-    }
-    Ok(())
 }
 
 /// How many look-ups a check of reading takes.

@@ -2,7 +2,7 @@
 
 use super::*;
 use ll_lines::Cause;
-use ll_rights::{Abi, Fs, Kind, Net};
+use ll_rights::{Fs, Kind, Net};
 use std::alloc::{AllocError, Global};
 use std::test::Fail;
 
@@ -62,21 +62,6 @@ const REUSED: &str = "\
 {\"op\":\"exit\",\"pid\":11}\n\
 {\"op\":\"fork\",\"pid\":10,\"child\":11}\n\
 {\"op\":\"open\",\"pid\":11,\"path\":\"/b/g\",\"fd\":4,\"mode\":\"r\"}\n";
-
-/// Calls that name rights of several versions, rights of another name, and none.
-const RIGHTS: &str = "\
-{\"op\":\"start\",\"pid\":10}\n\
-{\"op\":\"create\",\"pid\":10,\"rs\":3,\"fs\":[\"execute\",\"refer\"]}\n\
-{\"op\":\"create\",\"pid\":10,\"rs\":4,\"net\":[\"bind_tcp\"]}\n\
-{\"op\":\"create\",\"pid\":10,\"rs\":5}\n\
-{\"op\":\"create\",\"pid\":10,\"rs\":6,\"fs\":[\"nosuch\",\"truncate\"]}\n\
-{\"op\":\"add_path\",\"pid\":10,\"rs\":3,\"path\":\"/a\",\"fs\":[\"truncate\"]}\n\
-{\"op\":\"add_path\",\"pid\":10,\"rs\":3,\"path\":\"/a\",\"fs\":[\"execute\",\"ioctl_dev\"]}\n\
-{\"op\":\"add_path\",\"pid\":10,\"rs\":3,\"path\":\"/a\",\"fs\":[]}\n\
-{\"op\":\"add_port\",\"pid\":10,\"rs\":4,\"port\":80,\"net\":[\"bind_tcp\"]}\n\
-{\"op\":\"add_port\",\"pid\":10,\"rs\":4,\"port\":80,\"net\":[]}\n\
-{\"op\":\"fork\",\"pid\":10,\"child\":11}\n\
-{\"op\":\"exec\",\"pid\":11,\"path\":\"/a\"}\n";
 
 fn fault_of(alloc: Global, bytes: &[u8]) -> Option<(u64, Cause)> {
     match Trace::read(alloc, bytes) {
@@ -147,99 +132,6 @@ fn is_expected_later(place: usize, op: &Op) -> bool {
         ),
         _ => false,
     }
-}
-
-/// Whether the record at a place is that of [`RIGHTS`] as a program makes it that goes by version 1.
-fn is_of_version_1(place: usize, op: &Op) -> bool {
-    match place {
-        0 => matches!(
-            op,
-            Op::Start {
-                nnp: false,
-                admin: false
-            }
-        ),
-        1 => matches!(op, Op::Create { rs: 3, fs, net } if *fs == Fs::EXECUTE && net.is_empty()),
-        2 => matches!(op, Op::CreateEmpty { rs: 4 }),
-        3 => matches!(op, Op::Create { rs: 5, fs, net } if fs.is_empty() && net.is_empty()),
-        4 => matches!(op, Op::Create { rs: 6, fs, net } if *fs == Fs::OTHER && net.is_empty()),
-        5 => matches!(
-            op,
-            Op::LeaveOut {
-                rule: RuleType::PathBeneath
-            }
-        ),
-        6 =>
-            matches!(op, Op::AddPath { rs: 3, path, fs } if path.as_str() == "/a" && *fs == Fs::EXECUTE),
-        7 =>
-            matches!(op, Op::AddPath { rs: 3, path, fs } if path.as_str() == "/a" && fs.is_empty()),
-        8 => matches!(
-            op,
-            Op::LeaveOut {
-                rule: RuleType::NetPort
-            }
-        ),
-        9 => matches!(op, Op::AddPort { rs: 4, port: 80, net } if net.is_empty()),
-        10 => matches!(op, Op::Fork { child: 11 }),
-        11 => matches!(op, Op::Exec { path } if path.as_str() == "/a"),
-        _ => false,
-    }
-}
-
-/// The same by version 4.
-fn is_of_version_4(place: usize, op: &Op) -> bool {
-    match place {
-        1 =>
-            matches!(op, Op::Create { rs: 3, fs, net } if *fs == Fs::EXECUTE.union(Fs::REFER) && net.is_empty()),
-        2 => matches!(op, Op::Create { rs: 4, fs, net } if fs.is_empty() && *net == Net::BIND_TCP),
-        4 =>
-            matches!(op, Op::Create { rs: 6, fs, net } if *fs == Fs::OTHER.union(Fs::TRUNCATE) && net.is_empty()),
-        5 =>
-            matches!(op, Op::AddPath { rs: 3, path, fs } if path.as_str() == "/a" && *fs == Fs::TRUNCATE),
-        8 => matches!(op, Op::AddPort { rs: 4, port: 80, net } if *net == Net::BIND_TCP),
-        _ => is_of_version_1(place, op),
-    }
-}
-
-#[test]
-fn best_effort(rt: HostRuntime) -> Result<(), Fail> {
-    for abi in [Abi::V1, Abi::V4] {
-        let trace = Trace::read(rt.alloc(), RIGHTS.as_bytes())?.at_best_effort(abi);
-        assert_eq!(rt; trace.records().len(), 12);
-        for (place, record) in trace.records().iter().enumerate() {
-            let is_expected = if abi == Abi::V1 {
-                is_of_version_1(place, &record.op)
-            } else {
-                is_of_version_4(place, &record.op)
-            };
-            assert!(rt; is_expected, "at {place}");
-            let own = if place == 11 {
-                (ProcessId(1), 11)
-            } else {
-                (ProcessId(0), 10)
-            };
-            assert_eq!(rt; (record.process, record.pid), own, "at {place}");
-        }
-        assert_eq!(rt; trace.processes(), 2);
-        assert_eq!(rt; trace.starts(10), Some(ProcessId(1)));
-    }
-    Ok(())
-}
-
-#[test]
-fn every_operation(rt: HostRuntime) -> Result<(), Fail> {
-    let trace = Trace::read(rt.alloc(), EVERY.as_bytes())?;
-    assert_eq!(rt; trace.records().len(), 27);
-    for (place, record) in trace.records().iter().enumerate() {
-        assert!(rt; is_expected(place, &record.op), "at {place}");
-        let own = if place == 2 {
-            (ProcessId(1), 11)
-        } else {
-            (ProcessId(0), 10)
-        };
-        assert_eq!(rt; (record.process, record.pid), own, "at {place}");
-    }
-    Ok(())
 }
 
 #[test]

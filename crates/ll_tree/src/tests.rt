@@ -80,33 +80,6 @@ fn the_worked_tree(rt: HostRuntime) -> Result<(), Fail> {
     Ok(())
 }
 
-#[test]
-fn places(rt: HostRuntime) -> Result<(), Fail> {
-    let tree = Tree::read(rt.alloc(), LISTED.as_bytes())
-        .ok()
-        .ok_or("the file reads")?;
-    for (text, directory) in [("/none", "/"), ("/b/h", "/b"), ("/a/s/x", "/a/s")] {
-        let gap = Place::Gap(node_named(&tree, directory)?);
-        assert_eq!(rt; tree.resolve(text), gap, "{text}");
-    }
-    for text in [
-        "/none/x",
-        "/a/f/x",
-        "/a/none/x",
-        "a",
-        "",
-        "/a/",
-        "//a",
-        "/a/../b",
-    ] {
-        assert_eq!(rt; tree.resolve(text), Place::Nowhere, "{text}");
-    }
-    for (number, path) in NUMBERED.iter().enumerate() {
-        assert_eq!(rt; node_named(&tree, path)?.index() as usize, number, "{path}");
-    }
-    Ok(())
-}
-
 /// What a text names that has the shape of a path: its place, and its node where it has one.
 fn found(tree: &Tree, text: &str) -> Result<(Place, Option<NodeId>), Fail> {
     if !path_ok(text) {
@@ -136,66 +109,6 @@ fn places_of_paths(rt: HostRuntime) -> Result<(), Fail> {
         assert_eq!(rt; found(&tree, path)?, (Place::Nowhere, None), "{path}");
     }
     Ok(())
-}
-
-#[test]
-fn shapes_of_paths(rt: HostRuntime) {
-    for (text, ok) in [
-        ("/", true),
-        ("/a", true),
-        ("/a/b c/.d", true),
-        ("/...", true),
-        ("", false),
-        ("a", false),
-        ("/a/", false),
-        ("//", false),
-        ("/a//b", false),
-        ("/.", false),
-        ("/a/../b", false),
-        ("/a\0", false),
-    ] {
-        assert_eq!(rt; path_ok(text), ok, "{text:?}");
-    }
-}
-
-#[test]
-fn faults(rt: HostRuntime) {
-    for (file, line, cause) in [
-        ("{\"path\":\"/a/f\",\"kind\":\"reg\"}", 1, Cause::NoParent),
-        ("{\"path\":\"a\",\"kind\":\"dir\"}", 1, Cause::BadPath),
-        ("{\"path\":\"/a//b\",\"kind\":\"dir\"}", 1, Cause::BadPath),
-        ("{\"path\":\"/a\"}", 1, Cause::Field),
-        ("{\"path\":\"/\",\"kind\":\"dir\"}", 1, Cause::Twice),
-        (
-            "{\"path\":\"/a\",\"kind\":\"dir\"}\n{\"path\":\"/a\",\"kind\":\"dir\"}",
-            2,
-            Cause::Twice,
-        ),
-        (
-            "{\"path\":\"/f\",\"kind\":\"reg\"}\n{\"path\":\"/f/g\",\"kind\":\"reg\"}",
-            2,
-            Cause::NoParent,
-        ),
-        (" \t\r\n[]", 2, Cause::Field),
-        ("{\"path\":\"a\",\"kind\":\"nosuch\"}", 1, Cause::Field),
-        ("{\"path\":null,\"kind\":\"dir\"}", 1, Cause::Field),
-        ("{\"path\":\"/a\",\"kind\":[\"dir\"]}", 1, Cause::Field),
-        ("{\"path\":\"/a\",\"kind\":\"dir\"} {}", 1, Cause::Json),
-    ] {
-        assert_eq!(rt;
-            fault_of(rt.alloc(), file.as_bytes()),
-            Some((line, cause)),
-            "{file}"
-        );
-    }
-    assert_eq!(rt; fault_of(rt.alloc(), b"\xff"), Some((1, Cause::Json)));
-    assert_eq!(rt;
-        fault_of(rt.alloc(), b"{\"path\":\"/\xff\",\"kind\":\"dir\"}"),
-        Some((1, Cause::Json))
-    );
-    assert_eq!(rt; fault_of(rt.alloc(), b""), None);
-    let repeated = b"{\"path\":\"/x/y\",\"size\":[0],\"path\":\"/a\",\"kind\":\"dir\"}\r\n";
-    assert_eq!(rt; fault_of(rt.alloc(), repeated), None);
 }
 
 /// The file reads where it is cut at the start of a line or behind a brace; any other cut spoils the
