@@ -28,6 +28,3 @@ pub use remedies::{
 pub use spelt_path::SpeltPath;
 pub use why::Why;
 pub use worked::{worked_best_effort, worked_reasons, worked_refusals};
-
-#[cfg(test)]
-mod tests;

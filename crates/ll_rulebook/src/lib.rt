@@ -8,7 +8,5 @@ mod pass;
 mod rulebook;
 mod store;
 mod tables;
-#[cfg(test)]
-mod tests;
 
 pub use rulebook::Rulebook;
