@@ -17,8 +17,6 @@ mod ports;
 mod reasons;
 mod rights;
 mod route;
-#[cfg(test)]
-mod tests;
 mod words;
 
 pub use explanation::push_explanation;

@@ -5,8 +5,6 @@
 mod domain;
 mod laws;
 mod openings;
-#[cfg(test)]
-mod tests;
 mod trail;
 
 pub use domain::domain_of;
