@@ -23,8 +23,6 @@ mod rows;
 mod shown;
 mod source;
 mod spans;
-#[cfg(test)]
-mod tests;
 mod texts;
 
 pub use abis::AbiRange;

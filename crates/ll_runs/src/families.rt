@@ -26,52 +26,31 @@ fn one_report_for_all_crews_and_cuts(rt: HostRuntime) -> Result<(), Fail> {
     Ok(())
 }
 
-/// How the processes of a family descend from the process 1, each from one of a lower number.
-#[derive(Clone, Copy)]
-enum Shape {
-    /// Each from the one before.
-    Chain,
-    /// Two from each.
-    Pairs,
-    /// All from the first.
-    Siblings,
+/// A trace that starts the process 1, from which each other process descends: each is forked by the one before.
+fn chain(alloc: Global, last: u64) -> io::Result<Vec<u8>> {
+    let mut trace = Vec::from_slice(alloc, b"{\"op\":\"start\",\"pid\":1}\n")?;
+    for child in 2..last.saturating_add(1) {
+        let pid = child.saturating_sub(1);
+        writeln!(trace, "{{\"op\":\"fork\",\"pid\":{pid},\"child\":{child}}}")?;
+    }
+    Ok(trace)
 }
 
-impl Shape {
-    fn parent_of(self, child: u64) -> u64 {
-        match self {
-            Shape::Chain => child.saturating_sub(1),
-            Shape::Pairs => child / 2,
-            Shape::Siblings => 1,
-        }
+/// The report on that trace: all is allowed.
+fn chain_report(alloc: Global, last: u64) -> io::Result<Vec<u8>> {
+    let mut report = Vec::from_slice(alloc, b"1 1 start allowed\n")?;
+    for child in 2..last.saturating_add(1) {
+        let pid = child.saturating_sub(1);
+        writeln!(report, "{child} {pid} fork allowed")?;
     }
-
-    /// A trace that starts the process 1 and forks all others up to the last.
-    fn trace(self, alloc: Global, last: u64) -> io::Result<Vec<u8>> {
-        let mut trace = Vec::from_slice(alloc, b"{\"op\":\"start\",\"pid\":1}\n")?;
-        for child in 2..last.saturating_add(1) {
-            let pid = self.parent_of(child);
-            writeln!(trace, "{{\"op\":\"fork\",\"pid\":{pid},\"child\":{child}}}")?;
-        }
-        Ok(trace)
-    }
-
-    /// The report on that trace: all is allowed.
-    fn report(self, alloc: Global, last: u64) -> io::Result<Vec<u8>> {
-        let mut report = Vec::from_slice(alloc, b"1 1 start allowed\n")?;
-        for child in 2..last.saturating_add(1) {
-            let pid = self.parent_of(child);
-            writeln!(report, "{child} {pid} fork allowed")?;
-        }
-        writeln!(report, "total {last} allowed {last} refused 0 moot 0")?;
-        Ok(report)
-    }
+    writeln!(report, "total {last} allowed {last} refused 0 moot 0")?;
+    Ok(report)
 }
 
 #[test]
 fn as_many_processes_as_a_trace_may_have(rt: HostRuntime) -> Result<(), Fail> {
-    let trace = Shape::Chain.trace(rt.alloc(), 65_536)?;
-    let want = Shape::Chain.report(rt.alloc(), 65_536)?;
+    let trace = chain(rt.alloc(), 65_536)?;
+    let want = chain_report(rt.alloc(), 65_536)?;
     let runs = [
         (1, Cut::Grain(0)),
         (1, Cut::List(Vec::new(rt.alloc()))),
@@ -90,42 +69,12 @@ fn as_many_processes_as_a_trace_may_have(rt: HostRuntime) -> Result<(), Fail> {
 
 #[test]
 fn one_process_too_many(rt: HostRuntime) -> Result<(), Fail> {
-    let trace = Shape::Chain.trace(rt.alloc(), 65_537)?;
+    let trace = chain(rt.alloc(), 65_537)?;
     let place = ReadFault {
         line: 65_537,
         cause: Cause::TooMany,
     };
     let answer = audited(&rt, trace.as_slice(), 8, Cut::Grain(0));
     assert_eq!(rt; answer.err(), Some(Fault::Trace(place)));
-    Ok(())
-}
-
-#[test]
-fn more_jobs_than_the_queue_holds(rt: HostRuntime) -> Result<(), Fail> {
-    let cases = [(Shape::Pairs, 1023, 8), (Shape::Siblings, 1101, 1)];
-    for (shape, last, workers) in cases {
-        let trace = shape.trace(rt.alloc(), last)?;
-        let want = shape.report(rt.alloc(), last)?;
-        let report = audited(&rt, trace.as_slice(), workers, Cut::Grain(0))
-            .ok()
-            .ok_or("no report")?;
-        assert!(rt; report.bytes.as_slice() == want.as_slice());
-    }
-    Ok(())
-}
-
-#[test]
-fn more_roots_than_the_queue_holds(rt: HostRuntime) -> Result<(), Fail> {
-    let (mut trace, mut want) = (Vec::new(rt.alloc()), Vec::new(rt.alloc()));
-    for pid in 1..1101 {
-        writeln!(trace, "{{\"op\":\"start\",\"pid\":{pid}}}")?;
-        writeln!(want, "{pid} {pid} start allowed")?;
-    }
-    writeln!(want, "total 1100 allowed 1100 refused 0 moot 0")?;
-    let cut = Cut::List(Vec::new(rt.alloc()));
-    let report = audited(&rt, trace.as_slice(), 8, cut)
-        .ok()
-        .ok_or("no report")?;
-    assert!(rt; report.bytes.as_slice() == want.as_slice());
     Ok(())
 }

@@ -8,10 +8,14 @@ mod families;
 #[cfg(test)]
 mod gates;
 #[cfg(test)]
+mod options;
+#[cfg(test)]
 mod ready;
 #[cfg(test)]
 mod refusals;
 #[cfg(test)]
 mod runs;
+#[cfg(test)]
+mod words;
 
 pub use failing::FailingSource;

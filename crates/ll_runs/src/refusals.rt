@@ -9,9 +9,10 @@ use std::sync::Wait;
 use std::test::Fail;
 use std::thread::Threads;
 
-/// A writer of at most sixteen bytes a call, that fails from one of its calls on.
+/// A writer of at most sixteen bytes a call, that is interrupted first and fails from one of its calls on.
 #[derive(Drop)]
 struct Stubborn {
+    interrupts: u64,
     good_calls: u64,
     bytes: Vec<u8>,
 }
@@ -28,6 +29,10 @@ impl Stubborn {
 
 impl Write for Stubborn {
     fn write(&mut self, buf: &[u8]) -> io::Result<usize> {
+        if self.interrupts > 0 {
+            self.interrupts -= 1;
+            return Err(ErrorKind::Interrupted.into());
+        }
         self.count()?;
         let taken = buf.len().min(16);
         self.bytes.extend_from_slice(&buf[..taken])?;
@@ -81,6 +86,7 @@ fn run_into<R: Threads + Wait + AllocGlobal + Sync>(
     let files = [("t", TREE.as_bytes()), ("r", TRACE.as_bytes())];
     let mut source = MemorySource::new(files.as_slice());
     let mut out = Stubborn {
+        interrupts: 2,
         good_calls,
         bytes: Vec::new(rt.alloc()),
     };
@@ -110,6 +116,7 @@ fn outputs_that_fail_at_each_call(rt: HostRuntime) -> Result<(), Fail> {
 #[test]
 fn a_status_stays_where_nothing_can_be_said(rt: HostRuntime) -> Result<(), Fail> {
     let mut mute = Stubborn {
+        interrupts: 0,
         good_calls: 0,
         bytes: Vec::new(rt.alloc()),
     };

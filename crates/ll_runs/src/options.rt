@@ -1,0 +1,89 @@
+//! Reports of which a part is shown, and explanations over a range of versions.
+
+use crate::ready::{TRACE, TREE, run};
+use std::test::Fail;
+
+const REFUSED_ALONE: &str = "\
+7 10 open refused EACCES 1
+total 8 allowed 7 refused 1 moot 0
+";
+
+/// A program that handles `truncate`, which came with ABI 3: before it its ruleset can't be made.
+const RIGHTS_OF_3: &str = "\
+{\"op\":\"start\",\"pid\":10,\"nnp\":true}
+{\"op\":\"create\",\"pid\":10,\"rs\":3,\"fs\":[\"read_file\",\"truncate\"]}
+{\"op\":\"restrict\",\"pid\":10,\"rs\":3}
+{\"op\":\"truncate\",\"pid\":10,\"path\":\"/a/f\"}
+{\"op\":\"exit\",\"pid\":10}
+";
+
+const DIFFERING_EXPLAINED: &str = "\
+2 10 create 1-2 refused EINVAL - 3-4 allowed
+    abi 1:
+    ABI 1 does not know truncate
+    abi 2:
+    ABI 2 does not know truncate
+3 10 restrict 1-2 refused EBADF - 3-4 allowed
+    abi 1-2:
+    ruleset 3 is not held
+4 10 truncate 1-2 allowed 3-4 refused EACCES 1
+    abi 3-4:
+    layer 1 (line 3): truncate on /a/f
+total 5 abi 1 allowed 3 refused 2 moot 0
+total 5 abi 2 allowed 3 refused 2 moot 0
+total 5 abi 3 allowed 4 refused 1 moot 0
+total 5 abi 4 allowed 4 refused 1 moot 0
+";
+
+const REFUSED_AT_BEST_EFFORT: &str = "\
+4 10 truncate 2 allowed 3 refused EACCES 1
+total 5 abi 2 allowed 5 refused 0 moot 0
+total 5 abi 3 allowed 4 refused 1 moot 0
+";
+
+#[test]
+fn a_part_of_the_report_is_shown(rt: HostRuntime) -> Result<(), Fail> {
+    let cases: [(&[&str], &str, &str); 3] = [
+        (
+            ["landaudit", "--abi", "4", "t", "r", "--refused"].as_slice(),
+            TRACE,
+            REFUSED_ALONE,
+        ),
+        (
+            [
+                "landaudit",
+                "--abi",
+                "1-4",
+                "t",
+                "r",
+                "--differs",
+                "--explain",
+            ]
+            .as_slice(),
+            RIGHTS_OF_3,
+            DIFFERING_EXPLAINED,
+        ),
+        (
+            [
+                "landaudit",
+                "--abi",
+                "2-3",
+                "t",
+                "r",
+                "--best-effort",
+                "--refused",
+            ]
+            .as_slice(),
+            RIGHTS_OF_3,
+            REFUSED_AT_BEST_EFFORT,
+        ),
+    ];
+    for (words, trace, report) in cases {
+        let files = [("t", TREE.as_bytes()), ("r", trace.as_bytes())];
+        let ended = run(&rt, words, files.as_slice())?;
+        assert_eq!(rt; ended.out.as_slice(), report.as_bytes());
+        assert_eq!(rt; ended.status, 1);
+        assert!(rt; ended.err.is_empty());
+    }
+    Ok(())
+}
