@@ -10,19 +10,25 @@ use Rattle.ll_tree.specs.declared.place.NodeId.{NodeId}
 use Rattle.ll_tree.specs.declared.place.Place.TheVariants as places
 use Rattle.ll_tree.specs.Paths.{Path, path_of, front}
 use Rattle.ll_tree.specs.PathTexts.{text_of}
-use Rattle.ll_tree.specs.Trees.{Entry, IsNode, position_of, node_at, gap_in, place_or_gap, place_of, place}
+use Rattle.ll_tree.specs.Trees.{Entry, IsNode, path_at, position_of, node_at, gap_in, place_or_gap, place_of, place}
+use Rattle.ll_tree.specs.TreeFacts.{IsTree}
 use Rattle.ll_tree.specs.Kept.{number_of, entries_of, IsSound}
 use Rattle.ll_tree.proofs.PathLaws.{text_of-path_of, is_path-path_of}
 use Rattle.ll_tree.proofs.Positions.{at_position}
-use Rattle.ll_tree.proofs.Standing.{node}
+use Rattle.ll_tree.proofs.Standing.{node, position_is}
 
 -- what the map has at the text of a path is the path's node
-pub found_is : {A : Type 0} (objects : List Object) (numbers : List (String A × ℕ)) (value : List Entry) (text : List ℕ) (path : Path) (found : Option ℕ) → IsSound objects numbers → entries_of objects numbers ≡ value → path_of text ≡ Some path → found ≡ number_of numbers text → option_map node found ≡ node_at value path
+pub found_is : {A : Type 0} (objects : List Object) (numbers : List (String A × ℕ)) (value : List Entry) (text : List ℕ) (path : Path) (found : Option ℕ) → IsSound objects numbers → entries_of objects ≡ value → path_of text ≡ Some path → found ≡ number_of numbers text → option_map node found ≡ node_at value path
 unfolding node_at
 found_is objects numbers value text path found sound is read got =
     let same : text_of path ≡ text = text_of-path_of text path read in
     let there : found ≡ position_of path value = got ∙ ap (number_of numbers) (sym same) ∙ sound.found path (is_path-path_of text path read) ∙ ap (position_of path) is in
     ap (option_map node) there
+
+-- a node that has the path of a text is the path's node
+pub guessed_is : (tree : List Entry) (path : Path) (here : NodeId) → IsTree tree → IsNode tree here → path_at tree here ≡ path → Some here ≡ node_at tree path
+unfolding node_at path_at
+guessed_is tree path here listed within is = sym (ap (option_map node) (ap (λ p. position_of p tree) (sym is) ∙ position_is tree here.0 listed within))
 
 -- a node that is found is of the tree
 pub node_at-IsNode : (tree : List Entry) (path : Path) (found : Option NodeId) → found ≡ node_at tree path → IfSome found (IsNode tree)

@@ -1,16 +1,13 @@
 -- What is kept stays sound when an object is put at the end.
-use Rattle.std.proofs.Common.{◌≡◌, ℕ, ◌≤◌, ◌<◌, ◌+◌, ◌⊎◌, ◌∷◌, [], ◌++◌, List, length, true, false, Option, Some, None, cond, eqb, sym, ap, ◌∙◌, subst, inl, inr, ⊎_elim, arith, get_or, zero-add}
+use Rattle.std.proofs.Common.{◌≡◌, ℕ, ◌≤◌, ◌<◌, ◌+◌, ◌⊎◌, ◌∷◌, [], ◌++◌, List, length, true, Option, Some, cond, sym, ap, ◌∙◌, subst, inl, inr, ⊎_elim, arith, get_or}
 use Rattle.std.specs.Prelude.{unwrap_or}
-use Rattle.std.specs.List.{find}
-use Rattle.std.specs.Map.{lookup}
-use Rattle.std.specs.BTreeMap.{BTreeMap, insert_entry, is_at, UpdatesBy}
+use Rattle.std.specs.BTreeMap.{BTreeMap, UpdatesBy}
 use Rattle.std.specs.Cmp.Lexicographic.{slice_cmp}
 use Rattle.std.specs.Ordering.{nat_cmp}
 use Rattle.std.specs.Str.{bytes_eq}
 use Rattle.std.specs.String.{string_bytes, string_cmp}
 use Rattle.std.specs.declared.string.String.{String}
 use Rattle.std.proofs.lemmas.Bool.{cases_lt}
-use Rattle.std.proofs.lemmas.Bool.Decides.{nat_tests}
 use Rattle.std.proofs.lemmas.List.{length_push, get_or_append_left, get_or_push}
 use Rattle.std.proofs.lemmas.Map.Text.{btree_map_updates_text}
 use Rattle.ll_tree.specs.declared.place.NodeId.{NodeId}
@@ -20,84 +17,52 @@ use Rattle.ll_tree.specs.Paths.{Path, path_eq, path_of}
 use Rattle.ll_tree.specs.PathTexts.{is_path, text_of}
 use Rattle.ll_tree.specs.Trees.{Entry, position_of, parent_at, place}
 use Rattle.ll_tree.specs.TreeFacts.{named, IsTree, depth_at}
-use Rattle.ll_tree.specs.Kept.{path_of_key, number_of, path_numbered, entries_from, entries_of, IsSound}
+use Rattle.ll_tree.specs.Kept.{entry_of, number_of, entries_of, IsSound}
 use Rattle.ll_tree.proofs.PathLaws.{text_of-path_of, bytes_eq-text_of}
 use Rattle.ll_tree.proofs.Positions.{position_of-push}
 use Rattle.ll_tree.proofs.Standing.{node}
-use Rattle.ll_tree.proofs.Listing.{entry_of, length-entries_of, entries_from-push, entries_from-agree}
-use Rattle.ll_tree.proofs.Numbered.{find-other, find-new}
+use Rattle.ll_tree.proofs.Listing.{length-entries_of, entries_of-push}
 use Rattle.ll_tree.proofs.Growing.{Fits, gap_fits, grown, parent_at-old, parent_at-new, depth_at-old, depth_at-new}
 
 module _ {A : Type 0} (objects : List Object) (numbers later : BTreeMap (String A) ℕ) (key : String A) (object : Object) (up : NodeId)
     (sound : IsSound objects numbers.entries)
     (room : length objects < 65536)
-    (gap : place (entries_of objects numbers.entries) (string_bytes key) ≡ places.Gap up)
+    (gap : place (entries_of objects) (string_bytes object.text) ≡ places.Gap up)
+    (same_text : string_bytes key ≡ string_bytes object.text)
     (parent : object.parent ≡ Some up)
-    (deeper : object.depth ≡ depth_at (entries_of objects numbers.entries) up + 1)
-    (entries : later.entries ≡ insert_entry string_cmp numbers.entries key (length objects))
+    (deeper : object.depth ≡ depth_at (entries_of objects) up + 1)
     (updates : UpdatesBy string_cmp (λ k. slice_cmp nat_cmp (string_bytes key) (string_bytes k)) numbers later (Some (length objects)))
   where
     old : List Entry
-    old = entries_of objects numbers.entries
+    old = entries_of objects
 
     path : Path
-    path = (gap_fits (entries_of objects numbers.entries) (string_bytes key) object.kind up gap).0
+    path = (gap_fits (entries_of objects) (string_bytes object.text) object.kind up gap).0
 
-    read : path_of (string_bytes key) ≡ Some path
+    read : path_of (string_bytes object.text) ≡ Some path
     unfolding path
-    read = (gap_fits (entries_of objects numbers.entries) (string_bytes key) object.kind up gap).1
+    read = (gap_fits (entries_of objects) (string_bytes object.text) object.kind up gap).1
 
     new : Entry
     new = record { path = path; kind = object.kind }
 
     fits : Fits old new up
     unfolding path old new
-    fits = (gap_fits (entries_of objects numbers.entries) (string_bytes key) object.kind up gap).2
+    fits = (gap_fits (entries_of objects) (string_bytes object.text) object.kind up gap).2
 
     text_is : text_of path ≡ string_bytes key
-    text_is = text_of-path_of (string_bytes key) path read
-
-    -- no key is the new one
-    absent : lookup (is_at (string_cmp key)) numbers.entries ≡ None
-    unfolding old new
-    absent = ap (number_of numbers.entries) (sym text_is) ∙ sound.found path fits.is_path ∙ fits.fresh
-
-    other_number : (number : ℕ) → number < length objects → eqb (length objects) number ≡ false
-    other_number number below = grind (arith, nat_tests)
-
-    path_kept : (number : ℕ) → number < length objects → path_numbered later.entries number ≡ path_numbered numbers.entries number
-    unfolding path_numbered
-    path_kept number below =
-        ap (λ es. path_of_key (find (λ e. eqb e.1 number) es)) entries
-        ∙ ap path_of_key (find-other string_cmp key (length objects) number numbers.entries absent (other_number number below))
-
-    path_new : path_numbered later.entries (length objects) ≡ path
-    unfolding path_numbered path_of_key
-    path_new =
-        ap (λ es. path_of_key (find (λ e. eqb e.1 (length objects)) es)) entries
-        ∙ ap path_of_key (find-new string_cmp key (length objects) numbers.entries absent (sound.unused (length objects) (omega arith)))
-        ∙ ap (λ (p : Option Path). unwrap_or p []) read
+    text_is = text_of-path_of (string_bytes object.text) path read ∙ sym same_text
 
     -- the entries are one more
-    listed_push : entries_of (objects ++ object ∷ []) later.entries ≡ old ++ new ∷ []
-    unfolding entries_of old new
+    listed_push : entries_of (objects ++ object ∷ []) ≡ old ++ new ∷ []
+    unfolding entry_of old new
     listed_push =
-        let kept : entries_from (path_numbered later.entries) 0 objects ≡ entries_from (path_numbered numbers.entries) 0 objects =
-        entries_from-agree (path_numbered later.entries) (path_numbered numbers.entries) 0 objects (λ n below. path_kept n (omega arith)) in
-        let last : path_numbered later.entries (0 + length objects) ≡ path = rw zero-add path_new in
-        entries_from-push (path_numbered later.entries) 0 objects object
-        ∙ ap (λ es. es ++ entry_of (path_numbered later.entries) (0 + length objects) object ∷ []) kept
-        ∙ ap (λ (p : Path). entries_from (path_numbered numbers.entries) 0 objects ++ (let e : Entry = record { path = p; kind = object.kind } in e) ∷ []) last
-
-    -- what the caller names
-    pub entries_push : entries_of (objects ++ object ∷ []) later.entries ≡ entries_of objects numbers.entries ++ named (string_bytes key) object.kind ∷ []
-    unfolding old new
-    entries_push =
-        listed_push ∙ ap (λ (p : Option Path). entries_of objects numbers.entries ++ (let e : Entry = record { path = unwrap_or p []; kind = object.kind } in e) ∷ []) (sym read)
+        entries_of-push objects object
+        ∙ ap (λ (p : Option Path). entries_of objects ++ (let e : Entry = record { path = unwrap_or p []; kind = object.kind } in e) ∷ []) read
 
     old_size : length old ≡ length objects
     unfolding old
-    old_size = length-entries_of objects numbers.entries
+    old_size = length-entries_of objects
 
     found_later : (other : Path) → is_path other ≡ true → number_of later.entries (text_of other) ≡ position_of other (old ++ new ∷ [])
     unfolding old new
@@ -140,12 +105,6 @@ module _ {A : Type 0} (objects : List Object) (numbers later : BTreeMap (String 
         ap (λ (o : Object). o.depth) last.1 ∙ deeper ∙ sym (depth_at-new old new up sound.listed fits) ∙ ap (λ n. depth_at (old ++ new ∷ []) (node n)) (old_size ∙ sym last.0))
         (old_or_new number other within)
 
-    unused_later : (number : ℕ) → length (objects ++ object ∷ []) ≤ number → find (λ e. eqb e.1 number) later.entries ≡ None
-    unused_later number beyond =
-        let size = length_push objects object in
-        let apart : eqb (length objects) number ≡ false = let lt : length objects < number = omega arith in grind (arith, nat_tests) in
-        ap (find (λ e. eqb e.1 number)) entries ∙ find-other string_cmp key (length objects) number numbers.entries absent apart ∙ sound.unused number (omega arith)
-
     pub sound_push : IsSound (objects ++ object ∷ []) later.entries
     unfolding old
     sound_push =
@@ -154,33 +113,30 @@ module _ {A : Type 0} (objects : List Object) (numbers later : BTreeMap (String 
           listed = subst IsTree (sym listed_push) (grown old new up sound.listed fits);
           small = omega arith;
           found = λ other shape. found_later other shape ∙ ap (position_of other) (sym listed_push);
-          unused = unused_later;
           parents = λ number other within. parents_later number other within ∙ ap (λ es. parent_at es (node number)) (sym listed_push);
           depths = λ number other within. depths_later number other within ∙ ap (λ es. depth_at es (node number)) (sym listed_push);
         }
 
 -- what a caller knows of a call that puts an object at the end
 pub pushed : {A : Type 0} (objects after : List Object) (numbers later : BTreeMap (String A) ℕ) (key : String A) (object : Object) (up : NodeId) (value : List Entry) (text : List ℕ) (number : ℕ)
-    → IsSound objects numbers.entries → entries_of objects numbers.entries ≡ value → length value < 65536 → place value text ≡ places.Gap up → string_bytes key ≡ text → number ≡ length value
+    → IsSound objects numbers.entries → entries_of objects ≡ value → length value < 65536 → place value text ≡ places.Gap up → string_bytes key ≡ text → string_bytes object.text ≡ text → number ≡ length value
     → object.parent ≡ Some up → object.depth ≡ depth_at value up + 1
-    → later.entries ≡ insert_entry string_cmp numbers.entries key number
     → UpdatesBy string_cmp (λ k. slice_cmp nat_cmp (string_bytes key) (string_bytes k)) numbers later (Some number)
     → after ≡ objects ++ object ∷ []
-    → IsSound after later.entries × (entries_of after later.entries ≡ value ++ named text object.kind ∷ [])
-pushed objects after numbers later key object up value text number sound view room gap key_is number_is parent deeper entries updates after_is =
-    let size : length value ≡ length objects = ap length (sym view) ∙ length-entries_of objects numbers.entries in
+    → IsSound after later.entries × (entries_of after ≡ value ++ named text object.kind ∷ [])
+unfolding entry_of
+pushed objects after numbers later key object up value text number sound view room gap key_is text_is number_is parent deeper updates after_is =
+    let size : length value ≡ length objects = ap length (sym view) ∙ length-entries_of objects in
     let small : length objects < 65536 = omega arith in
-    let gap_here : place (entries_of objects numbers.entries) (string_bytes key) ≡ places.Gap up = rw (view, key_is) gap in
+    let gap_here : place (entries_of objects) (string_bytes object.text) ≡ places.Gap up = rw (view, text_is) gap in
     let count : number ≡ length objects = number_is ∙ size in
-    let deeper_here : object.depth ≡ depth_at (entries_of objects numbers.entries) up + 1 = deeper ∙ ap (λ es. depth_at es up + 1) (sym view) in
-    let entries_here = entries ∙ ap (insert_entry string_cmp numbers.entries key) count in
+    let deeper_here : object.depth ≡ depth_at (entries_of objects) up + 1 = deeper ∙ ap (λ es. depth_at es up + 1) (sym view) in
     let updates_here = subst (λ (n : ℕ). UpdatesBy string_cmp (λ k. slice_cmp nat_cmp (string_bytes key) (string_bytes k)) numbers later (Some n)) count updates in (
-      subst (λ os. IsSound os later.entries) (sym after_is) (sound_push objects numbers later key object up sound small gap_here parent deeper_here entries_here updates_here),
-      ap (λ os. entries_of os later.entries) after_is ∙ entries_push objects numbers later key object up sound small gap_here parent deeper_here entries_here updates_here
-          ∙ ap (λ es. es ++ named (string_bytes key) object.kind ∷ []) view ∙ ap (λ t. value ++ named t object.kind ∷ []) key_is,
+      subst (λ os. IsSound os later.entries) (sym after_is) (sound_push objects numbers later key object up sound small gap_here (key_is ∙ sym text_is) parent deeper_here updates_here),
+      ap entries_of after_is ∙ entries_of-push objects object ∙ ap (λ es. es ++ named (string_bytes object.text) object.kind ∷ []) view ∙ ap (λ t. value ++ named t object.kind ∷ []) text_is,
     )
 
 -- nothing was put
-pub unchanged : {A : Type 0} (objects after : List Object) (numbers later : List (String A × ℕ)) → after ≡ objects → later ≡ numbers → IsSound objects numbers → IsSound after later × (entries_of after later ≡ entries_of objects numbers)
+pub unchanged : {A : Type 0} (objects after : List Object) (numbers later : List (String A × ℕ)) → after ≡ objects → later ≡ numbers → IsSound objects numbers → IsSound after later × (entries_of after ≡ entries_of objects)
 unchanged objects after numbers later after_is later_is sound =
-    (subst (λ os. IsSound os later) (sym after_is) (subst (IsSound objects) (sym later_is) sound), ap (λ os. entries_of os later) after_is ∙ ap (entries_of objects) later_is)
+    (subst (λ os. IsSound os later) (sym after_is) (subst (IsSound objects) (sym later_is) sound), ap entries_of after_is)

@@ -6,7 +6,6 @@ pub mod Listing
 pub mod Standing
 pub mod Objects
 pub mod Fronts
-pub mod Numbered
 pub mod Finding
 pub mod Climbing
 pub mod Growing

@@ -1,13 +1,11 @@
 -- The tree of the root alone.
-use Rattle.std.proofs.Common.{◌≡◌, ℕ, ◌≤◌, ◌<◌, ◌∷◌, [], List, true, false, Some, None, cond, eqb, refl, sym, ap, ◌∙◌, subst, arith, get_or}
+use Rattle.std.proofs.Common.{◌≡◌, ℕ, ◌<◌, ◌∷◌, [], List, true, Some, None, cond, refl, sym, ap, ◌∙◌, subst, arith, get_or}
 use Rattle.std.specs.Prelude.{unwrap_or}
-use Rattle.std.specs.List.{find}
 use Rattle.std.specs.Cmp.Lexicographic.{slice_cmp}
 use Rattle.std.specs.Ordering.{nat_cmp, is_eq}
 use Rattle.std.specs.Str.{bytes_eq}
 use Rattle.std.specs.String.{string_bytes}
 use Rattle.std.specs.declared.string.String.{String}
-use Rattle.std.proofs.lemmas.Bool.Decides.{nat_tests}
 use Rattle.std.proofs.lemmas.Map.Text.{is_eq-slice_cmp}
 use Rattle.ll_rights.specs.declared.kind.Kind.{Kind}
 use Rattle.ll_rights.specs.declared.kind.Kind.TheVariants.{Dir}
@@ -16,7 +14,7 @@ use Rattle.ll_tree.specs.Paths.{Path, path_eq, path_of, after_slash, names_in}
 use Rattle.ll_tree.specs.PathTexts.{is_path, text_of}
 use Rattle.ll_tree.specs.Trees.{Entry, root, path_at, position_of, parent_of, parent_at}
 use Rattle.ll_tree.specs.TreeFacts.{IsTree, depth_at}
-use Rattle.ll_tree.specs.Kept.{path_of_key, path_numbered, number_of, entries_from, entries_of, IsSound}
+use Rattle.ll_tree.specs.Kept.{entry_of, number_of, entries_of, IsSound}
 use Rattle.ll_tree.proofs.PathLaws.{bytes_eq-text_of}
 use Rattle.ll_tree.proofs.Standing.{node}
 
@@ -34,9 +32,9 @@ unfolding path_eq
 path_eq-root [] = refl
 path_eq-root (name ∷ names) = refl
 
-module _ {A : Type 0} (key : String A) (object : Object) (text : string_bytes key ≡ 47 ∷ []) (kind : object.kind ≡ Dir) (parent : object.parent ≡ None) (depth : object.depth ≡ 0) where
-  pub entries_root : entries_of (object ∷ []) ((key, 0) ∷ []) ≡ root ∷ []
-  unfolding entries_of entries_from path_numbered path_of_key path_of after_slash names_in
+module _ {A : Type 0} (key : String A) (object : Object) (key_text : string_bytes key ≡ 47 ∷ []) (text : string_bytes object.text ≡ 47 ∷ []) (kind : object.kind ≡ Dir) (parent : object.parent ≡ None) (depth : object.depth ≡ 0) where
+  pub entries_root : entries_of (object ∷ []) ≡ root ∷ []
+  unfolding entries_of entry_of path_of after_slash names_in
   entries_root =
       ap (λ t. (let e : Entry = record { path = unwrap_or (path_of t) []; kind = object.kind } in e) ∷ []) text
       ∙ ap (λ (k : Kind). (let e : Entry = record { path = []; kind = k } in e) ∷ []) kind
@@ -45,11 +43,8 @@ module _ {A : Type 0} (key : String A) (object : Object) (text : string_bytes ke
   unfolding position_of text_of is_path
   found_root path shape =
       let tests : is_eq (slice_cmp nat_cmp (text_of path) (string_bytes key)) ≡ path_eq [] path =
-      is_eq-slice_cmp (text_of path) (string_bytes key) ∙ ap (bytes_eq (text_of path)) text ∙ bytes_eq-text_of path [] shape refl ∙ path_eq-root path in
+      is_eq-slice_cmp (text_of path) (string_bytes key) ∙ ap (bytes_eq (text_of path)) key_text ∙ bytes_eq-text_of path [] shape refl ∙ path_eq-root path in
       ap (λ b. cond b (Some 0) None) tests
-
-  unused_root : (number : ℕ) → 1 ≤ number → find (λ (e : String A × ℕ). eqb e.1 number) ((key, 0) ∷ []) ≡ None
-  unused_root number beyond = let apart : eqb 0 number ≡ false = grind (arith, nat_tests) in rw apart refl
 
   parents_root : (number : ℕ) (other : Object) → number < 1 → (get_or (object ∷ []) number other).parent ≡ parent_at (root ∷ []) (node number)
   unfolding parent_at parent_of path_at
@@ -68,14 +63,13 @@ module _ {A : Type 0} (key : String A) (object : Object) (text : string_bytes ke
     listed = subst IsTree (sym entries_root) root_tree;
     small = omega arith;
     found = λ path shape. found_root path shape ∙ ap (position_of path) (sym entries_root);
-    unused = unused_root;
     parents = λ number other within. parents_root number other within ∙ ap (λ es. parent_at es (node number)) (sym entries_root);
     depths = λ number other within. depths_root number other within ∙ ap (λ es. depth_at es (node number)) (sym entries_root);
   }
 
 -- what is made of the root's key and object
-pub kept_root : {A : Type 0} (key : String A) (object : Object) (objects : List Object) (numbers : List (String A × ℕ)) → string_bytes key ≡ 47 ∷ [] → object.kind ≡ Dir → object.parent ≡ None → object.depth ≡ 0 → objects ≡ object ∷ [] → numbers ≡ (key, 0) ∷ []
-    → IsSound objects numbers × (entries_of objects numbers ≡ root ∷ [])
-kept_root {A} key object objects numbers text kind parent depth objects_is numbers_is =
-    let Kept : List Object → List (String A × ℕ) → Type 0 = λ os ns. IsSound os ns × (entries_of os ns ≡ root ∷ []) in
-    subst (λ os. Kept os numbers) (sym objects_is) (subst (Kept (object ∷ [])) (sym numbers_is) (sound_root key object text kind parent depth, entries_root key object text kind parent depth))
+pub kept_root : {A : Type 0} (key : String A) (object : Object) (objects : List Object) (numbers : List (String A × ℕ)) → string_bytes key ≡ 47 ∷ [] → string_bytes object.text ≡ 47 ∷ [] → object.kind ≡ Dir → object.parent ≡ None → object.depth ≡ 0 → objects ≡ object ∷ [] → numbers ≡ (key, 0) ∷ []
+    → IsSound objects numbers × (entries_of objects ≡ root ∷ [])
+kept_root {A} key object objects numbers key_text text kind parent depth objects_is numbers_is =
+    let Kept : List Object → List (String A × ℕ) → Type 0 = λ os ns. IsSound os ns × (entries_of os ≡ root ∷ []) in
+    subst (λ os. Kept os numbers) (sym objects_is) (subst (Kept (object ∷ [])) (sym numbers_is) (sound_root key object key_text text kind parent depth, entries_root key object key_text text kind parent depth))

@@ -1,6 +1,7 @@
 //! The listed file tree: paths and their text, the nodes of a tree, and the reading of a tree file.
 #![tactic(auto)]
 
+mod hints;
 pub mod laws;
 mod object;
 mod path;

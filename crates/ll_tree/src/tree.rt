@@ -13,6 +13,7 @@ ghost use Rattle.ll_tree.specs.Paths.{Path, path_of, is_prefix};
 ghost use Rattle.ll_tree.specs.Trees.{Entry, root, IsNode, path_at, kind_at, parent_at, node_at, gap_in, place};
 ghost use Rattle.ll_tree.specs.TreeFacts.{named, IsTree, IsPlace, StandsIn, depth_at};
 
+use crate::hints::Hints;
 use crate::object::object_of;
 use crate::path::{front_text, path_ok};
 use crate::place::{NodeId, Place};
@@ -27,9 +28,10 @@ use std::marker::Model;
 /// The most nodes that a tree has, the root counted.
 const NODES: u32 = 65_536;
 
-/// What is kept of an object beside its path.
+/// What is kept of an object.
 #[derive(Drop)]
 struct Object {
+    text: String,
     kind: Kind,
     parent: Option<NodeId>,
     depth: u32,
@@ -41,6 +43,7 @@ struct Object {
 pub struct Tree {
     objects: Vec<Object>,
     numbers: BTreeMap<String, u32>,
+    hints: Hints,
 }
 
 impl Model for Tree {
@@ -51,7 +54,7 @@ impl Model for Tree {
 
     ghost use Rattle.ll_tree.specs.Kept.{entries_of, IsSound};
 
-    ghost view = { λ tree. entries_of tree.objects.items tree.numbers.entries };
+    ghost view = { λ tree. entries_of tree.objects.items };
 
     ghost invariant = { λ tree. IsSound tree.objects.items tree.numbers.entries };
 }
@@ -139,16 +142,22 @@ impl Tree {
     fn root_only(alloc: Global) -> Result<Tree, AllocError>
         ensures { IfOk result (λ tree. tree ≡ root ∷ []) }
     {
+        let hints = Hints::new(alloc)?;
         let mut numbers = BTreeMap::new(alloc);
         numbers.insert(String::from_str(alloc, "/")?, 0)?;
         let root = Object {
+            text: String::from_str(alloc, "/")?,
             kind: Kind::Dir,
             parent: None,
             depth: 0,
         };
         let mut objects = Vec::with_capacity(alloc, 1)?;
         objects.push(root)?;
-        Ok(Tree { objects, numbers })
+        Ok(Tree {
+            objects,
+            numbers,
+            hints,
+        })
     }
 
     /// Puts an object at the end, where its path names a gap in the directory `parent`.
@@ -167,9 +176,12 @@ impl Tree {
         let depth = self.depth(parent) + 1;
         let number = self.nodes();
         let key = String::from_str(alloc, text)?;
+        let kept = String::from_str(alloc, text)?;
         self.objects.reserve(1)?;
         self.numbers.insert(key, number)?;
+        self.hints.note(text, number);
         self.objects.push_reserved(Object {
+            text: kept,
             kind,
             parent: Some(parent),
             depth,
@@ -281,7 +293,25 @@ impl Tree {
         ensures node { IsTrue (is_some (path_of text.now)) → IfSome result (IsNode self.now) }
         ensures tree { IsTree self.now }
     {
-        self.numbers.get(text).map(|number| NodeId(*number))
+        match self.hinted(text) {
+            Some(node) => Some(node),
+            None => self.numbers.get(text).map(|number| NodeId(*number)),
+        }
+    }
+
+    /// The node that is guessed for a text, where the text is that node's.
+    fn hinted(&self, text: &str) -> Option<NodeId>
+        ensures { IfSome result (λ node. IsNode self.now node
+            × ((path : Path) → path_of text.now ≡ Some path → path_at self.now node ≡ path)) }
+    {
+        let number = self.hints.guess(text);
+        let Some(object) = self.objects.get(number as usize) else {
+            return None;
+        };
+        if object.text.as_str() != text {
+            return None;
+        }
+        Some(NodeId(number))
     }
 
     /// The gap in a directory.

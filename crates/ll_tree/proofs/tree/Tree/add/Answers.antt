@@ -27,11 +27,11 @@ returns-in_err-insert-clause-err c =
     ((unchanged c.self.inside.objects.items c.reserve.new.self.items c.self.inside.numbers.entries c.insert.new.self.entries c.reserve.ensures.items c.in_err-insert.ensures.err c.self.invariant).1 ∙ c.self.view_is)
 
 -- what was put
-both_facts : (c : After-push_reserved) → IsSound c.push_reserved.new.self.items c.insert.new.self.entries × (entries_of c.push_reserved.new.self.items c.insert.new.self.entries ≡ c.args.self.now ++ named c.args.text.now c.args.kind ∷ [])
+both_facts : (c : After-push_reserved) → IsSound c.push_reserved.new.self.items c.insert.new.self.entries × (entries_of c.push_reserved.new.self.items ≡ c.args.self.now ++ named c.args.text.now c.args.kind ∷ [])
 both_facts c =
     pushed c.self.inside.objects.items c.push_reserved.new.self.items c.self.inside.numbers c.insert.new.self c.in_ok-key.key _ c.args.parent c.args.self.now c.args.text.now c.nodes-number.result
-    c.self.invariant c.self.view_is c.requires.room c.requires.gap c.in_ok-key.ensures.ok c.nodes-number.ensures.count refl (ap (λ n. n + 1) c.depth-depth.ensures)
-    c.in_ok-insert.ensures.entries c.in_ok-insert.ensures.updates (rw c.reserve.ensures.items at c.push_reserved.ensures.items)
+    c.self.invariant c.self.view_is c.requires.room c.requires.gap c.in_ok-key.ensures.ok c.in_ok-kept.ensures.ok c.nodes-number.ensures.count refl (ap (λ n. n + 1) c.depth-depth.ensures)
+    c.in_ok-insert.ensures.updates (rw c.reserve.ensures.items at c.push_reserved.ensures.items)
 
 pub invariant_of-self-2 : goal.invariant_of-self-2
 invariant_of-self-2 c = (both_facts c).0

@@ -4,13 +4,13 @@ use Rattle.ll_tree.proofs.Objects.{within_is, kind_is, parent_is, depth_is}
 use Rattle.ll_tree.proofs.tree.Tree.object.Goals as goal
 
 pub index-requires : goal.index-requires
-index-requires c = omega (arith, within_is c.self.inside.objects.items c.self.inside.numbers.entries c.args.self.now c.self.view_is c.args.node.0 c.requires, c.self.inside.objects.ok.0)
+index-requires c = omega (arith, within_is c.self.inside.objects.items c.args.self.now c.self.view_is c.args.node.0 c.requires, c.self.inside.objects.ok.0)
 
 pub returns-clause-kind : goal.returns-clause-kind
-returns-clause-kind c = kind_is c.self.inside.objects.items c.self.inside.numbers.entries c.args.self.now c.self.view_is c.args.node c.index.result.now c.requires c.index.ensures
+returns-clause-kind c = kind_is c.self.inside.objects.items c.args.self.now c.self.view_is c.args.node c.index.result.now c.requires c.index.ensures
 
 pub returns-clause-parent : goal.returns-clause-parent
-returns-clause-parent c = parent_is c.self.inside.objects.items c.self.inside.numbers.entries c.args.self.now c.self.view_is c.args.node c.index.result.now c.requires c.index.ensures c.self.invariant
+returns-clause-parent c = parent_is c.self.inside.objects.items c.args.self.now c.self.view_is c.args.node c.index.result.now c.requires c.index.ensures _ c.self.invariant
 
 pub returns-clause-depth : goal.returns-clause-depth
-returns-clause-depth c = depth_is c.self.inside.objects.items c.self.inside.numbers.entries c.args.self.now c.self.view_is c.args.node c.index.result.now c.requires c.index.ensures c.self.invariant
+returns-clause-depth c = depth_is c.self.inside.objects.items c.args.self.now c.self.view_is c.args.node c.index.result.now c.requires c.index.ensures _ c.self.invariant

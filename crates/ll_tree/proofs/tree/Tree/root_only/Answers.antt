@@ -7,11 +7,11 @@ use Rattle.ll_tree.proofs.tree.Tree.root_only.Goals as goal
 use Rattle.ll_tree.proofs.tree.Tree.root_only.Goals.{In_ok-push}
 
 -- what is kept, and that it is the root
-both_facts : (c : In_ok-push) → IsSound c.push.new.self.items c.insert.new.self.entries × (entries_of c.push.new.self.items c.insert.new.self.entries ≡ root ∷ [])
+both_facts : (c : In_ok-push) → IsSound c.push.new.self.items c.insert.new.self.entries × (entries_of c.push.new.self.items ≡ root ∷ [])
 both_facts c =
     let objects = rw c.in_ok-objects.ensures.items at c.in_ok-push.ensures.items in
     let numbers = rw c.new-numbers.ensures.empty at c.in_ok-insert.ensures.entries in
-    kept_root c.in_ok-from_str.field-0 _ c.push.new.self.items c.insert.new.self.entries c.in_ok-from_str.ensures.ok refl refl refl objects numbers
+    kept_root c.in_ok-from_str.field-0 _ c.push.new.self.items c.insert.new.self.entries c.in_ok-from_str.ensures.ok c.in_ok-from_str-2.ensures.ok refl refl refl objects numbers
 
 pub invariant_of-result : goal.invariant_of-result
 invariant_of-result c = (both_facts c).0
