@@ -10,7 +10,7 @@ pub mod SameWords
 pub mod Beginnings
 pub mod Explaining
 pub mod BlocksLeft
-pub mod KeptTexts
 pub mod SpansLeft
 pub mod RowsLeft
 pub mod VersionByVersion
+pub mod SaidAlike

@@ -3,6 +3,7 @@ pub mod FaultLines
 pub mod Files
 pub mod Report
 pub mod Lines
+pub mod Alike
 pub mod Audits
 pub mod Causes
 pub mod Fronts

@@ -18,7 +18,7 @@ use ll_trails::Trails;
 use std::alloc::Global;
 
 /// Whether an answer's line is left out.
-fn is_hidden(shown: Shown, answer: &Answer) -> bool
+pub(crate) fn is_hidden(shown: Shown, answer: &Answer) -> bool
     ensures { result ≡ is_left_out shown (verdict_of answer.now) }
 {
     shown.refused_alone && !is_refused(answer) || shown.differing_alone

@@ -30,18 +30,20 @@ impl Model for Finding {
 }
 
 impl Finding {
-    /// What the answers to the records of a case are, with their explanations, where these are shown.
+    /// What the answers to the records of a case are, with their explanations, where these are shown. An explanation
+    /// shares the memory of a like one that was found under a newer version.
     pub(crate) fn of(
         alloc: Global,
         case: &Case,
         answers: Vec<Answer>,
         shown: Shown,
+        newer: Option<&Finding>,
     ) -> Result<Finding, NoMemory>
         requires { answers.items ≡ judged case.now.tree case.now.abi case.now.records }
         ensures { IfOk result (λ found. found ≡ found_under shown case.now.tree case.now.records case.now.abi) }
     {
         let explanations = if shown.explanations {
-            explanations_of(alloc, case, &answers)?
+            explanations_of(alloc, case, &answers, newer)?
         } else {
             Texts::new(alloc)
         };
@@ -77,15 +79,24 @@ impl Finding {
 }
 
 /// The explanations of the answers to all records of a case.
-fn explanations_of(alloc: Global, case: &Case, answers: &[Answer]) -> Result<Texts, NoMemory>
+fn explanations_of(
+    alloc: Global,
+    case: &Case,
+    answers: &[Answer],
+    newer: Option<&Finding>,
+) -> Result<Texts, NoMemory>
     requires { answers.now ≡ judged case.now.tree case.now.abi case.now.records }
     ensures { IfOk result (λ texts. texts
         ≡ map (text_at case.now.tree case.now.abi case.now.records) (range_with_len 0 (length case.now.records))) }
 {
+    let others = match newer {
+        Some(newer) => Some(&newer.explanations),
+        None => None,
+    };
     let mut texts = Texts::new(alloc);
     let mut trails = Trails::new(alloc);
     for (place, answer) in answers.iter().enumerate() {
-        texts = texts.with_explanation(alloc, case, &trails, place, *answer)?;
+        texts.push_explanation(alloc, case, &trails, place, *answer, others)?;
         trails.follow(alloc, case, place, *answer)?;
     }
     Ok(texts)

@@ -2,6 +2,7 @@
 #![tactic(auto)]
 
 mod abis;
+mod alike;
 mod auditing;
 mod blocks;
 mod command;

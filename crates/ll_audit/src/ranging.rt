@@ -62,7 +62,7 @@ impl Audited {
         } = self;
         let case = Case::new(alloc, tree, taken(trace, options.effort, abi), abi)?;
         let answers = answers_of(rt, alloc, &case, workers, cuts, gate)?;
-        let finding = Finding::of(alloc, &case, answers, options.shown)?;
+        let finding = Finding::of(alloc, &case, answers, options.shown, findings.first())?;
         let (tree, trace) = case.into_parts();
         Ok(Audited {
             tree,

@@ -2,16 +2,21 @@
 
 ghost use Rattle.std.specs.Prelude.{◌≡◌, ◌+◌, ◌++◌, ◌<◌, ◌^◌, IfOk, OnOk, count_by, length, map};
 ghost use Rattle.std.specs.List.{range_with_len};
+ghost use Rattle.ll_audit.specs.Alike.{IsSaid};
+ghost use Rattle.ll_audit.specs.Found.{answer_at};
 ghost use Rattle.ll_audit.specs.Shown.{behind_line};
 ghost use Rattle.ll_audit.specs.Spans.{versions_text};
 ghost use Rattle.ll_audit.specs.declared.spans.Form.TheVariants.{Explanations};
 ghost use Rattle.ll_audit.specs.Rows.{answers_said, explanations_said, is_refused_under_some, is_row_left_out, refused_under_some, row_text, rows_from, rows_text, told_of, total_under_text, totals_from};
 
+use crate::alike::{common_answer, common_explanation};
+use crate::blocks::is_hidden;
 use crate::found::Finding;
 use crate::names::op_name;
-use crate::report::{Report, Totals, is_refused, push_record, push_verdict};
+use crate::report::{Report, Totals, is_refused, push_line, push_record, push_verdict};
 use crate::shown::Shown;
-use crate::spans::{Form, agree, push_versions};
+use crate::spans::{Form, agree, push_alone, push_versions};
+use ll_process::Answer;
 use ll_trace::Record;
 use std::alloc::{AllocError, Global};
 
@@ -81,12 +86,38 @@ fn push_behind(
     if !shown.explanations {
         return Ok(());
     }
+    if let Some(explanation) = common_explanation(findings, place) {
+        return push_alone(text, Form::Explanations, explanation);
+    }
     let explanations = explanations_said(alloc, findings, place)?;
     push_versions(text, Form::Explanations, oldest, &explanations)
 }
 
-/// Adds what is shown of the record at a place, where the oldest version has this number.
-fn push_row(
+/// Adds what is shown of the record at a place, which all versions answer alike.
+fn push_common_row(
+    alloc: Global,
+    text: &mut Vec<u8>,
+    shown: Shown,
+    oldest: u64,
+    findings: &[Finding],
+    place: usize,
+    record: &Record,
+    answer: Answer,
+) -> Result<(), AllocError>
+    requires few { oldest + length findings.now < 2 ^ 64 }
+    requires common { IsSaid (λ found. answer_at found place) answer findings.now }
+    ensures { OnOk result (text.new.items ≡ text.old.items
+        ++ row_text shown oldest findings.now place (told_of «record».now)) }
+{
+    if is_hidden(shown, &answer) {
+        return Ok(());
+    }
+    push_line(text, record, &answer)?;
+    push_behind(alloc, text, shown, oldest, findings, place)
+}
+
+/// Adds what is shown of the record at a place, with the answers version by version.
+fn push_row_by_versions(
     alloc: Global,
     text: &mut Vec<u8>,
     shown: Shown,
@@ -107,6 +138,28 @@ fn push_row(
     push_versions(text, Form::Answers, oldest, &answers)?;
     text.push(b'\n')?;
     push_behind(alloc, text, shown, oldest, findings, place)
+}
+
+/// Adds what is shown of the record at a place, where the oldest version has this number.
+fn push_row(
+    alloc: Global,
+    text: &mut Vec<u8>,
+    shown: Shown,
+    oldest: u64,
+    findings: &[Finding],
+    place: usize,
+    record: &Record,
+) -> Result<(), AllocError>
+    requires { oldest + length findings.now < 2 ^ 64 }
+    ensures { OnOk result (text.new.items ≡ text.old.items
+        ++ row_text shown oldest findings.now place (told_of «record».now)) }
+{
+    match common_answer(findings, place) {
+        Some(answer) => push_common_row(
+            alloc, text, shown, oldest, findings, place, record, answer,
+        ),
+        None => push_row_by_versions(alloc, text, shown, oldest, findings, place, record),
+    }
 }
 
 /// Adds what is shown of all records.

@@ -102,7 +102,7 @@ fn push_spans(
 }
 
 /// Adds what all versions say.
-fn push_alone(text: &mut Vec<u8>, form: Form, said: &[u8]) -> Result<(), AllocError>
+pub(crate) fn push_alone(text: &mut Vec<u8>, form: Form, said: &[u8]) -> Result<(), AllocError>
     ensures { OnOk result (text.new.items ≡ text.old.items ++ alone_text form said.now) }
 {
     if let Form::Answers = form {

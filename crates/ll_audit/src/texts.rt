@@ -1,9 +1,9 @@
 //! The texts behind the lines of records.
 
-ghost use Rattle.std.specs.Prelude.{◌≡◌, ◌∷◌, ◌++◌, ◌-◌, ◌<◌, ◌≤◌, [], IfOk, OnOk, drop, length, slice_get, take, unwrap_or};
+ghost use Rattle.std.specs.Prelude.{◌≡◌, ◌∷◌, ◌++◌, ◌<◌, [], IfOk, OnOk, length, slice_get, unwrap_or};
 ghost use Rattle.ll_trails.specs.CaseTrails.{AreTrailsAt, IsAnswerAt};
 ghost use Rattle.ll_explain.specs.Explained.{text_at};
-ghost use Rattle.ll_audit.specs.Texts.{start_of};
+ghost use Rattle.ll_audit.specs.Texts.{text_in};
 
 use ll_explain::push_explanation;
 use ll_process::{Answer, Case};
@@ -11,34 +11,84 @@ use ll_rules::NoMemory;
 use ll_trails::Trails;
 use std::alloc::{AllocError, Global};
 use std::marker::Model;
+use std::sync::Arc;
 
-/// A list of texts, one behind the other in one piece of memory, with the place at which each of them ends.
+/// A text, which like ones share. One without a byte takes no memory.
+#[derive(Drop)]
+pub(crate) struct SharedText {
+    text: Option<Arc<Vec<u8>>>,
+}
+
+impl SharedText {
+    /// The bytes of the text.
+    fn bytes(&self) -> &[u8]
+        ensures { result.now ≡ text_in self.now }
+    {
+        match &self.text {
+            Some(text) => text.as_slice(),
+            None => &[],
+        }
+    }
+
+    /// The same text once more; both share it.
+    fn again(&self) -> Result<SharedText, AllocError>
+        ensures { IfOk result (λ again. text_in again ≡ text_in self.now) }
+    {
+        let text = match &self.text {
+            Some(text) => Some(Arc::try_clone(text)?),
+            None => None,
+        };
+        Ok(SharedText { text })
+    }
+
+    /// A text of these bytes.
+    fn new(alloc: Global, bytes: &[u8]) -> Result<SharedText, AllocError>
+        ensures { IfOk result (λ made. text_in made ≡ bytes.now) }
+    {
+        if bytes.is_empty() {
+            return Ok(SharedText { text: None });
+        }
+        let text = Arc::new(alloc, Vec::from_slice(alloc, bytes)?)?;
+        Ok(SharedText { text: Some(text) })
+    }
+
+    /// A text of these bytes, which shares the other's memory where the other is like it.
+    fn like(
+        alloc: Global,
+        bytes: &[u8],
+        other: Option<&SharedText>,
+    ) -> Result<SharedText, AllocError>
+        ensures { IfOk result (λ made. text_in made ≡ bytes.now) }
+    {
+        match other {
+            Some(other) if other.bytes() == bytes => other.again(),
+            _ => SharedText::new(alloc, bytes),
+        }
+    }
+}
+
+/// A list of texts.
 #[derive(Drop)]
 pub(crate) struct Texts {
-    bytes: Vec<u8>,
-    ends: Vec<usize>,
+    texts: Vec<SharedText>,
 }
 
 impl Model for Texts {
-    ghost use Rattle.std.specs.Prelude.{List, ℕ};
-    ghost use Rattle.ll_audit.specs.Texts.{AreEnds, texts_within};
+    ghost use Rattle.std.specs.Prelude.{List, ℕ, map};
+    ghost use Rattle.ll_audit.specs.Texts.{text_in};
 
     ghost Value = { List (List ℕ) };
 
-    ghost view = { λ texts. texts_within 0 texts.bytes.items texts.ends.items };
-
-    ghost invariant = { λ texts. AreEnds 0 texts.bytes.items texts.ends.items };
+    ghost view = { λ texts. map text_in texts.texts.items };
 }
 
 impl Texts {
     /// No text.
-    #[tactic(auto, unfolding(crate::specs::Texts::texts_within, crate::specs::Texts::AreEnds))]
     pub(crate) fn new(alloc: Global) -> Texts
         ensures { result ≡ [] }
     {
         Texts {
-            bytes: Vec::new(alloc),
-            ends: Vec::new(alloc),
+            texts: Vec::new(alloc),
         }
     }
 
@@ -46,73 +96,51 @@ impl Texts {
     pub(crate) fn get(&self, place: usize) -> &[u8]
         ensures { result.now ≡ unwrap_or (slice_get self.now place) [] }
     {
-        match end_of(&self.ends, place) {
-            Some(end) => between(&self.bytes, start_of(&self.ends, place), end),
+        match self.texts.get(place) {
+            Some(text) => text.bytes(),
             None => &[],
         }
     }
 
-    /// The texts with the explanation of the record at a place behind them.
-    pub(crate) fn with_explanation(
-        self,
+    /// Adds a text, which shares the memory of the text at this place of the others where it is like it.
+    fn push_like(
+        &mut self,
+        alloc: Global,
+        bytes: &[u8],
+        place: usize,
+        others: Option<&Texts>,
+    ) -> Result<(), AllocError>
+        ensures { OnOk result (self.new ≡ self.old ++ bytes.now ∷ []) }
+    {
+        let other = match others {
+            Some(others) => others.texts.get(place),
+            None => None,
+        };
+        let text = SharedText::like(alloc, bytes, other)?;
+        self.texts.push(text)?;
+        Ok(())
+    }
+
+    /// Adds the explanation of the record at a place, which shares the memory of the text at that place of the others
+    /// where it is like it.
+    pub(crate) fn push_explanation(
+        &mut self,
         alloc: Global,
         case: &Case,
         trails: &Trails,
         place: usize,
         answer: Answer,
-    ) -> Result<Texts, NoMemory>
+        others: Option<&Texts>,
+    ) -> Result<(), NoMemory>
         requires place { place < length case.now.records }
         requires answer { IsAnswerAt case.now place answer }
         requires trails { AreTrailsAt case.now place trails.now }
-        ensures { IfOk result (λ texts. texts
-            ≡ self ++ text_at case.now.tree case.now.abi case.now.records place ∷ []) }
+        ensures { OnOk result (self.new
+            ≡ self.old ++ text_at case.now.tree case.now.abi case.now.records place ∷ []) }
     {
-        let Texts {
-            mut bytes,
-            mut ends,
-        } = self;
+        let mut bytes = Vec::new(alloc);
         push_explanation(alloc, &mut bytes, case, trails, place, answer)?;
-        push_end(&mut ends, bytes.len())?;
-        Ok(Texts { bytes, ends })
+        self.push_like(alloc, &bytes, place, others)?;
+        Ok(())
     }
-}
-
-/// Adds the place at which a text ends.
-fn push_end(ends: &mut Vec<usize>, end: usize) -> Result<(), AllocError>
-    ensures { OnOk result (ends.new.items ≡ ends.old.items ++ end ∷ []) }
-{
-    ends.push(end)?;
-    Ok(())
-}
-
-/// The place at which the text of a number begins: where the one before it ends.
-fn start_of(ends: &[usize], number: usize) -> usize
-    ensures { result ≡ start_of ends.now number }
-{
-    if number == 0 {
-        return 0;
-    }
-    match end_of(ends, number - 1) {
-        Some(end) => end,
-        None => 0,
-    }
-}
-
-/// The place at which the text of a number ends.
-fn end_of(ends: &[usize], number: usize) -> Option<usize>
-    ensures { result ≡ slice_get ends.now number }
-{
-    match ends.get(number) {
-        Some(end) => Some(*end),
-        None => None,
-    }
-}
-
-/// The bytes from one place to another.
-fn between(bytes: &[u8], start: usize, end: usize) -> &[u8]
-    requires rising { start ≤ end }
-    requires within { end ≤ length bytes.now }
-    ensures { result.now ≡ take (end - start) (drop start bytes.now) }
-{
-    &bytes[start..end]
 }

@@ -12,19 +12,19 @@ use Rattle.ll_audit.proofs.found.explanations_of.Goals as goal
 pub loop-place-init : goal.loop-place-init
 loop-place-init c = (c.new-texts.ensures, begins_at c.args.case.now c.new-trails.result c.new-trails.ensures)
 
-pub with_explanation-requires-clause-place : goal.with_explanation-requires-clause-place
-with_explanation-requires-clause-place c =
+pub push_explanation-requires-clause-place : goal.push_explanation-requires-clause-place
+push_explanation-requires-clause-place c =
     let of = c.args.case.now in
     let counts : length c.args.answers.now ≡ length of.records = ap length c.requires ∙ length-judged of.tree of.abi of.records in
     omega (arith, counts, c.loop-place-test.true)
 
-pub with_explanation-requires-clause-answer : goal.with_explanation-requires-clause-answer
-with_explanation-requires-clause-answer c =
+pub push_explanation-requires-clause-answer : goal.push_explanation-requires-clause-answer
+push_explanation-requires-clause-answer c =
     ap (λ (given : List Answer). slice_get given c.loop-place.place) (sym c.requires)
     ∙ stands c.args.answers.now c.loop-place.place c.index-answers-place.result c.loop-place-test.true c.index-answers-place.is
 
-pub with_explanation-requires-clause-trails : goal.with_explanation-requires-clause-trails
-with_explanation-requires-clause-trails c = c.loop-place.invariant.1
+pub push_explanation-requires-clause-trails : goal.push_explanation-requires-clause-trails
+push_explanation-requires-clause-trails c = c.loop-place.invariant.1
 
 pub follow-requires-clause-place : goal.follow-requires-clause-place
 follow-requires-clause-place c =
@@ -42,7 +42,7 @@ loop-place-preserved c =
     let of = c.args.case.now in
     let place = c.loop-place.place in
     let explained = text_at of.tree of.abi of.records in (
-      c.in_ok-texts.ensures
+      c.in_ok-push_explanation.ensures
           ∙ ap (λ (texts : List (List ℕ)). texts ++ explained place ∷ []) c.loop-place.invariant.0
           ∙ sym (map-range_with_len_more explained 0 place place (omega arith)),
       c.in_ok-follow.ensures,
