@@ -1,5 +1,5 @@
 -- What best effort leaves of the records of a trace: their lines, pids and processes, and which of them start or end a process.
-use Rattle.std.proofs.Common.{◌≡◌, ℕ, zero, suc, ◌+◌, ◌≤◌, Bool, true, false, not, ◌&&◌, List, [], ◌∷◌, ◌++◌, length, map, take, drop, Option, Some, None, cond, refl, sym, ap, ◌∙◌, if◌then◌else◌}
+use Rattle.std.proofs.Common.{◌≡◌, ℕ, zero, suc, ◌+◌, ◌≤◌, Bool, true, false, not, ◌&&◌, List, [], ◌∷◌, ◌++◌, length, get_or, map, take, drop, Option, Some, None, cond, refl, sym, ap, ◌∙◌, if◌then◌else◌}
 use Rattle.std.specs.Prelude.{slice_get}
 use Rattle.std.proofs.lemmas.List.{append-nil, drop_all, length-map, take-map, take_all}
 use Rattle.ll_rights.specs.declared.abi.Abi.{Abi}
@@ -191,8 +191,10 @@ module _ (abi : Abi) where
     by_process = indexes.by_process ∙ sym (parents-kept records);
     size = indexes.size ∙ sym (starting-kept records);
     places = λ process. indexes.places process ∙ sym (own-kept process 0 records);
-    rows = indexes.rows ∙ sym (length-map records (record_at_best_effort abi));
-    by_record = λ place. indexes.by_record place ∙ sym (started-kept records place);
+    by_start = record {
+      one_each = indexes.by_start.one_each ∙ sym (starting-kept records);
+      start = λ process below. started-kept records (get_or tables.starts.items process 0) ∙ indexes.by_start.start process (rw (← starting-kept records) below);
+    };
   }
 
   -- all records were looked at

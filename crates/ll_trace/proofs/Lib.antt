@@ -2,6 +2,7 @@ pub mod KeptLemmas
 pub mod Starting
 pub mod Numbers
 pub mod Numbering
+pub mod Starts
 pub mod Times
 pub mod OwnRecords
 pub mod EachOnce

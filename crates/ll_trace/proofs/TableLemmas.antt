@@ -1,6 +1,6 @@
 -- The tables of a list of records, and of one more.
 use Rattle.std.proofs.Common.{◌≡◌, ◌≢◌, ℕ, zero, suc, ◌+◌, ◌<◌, ◌≤◌, Bool, true, false, List, [], ◌∷◌, ◌++◌, length, take, get_or, set, Option, Some, None, Vec, cond, eqb, refl, sym, ap, subst, ◌∙◌, arith, add-one, add-zero}
-use Rattle.std.specs.Prelude.{All, IfSome, option_map, slice_get}
+use Rattle.std.specs.Prelude.{All, IfSome, slice_get}
 use Rattle.std.specs.List.{AllByRecursion}
 use Rattle.std.proofs.lemmas.Bool.{eqb-true, eqb-false}
 use Rattle.std.proofs.lemmas.List.{get_or-set_same, get_or-set_other, get_or-map, map-set, append-nil, length-append, length-set, length-take, take_more}
@@ -10,11 +10,10 @@ use Rattle.std.specs.declared.alloc.Global.{Global}
 use Rattle.ll_trace.specs.declared.record.ProcessId.{ProcessId}
 use Rattle.ll_trace.specs.declared.record.Record.{Record}
 use Rattle.ll_trace.specs.declared.tables.Tables.{Tables}
-use Rattle.ll_trace.specs.Processes.{is_starting, process_count, started_at, own_from, own_records, forked_by, parent_of, only, IsNumbered}
-use Rattle.ll_trace.specs.RecordFacts.{AreRecords}
-use Rattle.ll_trace.specs.Indexed.{Adds, Indexes, lists, started_noted}
-use Rattle.ll_trace.proofs.Limits.{few_processes}
-use Rattle.ll_trace.proofs.Numbers.{process_count-push, count-more, count-all, numbered_below, slice_get-push, started_at-push, parents-push, length-parents, parent_below}
+use Rattle.ll_trace.specs.Processes.{is_starting, process_count, own_from, own_records, forked_by, parent_of, only, IsNumbered}
+use Rattle.ll_trace.specs.Indexed.{Adds, Indexes, lists}
+use Rattle.ll_trace.proofs.Numbers.{process_count-push, count-more, numbered_below, parents-push, length-parents, parent_below}
+use Rattle.ll_trace.proofs.Starts.{starts-push}
 
 -- ---- one record more in the tables
 
@@ -47,12 +46,12 @@ pushed vecs p q place old new false same lt is grows =
     let there : q ≢ p = λ e. eqb-false p q same (sym e) in
     rw map-set (get_or-set_other (lists vecs) p q new.items [] there ∙ sym (append-nil (get_or (lists vecs) q [])))
 
-pub adds : (old new : Tables) (of : Record) (place : ℕ) (process : Option ProcessId) (between : List (Vec ℕ Global)) (before after : Vec ℕ Global)
+pub adds : (old new : Tables) (of : Record) (place : ℕ) (between : List (Vec ℕ Global)) (before after : Vec ℕ Global)
     → new.parents.items ≡ old.parents.items ++ cond (is_starting of.op) (forked_by of.op of.process ∷ []) [] → lists between ≡ lists old.own.items ++ cond (is_starting of.op) ([] ∷ []) []
-    → process ≡ cond (is_starting of.op) (Some (record { 0 = length old.own.items })) None → new.started.items ≡ old.started.items ++ process ∷ []
+    → new.starts.items ≡ old.starts.items ++ cond (is_starting of.op) (place ∷ []) []
     → new.own.items ≡ set between of.process.0 after → before ≡ get_or between of.process.0 before → after.items ≡ before.items ++ place ∷ []
     → of.process.0 < length old.own.items + cond (is_starting of.op) 1 0 → Adds old new of place
-adds old new of place process between before after parents_are begun process_is started_are own_is before_is grows known =
+adds old new of place between before after parents_are begun starts_are own_is before_is grows known =
     let count : length between ≡ length old.own.items + cond (is_starting of.op) 1 0 =
     sym (length-lists between) ∙ (ap length begun ∙ (length-grown (lists old.own.items) (is_starting of.op) [] ∙ ap (λ n. n + cond (is_starting of.op) 1 0) (length-lists old.own.items))) in
     let within : of.process.0 < length between = rw count known in
@@ -61,7 +60,7 @@ adds old new of place process between before after parents_are begun process_is 
       size = ap length own_is ∙ (length-set between of.process.0 after ∙ count);
       places = λ q. ap (λ (vs : List (Vec ℕ Global)). get_or (lists vs) q []) own_is ∙ (pushed between of.process.0 q place before after (eqb of.process.0 q) refl within before_is grows
           ∙ ap (λ ns. ns ++ cond (eqb of.process.0 q) (place ∷ []) []) (ap (λ ls. get_or ls q []) begun ∙ grown (lists old.own.items) (is_starting of.op) q));
-      by_record = started_are ∙ ap (λ (p : Option ProcessId). old.started.items ++ p ∷ []) process_is;
+      by_start = starts_are;
     }
 
 -- ---- one record more in the definitions
@@ -77,12 +76,6 @@ own_from-push q k (r ∷ rs) of =
     let shift : k + 1 + length rs ≡ k + suc (length rs) = omega arith in
     own_first (eqb r.process.0 q) k _ (own_from q (k + 1) rs) _ (own_from-push q (k + 1) rs of ∙ ap (λ n. own_from q (k + 1) rs ++ cond (eqb of.process.0 q) (n ∷ []) []) shift)
 
-started_push : (last b : Bool) (n : ℕ) (started : Option (Option ProcessId)) (before : Option ℕ) → option_map (λ process. process.0) (only started) ≡ before
-    → option_map (λ process. process.0) (only (cond last (Some (cond b (Some (record { 0 = n })) None)) started)) ≡ cond last (cond b (Some n) None) before
-started_push true true n started before same = refl
-started_push true false n started before same = refl
-started_push false b n started before same = same
-
 indexes_next : (old new : Tables) (records : List Record) (of : Record) → Indexes old records → Adds old new of (length records) → Indexes new (records ++ of ∷ [])
 unfolding own_records
 indexes_next old new records of indexes adds_one =
@@ -92,12 +85,7 @@ indexes_next old new records of indexes adds_one =
       size = omega (arith, adds_one.size, indexes.size, process_count-push records of);
       places = λ q. adds_one.places q ∙ ap (λ ns. ns ++ cond (eqb of.process.0 q) (length records ∷ []) []) (indexes.places q)
           ∙ sym (own_from-push q 0 records of ∙ ap (λ k. own_from q 0 records ++ cond (eqb of.process.0 q) (k ∷ []) []) here);
-      rows = ap length adds_one.by_record ∙ length-append old.started.items _ ∙ ap (λ n. n + 1) indexes.rows ∙ sym (length-append records (of ∷ []));
-      by_record = λ k.
-          ap (λ (xs : List (Option ProcessId)). started_noted xs k) adds_one.by_record
-          ∙ ap (λ (o : Option (Option ProcessId)). option_map (λ process. process.0) (only o)) (slice_get-push old.started.items k _)
-          ∙ rw (indexes.size, indexes.rows) (started_push (eqb k (length records)) (is_starting of.op) (process_count records) (slice_get old.started.items k) (started_at records k) (indexes.by_record k))
-          ∙ sym (started_at-push records of k);
+      by_start = rw adds_one.by_start (starts-push old.starts.items records of indexes.by_start);
     }
 
 -- ---- the tables of the first records, record after record
@@ -110,9 +98,6 @@ pub known_at : (tables : Tables) (records : List Record) (i : ℕ) (of : Record)
 known_at tables records i of numbered lt is indexes =
     let at : slice_get records i ≡ Some of = slice_get_read records (length records) i of refl lt is in
     omega (arith, numbered_below records i of numbered at, count-more records i of at, indexes.size)
-
-pub few_at : (tables : Tables) (records : List Record) (i : ℕ) → AreRecords records → Indexes tables (take i records) → length tables.own.items < 4294967296
-few_at tables records i are indexes = omega (arith, indexes.size, count-all records i, few_processes records are)
 
 pub indexes_one_more : (old new : Tables) (records : List Record) (i : ℕ) (of : Record) → i < length records → of ≡ get_or records i of → Indexes old (take i records) → Adds old new of i → Indexes new (take (i + 1) records)
 indexes_one_more old new records i of lt is indexes adds_one =

@@ -1,11 +1,10 @@
 -- What a trace keeps beside its records, so that processes are looked up and not searched for.
 -- Source: docs/FORMATS.md, "The trace file".
-use Rattle.std.specs.Prelude.{◌≡◌, ℕ, ◌+◌, ◌==◌, List, [], ◌∷◌, ◌++◌, length, map, Option, Some, None, option_map, Vec, slice_get, slice_index_or, if◌then◌else◌}
+use Rattle.std.specs.Prelude.{◌≡◌, ℕ, ◌+◌, ◌<◌, ◌==◌, List, [], ◌∷◌, ◌++◌, length, map, Some, Vec, slice_index_or, if◌then◌else◌}
 use Rattle.std.specs.declared.alloc.Global.{Global}
 use Rattle.ll_trace.specs.declared.record.Record.{Record}
-use Rattle.ll_trace.specs.declared.record.ProcessId.{ProcessId}
 use Rattle.ll_trace.specs.declared.tables.Tables.{Tables}
-use Rattle.ll_trace.specs.Processes.{is_starting, process_count, started_at, own_records, forked_by, parents, only}
+use Rattle.ll_trace.specs.Processes.{is_starting, process_count, started_at, own_records, forked_by, parents}
 
 abbrev pub lists : List (Vec ℕ Global) → List (List ℕ)
 lists vecs = map (λ v. v.items) vecs
@@ -14,21 +13,21 @@ lists vecs = map (λ v. v.items) vecs
 abbrev pub places_noted : Tables → ℕ → List ℕ
 places_noted tables process = slice_index_or (lists tables.own.items) process []
 
--- the number of the process that is noted for a record
-abbrev pub started_noted : List (Option ProcessId) → ℕ → Option ℕ
-started_noted started place = option_map (λ process. process.0) (only (slice_get started place))
+-- The places of the records that start the processes, in the order of the processes' numbers.
+pub record AreStarts (starts : List ℕ) (records : List Record) : Type 0 where
+  pub one_each : length starts ≡ process_count records
+  pub start : (process : ℕ) → process < process_count records → started_at records (slice_index_or starts process 0) ≡ Some process
 
 -- the tables of some records
 pub record Indexes (tables : Tables) (records : List Record) : Type 0 where
   pub by_process : tables.parents.items ≡ parents records
   pub size : length tables.own.items ≡ process_count records
   pub places : (process : ℕ) → places_noted tables process ≡ own_records records process
-  pub rows : length tables.started.items ≡ length records
-  pub by_record : (place : ℕ) → started_noted tables.started.items place ≡ started_at records place
+  pub by_start : AreStarts tables.starts.items records
 
 -- one record more, at a place
 pub record Adds (old new : Tables) (of : Record) (place : ℕ) : Type 0 where
   pub by_process : new.parents.items ≡ old.parents.items ++ (if is_starting of.op then forked_by of.op of.process ∷ [] else [])
   pub size : length new.own.items ≡ length old.own.items + (if is_starting of.op then 1 else 0)
   pub places : (process : ℕ) → places_noted new process ≡ places_noted old process ++ (if of.process.0 == process then place ∷ [] else [])
-  pub by_record : new.started.items ≡ old.started.items ++ (if is_starting of.op then Some (record { 0 = length old.own.items }) else None) ∷ []
+  pub by_start : new.starts.items ≡ old.starts.items ++ (if is_starting of.op then place ∷ [] else [])

@@ -1,19 +1,20 @@
 //! The processes of a trace, looked up by their numbers.
 
-ghost use Rattle.std.specs.Prelude.{◌≡◌, ◌+◌, ◌<◌, ◌^◌, [], ◌∷◌, ◌++◌, length, None, Some, OnOk, IfOk, if◌then◌else◌};
+ghost use Rattle.std.specs.Prelude.{◌≡◌, ◌+◌, ◌<◌, ◌^◌, [], ◌∷◌, ◌++◌, length, OnOk, IfOk, if◌then◌else◌};
 ghost use Rattle.ll_trace.specs.RecordFacts.{AreRecords};
 ghost use Rattle.ll_trace.specs.Indexed.{Indexes};
 
 use crate::record::{ProcessId, Record};
 use std::alloc::{AllocError, Global};
 
-/// The parent of each process, the places of its records, and for each record the process that it
-/// starts.
+/// The parent of each process, the places of its records, and the place of the record that starts it,
+/// in the order of the processes' numbers. So the places in `starts` rise, and the process that a
+/// record starts is found by a binary search.
 #[derive(Drop)]
 pub struct Tables {
     pub parents: Vec<Option<ProcessId>>,
     pub own: Vec<Vec<u32>>,
-    pub started: Vec<Option<ProcessId>>,
+    pub starts: Vec<u32>,
 }
 
 impl Tables {
@@ -27,39 +28,35 @@ impl Tables {
         Tables {
             parents: Vec::new(alloc),
             own: Vec::new(alloc),
-            started: Vec::new(alloc),
+            starts: Vec::new(alloc),
         }
     }
 
-    /// Makes room for the process that a record starts.
-    fn begin(&mut self, alloc: Global, added: &Record) -> Result<Option<ProcessId>, AllocError>
-        requires { length self.old.own.items < 2 ^ 32 }
+    /// Makes room for the process that the record at a place starts.
+    fn begin(&mut self, alloc: Global, added: &Record, place: u32) -> Result<(), AllocError>
         ensures parents { OnOk result (self.new.parents.items ≡ self.old.parents.items
             ++ (if is_starting added.now.op then forked_by added.now.op added.now.process ∷ [] else [])) }
         ensures own { OnOk result (lists self.new.own.items ≡ lists self.old.own.items
             ++ (if is_starting added.now.op then [] ∷ [] else [])) }
-        ensures started { OnOk result (self.new.started.items ≡ self.old.started.items) }
-        ensures process { IfOk result (λ process. process
-            ≡ (if is_starting added.now.op then Some (record { 0 = length self.old.own.items }) else None)) }
+        ensures starts { OnOk result (self.new.starts.items ≡ self.old.starts.items
+            ++ (if is_starting added.now.op then place ∷ [] else [])) }
     {
         if !added.op.is_starting() {
-            return Ok(None);
+            return Ok(());
         }
-        let process = ProcessId(self.own.len() as u32);
         self.parents.push(added.op.forked_by(added.process))?;
         self.own.push(Vec::new(alloc))?;
-        Ok(Some(process))
+        self.starts.push(place)?;
+        Ok(())
     }
 
     /// Takes in the record at a place.
     fn add(&mut self, alloc: Global, added: &Record, place: u32) -> Result<(), AllocError>
-        requires few { length self.old.own.items < 2 ^ 32 }
-        requires known { added.now.process.0 < length self.old.own.items
+        requires { added.now.process.0 < length self.old.own.items
             + (if is_starting added.now.op then 1 else 0) }
         ensures { OnOk result (Adds self.old self.new added.now place) }
     {
-        let process = self.begin(alloc, added)?;
-        self.started.push(process)?;
+        self.begin(alloc, added, place)?;
         self.own[added.process.0 as usize].push(place)?;
         Ok(())
     }

@@ -146,9 +146,10 @@ impl Trace {
     pub fn starts(&self, place: u32) -> Option<ProcessId>
         ensures { option_map (λ process. process.0) result ≡ started_at self.now place }
     {
-        match self.tables.started.get(place as usize) {
-            None => None,
-            Some(started) => *started,
+        let starts = &self.tables.starts;
+        match starts.binary_search(&place) {
+            Ok(process) => Some(ProcessId(process as u32)),
+            Err(_) => None,
         }
     }
 }

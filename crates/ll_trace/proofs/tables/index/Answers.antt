@@ -1,16 +1,13 @@
 use Rattle.std.proofs.Common.{arith}
 use Rattle.ll_trace.proofs.Limits.{few_records}
-use Rattle.ll_trace.proofs.TableLemmas.{few_at, indexes_one_more, known_at}
+use Rattle.ll_trace.proofs.TableLemmas.{indexes_one_more, known_at}
 use Rattle.ll_trace.proofs.tables.index.Goals as goal
 
 pub overflow_cast-place : goal.overflow_cast-place
 overflow_cast-place c = omega (arith, few_records c.args.records.now c.requires)
 
-pub add-requires-clause-few : goal.add-requires-clause-few
-add-requires-clause-few c = few_at c.loop-place.tables c.args.records.now c.loop-place.place c.requires c.loop-place.invariant
-
-pub add-requires-clause-known : goal.add-requires-clause-known
-add-requires-clause-known c =
+pub add-requires : goal.add-requires
+add-requires c =
     known_at c.loop-place.tables c.args.records.now c.loop-place.place c.index-records-place.result c.requires.numbered c.loop-place-test.true c.index-records-place.is c.loop-place.invariant
 
 pub loop-place-preserved : goal.loop-place-preserved
