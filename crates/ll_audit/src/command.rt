@@ -46,8 +46,8 @@ pub(crate) enum Plan<'a> {
     Memory,
 }
 
-/// The version that `--version` prints.
-const VERSION: &str = "0.1";
+/// What `--version` prints behind the name: the version, and the line of the toolchain that proves and builds it.
+const VERSION: &str = "0.1 (rattle-kit-13f logic dac8208d650f15bf)";
 
 const ABOUT: &str = "Says for each call of a trace what Landlock answers";
 
