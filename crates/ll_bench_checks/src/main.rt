@@ -1,6 +1,8 @@
-//! Prints how long a check of a path takes, by a plain climb for each layer and by lanes.
+//! Prints how long a check of a path takes: by a plain climb for each layer, by one with a filter and an early end,
+//! and by lanes.
 #![tactic(auto)]
 
+mod filtered;
 mod measure;
 mod setting;
 

@@ -5,6 +5,7 @@ ghost use Rattle.ll_tree.specs.Trees.{IsNode};
 ghost use Rattle.ll_rules.specs.InTree.{AreInTree};
 ghost use Rattle.ll_rules.specs.KeptLayers.{IsDomainOf};
 
+use crate::filtered::refusing_filtered;
 use crate::setting::{Layers, deep_tree, layers_of, objects_at};
 use anyhow::{Context, Result};
 use ll_plain::refusing;
@@ -37,6 +38,24 @@ fn by_plain<R: Clock>(rt: &R, tree: &Tree, layers: &Layers, nodes: &[NodeId]) ->
     for _ in 0..ROUNDS {
         for node in nodes {
             if refusing(tree, &layers.plain, *node, Fs::READ_FILE).contains(&true) {
+                refused = refused.wrapping_add(1);
+            }
+        }
+    }
+    let time = start.elapsed(rt)?;
+    Ok(Taken { refused, time })
+}
+
+/// Checks all objects again and again, one layer after another, with a filter and an early end.
+fn by_filtered<R: Clock>(rt: &R, tree: &Tree, layers: &Layers, nodes: &[NodeId]) -> Result<Taken>
+    requires nodes { All (IsNode tree.now) nodes.now }
+    requires few { length layers.now.filtered.items ≤ 16 }
+{
+    let start = Instant::now(rt)?;
+    let mut refused = 0u64;
+    for _ in 0..ROUNDS {
+        for node in nodes {
+            if refusing_filtered(tree, &layers.filtered, *node, Fs::READ_FILE).contains(&true) {
                 refused = refused.wrapping_add(1);
             }
         }
@@ -87,22 +106,33 @@ fn line<R: Clock + Print + AllocGlobal>(
     requires rules { All (AreInTree tree.now) layers.now.lanes.items }
     requires domain { IsDomainOf layers.now.lanes.items layers.now.domain }
     requires few { length layers.now.plain.items ≤ 16 }
+    requires few_filtered { length layers.now.filtered.items ≤ 16 }
 {
     let first = by_plain(rt, tree, layers, nodes)?;
-    let second = by_lanes(rt, tree, layers, nodes)?;
-    if first.refused != second.refused {
+    let second = by_filtered(rt, tree, layers, nodes)?;
+    let third = by_lanes(rt, tree, layers, nodes)?;
+    if first.refused != third.refused || second.refused != third.refused {
         return None.context("the answers are the same");
     }
     let mut plain = first.time;
-    let mut lanes = second.time;
+    let mut filtered = second.time;
+    let mut lanes = third.time;
     for _ in 0..RUNS {
         plain = quicker(plain, by_plain(rt, tree, layers, nodes)?.time);
+        filtered = quicker(filtered, by_filtered(rt, tree, layers, nodes)?.time);
         lanes = quicker(lanes, by_lanes(rt, tree, layers, nodes)?.time);
     }
     let checks = ROUNDS * 8;
-    let (plain, lanes) = (nanoseconds(plain, checks), nanoseconds(lanes, checks));
+    let (plain, filtered, lanes) = (
+        nanoseconds(plain, checks),
+        nanoseconds(filtered, checks),
+        nanoseconds(lanes, checks),
+    );
     let times = plain / lanes;
-    println!(rt; "{what} {plain:>8.1} {lanes:>8.1} {times:>6.2}")?;
+    let filtered_times = filtered / lanes;
+    println!(rt;
+        "{what} {plain:>8.1} {filtered:>8.1} {lanes:>8.1} {times:>6.2} {filtered_times:>8.2}"
+    )?;
     Ok(())
 }
 
@@ -110,7 +140,7 @@ fn line<R: Clock + Print + AllocGlobal>(
 pub(crate) fn measure<R: Clock + Print + AllocGlobal>(rt: &R) -> Result<()> {
     let alloc = rt.alloc();
     let tree = deep_tree(alloc)?;
-    println!(rt; "answer  layers depth    plain    lanes  times")?;
+    println!(rt; "answer  layers depth    plain filtered    lanes  times filtered")?;
     for granting in [false, true] {
         let answer = if granting { "granted" } else { "refused" };
         for count in [1, 6, 16] {

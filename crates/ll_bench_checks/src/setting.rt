@@ -1,10 +1,11 @@
-//! A deep tree, objects at several depths of it, and layers in both forms.
+//! A deep tree, objects at several depths of it, and layers in each form.
 
 ghost use Rattle.std.specs.Prelude.{All, IfOk, length, ◌≡◌, ◌≤◌};
 ghost use Rattle.ll_tree.specs.Trees.{IsNode};
 ghost use Rattle.ll_rules.specs.InTree.{AreInTree};
 ghost use Rattle.ll_rules.specs.KeptLayers.{IsDomainOf};
 
+use crate::filtered::FilteredLayer;
 use anyhow::{Context, Result};
 use bitflags::Flags;
 use ll_plain::PlainLayer;
@@ -73,25 +74,32 @@ pub(crate) fn objects_at(alloc: Global, tree: &Tree, depth: u32) -> Result<Vec<N
     Ok(nodes)
 }
 
-/// Layers of the same rules in both forms, and the domain that stacks them.
+/// Layers of the same rules in each form, and the domain that stacks them.
 #[derive(Drop)]
 pub(crate) struct Layers {
     pub lanes: Vec<Layer>,
     pub plain: Vec<PlainLayer>,
+    pub filtered: Vec<FilteredLayer>,
     pub domain: Domain,
 }
 
-/// One layer in both forms: it handles every right, reads in half of the directories beside the way down, and
+/// One layer in each form: it handles every right, reads in half of the directories beside the way down, and
 /// where `granting` in the first directory of the way.
 #[tactic(auto, using(ll_rules::proofs::Adding::place_of_tree, ll_rules::proofs::Adding::no_rules_in_tree))]
-fn layer_of(alloc: Global, tree: &Tree, number: u32, granting: bool) -> Result<(Layer, PlainLayer)>
-    ensures { IfOk result (λ both. AreInTree tree.now both.0) }
+fn layer_of(
+    alloc: Global,
+    tree: &Tree,
+    number: u32,
+    granting: bool,
+) -> Result<(Layer, PlainLayer, FilteredLayer)>
+    ensures { IfOk result (λ forms. AreInTree tree.now forms.0) }
 {
     let handled = Fs::from_bits_retain(0xffff);
     let mut rules = Ruleset::create(alloc, Abi::V5, handled, Net::NONE)
         .ok()
         .context("the ruleset is created")?;
     let mut plain = PlainLayer::new(alloc, handled);
+    let mut filtered = FilteredLayer::new(alloc, handled);
     for aside in 0..ASIDE + 1 {
         let path = if aside == ASIDE {
             String::from_str(alloc, "/d")?
@@ -111,11 +119,12 @@ fn layer_of(alloc: Global, tree: &Tree, number: u32, granting: bool) -> Result<(
                 .context("the rule is added")?;
             if let Place::Node(node) = place {
                 plain.grant(node, Fs::READ_FILE)?;
+                filtered.grant(node, Fs::READ_FILE)?;
             }
         }
     }
     let layer = rules.freeze(alloc).ok().context("the layer is frozen")?;
-    Ok((layer, plain))
+    Ok((layer, plain, filtered))
 }
 
 /// The domain that stacks all layers, in their order.
@@ -139,18 +148,22 @@ pub(crate) fn layers_of(alloc: Global, tree: &Tree, count: u32, granting: bool) 
     ensures rules { IfOk result (λ layers. All (AreInTree tree.now) layers.lanes.items) }
     ensures domain { IfOk result (λ layers. IsDomainOf layers.lanes.items layers.domain) }
     ensures few { IfOk result (λ layers. length layers.plain.items ≤ 16) }
+    ensures few_filtered { IfOk result (λ layers. length layers.filtered.items ≤ 16) }
 {
     let mut lanes = Vec::new(alloc);
     let mut plain = Vec::new(alloc);
+    let mut filtered = Vec::new(alloc);
     for number in 0..count.min(16) {
-        let (layer, plain_layer) = layer_of(alloc, tree, number, granting)?;
+        let (layer, plain_layer, filtered_layer) = layer_of(alloc, tree, number, granting)?;
         lanes.push(layer)?;
         plain.push(plain_layer)?;
+        filtered.push(filtered_layer)?;
     }
     let domain = stacked(&lanes)?;
     Ok(Layers {
         lanes,
         plain,
+        filtered,
         domain,
     })
 }

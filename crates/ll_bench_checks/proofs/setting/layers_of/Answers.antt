@@ -9,4 +9,5 @@ loop-number-preserved c = record {
       All-same (AreInTree c.args.tree.now) c.push.new.self.items _ c.in_ok-push.ensures.items
       (All-push (AreInTree c.args.tree.now) c.loop-number.lanes.items c.in_ok-layer.layer c.loop-number.invariant.rules c.in_ok-layer.ensures);
   few = omega (arith, c.in_ok-push-2.ensures.len);
+  few_filtered = omega (arith, c.in_ok-push-3.ensures.len);
 }

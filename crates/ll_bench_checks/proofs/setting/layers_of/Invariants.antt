@@ -7,4 +7,5 @@ abbrev pub invariant-loop-number : goal.invariant-loop-number
 invariant-loop-number l = record {
   rules : All (AreInTree l.tree) l.lanes.items;
   few : length l.plain.items ≤ l.number;
+  few_filtered : length l.filtered.items ≤ l.number;
 }

@@ -1,0 +1,89 @@
+//! A climb for each layer by itself, with what makes the checks by lanes quick: a filter in front of the rules, and
+//! an end where nothing is lacking.
+
+ghost use Rattle.std.specs.Prelude.{◌≤◌, length};
+ghost use Rattle.ll_tree.specs.Trees.{IsNode};
+
+use bitflags::Flags;
+use ll_plain::Refusing;
+use ll_rights::Fs;
+use ll_tree::{NodeId, Tree};
+use std::alloc::{AllocError, Global};
+use std::collections::HashMap;
+
+/// The rights for files that a layer handles, its rules, and a bit for each node that has one; nodes whose numbers
+/// are 4,096 apart share a bit.
+#[derive(Drop)]
+pub(crate) struct FilteredLayer {
+    files: Fs,
+    marks: [u64; 64],
+    on_nodes: HashMap<u32, Fs>,
+}
+
+impl FilteredLayer {
+    /// A layer that handles some rights, without a rule.
+    pub(crate) fn new(alloc: Global, files: Fs) -> FilteredLayer {
+        FilteredLayer {
+            files,
+            marks: [0; 64],
+            on_nodes: HashMap::new(alloc),
+        }
+    }
+
+    /// Adds a rule that grants rights on an object and on all under it.
+    pub(crate) fn grant(&mut self, node: NodeId, files: Fs) -> Result<(), AllocError> {
+        let granted = self.rule_on(node).union(files);
+        let number = node.index();
+        self.on_nodes.insert(number, granted)?;
+        self.marks[(number / 64 % 64) as usize] |= 1 << (number % 64);
+        Ok(())
+    }
+
+    fn is_marked(&self, node: NodeId) -> bool {
+        let number = node.index();
+        self.marks[(number / 64 % 64) as usize] >> (number % 64) & 1 == 1
+    }
+
+    fn rule_on(&self, node: NodeId) -> Fs {
+        if !self.is_marked(node) {
+            return Fs::NONE;
+        }
+        self.on_nodes
+            .get(&node.index())
+            .copied()
+            .unwrap_or(Fs::NONE)
+    }
+
+    /// Whether the layer refuses something of what is wanted on a node.
+    fn refuses(&self, tree: &Tree, node: NodeId, wanted: Fs) -> bool
+        requires { IsNode tree.now node }
+    {
+        let mut lacking = wanted.intersection(self.files);
+        let mut at = Some(node);
+        while let Some(here) = at {
+            if lacking.is_empty() {
+                return false;
+            }
+            lacking = lacking.difference(self.rule_on(here));
+            at = tree.parent(here);
+        }
+        !lacking.is_empty()
+    }
+}
+
+/// Which of at most sixteen layers refuse something of what is wanted on a node.
+pub(crate) fn refusing_filtered(
+    tree: &Tree,
+    layers: &[FilteredLayer],
+    node: NodeId,
+    wanted: Fs,
+) -> Refusing
+    requires node { IsNode tree.now node }
+    requires few { length layers.now ≤ 16 }
+{
+    let mut refusing = [false; 16];
+    for (place, layer) in layers.iter().enumerate() {
+        refusing[place] = layer.refuses(tree, node, wanted);
+    }
+    refusing
+}
