@@ -1,12 +1,11 @@
-use Rattle.std.proofs.Common.{Ok, Err, sym, arith}
+use Rattle.std.proofs.Common.{Ok, Err, length, sym, ap, arith}
 use Rattle.ll_trace.proofs.Limits.{few_processes}
 use Rattle.ll_trace.proofs.Starts.{start_found}
 use Rattle.ll_trace.proofs.trace.Trace.starts.Goals as goal
 
 pub overflow_cast-result : goal.overflow_cast-result
 overflow_cast-result c =
-    let found = start_found c.self.inside.tables.starts.items c.self.inside.records.items c.args.place (Ok c.in-Ok.process) c.self.invariant.tables.by_start (rw c.deref.ensures.value at c.in-Ok.ensures.position) in
-    omega (arith, found.0, few_processes c.self.inside.records.items c.self.invariant.records)
+    omega (arith, c.in-Ok.ensures.bound, ap length c.deref.ensures.value, c.self.invariant.tables.by_start.one_each, few_processes c.self.inside.records.items c.self.invariant.records)
 
 pub returns-in-Ok : goal.returns-in-Ok
 returns-in-Ok c =
