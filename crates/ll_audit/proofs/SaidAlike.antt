@@ -1,7 +1,7 @@
 -- What is said of a record that all versions say the same of.
-use Rattle.std.proofs.Common.{◌≡◌, ◌∙◌, ℕ, ◌<◌, ◌≤◌, ◌+◌, List, [], ◌∷◌, ◌++◌, Bool, true, false, ◌&&◌, ◌||◌, length, drop, get_or, map, refl, sym, ap, subst, ⊎_elim, append_assoc, arith, drop_of_length-le}
+use Rattle.std.proofs.Common.{◌≡◌, ◌∙◌, ℕ, ◌<◌, ◌≤◌, ◌+◌, List, [], ◌∷◌, ◌++◌, Bool, true, false, ◌&&◌, length, drop, get_or, map, refl, sym, ap, subst, ⊎_elim, append_assoc, arith, drop_of_length-le}
 use Rattle.std.specs.Prelude.{bytes_eq, codes}
-use Rattle.std.specs.List.{list_all, list_any}
+use Rattle.std.specs.List.{list_all}
 use Rattle.std.proofs.lemmas.Bool.{cases_Bool}
 use Rattle.std.proofs.lemmas.Slice.Eq.{bytes_eq-Decides}
 use Rattle.ll_semantics.specs.declared.answer.Answer.{Answer}
@@ -10,7 +10,7 @@ use Rattle.ll_audit.specs.declared.shown.Shown.{Shown}
 use Rattle.ll_audit.specs.declared.spans.Form.{Form}
 use Rattle.ll_audit.specs.declared.spans.Form.TheVariants.{Answers, Explanations}
 use Rattle.ll_audit.specs.Alike.{AreSaid, IsSaid}
-use Rattle.ll_audit.specs.Found.{Found, answer_at, explanation_at}
+use Rattle.ll_audit.specs.Found.{Found, answer_at}
 use Rattle.ll_audit.specs.Lines.{line_of, verdict_of}
 use Rattle.ll_audit.specs.Report.{is_refused, line_text, verdict_text}
 use Rattle.ll_audit.specs.Rows.{explanations_said, is_refused_under_some, is_row_left_out, row_text, told_of}

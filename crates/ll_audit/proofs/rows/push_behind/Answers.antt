@@ -1,5 +1,5 @@
 -- What all versions explain alike is said once.
-use Rattle.std.proofs.Common.{◌≡◌, ◌∙◌, ◌++◌, ℕ, List, true, refl, rules}
+use Rattle.std.proofs.Common.{◌≡◌, ◌∙◌, ℕ, List, true, refl, rules}
 use Rattle.std.proofs.lemmas.Result.{on_ok_weaker}
 use Rattle.ll_audit.specs.declared.spans.Form.TheVariants.{Explanations}
 use Rattle.ll_audit.specs.Found.{Found, explanation_at}
