@@ -1,5 +1,5 @@
 -- What is said of a record that all versions say the same of.
-use Rattle.std.proofs.Common.{◌≡◌, ◌∙◌, ℕ, ◌<◌, ◌≤◌, ◌+◌, List, [], ◌∷◌, ◌++◌, Bool, true, false, ◌&&◌, length, drop, get_or, map, refl, sym, ap, subst, ⊎_elim, append_assoc, arith, drop_of_length-le}
+use Rattle.std.proofs.Common.{◌≡◌, ◌∙◌, ℕ, ◌<◌, ◌+◌, List, [], ◌∷◌, ◌++◌, Bool, true, false, ◌&&◌, length, drop, get_or, map, refl, sym, ap, subst, ⊎_elim, append_assoc, arith}
 use Rattle.std.specs.Prelude.{bytes_eq, codes}
 use Rattle.std.specs.List.{list_all}
 use Rattle.std.proofs.lemmas.Bool.{cases_Bool}
@@ -22,9 +22,6 @@ use Rattle.ll_audit.proofs.SpansLeft.{next_of}
 pub one_alike : {X : Type 0} (said : Found → X) (same : X) (founds : List Found) (k : ℕ) (found : Found) → (AreSaid said same (drop k founds) → AreSaid said same founds)
     → k < length founds → found ≡ get_or founds k found → said found ≡ same → AreSaid said same (drop (k + 1) founds) → AreSaid said same founds
 one_alike said same founds k found so_far below is says rest = so_far (subst (AreSaid said same) (sym (next_of founds k found below is)) (says, rest))
-
-pub all_alike : {X : Type 0} (said : Found → X) (same : X) (founds : List Found) (k : ℕ) → (AreSaid said same (drop k founds) → AreSaid said same founds) → length founds ≤ k → AreSaid said same founds
-all_alike said same founds k so_far past = so_far (subst (AreSaid said same) (sym (drop_of_length-le founds past)) tt)
 
 module _ {X : Type 0} (said : Found → X) (text : X → List ℕ) (same : X) where
   texts_alike : (founds : List Found) → AreSaid said same founds → list_all (λ (other : List ℕ). bytes_eq (text same) other) (map (λ (found : Found). text (said found)) founds) ≡ true
