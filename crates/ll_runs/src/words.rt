@@ -38,7 +38,10 @@ fn help_and_the_version_are_told(rt: HostRuntime) -> Result<(), Fail> {
     for (word, end) in [
         ("-h", "Print version\n"),
         ("--help", "landaudit(5) and docs/FORMATS.md.\n"),
-        ("-V", "landaudit 0.1 (rattle-kit-13f logic dac8208d650f15bf)\n"),
+        (
+            "-V",
+            "landaudit 0.1 (rattle-kit-13f logic dac8208d650f15bf)\n",
+        ),
         (
             "--version",
             "landaudit 0.1 (rattle-kit-13f logic dac8208d650f15bf)\n",
