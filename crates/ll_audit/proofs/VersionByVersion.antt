@@ -78,33 +78,33 @@ module _ (options : Options) (tree : List Entry) (records : List Record) where
 
   -- All versions of the range among some are gone over; those that are left have at most this number.
   pub record IsDownTo (bound : ℕ) (done : List Abi) (audited : Audited) : Type 0 where
-    pub same_tree : audited.tree ≡ tree
-    pub again : (abi : Abi) → number_of abi ≤ bound → taken options.effort abi audited.trace ≡ taken options.effort abi records
-    pub told : map told_of audited.trace ≡ map told_of records
+    pub same_tree : audited.located.tree ≡ tree
+    pub again : (abi : Abi) → number_of abi ≤ bound → taken options.effort abi audited.located.trace ≡ taken options.effort abi records
+    pub told : map told_of audited.located.trace ≡ map told_of records
     pub found : audited.findings.items ≡ map found (filter (is_in options.abis) done)
 
   -- one more version
   pub one_down : (bound : ℕ) (done : List Abi) (abi : Abi) (audited next : Audited) → number_of abi ≤ bound → IsDownTo bound done audited
-      → next.tree ≡ audited.tree
-      → next.trace ≡ (if is_in options.abis abi then taken options.effort abi audited.trace else audited.trace)
-      → next.findings.items ≡ (if is_in options.abis abi then found_under options.shown audited.tree (taken options.effort abi audited.trace) abi ∷ audited.findings.items
+      → next.located.tree ≡ audited.located.tree
+      → next.located.trace ≡ (if is_in options.abis abi then taken options.effort abi audited.located.trace else audited.located.trace)
+      → next.findings.items ≡ (if is_in options.abis abi then found_under options.shown audited.located.tree (taken options.effort abi audited.located.trace) abi ∷ audited.findings.items
       else audited.findings.items)
       → IsDownTo (number_of abi) (abi ∷ done) next
   one_down bound done abi audited next low is kept trace findings =
       let more = go (is_in options.abis abi) trace findings in
       record { same_tree = kept ∙ is.same_tree; again = more.0; told = more.1; found = more.2 }
     where
-      own : found_under options.shown audited.tree (taken options.effort abi audited.trace) abi ≡ found abi
+      own : found_under options.shown audited.located.tree (taken options.effort abi audited.located.trace) abi ≡ found abi
       own = ap₂ (λ (t : List Entry) (rs : List Record). found_under options.shown t rs abi) is.same_tree (is.again abi low)
 
-      go : (b : Bool) → next.trace ≡ (if b then taken options.effort abi audited.trace else audited.trace)
-          → next.findings.items ≡ (if b then found_under options.shown audited.tree (taken options.effort abi audited.trace) abi ∷ audited.findings.items else audited.findings.items)
-          → ((older : Abi) → number_of older ≤ number_of abi → taken options.effort older next.trace ≡ taken options.effort older records)
-          × (map told_of next.trace ≡ map told_of records)
+      go : (b : Bool) → next.located.trace ≡ (if b then taken options.effort abi audited.located.trace else audited.located.trace)
+          → next.findings.items ≡ (if b then found_under options.shown audited.located.tree (taken options.effort abi audited.located.trace) abi ∷ audited.findings.items else audited.findings.items)
+          → ((older : Abi) → number_of older ≤ number_of abi → taken options.effort older next.located.trace ≡ taken options.effort older records)
+          × (map told_of next.located.trace ≡ map told_of records)
           × (next.findings.items ≡ map found (cond b (abi ∷ filter (is_in options.abis) done) (filter (is_in options.abis) done)))
       go true trace findings = (
-        λ older le. ap (taken options.effort older) trace ∙ taken-older options.effort older abi audited.trace le ∙ is.again older (omega (arith, le, low)),
-        ap (map told_of) trace ∙ told-taken options.effort abi audited.trace ∙ is.told,
+        λ older le. ap (taken options.effort older) trace ∙ taken-older options.effort older abi audited.located.trace le ∙ is.again older (omega (arith, le, low)),
+        ap (map told_of) trace ∙ told-taken options.effort abi audited.located.trace ∙ is.told,
         findings ∙ ap₂ (λ (one : Found) (others : List Found). one ∷ others) own is.found,
       )
       go false trace findings = (
@@ -115,17 +115,17 @@ module _ (options : Options) (tree : List Entry) (records : List Record) where
 
   -- and if it is the last of them
   pub last_down : (bound : ℕ) (done : List Abi) (abi : Abi) (audited : Audited) (made : Result Audited Fault) → number_of abi ≤ bound → IsDownTo bound done audited
-      → IfOk made (λ next. next.tree ≡ audited.tree)
-      → IfOk made (λ next. next.trace ≡ (if is_in options.abis abi then taken options.effort abi audited.trace else audited.trace))
+      → IfOk made (λ next. next.located.tree ≡ audited.located.tree)
+      → IfOk made (λ next. next.located.trace ≡ (if is_in options.abis abi then taken options.effort abi audited.located.trace else audited.located.trace))
       → IfOk made (λ next. next.findings.items
-      ≡ (if is_in options.abis abi then found_under options.shown audited.tree (taken options.effort abi audited.trace) abi ∷ audited.findings.items
+      ≡ (if is_in options.abis abi then found_under options.shown audited.located.tree (taken options.effort abi audited.located.trace) abi ∷ audited.findings.items
       else audited.findings.items))
       → IfOk made (IsDownTo (number_of abi) (abi ∷ done))
   last_down bound done abi audited (Ok next) low is kept trace findings = one_down bound done abi audited next low is kept trace findings
   last_down bound done abi audited (Err fault) low is kept trace findings = tt
 
   -- before the newest version
-  pub none_yet : (audited : Audited) → audited.tree ≡ tree → audited.trace ≡ records → audited.findings.items ≡ [] → IsDownTo 5 [] audited
+  pub none_yet : (audited : Audited) → audited.located.tree ≡ tree → audited.located.trace ≡ records → audited.findings.items ≡ [] → IsDownTo 5 [] audited
   none_yet audited kept same_trace none = record {
     same_tree = kept;
     again = λ abi le. ap (taken options.effort abi) same_trace;

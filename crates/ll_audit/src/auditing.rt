@@ -77,7 +77,7 @@ pub fn audit_with<R: Threads + Wait + Sync, G: Gate + Sync>(
 }
 
 /// A trace as its rulesets are to be taken under a version.
-pub(crate) fn taken(trace: Trace, effort: Effort, abi: Abi) -> Trace
+fn taken(trace: Trace, effort: Effort, abi: Abi) -> Trace
     ensures { result ≡ taken effort abi trace }
 {
     match effort {

@@ -8,26 +8,25 @@ ghost use Rattle.ll_audit.specs.Rows.{told_of};
 ghost use Rattle.ll_audit.specs.ShownReports.{IsReportOver, findings, taken};
 ghost use Rattle.ll_audit.specs.Versions.{is_in};
 
-use crate::auditing::{answers_of, taken};
+use crate::auditing::answers_of;
 use crate::fault::Fault;
 use crate::found::Finding;
-use crate::options::Options;
+use crate::options::{Effort, Options};
 use crate::report::Report;
 use ll_pool::Gate;
 use ll_process::Case;
 use ll_rights::Abi;
-use ll_trace::Trace;
+use ll_trace::{Located, Trace};
 use ll_tree::Tree;
 use std::alloc::{AllocError, Global};
 use std::sync::Wait;
 use std::thread::Threads;
 
 /// A tree and a trace, and what was found of them under some versions, the oldest first. The trace is as its rulesets
-/// are taken under the oldest of these.
+/// are taken under the oldest of these. Where its paths lead is looked up once for all versions.
 #[derive(Drop)]
 struct Audited {
-    tree: Tree,
-    trace: Trace,
+    located: Located,
     findings: Vec<Finding>,
 }
 
@@ -44,29 +43,23 @@ impl Audited {
         abi: Abi,
     ) -> Result<Audited, Fault>
         requires { IsCrew workers }
-        ensures tree { IfOk result (λ next. next.tree ≡ self.tree) }
-        ensures trace { IfOk result (λ next. next.trace
-            ≡ (if is_in options.now.abis abi then taken options.now.effort abi self.trace else self.trace)) }
+        ensures tree { IfOk result (λ next. next.located.tree ≡ self.located.tree) }
+        ensures trace { IfOk result (λ next. next.located.trace
+            ≡ (if is_in options.now.abis abi then taken options.now.effort abi self.located.trace else self.located.trace)) }
         ensures findings { IfOk result (λ next. next.findings.items ≡ (if is_in options.now.abis abi
-            then found_under options.now.shown self.tree (taken options.now.effort abi self.trace) abi ∷ self.findings.items
+            then found_under options.now.shown self.located.tree (taken options.now.effort abi self.located.trace) abi ∷ self.findings.items
             else self.findings.items)) }
         ensures fault { IfErr result IsWant }
     {
         if !options.abis.has(abi) {
             return Ok(self);
         }
-        let Audited {
-            tree,
-            trace,
-            findings,
-        } = self;
-        let case = Case::new(alloc, tree, taken(trace, options.effort, abi), abi)?;
+        let Audited { located, findings } = self;
+        let case = Case::of_located(alloc, as_taken(located, options.effort, abi), abi)?;
         let answers = answers_of(rt, alloc, &case, workers, cuts, gate)?;
         let finding = Finding::of(alloc, &case, answers, options.shown, findings.first())?;
-        let (tree, trace) = case.into_parts();
         Ok(Audited {
-            tree,
-            trace,
+            located: case.into_located(),
             findings: in_front(finding, findings)?,
         })
     }
@@ -83,8 +76,8 @@ impl Audited {
     ) -> Result<Audited, Fault>
         requires crew { IsCrew workers }
         requires none_yet { self.findings.items ≡ [] }
-        ensures findings { IfOk result (λ all. all.findings.items ≡ findings options.now self.tree self.trace) }
-        ensures records { IfOk result (λ all. map told_of all.trace ≡ map told_of self.trace) }
+        ensures findings { IfOk result (λ all. all.findings.items ≡ findings options.now self.located.tree self.located.trace) }
+        ensures records { IfOk result (λ all. map told_of all.located.trace ≡ map told_of self.located.trace) }
         ensures fault { IfErr result IsWant }
     {
         self.under(rt, alloc, options, workers, cuts, gate, Abi::V5)?
@@ -92,6 +85,17 @@ impl Audited {
             .under(rt, alloc, options, workers, cuts, gate, Abi::V3)?
             .under(rt, alloc, options, workers, cuts, gate, Abi::V2)?
             .under(rt, alloc, options, workers, cuts, gate, Abi::V1)
+    }
+}
+
+/// A trace with the places that it names, as its rulesets are to be taken under a version.
+fn as_taken(located: Located, effort: Effort, abi: Abi) -> Located
+    ensures tree { result.tree ≡ located.tree }
+    ensures trace { result.trace ≡ taken effort abi located.trace }
+{
+    match effort {
+        Effort::AsRecorded => located,
+        Effort::Best => located.at_best_effort(abi),
     }
 }
 
@@ -118,9 +122,9 @@ pub(crate) fn report_over<R: Threads + Wait + Sync, G: Gate + Sync>(
     ensures report { IfOk result (IsReportOver options.now tree trace) }
     ensures fault { IfErr result IsWant }
 {
+    let located = Located::of(alloc, tree, trace)?;
     let none = Audited {
-        tree,
-        trace,
+        located,
         findings: Vec::new(alloc),
     };
     let all = none.under_all(rt, alloc, options, workers, cuts, gate)?;
@@ -130,7 +134,7 @@ pub(crate) fn report_over<R: Threads + Wait + Sync, G: Gate + Sync>(
         options.shown,
         oldest,
         &all.findings,
-        all.trace.records(),
+        all.located.trace.records(),
     )?;
     Ok(report)
 }

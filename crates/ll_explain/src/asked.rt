@@ -18,7 +18,7 @@ ghost use Rattle.ll_explain.specs.Words.{layer_text};
 use crate::layers::{Confinement, push_asked};
 use ll_rights::Fs;
 use ll_semantics::Request;
-use ll_state::{make_asks, open_asks, regular_asks, rmdir_asks, unlink_asks};
+use ll_state::{make_asks, open_asks, place_of, regular_asks, rmdir_asks, unlink_asks};
 use ll_trace::{Mode, PathText};
 use ll_tree::{Place, front_text};
 use std::alloc::AllocError;
@@ -57,7 +57,7 @@ pub(crate) fn push_open(
     ensures { OnOk result (text.new.items ≡ text.old.items ++ flat_map (layer_text of.now.records.now of.now.restricts.now)
         (to_request of.now.tree.now (all_in_tree of.now.tree.now (domain_of of.now.layers.now of.now.domain.now)) (requests.open_asks of.now.tree.now (place of.now.tree.now path.now) mode create trunc))) }
 {
-    let place = of.tree.place_of(path.as_str());
+    let place = place_of(of.tree, path, None);
     let request = open_asks(of.tree, place, mode, create, trunc);
     push_asked(text, of, text_at(place, path), request)?;
     Ok(())
@@ -75,7 +75,8 @@ pub(crate) fn push_on_file(
     ensures { OnOk result (text.new.items ≡ text.old.items ++ flat_map (layer_text of.now.records.now of.now.restricts.now)
         (to_request of.now.tree.now (all_in_tree of.now.tree.now (domain_of of.now.layers.now of.now.domain.now)) (requests.regular_asks of.now.tree.now (place of.now.tree.now path.now) rights))) }
 {
-    let request = regular_asks(of.tree, path, rights);
+    let place = place_of(of.tree, path, None);
+    let request = regular_asks(of.tree, place, rights);
     push_asked(text, of, path.as_str(), request)?;
     Ok(())
 }
@@ -92,7 +93,8 @@ pub(crate) fn push_made(
     ensures { OnOk result (text.new.items ≡ text.old.items ++ flat_map (layer_text of.now.records.now of.now.restricts.now)
         (to_request of.now.tree.now (all_in_tree of.now.tree.now (domain_of of.now.layers.now of.now.domain.now)) (requests.make_asks (place of.now.tree.now path.now) rights))) }
 {
-    let request = make_asks(of.tree, path, rights);
+    let place = place_of(of.tree, path, None);
+    let request = make_asks(of.tree, place, rights);
     push_asked(text, of, front_of(path), request)?;
     Ok(())
 }
@@ -108,7 +110,8 @@ pub(crate) fn push_unlinked(
     ensures { OnOk result (text.new.items ≡ text.old.items ++ flat_map (layer_text of.now.records.now of.now.restricts.now)
         (to_request of.now.tree.now (all_in_tree of.now.tree.now (domain_of of.now.layers.now of.now.domain.now)) (requests.unlink_asks of.now.tree.now (place of.now.tree.now path.now)))) }
 {
-    let request = unlink_asks(of.tree, path);
+    let place = place_of(of.tree, path, None);
+    let request = unlink_asks(of.tree, place);
     push_asked(text, of, front_of(path), request)?;
     Ok(())
 }
@@ -124,7 +127,8 @@ pub(crate) fn push_directory_removed(
     ensures { OnOk result (text.new.items ≡ text.old.items ++ flat_map (layer_text of.now.records.now of.now.restricts.now)
         (to_request of.now.tree.now (all_in_tree of.now.tree.now (domain_of of.now.layers.now of.now.domain.now)) (requests.rmdir_asks of.now.tree.now (place of.now.tree.now path.now)))) }
 {
-    let request = rmdir_asks(of.tree, path);
+    let place = place_of(of.tree, path, None);
+    let request = rmdir_asks(of.tree, place);
     push_asked(text, of, front_of(path), request)?;
     Ok(())
 }

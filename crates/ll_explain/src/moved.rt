@@ -17,7 +17,7 @@ use crate::asked::front_of;
 use crate::layers::Confinement;
 use crate::route::{Route, push_layer};
 use ll_rules::{Errno, Move};
-use ll_state::{link_move, rename_move};
+use ll_state::{link_move, place_of, rename_move};
 use ll_trace::PathText;
 use std::alloc::AllocError;
 
@@ -85,8 +85,8 @@ pub(crate) fn push_renamed(
     ensures { OnOk result (text.new.items ≡ text.old.items ++ flat_map (layer_text of.now.records.now of.now.restricts.now)
         (to_move of.now.tree.now (all_in_tree of.now.tree.now (domain_of of.now.layers.now of.now.domain.now)) error (moves.rename_move of.now.tree.now (place of.now.tree.now from.now) (place of.now.tree.now to.now) exchange))) }
 {
-    let source = of.tree.place_of(from.as_str());
-    let target = of.tree.place_of(to.as_str());
+    let source = place_of(of.tree, from, None);
+    let target = place_of(of.tree, to, None);
     let asked = rename_move(of.tree, source, target, exchange);
     push_moved(text, of, from, to, asked, error)?;
     Ok(())
@@ -105,8 +105,8 @@ pub(crate) fn push_linked(
     ensures { OnOk result (text.new.items ≡ text.old.items ++ flat_map (layer_text of.now.records.now of.now.restricts.now)
         (to_move of.now.tree.now (all_in_tree of.now.tree.now (domain_of of.now.layers.now of.now.domain.now)) error (moves.link_move of.now.tree.now (place of.now.tree.now from.now) (place of.now.tree.now to.now)))) }
 {
-    let source = of.tree.place_of(from.as_str());
-    let target = of.tree.place_of(to.as_str());
+    let source = place_of(of.tree, from, None);
+    let target = place_of(of.tree, to, None);
     let asked = link_move(of.tree, source, target);
     push_moved(text, of, from, to, asked, error)?;
     Ok(())

@@ -1,16 +1,18 @@
 //! What is judged: a tree, a trace, a version of the interface, and the rulebook.
 
-ghost use Rattle.std.specs.Prelude.{◌≡◌, ◌<◌, ℕ, Some, IfOk, length, slice_get};
+ghost use Rattle.std.specs.Prelude.{◌≡◌, ◌<◌, ℕ, Some, IfOk, IfSome, length, slice_get};
 ghost use Rattle.std.specs.Option.{option_map};
 ghost use Rattle.ll_process.specs.Cases.{IsCase};
+ghost use Rattle.ll_trace.specs.declared.record.Record.{Record as OneRecord};
+ghost use Rattle.ll_trace.specs.FirstPlaces.{AreFirstPlaces, first_place};
 ghost use Rattle.ll_trace.specs.Processes.{process_count, own_records, forked_at};
 
 use ll_rights::Abi;
 use ll_rulebook::Rulebook;
 use ll_rules::{Layer, NoMemory};
 use ll_semantics::Note;
-use ll_trace::{Op, ProcessId, Record, Trace};
-use ll_tree::Tree;
+use ll_trace::{Located, Op, ProcessId, Record, Trace};
+use ll_tree::{Place, Tree};
 use std::alloc::Global;
 use std::marker::Model;
 
@@ -23,6 +25,8 @@ pub struct Case {
     abi: Abi,
     notes: Vec<Note>,
     layers: Vec<Layer>,
+    places: Vec<Place>,
+    ghost are_first: { AreFirstPlaces tree trace places.items },
 }
 
 impl Model for Case {
@@ -55,6 +59,30 @@ impl Case {
         ensures abi { IfOk result (λ of. of.abi ≡ abi) }
         ensures rulebook { IfOk result IsCase }
     {
+        let places = Vec::new(alloc);
+        Case::of_located(
+            alloc,
+            Located {
+                tree,
+                trace,
+                places,
+            },
+            abi,
+        )
+    }
+
+    /// Makes the rulebook as [`Case::new`] does, where the places of the records' first paths are known.
+    pub fn of_located(alloc: Global, located: Located, abi: Abi) -> Result<Case, NoMemory>
+        ensures tree { IfOk result (λ of. of.tree ≡ located.tree) }
+        ensures records { IfOk result (λ of. of.records ≡ located.trace) }
+        ensures abi { IfOk result (λ of. of.abi ≡ abi) }
+        ensures rulebook { IfOk result IsCase }
+    {
+        let Located {
+            tree,
+            trace,
+            places,
+        } = located;
         let book = Rulebook::of(alloc, &tree, &trace, abi)?;
         Ok(Case {
             tree,
@@ -62,15 +90,20 @@ impl Case {
             abi,
             notes: book.notes,
             layers: book.layers,
+            places,
         })
     }
 
-    /// Gives back the tree and the trace that were handed in.
-    pub fn into_parts(self) -> (Tree, Trace)
-        ensures tree { result.0 ≡ self.tree }
-        ensures records { result.1 ≡ self.records }
+    /// Gives back the tree and the trace that were handed in, with the places that are known.
+    pub fn into_located(self) -> Located
+        ensures tree { result.tree ≡ self.tree }
+        ensures records { result.trace ≡ self.records }
     {
-        (self.tree, self.trace)
+        Located {
+            tree: self.tree,
+            trace: self.trace,
+            places: self.places,
+        }
     }
 
     /// The tree that was handed in.
@@ -118,6 +151,13 @@ impl Case {
         ensures { slice_get self.now.notes index ≡ Some result.now }
     {
         &self.notes[index]
+    }
+
+    /// The place of the first path of the record at a place, where it is known.
+    pub fn known_place(&self, index: usize) -> Option<Place>
+        ensures { IfSome result (λ one. (r : OneRecord) → slice_get self.now.records index ≡ Some r → one ≡ first_place self.now.tree r.op) }
+    {
+        self.places.get(index).copied()
     }
 
     /// The places of a process's own records.

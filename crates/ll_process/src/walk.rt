@@ -36,7 +36,8 @@ fn judge_met(
 {
     let op = &case.record(index as usize).op;
     let note = case.note(index as usize);
-    own.judge(case.tree(), case.layers(), op, note)
+    let known = case.known_place(index as usize);
+    own.judge(case.tree(), case.layers(), op, note, known)
 }
 
 /// What one of a process's own records is answered. A start was done when its process began.

@@ -1,3 +1,4 @@
 pub mod SameLayers
 pub mod Restricting
 pub mod Judging
+pub mod Places

@@ -4,21 +4,22 @@ mod checks;
 mod descriptors;
 mod restricting;
 
-ghost use Rattle.std.specs.Prelude.{◌≡◌, ℕ, List, true, IfOk, OnOk, OnErr};
+ghost use Rattle.std.specs.Prelude.{◌≡◌, ℕ, List, true, IfOk, IfSome, OnOk, OnErr};
 ghost use Rattle.ll_tree.specs.Trees.{Entry};
 ghost use Rattle.ll_rules.specs.Layers.{RulesOn};
+ghost use Rattle.ll_trace.specs.FirstPlaces.{first_place};
 ghost use Rattle.ll_semantics.specs.States.{State, fresh};
 ghost use Rattle.ll_semantics.specs.Situations.{Situation, answered, left};
 ghost use Rattle.ll_state.specs.Agreement.{IsMet, Agrees, is_still};
 ghost use Rattle.ll_semantics.specs.Notes.{NoteFits};
 
-use crate::requests::{make_asks, regular_asks, rmdir_asks, unlink_asks};
+use crate::requests::{make_asks, place_of, regular_asks, rmdir_asks, unlink_asks};
 use ll_rights::{Fs, Net};
 use ll_rules::{Domain, Layer, NoMemory};
 use ll_semantics::{Answer, Descriptor, Note};
 use ll_shared::SharedMap;
 use ll_trace::{Op, changes_nothing};
-use ll_tree::Tree;
+use ll_tree::{Place, Tree};
 use std::alloc::Global;
 
 /// What one process has by itself: its flags, its domain and its open descriptors. The rulesets that it holds
@@ -72,18 +73,21 @@ impl OwnState {
     }
 
     /// Judges one call of the process, and changes its state where the call is allowed. The note says what
-    /// follows from the rulesets, which the processes share.
+    /// follows from the rulesets, which the processes share; a place, where it is known, is that of the call's
+    /// first path, which is then not looked for.
     pub fn judge(
         &mut self,
         tree: &Tree,
         layers: &[Layer],
         op: &Op,
         note: &Note,
+        known: Option<Place>,
     ) -> Result<Answer, NoMemory>
         ghost at: { Situation }
         requires met { IsMet at tree.now layers.now }
         requires agrees { Agrees at.tree at.layers self.old at.state }
         requires fits { NoteFits at op.now note.now }
+        requires known { IfSome known (λ one. one ≡ first_place tree.now op.now) }
         ensures answer { IfOk result (λ answer. answer ≡ answered at op.now) }
         ensures ok { OnOk result (Agrees at.tree at.layers self.new (left at op.now)) }
         ensures err { OnErr result (Agrees at.tree at.layers self.new at.state) }
@@ -91,17 +95,24 @@ impl OwnState {
         match note {
             Note::Answered(answer) => Ok(*answer),
             Note::Frozen(layer) => Ok(self.restrict(Some(*layer))),
-            Note::Open => self.judge_alone(tree, layers, op),
+            Note::Open => self.judge_alone(tree, layers, op, known),
         }
     }
 
     /// Judges a call whose answer rests on the state of its process alone.
-    #[tactic(auto, unfolding(crate::specs::Agreement::is_still, ll_semantics::specs::Notes::NoteFits, ll_semantics::specs::Notes::is_on_rulesets))]
-    fn judge_alone(&mut self, tree: &Tree, layers: &[Layer], op: &Op) -> Result<Answer, NoMemory>
+    #[tactic(auto, unfolding(crate::specs::Agreement::is_still, ll_semantics::specs::Notes::NoteFits, ll_semantics::specs::Notes::is_on_rulesets, ll_trace::specs::FirstPlaces::first_place))]
+    fn judge_alone(
+        &mut self,
+        tree: &Tree,
+        layers: &[Layer],
+        op: &Op,
+        known: Option<Place>,
+    ) -> Result<Answer, NoMemory>
         ghost at: { Situation }
         requires met { IsMet at tree.now layers.now }
         requires agrees { Agrees at.tree at.layers self.old at.state }
         requires fits { NoteFits at op.now Note.Open }
+        requires known { IfSome known (λ one. one ≡ first_place tree.now op.now) }
         ensures answer { IfOk result (λ answer. answer ≡ answered at op.now) }
         ensures ok { OnOk result (Agrees at.tree at.layers self.new (left at op.now)) }
         ensures err { OnErr result (Agrees at.tree at.layers self.new at.state) }
@@ -115,12 +126,12 @@ impl OwnState {
                 mode,
                 create,
                 trunc,
-            } => self.open(tree, layers, path, *fd, *mode, *create, *trunc),
+            } => self.open(tree, layers, path, known, *fd, *mode, *create, *trunc),
             Op::Adopt { fd, kind } => self.adopt(*fd, *kind),
             Op::Dup { fd, to } => self.dup(*fd, *to),
             Op::Close { fd } => self.close(*fd),
             Op::Start { .. } | Op::Fork { .. } | changes_nothing!() => Ok(self.answer(
-                tree, layers, op,
+                tree, layers, op, known,
             )),
             Op::Create { .. }
             | Op::AddPath { .. }
@@ -131,37 +142,67 @@ impl OwnState {
     }
 
     /// The answer to a call that changes nothing of its process's state.
-    #[tactic(auto, unfolding(crate::specs::Agreement::is_still, ll_semantics::specs::Situations::answered, ll_semantics::specs::Answers::answer, ll_rights::specs::Rights::only, ll_rights::specs::NetRights::has, ll_rights::specs::NetRights::only))]
-    fn answer(&self, tree: &Tree, layers: &[Layer], op: &Op) -> Answer
+    #[tactic(auto, unfolding(crate::specs::Agreement::is_still, ll_trace::specs::FirstPlaces::first_place, ll_semantics::specs::Situations::answered, ll_semantics::specs::Answers::answer, ll_rights::specs::Rights::only, ll_rights::specs::NetRights::has, ll_rights::specs::NetRights::only))]
+    fn answer(&self, tree: &Tree, layers: &[Layer], op: &Op, known: Option<Place>) -> Answer
         ghost at: { Situation }
         requires met { IsMet at tree.now layers.now }
         requires agrees { Agrees at.tree at.layers self.now at.state }
         requires still { is_still op.now ≡ true }
+        requires known { IfSome known (λ one. one ≡ first_place tree.now op.now) }
         ensures { result ≡ answered at op.now }
     {
         match op {
             Op::Start { .. } | Op::Fork { .. } | Op::Exit => Answer::Allowed,
             Op::Ftruncate { fd } => self.ftruncate(*fd),
             Op::Ioctl { fd, driver } => self.ioctl(*fd, *driver),
-            Op::Truncate { path } => self.ask(tree, layers, regular_asks(tree, path, Fs::TRUNCATE)),
-            Op::Exec { path } => self.ask(tree, layers, regular_asks(tree, path, Fs::EXECUTE)),
+            Op::Truncate { path } => self.ask(
+                tree,
+                layers,
+                regular_asks(tree, place_of(tree, path, known), Fs::TRUNCATE),
+            ),
+            Op::Exec { path } => self.ask(
+                tree,
+                layers,
+                regular_asks(tree, place_of(tree, path, known), Fs::EXECUTE),
+            ),
             Op::Mknod { path, kind } => self.ask(
                 tree,
                 layers,
-                make_asks(tree, path, kind.make_right()),
+                make_asks(tree, place_of(tree, path, known), kind.make_right()),
             ),
-            Op::Mkdir { path } => self.ask(tree, layers, make_asks(tree, path, Fs::MAKE_DIR)),
-            Op::Symlink { path } => self.ask(tree, layers, make_asks(tree, path, Fs::MAKE_SYM)),
-            Op::Unlink { path } => self.ask(tree, layers, unlink_asks(tree, path)),
-            Op::Rmdir { path } => self.ask(tree, layers, rmdir_asks(tree, path)),
+            Op::Mkdir { path } => self.ask(
+                tree,
+                layers,
+                make_asks(tree, place_of(tree, path, known), Fs::MAKE_DIR),
+            ),
+            Op::Symlink { path } => self.ask(
+                tree,
+                layers,
+                make_asks(tree, place_of(tree, path, known), Fs::MAKE_SYM),
+            ),
+            Op::Unlink { path } => self.ask(
+                tree,
+                layers,
+                unlink_asks(tree, place_of(tree, path, known)),
+            ),
+            Op::Rmdir { path } => self.ask(
+                tree,
+                layers,
+                rmdir_asks(tree, place_of(tree, path, known)),
+            ),
             Op::Rename { from, to, exchange } => self.rename(
                 tree,
                 layers,
-                from,
+                place_of(tree, from, known),
                 to.path(),
                 *exchange,
             ),
-            Op::Link { from, to } => self.link(tree, layers, from, to.path()),
+            Op::Link { from, to } => self.link(
+                tree,
+                layers,
+                place_of(tree, from, known),
+                to.path(),
+            ),
             Op::Mount => self.mount(layers),
             Op::Bind { port } => self.ask_port(layers, *port, Net::BIND_TCP),
             Op::Connect { port } => self.ask_port(layers, *port, Net::CONNECT_TCP),

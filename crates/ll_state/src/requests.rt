@@ -1,7 +1,7 @@
 //! What a call asks of the file tree.
 
 ghost use Rattle.std.specs.Prelude.{◌≡◌, IfSome};
-ghost use Rattle.ll_tree.specs.Trees.{IsNode, place, parent_at};
+ghost use Rattle.ll_tree.specs.Trees.{IsNode, parent_at, place};
 ghost use Rattle.ll_tree.specs.TreeFacts.{IsPlace};
 ghost use Rattle.ll_semantics.specs.Fits.{IsFit};
 ghost use Rattle.ll_semantics.specs.Requests.{rights_of_mode, file_rights, new_file_rights, open_kind, open_asks, regular_asks, make_asks, remove_from, unlink_asks, rmdir_asks};
@@ -10,6 +10,19 @@ use ll_rights::{Fs, Kind};
 use ll_semantics::Request;
 use ll_trace::{Mode, PathText};
 use ll_tree::{NodeId, Place, Tree};
+
+/// The place that a path leads to, which may be known.
+#[tactic(auto, using(crate::proofs::Places::place_inside))]
+pub fn place_of(tree: &Tree, path: &PathText, known: Option<Place>) -> Place
+    requires { IfSome known (λ one. one ≡ place tree.now path.now) }
+    ensures place { result ≡ place tree.now path.now }
+    ensures inside { IsPlace tree.now result }
+{
+    match known {
+        Some(place) => place,
+        None => tree.place_of(path.as_str()),
+    }
+}
 
 /// The rights to open a file for reading, writing or both (landlock(7), "Filesystem actions").
 #[tactic(auto, unfolding(ll_rights::specs::Rights::only, ll_rights::specs::Rights::united))]
@@ -86,11 +99,12 @@ pub fn open_asks(
 
 /// What a call asks that wants rights on a regular file itself.
 #[tactic(auto, unfolding(ll_semantics::specs::Requests::regular_asks, ll_semantics::specs::Requests::regular_kind))]
-pub fn regular_asks(tree: &Tree, path: &PathText, rights: Fs) -> Option<Request>
-    ensures exact { result ≡ regular_asks tree.now (place tree.now path.now) rights }
+pub fn regular_asks(tree: &Tree, place: Place, rights: Fs) -> Option<Request>
+    requires { IsPlace tree.now place }
+    ensures exact { result ≡ regular_asks tree.now place rights }
     ensures fit { IfSome result (IsFit tree.now) }
 {
-    match tree.place_of(path.as_str()) {
+    match place {
         Place::Node(node) => match tree.kind(node) {
             Kind::Reg => Some(Request { node, rights }),
             _ => None,
@@ -101,11 +115,12 @@ pub fn regular_asks(tree: &Tree, path: &PathText, rights: Fs) -> Option<Request>
 
 /// What a call asks that makes an object: rights on the directory of a gap.
 #[tactic(auto, unfolding(ll_semantics::specs::Requests::make_asks))]
-pub fn make_asks(tree: &Tree, path: &PathText, rights: Fs) -> Option<Request>
-    ensures exact { result ≡ make_asks (place tree.now path.now) rights }
+pub fn make_asks(tree: &Tree, place: Place, rights: Fs) -> Option<Request>
+    requires { IsPlace tree.now place }
+    ensures exact { result ≡ make_asks place rights }
     ensures fit { IfSome result (IsFit tree.now) }
 {
-    match tree.place_of(path.as_str()) {
+    match place {
         Place::Gap(node) => Some(Request { node, rights }),
         _ => None,
     }
@@ -126,11 +141,12 @@ fn remove_from(tree: &Tree, kind: Kind, node: NodeId) -> Option<Request>
 
 /// What unlink(2) asks, which removes all but directories.
 #[tactic(auto, unfolding(ll_semantics::specs::Requests::unlink_asks))]
-pub fn unlink_asks(tree: &Tree, path: &PathText) -> Option<Request>
-    ensures exact { result ≡ unlink_asks tree.now (place tree.now path.now) }
+pub fn unlink_asks(tree: &Tree, place: Place) -> Option<Request>
+    requires { IsPlace tree.now place }
+    ensures exact { result ≡ unlink_asks tree.now place }
     ensures fit { IfSome result (IsFit tree.now) }
 {
-    match tree.place_of(path.as_str()) {
+    match place {
         Place::Node(node) => match tree.kind(node) {
             Kind::Dir => None,
             kind => remove_from(tree, kind, node),
@@ -141,11 +157,12 @@ pub fn unlink_asks(tree: &Tree, path: &PathText) -> Option<Request>
 
 /// What rmdir(2) asks, which removes directories, but not the root.
 #[tactic(auto, unfolding(ll_semantics::specs::Requests::rmdir_asks))]
-pub fn rmdir_asks(tree: &Tree, path: &PathText) -> Option<Request>
-    ensures exact { result ≡ rmdir_asks tree.now (place tree.now path.now) }
+pub fn rmdir_asks(tree: &Tree, place: Place) -> Option<Request>
+    requires { IsPlace tree.now place }
+    ensures exact { result ≡ rmdir_asks tree.now place }
     ensures fit { IfSome result (IsFit tree.now) }
 {
-    match tree.place_of(path.as_str()) {
+    match place {
         Place::Node(node) => match tree.kind(node) {
             Kind::Dir => remove_from(tree, Kind::Dir, node),
             _ => None,

@@ -1,6 +1,7 @@
 -- What best effort leaves of the records of a trace: their lines, pids and processes, and which of them start or end a process.
 use Rattle.std.proofs.Common.{◌≡◌, ℕ, zero, suc, ◌+◌, ◌≤◌, Bool, true, false, not, ◌&&◌, List, [], ◌∷◌, ◌++◌, length, get_or, map, take, drop, Option, Some, None, cond, refl, sym, ap, ◌∙◌, if◌then◌else◌}
 use Rattle.std.specs.Prelude.{slice_get}
+use Rattle.std.proofs.lemmas.Option.{none-some, same_Some}
 use Rattle.std.proofs.lemmas.List.{append-nil, drop_all, length-map, take-map, take_all}
 use Rattle.ll_rights.specs.declared.abi.Abi.{Abi}
 use Rattle.ll_rights.specs.declared.fs.Fs.{Fs}
@@ -8,6 +9,9 @@ use Rattle.ll_rights.specs.declared.net.Net.{Net}
 use Rattle.ll_rights.specs.Supported.{supported_fs, supported_net}
 use Rattle.ll_rights.specs.Rights as files
 use Rattle.ll_rights.specs.NetRights as network
+use Rattle.ll_tree.specs.declared.place.Place.{Place}
+use Rattle.ll_tree.specs.declared.place.Place.TheVariants.{Nowhere}
+use Rattle.ll_tree.specs.Trees as trees
 use Rattle.ll_trace.specs.declared.op.Op.{Op}
 use Rattle.ll_trace.specs.declared.op.Op.TheVariants as calls
 use Rattle.ll_trace.specs.declared.op.RuleType.TheVariants.{PathBeneath, NetPort}
@@ -20,6 +24,7 @@ use Rattle.ll_trace.specs.Records.{entry_of, record_of, records_after, process_o
 use Rattle.ll_trace.specs.RecordFacts.{ArePlaced, AreRecords}
 use Rattle.ll_trace.specs.Processes.{is_starting, process_count, number_if, started_at, own_from, own_records, forked_by, parents}
 use Rattle.ll_trace.specs.Indexed.{Indexes}
+use Rattle.ll_trace.specs.FirstPlaces.{AreFirstPlaces, first_place}
 use Rattle.ll_trace.specs.BestEffort.{at_best_effort, record_at_best_effort, records_at_best_effort}
 use Rattle.ll_trace.proofs.Numbering.{are_numbered}
 use Rattle.ll_trace.proofs.Numbers.{process_count-cons}
@@ -84,6 +89,13 @@ module _ (abi : Abi) where
   forked_by-kept (calls.AddPort rs port net) own = of_add_port (λ op. forked_by op own) None rs port net refl refl
   forked_by-kept op own = refl
 
+  first_place-kept : (tree : List trees.Entry) (op : Op) → first_place tree (at_best_effort abi op) ≡ first_place tree op
+  unfolding first_place at_best_effort
+  first_place-kept tree (calls.Create rs fs net) = of_create (first_place tree) Nowhere rs fs net refl refl
+  first_place-kept tree (calls.AddPath rs path fs) = of_add_path (first_place tree) Nowhere rs path fs refl refl
+  first_place-kept tree (calls.AddPort rs port net) = of_add_port (first_place tree) Nowhere rs port net refl refl
+  first_place-kept tree op = refl
+
   -- ---- entries
 
   entry_kept : Entry → Entry
@@ -133,6 +145,13 @@ module _ (abi : Abi) where
   records-kept past (entry ∷ es) =
       ap (λ (r : Record). r ∷ records_after (map entry_kept (entry ∷ past)) (map entry_kept es)) (record-kept past entry)
       ∙ ap (λ (rs : List Record). record_at_best_effort abi (record_of past entry) ∷ rs) (records-kept (entry ∷ past) es)
+
+  -- the places that records name first are those that they name at best effort
+  pub first_places-kept : (tree : List trees.Entry) (records : List Record) (places : List Place) → AreFirstPlaces tree records places → AreFirstPlaces tree (records_at_best_effort abi records) places
+  first_places-kept tree [] places are k one r at_place at_record = absurd (none-some r at_record)
+  first_places-kept tree (first ∷ rest) [] are k one r at_place at_record = absurd (none-some one at_place)
+  first_places-kept tree (first ∷ rest) (p ∷ ps) are zero one r at_place at_record = are 0 one first at_place refl ∙ sym (first_place-kept tree first.op) ∙ ap (λ (s : Record). first_place tree s.op) (same_Some _ _ at_record)
+  first_places-kept tree (first ∷ rest) (p ∷ ps) are (suc k) one r at_place at_record = first_places-kept tree rest ps (λ j other s here there. are (suc j) other s here there) k one r at_place at_record
 
   entries-kept : (records : List Record) → map entry_of (records_at_best_effort abi records) ≡ map entry_kept (map entry_of records)
   unfolding entry_kept

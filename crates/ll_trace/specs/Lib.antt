@@ -11,3 +11,4 @@ pub mod Indexed
 pub mod Traces
 pub mod SingleUse
 pub mod BestEffort
+pub mod FirstPlaces

@@ -2,6 +2,7 @@
 #![tactic(auto)]
 
 mod laws;
+mod located;
 mod members;
 mod op;
 mod operations;
@@ -17,6 +18,7 @@ pub use laws::{
     best_effort_by_version, files_read_as_one_trace, processes_are_numbered, sets_are_their_names,
     traces_of_single_pids,
 };
+pub use located::Located;
 pub use op::{Mode, Op, RuleType, Sort};
 pub use path_text::{PathText, SecondPath};
 pub use record::{ProcessId, Record};

@@ -7,6 +7,7 @@ ghost use Rattle.ll_trace.specs.BestEffort.{at_best_effort, creates, adds_port};
 use crate::path_text::{PathText, SecondPath};
 use crate::record::ProcessId;
 use ll_rights::{Abi, Fs, Kind, Net};
+use ll_tree::{Place, Tree};
 
 /// What a file is opened for.
 #[derive(Clone, Copy, Debug, PartialEq, Eq)]
@@ -203,6 +204,7 @@ macro_rules! changes_nothing {
 
 impl Op {
     ghost use Rattle.ll_trace.specs.Entries.{is_start, is_exit, pid_started};
+    ghost use Rattle.ll_trace.specs.FirstPlaces.{first_place};
     ghost use Rattle.ll_trace.specs.Processes.{is_starting, forked_by};
 
     #[tactic(auto, unfolding(crate::specs::Entries::is_start))]
@@ -236,6 +238,45 @@ impl Op {
             Op::Start { .. } => Some(pid),
             Op::Fork { child } => Some(*child),
             _ => None,
+        }
+    }
+
+    /// Where the path leads that the call names, or the first of its two; `Nowhere` for a call without one, and for
+    /// one that adds a rule, whose path is the ruleset's.
+    #[tactic(auto, unfolding(crate::specs::FirstPlaces::first_place))]
+    pub fn first_place(&self, tree: &Tree) -> Place
+        ensures { result ≡ first_place tree.now self.now }
+    {
+        match self {
+            Op::OpenFile { path, .. }
+            | Op::Truncate { path }
+            | Op::Exec { path }
+            | Op::Mknod { path, .. }
+            | Op::Mkdir { path }
+            | Op::Symlink { path }
+            | Op::Unlink { path }
+            | Op::Rmdir { path }
+            | Op::Rename { from: path, .. }
+            | Op::Link { from: path, .. } => tree.place_of(path.as_str()),
+            Op::Start { .. }
+            | Op::Fork { .. }
+            | Op::Exit
+            | Op::Nnp
+            | Op::Create { .. }
+            | Op::AddPath { .. }
+            | Op::AddPort { .. }
+            | Op::CloseRs { .. }
+            | Op::Restrict { .. }
+            | Op::Adopt { .. }
+            | Op::Dup { .. }
+            | Op::Close { .. }
+            | Op::Ftruncate { .. }
+            | Op::Mount
+            | Op::Bind { .. }
+            | Op::Connect { .. }
+            | Op::Ioctl { .. }
+            | Op::CreateEmpty { .. }
+            | Op::LeaveOut { .. } => Place::Nowhere,
         }
     }
 

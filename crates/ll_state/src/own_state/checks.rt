@@ -1,9 +1,9 @@
 //! Calls that the domain is asked about.
 
-ghost use Rattle.std.specs.Prelude.{◌≡◌, false, Some, IfSome, IfOk, OnOk, OnErr};
+ghost use Rattle.std.specs.Prelude.{◌≡◌, ℕ, List, false, Some, IfSome, IfOk, OnOk, OnErr};
 ghost use Rattle.ll_rights.specs.Rights.{only, truncate};
 ghost use Rattle.ll_rules.specs.Checks.{refusing, refusing_port};
-ghost use Rattle.ll_tree.specs.Trees.{IsNode, path_at, kind_at};
+ghost use Rattle.ll_tree.specs.Trees.{IsNode, path_at, kind_at, place};
 ghost use Rattle.ll_tree.specs.TreeFacts.{IsPlace};
 ghost use Rattle.ll_trace.specs.declared.op.Op.{Op};
 ghost use Rattle.ll_semantics.specs.Answers.{refused_by, of_request, of_move};
@@ -17,7 +17,7 @@ ghost use Rattle.ll_state.specs.Agreement.{IsMet, Agrees};
 use crate::moves::{link_move, rename_move};
 use crate::own_state::OwnState;
 use crate::own_state::descriptors::{refused_by, unrestricted};
-use crate::requests::open_asks;
+use crate::requests::{open_asks, place_of};
 use ll_rights::{Fs, Kind, Net};
 use ll_rules::{
     Errno, Layer, LayerSet, Move, NoMemory, Verdict, check_mount, check_move, check_path,
@@ -148,6 +148,7 @@ impl OwnState {
         tree: &Tree,
         layers: &[Layer],
         path: &PathText,
+        known: Option<Place>,
         fd: u64,
         mode: Mode,
         create: bool,
@@ -156,6 +157,7 @@ impl OwnState {
         ghost at: { Situation }
         requires met { IsMet at tree.now layers.now }
         requires agrees { Agrees at.tree at.layers self.old at.state }
+        requires known { IfSome known (λ one. one ≡ place tree.now path.now) }
         ensures answer { IfOk result (λ answer. answer ≡ answered at (Op.OpenFile path.now fd mode create trunc)) }
         ensures ok { OnOk result (Agrees at.tree at.layers self.new (left at (Op.OpenFile path.now fd mode create trunc))) }
         ensures err { OnErr result (Agrees at.tree at.layers self.new at.state) }
@@ -163,7 +165,7 @@ impl OwnState {
         if self.descriptor(fd).is_some() {
             return Ok(Answer::Moot);
         }
-        let place = tree.place_of(path.as_str());
+        let place = place_of(tree, path, known);
         let request = open_asks(tree, place, mode, create, trunc);
         self.open_place(tree, layers, fd, mode, place, request)
     }
@@ -214,35 +216,29 @@ impl OwnState {
         &self,
         tree: &Tree,
         layers: &[Layer],
-        from: &PathText,
+        from: Place,
         to: &PathText,
         exchange: bool,
     ) -> Answer
         ghost at: { Situation }
         requires met { IsMet at tree.now layers.now }
         requires agrees { Agrees at.tree at.layers self.now at.state }
-        ensures { result ≡ answered at (Op.Rename from.now to.now exchange) }
+        requires from { IsPlace tree.now from }
+        ensures { (path : List ℕ) → from ≡ place tree.now path → result ≡ answered at (Op.Rename path to.now exchange) }
     {
-        let from = tree.place_of(from.as_str());
         let to = tree.place_of(to.as_str());
         self.ask_move(tree, layers, rename_move(tree, from, to, exchange))
     }
 
     /// link(2).
     #[tactic(auto, unfolding(ll_semantics::specs::Situations::answered, ll_semantics::specs::Answers::answer))]
-    pub(crate) fn link(
-        &self,
-        tree: &Tree,
-        layers: &[Layer],
-        from: &PathText,
-        to: &PathText,
-    ) -> Answer
+    pub(crate) fn link(&self, tree: &Tree, layers: &[Layer], from: Place, to: &PathText) -> Answer
         ghost at: { Situation }
         requires met { IsMet at tree.now layers.now }
         requires agrees { Agrees at.tree at.layers self.now at.state }
-        ensures { result ≡ answered at (Op.Link from.now to.now) }
+        requires from { IsPlace tree.now from }
+        ensures { (path : List ℕ) → from ≡ place tree.now path → result ≡ answered at (Op.Link path to.now) }
     {
-        let from = tree.place_of(from.as_str());
         let to = tree.place_of(to.as_str());
         self.ask_move(tree, layers, link_move(tree, from, to))
     }

@@ -5,4 +5,4 @@ use Rattle.ll_explain.proofs.asked.push_open.Goals as goal
 pub push_asked-requires-clause-path : goal.push_asked-requires-clause-path
 push_asked-requires-clause-path c =
     open_named c.args.of.now.tree.now c.args.path.now c.place_of-place.result c.args.mode c.args.create c.args.trunc c.open_asks-request.result (spelt c.text_at.result.now)
-    (rw (← c.as_str.ensures.text) c.place_of-place.ensures.place) c.open_asks-request.ensures.exact c.text_at.ensures.path
+    c.place_of-place.ensures.place c.open_asks-request.ensures.exact c.text_at.ensures.path

@@ -6,4 +6,4 @@ use Rattle.ll_explain.proofs.asked.push_unlinked.Goals as goal
 pub push_asked-requires-clause-path : goal.push_asked-requires-clause-path
 push_asked-requires-clause-path c =
     also_named c.args.of.now.tree.now c.unlink_asks-request.result (spelt c.front_of.result.now) (front (spelt c.args.path.now)) c.front_of.ensures.path
-    (unlink_named c.args.of.now.tree.now c.args.path.now c.unlink_asks-request.result c.unlink_asks-request.ensures.exact)
+    (unlink_named c.args.of.now.tree.now c.args.path.now c.unlink_asks-request.result (rw (← c.place_of-place.ensures.place) c.unlink_asks-request.ensures.exact))

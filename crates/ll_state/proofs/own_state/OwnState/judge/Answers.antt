@@ -7,18 +7,18 @@ use Rattle.ll_state.proofs.own_state.OwnState.judge.Goals as goal
 
 pub returns-in-Answered-clause-answer : goal.returns-in-Answered-clause-answer
 unfolding NoteFits
-returns-in-Answered-clause-answer g c = (subst (λ (note : Note). NoteFits g.at c.args.op.now note) c.in-Answered.is c.requires.1.1).1
+returns-in-Answered-clause-answer g c = (subst (λ (note : Note). NoteFits g.at c.args.op.now note) c.in-Answered.is c.requires.1.1.0).1
 
 pub returns-in-Answered-clause-ok : goal.returns-in-Answered-clause-ok
 unfolding NoteFits
-returns-in-Answered-clause-ok g c = Agrees-on_rulesets g.at c.args.self.now c.args.op.now c.requires.1.0 (subst (λ (note : Note). NoteFits g.at c.args.op.now note) c.in-Answered.is c.requires.1.1).0
+returns-in-Answered-clause-ok g c = Agrees-on_rulesets g.at c.args.self.now c.args.op.now c.requires.1.0 (subst (λ (note : Note). NoteFits g.at c.args.op.now note) c.in-Answered.is c.requires.1.1.0).0
 
 pub returns-in-Frozen-clause-answer : goal.returns-in-Frozen-clause-answer
 unfolding NoteFits
 returns-in-Frozen-clause-answer g c =
-    frozen_answered g.at c.args.op.now c.in-Frozen.layer c.restrict.result (subst (λ (note : Note). NoteFits g.at c.args.op.now note) c.in-Frozen.is c.requires.1.1) c.restrict.ensures.answer
+    frozen_answered g.at c.args.op.now c.in-Frozen.layer c.restrict.result (subst (λ (note : Note). NoteFits g.at c.args.op.now note) c.in-Frozen.is c.requires.1.1.0) c.restrict.ensures.answer
 
 pub returns-in-Frozen-clause-ok : goal.returns-in-Frozen-clause-ok
 unfolding NoteFits
 returns-in-Frozen-clause-ok g c =
-    frozen_left g.at c.restrict.new.self c.args.op.now c.in-Frozen.layer c.restrict.result (subst (λ (note : Note). NoteFits g.at c.args.op.now note) c.in-Frozen.is c.requires.1.1) c.restrict.ensures.answer c.restrict.ensures.after
+    frozen_left g.at c.restrict.new.self c.args.op.now c.in-Frozen.layer c.restrict.result (subst (λ (note : Note). NoteFits g.at c.args.op.now note) c.in-Frozen.is c.requires.1.1.0) c.restrict.ensures.answer c.restrict.ensures.after

@@ -2,13 +2,7 @@
 use Rattle.std.proofs.Common.{List, subst}
 use Rattle.ll_trace.specs.declared.record.Record.{Record}
 use Rattle.ll_trace.specs.Processes.{IsNumbered}
-use Rattle.ll_process.proofs.case.Case.new.Goals as goal
-
-pub invariant_of-result : goal.invariant_of-result
-invariant_of-result c = record {
-  numbered = subst (λ (rs : List Record). IsNumbered rs) c.trace.view_is c.trace.invariant.records.numbered;
-  settled = c.in_ok-book.ensures;
-}
+use Rattle.ll_process.proofs.case.Case.of_located.Goals as goal
 
 pub returns-clause-rulebook : goal.returns-clause-rulebook
 returns-clause-rulebook c = record {

@@ -1,0 +1,66 @@
+//! A trace with the places in the tree that its records name.
+
+ghost use Rattle.std.specs.Prelude.{◌≡◌, IfOk, map};
+ghost use Rattle.ll_trace.specs.BestEffort.{records_at_best_effort};
+ghost use Rattle.ll_trace.specs.FirstPlaces.{AreFirstPlaces, first_place};
+
+use crate::record::Record;
+use crate::trace::Trace;
+use ll_rights::Abi;
+use ll_tree::{Place, Tree};
+use std::alloc::{AllocError, Global};
+
+/// A tree and a trace, with the place of each record's first path in the tree, so that records which are judged
+/// several times are looked up once.
+#[derive(Drop)]
+pub struct Located {
+    pub tree: Tree,
+    pub trace: Trace,
+    pub places: Vec<Place>,
+    pub ghost are_first: { AreFirstPlaces tree trace places.items },
+}
+
+impl Located {
+    /// Looks up each record's first path.
+    pub fn of(alloc: Global, tree: Tree, trace: Trace) -> Result<Located, AllocError>
+        ensures tree { IfOk result (λ located. located.tree ≡ tree) }
+        ensures trace { IfOk result (λ located. located.trace ≡ trace) }
+    {
+        let places = places_of(alloc, &tree, trace.records())?;
+        Ok(Located {
+            tree,
+            trace,
+            places,
+        })
+    }
+
+    /// The same with the trace of a program that uses what a version supports ([`Trace::at_best_effort`]), which
+    /// names the same places.
+    pub fn at_best_effort(self, abi: Abi) -> Located
+        ensures tree { result.tree ≡ self.tree }
+        ensures trace { result.trace ≡ records_at_best_effort abi self.trace }
+    {
+        let Located {
+            tree,
+            trace,
+            places,
+        } = self;
+        Located {
+            tree,
+            trace: trace.at_best_effort(abi),
+            places,
+        }
+    }
+}
+
+/// The place of each record's first path.
+fn places_of(alloc: Global, tree: &Tree, records: &[Record]) -> Result<Vec<Place>, AllocError>
+    ensures { IfOk result
+        (λ places. places.items ≡ map (λ r. first_place tree.now r.op) records.now) }
+{
+    let mut places = Vec::with_capacity(alloc, records.len())?;
+    for record in records {
+        places.push(record.op.first_place(tree))?;
+    }
+    Ok(places)
+}
