@@ -11,6 +11,7 @@ ghost use Rattle.ll_audit.specs.Causes.{IsTraceFault, IsTreeFault, IsWant};
 use crate::abis::AbiRange;
 use crate::cut::{Cut, cuts_of};
 use crate::fault::Fault;
+use crate::inputs::Inputs;
 use crate::options::{Effort, Options};
 use crate::ranging::report_over;
 use crate::report::Report;
@@ -68,12 +69,69 @@ pub fn audit_with<R: Threads + Wait + Sync, G: Gate + Sync>(
     ensures crew { IfOk result (λ _. IsCrew workers) }
     ensures fault { IfErr result (IsFaultOf workers tree.now trace.now) }
 {
+    let files = files_of(rt, alloc, tree, trace, workers)?;
+    report_by(rt, alloc, files, options, workers, cut, gate)
+}
+
+/// Audits a trace against a tree as `audit_with` does, and gives the bytes of their files back once they are read.
+pub(crate) fn audit_inputs<R: Threads + Wait + Sync, G: Gate + Sync>(
+    rt: &R,
+    alloc: Global,
+    inputs: Inputs,
+    options: &Options,
+    workers: u64,
+    cut: Cut,
+    gate: &G,
+) -> Result<Report, Fault>
+    ensures report { IfOk result (IsReportWith options.now inputs.tree.items inputs.trace.items) }
+    ensures crew { IfOk result (λ _. IsCrew workers) }
+    ensures fault { IfErr result (IsFaultOf workers inputs.tree.items inputs.trace.items) }
+{
+    let files = files_in(rt, alloc, inputs, workers)?;
+    report_by(rt, alloc, files, options, workers, cut, gate)
+}
+
+/// A tree and a trace, as two files say them.
+#[derive(Drop)]
+struct Files {
+    tree: Tree,
+    trace: Trace,
+}
+
+/// What two files read as, by this many workers.
+fn files_of<R: Threads + Wait + Sync>(
+    rt: &R,
+    alloc: Global,
+    tree: &[u8],
+    trace: &[u8],
+    workers: u64,
+) -> Result<Files, Fault>
+    ensures tree { IfOk result (λ files. IsTreeOf tree.now files.tree) }
+    ensures trace { IfOk result (λ files. IsTrace trace.now files.trace) }
+    ensures crew { IfOk result (λ _. IsCrew workers) }
+    ensures fault { IfErr result (IsFaultOf workers tree.now trace.now) }
+{
     if workers == 0 || workers > 64 {
         return Err(Fault::Workers);
     }
     let tree = tree_of(alloc, tree)?;
     let trace = trace_of(rt, alloc, trace, workers)?;
-    report_by(rt, alloc, tree, trace, options, workers, cut, gate)
+    Ok(Files { tree, trace })
+}
+
+/// What the bytes of two files read as; they are given back.
+fn files_in<R: Threads + Wait + Sync>(
+    rt: &R,
+    alloc: Global,
+    inputs: Inputs,
+    workers: u64,
+) -> Result<Files, Fault>
+    ensures tree { IfOk result (λ files. IsTreeOf inputs.tree.items files.tree) }
+    ensures trace { IfOk result (λ files. IsTrace inputs.trace.items files.trace) }
+    ensures crew { IfOk result (λ _. IsCrew workers) }
+    ensures fault { IfErr result (IsFaultOf workers inputs.tree.items inputs.trace.items) }
+{
+    files_of(rt, alloc, &inputs.tree, &inputs.trace, workers)
 }
 
 /// A trace as its rulesets are to be taken under a version.
@@ -123,17 +181,17 @@ fn trace_of<R: Threads + Wait + Sync>(
 fn report_by<R: Threads + Wait + Sync, G: Gate + Sync>(
     rt: &R,
     alloc: Global,
-    tree: Tree,
-    trace: Trace,
+    files: Files,
     options: &Options,
     workers: u64,
     cut: Cut,
     gate: &G,
 ) -> Result<Report, Fault>
     requires { IsCrew workers }
-    ensures report { IfOk result (IsReportBy options.now tree trace) }
+    ensures report { IfOk result (IsReportBy options.now files.tree files.trace) }
     ensures fault { IfErr result IsWant }
 {
+    let Files { tree, trace } = files;
     let cuts = cuts_of(alloc, &trace, cut)?;
     match options.abis.single() {
         Some(abi) => {

@@ -5,7 +5,7 @@ ghost use Rattle.ll_audit.specs.Audits.{IsCrew};
 ghost use Rattle.ll_audit.specs.Command.{request_by};
 ghost use Rattle.ll_audit.specs.Fronts.{EndsWithoutRun, HasReason, HasWrongWords, IsFailureOf, IsOutcomeOf, Reports, StaysQuiet, TellsWhy, WritesNothing, WritesReport};
 
-use crate::auditing::audit_with;
+use crate::auditing::audit_inputs;
 use crate::command::{Plan, Run, plan_of};
 use crate::cut::Cut;
 use crate::fault::Fault;
@@ -116,16 +116,7 @@ fn report_of<'a, R: Threads + Wait + Sync, S: Source, G: Gate + Sync>(
 {
     let inputs = inputs_of(alloc, source, run)?;
     let cut = Cut::Grain(run.grain);
-    match audit_with(
-        rt,
-        alloc,
-        &inputs.tree,
-        &inputs.trace,
-        &run.options,
-        run.workers,
-        cut,
-        gate,
-    ) {
+    match audit_inputs(rt, alloc, inputs, &run.options, run.workers, cut, gate) {
         Ok(report) => Ok(report),
         Err(Fault::Tree(fault)) => Err(Failure::Tree(fault)),
         Err(Fault::Trace(fault)) => Err(Failure::Trace(fault)),

@@ -17,7 +17,7 @@ over-requires g c =
       c.number-oldest.ensures,
       number_small c.args.options.now.abis.oldest,
       ap length (c.deref.ensures.value ∙ c.in_ok-all.ensures.findings),
-      few_versions c.args.options.now c.args.tree c.args.trace,
+      few_versions c.args.options.now c.in_ok-located.located.tree c.in_ok-located.located.trace,
     )
 
 pub returns-clause-report : goal.returns-clause-report
@@ -25,8 +25,11 @@ returns-clause-report g c =
     let shown = c.args.options.now.shown in
     let oldest : ℕ = number_of c.args.options.now.abis.oldest in
     let all : List Found = findings c.args.options.now c.args.tree c.args.trace in
-    let same : c.deref.result.now ≡ all = c.deref.ensures.value ∙ c.in_ok-all.ensures.findings in
-    let told : map told_of c.records.result.now ≡ map told_of c.args.trace = ap (map told_of) c.records.ensures.value ∙ c.in_ok-all.ensures.records in
+    let same : c.deref.result.now ≡ all =
+    c.deref.ensures.value ∙ c.in_ok-all.ensures.findings
+    ∙ ap₂ (findings c.args.options.now) c.in_ok-located.ensures.tree c.in_ok-located.ensures.trace in
+    let told : map told_of c.records.result.now ≡ map told_of c.args.trace =
+    ap (map told_of) c.records.ensures.value ∙ c.in_ok-all.ensures.records ∙ ap (map told_of) c.in_ok-located.ensures.trace in
     let many : length c.records.result.now ≡ length c.args.trace =
     omega (arith, ap length told, length-map c.records.result.now told_of, length-map c.args.trace told_of) in
     record {
