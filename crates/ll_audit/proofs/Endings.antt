@@ -4,6 +4,7 @@ use Rattle.std.specs.Prelude.{◌⊎◌}
 use Rattle.std.proofs.lemmas.Option.{none-some, same_Some}
 use Rattle.clap.specs.Words.{Text}
 use Rattle.clap.specs.declared.error.kind.ErrorKind.TheVariants.{DisplayHelp, DisplayVersion}
+use Rattle.ll_report.specs.Report.{report_status}
 use Rattle.ll_audit.specs.declared.lines.Failure.{Failure}
 use Rattle.ll_audit.specs.declared.lines.Failure.TheVariants as failure
 use Rattle.ll_audit.specs.declared.outcome.Ending.{Ending}
@@ -13,7 +14,7 @@ use Rattle.ll_audit.specs.Command.{AskForText, Request, request_of}
 use Rattle.ll_audit.specs.FaultLines.{failure_status}
 use Rattle.ll_audit.specs.Files.{Files}
 use Rattle.ll_audit.specs.Fronts.{EndsWithoutRun, HasFailure, HasReason, HasWrongWords, IsOutcomeOf, IsWhy, Reports, StaysQuiet, TellsWhy, WritesNothing, WritesReport}
-use Rattle.ll_audit.specs.Outcomes.{Complains, EndsWith, report_status}
+use Rattle.ll_audit.specs.Outcomes.{Complains, EndsWith}
 use Rattle.ll_audit.proofs.CommandLine.{request_of-fault}
 
 -- a failure's status is 3 or 4

@@ -1,16 +1,9 @@
 pub mod CommandLine
 pub mod Faultless
 pub mod FilesByName
-pub mod LayerText
-pub mod LinesLeft
 pub mod Endings
 pub mod Wants
 pub mod OneReport
 pub mod SameWords
 pub mod Beginnings
-pub mod Explaining
-pub mod BlocksLeft
-pub mod SpansLeft
-pub mod RowsLeft
 pub mod VersionByVersion
-pub mod SaidAlike

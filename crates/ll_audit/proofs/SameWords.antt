@@ -12,7 +12,8 @@ use Rattle.ll_trace.specs.declared.op.Op.TheVariants as op
 use Rattle.ll_trace.specs.Entries.{Entry, entry_at}
 use Rattle.ll_trace.specs.Members.{fs_at, made_kind_at, mode_at, net_at, path_at, path_in, port_at, sort_at}
 use Rattle.ll_trace.specs.Operations.{add_path_at, add_port_at, adopt_at, create_at, dup_at, ioctl_at, link_at, mknod_at, open_at, operation_at, operation_named, operation_on, rename_at, start_at}
-use Rattle.ll_audit.specs.Names.{SaysOperation, op_name}
+use Rattle.ll_report.specs.Names.{op_name}
+use Rattle.ll_audit.specs.TraceWords.{SaysOperation}
 
 -- what is read, if anything, has this word in the report
 abbrev HasWord : List ℕ → Result Op Cause → Type 0

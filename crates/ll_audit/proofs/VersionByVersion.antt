@@ -14,15 +14,15 @@ use Rattle.ll_trace.specs.declared.op.RuleType.TheVariants.{PathBeneath, NetPort
 use Rattle.ll_trace.specs.declared.record.Record.{Record}
 use Rattle.ll_trace.specs.BestEffort.{at_best_effort, records_at_best_effort}
 use Rattle.ll_trace.proofs.Versions.{records-older}
+use Rattle.ll_report.specs.Found.{Found, found_under}
+use Rattle.ll_report.specs.Names.{op_name}
+use Rattle.ll_report.specs.Report.{record_text}
+use Rattle.ll_report.specs.Rows.{told_of}
 use Rattle.ll_audit.specs.declared.fault.Fault.{Fault}
 use Rattle.ll_audit.specs.declared.options.Effort.{Effort}
 use Rattle.ll_audit.specs.declared.options.Effort.TheVariants.{AsRecorded, Best}
 use Rattle.ll_audit.specs.declared.options.Options.{Options}
 use Rattle.ll_audit.specs.declared.ranging.Audited.{Audited}
-use Rattle.ll_audit.specs.Found.{Found, found_under}
-use Rattle.ll_audit.specs.Names.{op_name}
-use Rattle.ll_audit.specs.Report.{record_text}
-use Rattle.ll_audit.specs.Rows.{told_of}
 use Rattle.ll_audit.specs.ShownReports.{findings, taken}
 use Rattle.ll_audit.specs.Versions.{all_versions, is_in, versions_in}
 use Rattle.std.proofs.lemmas.List.{length-map}

@@ -9,11 +9,11 @@ use Rattle.ll_trace.specs.declared.record.Record.{Record}
 use Rattle.ll_trace.specs.Entries.{trace_file}
 use Rattle.ll_trace.specs.Records.{IsTrace}
 use Rattle.ll_semantics.specs.Worlds.{judged}
+use Rattle.ll_report.specs.declared.report.Report.{Report}
+use Rattle.ll_report.specs.Lines.{lines_of, refused_among}
+use Rattle.ll_report.specs.Report.{report_text}
 use Rattle.ll_audit.specs.declared.fault.Fault.{Fault}
 use Rattle.ll_audit.specs.declared.fault.Fault.TheVariants as fault
-use Rattle.ll_audit.specs.declared.report.Report.{Report}
-use Rattle.ll_audit.specs.Lines.{lines_of, refused_among}
-use Rattle.ll_audit.specs.Report.{report_text}
 
 -- the report on records whose calls meet this tree: the answers are those of one fold over all records
 pub record IsReportOn (tree : List Entry) (abi : Abi) (records : List Record) (report : Report) : Type 0 where

@@ -12,6 +12,7 @@ use Rattle.clap.specs.Simple.{on_top}
 use Rattle.clap.specs.ValueTests.{is_unsigned_in}
 use Rattle.ll_rights.specs.declared.abi.Abi.{Abi}
 use Rattle.ll_rights.specs.Abis.{number_of}
+use Rattle.ll_report.specs.declared.shown.Shown.{Shown}
 use Rattle.ll_audit.specs.Audits.{IsCrew}
 use Rattle.ll_audit.specs.Versions.{all_versions}
 use Rattle.ll_audit.specs.declared.abis.AbiRange.{AbiRange}
@@ -19,7 +20,6 @@ use Rattle.ll_audit.specs.declared.command.Run.{Run}
 use Rattle.ll_audit.specs.declared.options.Effort.{Effort}
 use Rattle.ll_audit.specs.declared.options.Effort.TheVariants.{AsRecorded, Best}
 use Rattle.ll_audit.specs.declared.options.Options.{Options}
-use Rattle.ll_audit.specs.declared.shown.Shown.{Shown}
 use Rattle.ll_audit.specs.declared.command.Plan.{Plan}
 use Rattle.ll_audit.specs.declared.command.Plan.TheVariants as plan
 

@@ -1,18 +1,15 @@
 -- How a run ends: its status, what it writes to standard output, and the line on standard error.
 -- Source: docs/FORMATS.md, "Statuses" and "Faults of a run".
-use Rattle.std.specs.Prelude.{◌≡◌, ◌==◌, ◌⊎◌, ℕ, List, Option, take, if◌then◌else◌}
+use Rattle.std.specs.Prelude.{◌≡◌, ◌⊎◌, ℕ, List, Option, take}
 use Rattle.std.specs.Bool.{OnTrue}
 use Rattle.std.specs.Io.KnownBytes.{Appends}
+use Rattle.ll_report.specs.Report.{report_status}
 use Rattle.ll_audit.specs.declared.outcome.Outcome.{Outcome}
 use Rattle.ll_audit.specs.declared.outcome.Outcome.TheVariants as outcome
 use Rattle.ll_audit.specs.declared.lines.Failure.{Failure}
 use Rattle.ll_audit.specs.declared.lines.Failure.TheVariants.{Unwritten}
 use Rattle.ll_audit.specs.declared.outcome.Ending.{Ending}
 use Rattle.ll_audit.specs.FaultLines.{failure_line, failure_status}
-
--- the status with a report: 0 where no record is refused, else 1
-abbrev pub report_status : ℕ → ℕ
-report_status refused = if refused == 0 then 0 else 1
 
 -- known bytes grow by a beginning of these bytes, which may be none or all of them
 abbrev pub AppendsBeginning : Option (List ℕ) → Option (List ℕ) → List ℕ → Type 0

@@ -8,23 +8,14 @@ use Rattle.ll_tree.specs.TreeReading.{IsTreeOf}
 use Rattle.ll_trace.specs.declared.record.Record.{Record}
 use Rattle.ll_trace.specs.Records.{IsTrace}
 use Rattle.ll_trace.specs.BestEffort.{records_at_best_effort}
-use Rattle.ll_semantics.specs.Worlds.{judged}
-use Rattle.ll_explain.specs.Explained.{text_at}
+use Rattle.ll_report.specs.declared.report.Report.{Report}
+use Rattle.ll_report.specs.Found.{Found, found_under}
+use Rattle.ll_report.specs.Rows.{refused_under_some, rows_text}
+use Rattle.ll_report.specs.Shown.{IsShownReportOn}
 use Rattle.ll_audit.specs.declared.options.Effort.{Effort}
 use Rattle.ll_audit.specs.declared.options.Effort.TheVariants.{AsRecorded, Best}
 use Rattle.ll_audit.specs.declared.options.Options.{Options}
-use Rattle.ll_audit.specs.declared.report.Report.{Report}
-use Rattle.ll_audit.specs.declared.shown.Shown.{Shown}
-use Rattle.ll_audit.specs.Found.{Found, found_under}
-use Rattle.ll_audit.specs.Lines.{lines_of, refused_among}
-use Rattle.ll_audit.specs.Rows.{refused_under_some, rows_text}
-use Rattle.ll_audit.specs.Shown.{shown_text}
 use Rattle.ll_audit.specs.Versions.{versions_in}
-
--- the report under one version on records whose calls meet this tree
-pub record IsShownReportOn (shown : Shown) (tree : List Entry) (abi : Abi) (records : List Record) (report : Report) : Type 0 where
-  pub text : report.bytes.items ≡ shown_text shown (text_at tree abi records) (lines_of records (judged tree abi records))
-  pub refused : report.refused ≡ refused_among records (judged tree abi records)
 
 -- the records as they are taken: as they were recorded, or as a program calls that uses what its kernel supports
 abbrev pub taken : Effort → Abi → List Record → List Record

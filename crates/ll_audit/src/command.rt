@@ -9,10 +9,10 @@ ghost use Rattle.ll_audit.specs.Command as spec;
 use crate::abis::AbiRange;
 use crate::misuse::Misuse;
 use crate::options::{Effort, Options};
-use crate::shown::Shown;
 use clap::builder::ValueParser;
 use clap::error::ErrorKind;
 use clap::{Arg, ArgAction, ArgMatches, Command, Error};
+use ll_report::Shown;
 use ll_rights::Abi;
 use std::alloc::{AllocError, Global};
 

@@ -6,20 +6,17 @@ ghost use Rattle.clap.specs.declared.error.kind.ErrorKind.TheVariants as kind;
 ghost use Rattle.ll_rights.specs.declared.abi.Abi.{Abi as Version};
 ghost use Rattle.ll_rights.specs.declared.abi.Abi.TheVariants.{V1, V4, V5};
 ghost use Rattle.ll_lines.specs.Lines.{Line};
-ghost use Rattle.ll_tree.specs.WorkedTree.{worked_tree};
 ghost use Rattle.ll_trace.specs.declared.record.Record.{Record};
 ghost use Rattle.ll_trace.specs.Entries.{entry_at};
 ghost use Rattle.ll_trace.specs.Records.{entry_of};
 ghost use Rattle.ll_semantics.specs.declared.answer.Answer.{Answer};
-ghost use Rattle.ll_semantics.specs.Worlds.{judged};
+ghost use Rattle.ll_report.specs.Lines.{line_of};
+ghost use Rattle.ll_report.specs.declared.report.Report.{Report as Made};
+ghost use Rattle.ll_report.specs.declared.shown.TheConstants.{ALL_LINES};
 ghost use Rattle.ll_audit.specs.Audits.{IsReport};
 ghost use Rattle.ll_audit.specs.Command.{faults, request_of};
-ghost use Rattle.ll_audit.specs.Lines.{line_of, lines_of};
-ghost use Rattle.ll_audit.specs.Names.{SaysOperation};
-ghost use Rattle.ll_audit.specs.Report.{report_text};
+ghost use Rattle.ll_audit.specs.TraceWords.{SaysOperation};
 ghost use Rattle.ll_audit.specs.declared.options.Effort.TheVariants.{AsRecorded, Best};
-ghost use Rattle.ll_audit.specs.declared.report.Report.{Report as Made};
-ghost use Rattle.ll_audit.specs.declared.shown.TheConstants.{ALL_LINES};
 
 /// What some command lines ask for, and what is wrong with others.
 #[tactic(auto, unfolding(clap::proofs::OnLiterals::clap_on_literals, crate::specs::Command::command, crate::specs::Command::faults, crate::specs::Command::request_in, crate::specs::Command::request_of))]
@@ -103,9 +100,4 @@ pub fn the_same_bytes_have_one_report()
         → IsReport abi tree trace report → IsReport abi tree trace other → report.bytes.items ≡ other.bytes.items }
     ensures refused { (abi : Version) (tree trace : List ℕ) (report other : Made)
         → IsReport abi tree trace report → IsReport abi tree trace other → report.refused ≡ other.refused }
-{}
-
-/// The report on an empty trace.
-pub fn empty_report()
-    ensures { report_text (lines_of [] (judged worked_tree V4 [])) ≡ codes "total 0 allowed 0 refused 0 moot 0\n" }
 {}

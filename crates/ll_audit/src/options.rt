@@ -1,7 +1,7 @@
 //! The options of an audit.
 
 use crate::abis::AbiRange;
-use crate::shown::Shown;
+use ll_report::Shown;
 
 /// How the rulesets of a trace are taken.
 #[derive(Clone, Copy, Debug, PartialEq, Eq)]

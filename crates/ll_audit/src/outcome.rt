@@ -7,8 +7,8 @@ ghost use Rattle.ll_audit.specs.Outcomes.{AppendsBeginning, Complains, EndsWith}
 
 use crate::lines::Failure;
 use crate::misuse::Misuse;
-use crate::report::Report;
 use clap::Error;
+use ll_report::Report;
 use std::io;
 use std::io::{ErrorKind, Write};
 

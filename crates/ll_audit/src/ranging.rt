@@ -1,20 +1,19 @@
 //! An audit over several versions.
 
 ghost use Rattle.std.specs.Prelude.{◌≡◌, ◌∷◌, [], IfOk, IfErr, if◌then◌else◌, map};
+ghost use Rattle.ll_report.specs.Found.{found_under};
+ghost use Rattle.ll_report.specs.Rows.{told_of};
 ghost use Rattle.ll_audit.specs.Audits.{IsCrew};
 ghost use Rattle.ll_audit.specs.Causes.{IsWant};
-ghost use Rattle.ll_audit.specs.Found.{found_under};
-ghost use Rattle.ll_audit.specs.Rows.{told_of};
 ghost use Rattle.ll_audit.specs.ShownReports.{IsReportOver, findings, taken};
 ghost use Rattle.ll_audit.specs.Versions.{is_in};
 
 use crate::auditing::answers_of;
 use crate::fault::Fault;
-use crate::found::Finding;
 use crate::options::{Effort, Options};
-use crate::report::Report;
 use ll_pool::Gate;
 use ll_process::Case;
+use ll_report::{Finding, Report};
 use ll_rights::Abi;
 use ll_trace::{Located, Trace};
 use ll_tree::Tree;

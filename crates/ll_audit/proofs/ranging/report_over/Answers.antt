@@ -2,11 +2,11 @@ use Rattle.std.proofs.Common.{◌≡◌, ◌∙◌, ◌++◌, ℕ, List, arith, 
 use Rattle.std.specs.Prelude.{count_by}
 use Rattle.std.specs.List.{range_with_len}
 use Rattle.std.proofs.lemmas.List.{length-map}
-use Rattle.ll_audit.specs.Found.{Found}
-use Rattle.ll_audit.specs.Rows.{is_refused_under_some, refused_under_some, rows_text, told_of, totals_from}
+use Rattle.ll_report.specs.Found.{Found}
+use Rattle.ll_report.specs.Rows.{is_refused_under_some, refused_under_some, rows_text, told_of, totals_from}
+use Rattle.ll_report.proofs.RowsLeft.{same_rows}
 use Rattle.ll_audit.specs.ShownReports.{findings}
 use Rattle.ll_rights.specs.Abis.{number_of}
-use Rattle.ll_audit.proofs.RowsLeft.{same_rows}
 use Rattle.ll_audit.proofs.VersionByVersion.{few_versions, number_small}
 use Rattle.ll_audit.proofs.ranging.report_over.Goals as goal
 

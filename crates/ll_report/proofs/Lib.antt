@@ -1,0 +1,7 @@
+pub mod LayerText
+pub mod LinesLeft
+pub mod Explaining
+pub mod BlocksLeft
+pub mod SpansLeft
+pub mod RowsLeft
+pub mod SaidAlike

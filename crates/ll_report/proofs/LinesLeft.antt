@@ -1,0 +1,70 @@
+-- The lines of records and answers, from a place on and counted.
+use Rattle.std.proofs.Common.{◌≡◌, ◌∙◌, ℕ, suc, ◌+◌, ◌<◌, List, [], ◌∷◌, ◌++◌, length, drop, get_or, Bool, cond, refl, sym, ap, arith, add-one}
+use Rattle.std.proofs.Math.Seq.{drop-cons}
+use Rattle.std.specs.List.{count_by}
+use Rattle.std.proofs.lemmas.List.Sums.{sum_by-cons}
+use Rattle.ll_trace.specs.declared.record.Record.{Record}
+use Rattle.ll_semantics.specs.declared.answer.Answer.{Answer}
+use Rattle.ll_report.specs.declared.shown.Shown.{Shown}
+use Rattle.ll_report.specs.Report.{ReportLine, Verdict, count_of, is_allowed, is_moot, is_refused, total_text}
+use Rattle.ll_report.specs.Shown.{blocks_from, shown_text}
+use Rattle.ll_report.specs.Lines.{line_of, lines_of, refused_among, verdict_of}
+
+pub lines_of-next : (records : List Record) (answers : List Answer) (k : ℕ) (of : Record) (answer : Answer) → k < length records → k < length answers
+    → lines_of (drop k records) (drop k answers) ≡ line_of (get_or records k of) (get_or answers k answer) ∷ lines_of (drop (k + 1) records) (drop (k + 1) answers)
+unfolding lines_of
+lines_of-next records answers k of answer below below_answers =
+    rw (drop-cons records k of below, drop-cons answers k answer below_answers, add-one k) refl
+
+pub lines_of-nil : (answers : List Answer) → lines_of [] answers ≡ []
+unfolding lines_of
+lines_of-nil answers = refl
+
+-- as many lines as records
+pub lines_of-length : (records : List Record) (answers : List Answer) → length answers ≡ length records → length (lines_of records answers) ≡ length answers
+unfolding lines_of
+lines_of-length [] [] same = refl
+lines_of-length [] (answer ∷ answers) same = absurd (omega (arith, same))
+lines_of-length (of ∷ others) [] same = absurd (omega (arith, same))
+lines_of-length (of ∷ others) (answer ∷ answers) same = ap suc (lines_of-length others answers (omega (arith, same)))
+
+-- the verdicts of the lines are counted by the answers
+pub count_of-answers : (test : Verdict → Bool) (records : List Record) (answers : List Answer) → length answers ≡ length records
+    → count_of test (lines_of records answers) ≡ count_by (λ answer. test (verdict_of answer)) answers
+unfolding lines_of
+count_of-answers test [] [] same = refl
+count_of-answers test [] (answer ∷ answers) same = absurd (omega (arith, same))
+count_of-answers test (of ∷ others) [] same = absurd (omega (arith, same))
+count_of-answers test (of ∷ others) (answer ∷ answers) same =
+    let rest : count_of test (lines_of others answers) ≡ count_by (λ a. test (verdict_of a)) answers = count_of-answers test others answers (omega (arith, same)) in
+    omega (
+      arith,
+      rest,
+      sum_by-cons (λ (said : ReportLine). cond (test said.verdict) 1 0) (line_of of answer) (lines_of others answers),
+      sum_by-cons (λ (a : Answer). cond (test (verdict_of a)) 1 0) answer answers,
+    )
+
+-- the text of a report, from what is shown of the records and its totals
+pub whole_text : (shown : Shown) (explained : ℕ → List ℕ) (records : List Record) (answers : List Answer) (blocks text : List ℕ) (all passed denied idle : ℕ)
+    → length answers ≡ length records
+    → blocks ≡ blocks_from shown explained 0 (lines_of records answers) → text ≡ blocks ++ total_text all passed denied idle
+    → all ≡ length answers
+    → passed ≡ count_by (λ answer. is_allowed (verdict_of answer)) answers
+    → denied ≡ count_by (λ answer. is_refused (verdict_of answer)) answers
+    → idle ≡ count_by (λ answer. is_moot (verdict_of answer)) answers
+    → text ≡ shown_text shown explained (lines_of records answers)
+unfolding shown_text
+whole_text shown explained records answers blocks text all passed denied idle lengths are is is_all is_passed is_denied is_idle =
+    is ∙ rw (
+      are,
+      is_all ∙ sym (lines_of-length records answers lengths),
+      is_passed ∙ sym (count_of-answers is_allowed records answers lengths),
+      is_denied ∙ sym (count_of-answers is_refused records answers lengths),
+      is_idle ∙ sym (count_of-answers is_moot records answers lengths),
+    ) refl
+
+-- the number of refused records, from the answers
+pub refused_count : (records : List Record) (answers : List Answer) (denied : ℕ) → length answers ≡ length records
+    → denied ≡ count_by (λ answer. is_refused (verdict_of answer)) answers → denied ≡ refused_among records answers
+unfolding refused_among
+refused_count records answers denied lengths is = is ∙ sym (count_of-answers is_refused records answers lengths)

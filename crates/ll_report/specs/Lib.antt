@@ -1,0 +1,10 @@
+pub mod Names
+pub mod Report
+pub mod Lines
+pub mod Shown
+pub mod ShownSoFar
+pub mod Texts
+pub mod Found
+pub mod Alike
+pub mod Spans
+pub mod Rows

@@ -1,0 +1,69 @@
+-- The report over several versions: of each record what is answered under each of them, and one total a version.
+-- Source: docs/FORMATS.md, "Several versions".
+use Rattle.std.specs.Prelude.{◌+◌, ◌&&◌, ◌||◌, ◌++◌, ℕ, Bool, not, List, [], ◌∷◌, codes, count_by, decimal, if◌then◌else◌, length, map}
+use Rattle.std.specs.List.{list_any, range_with_len}
+use Rattle.ll_trace.specs.declared.record.Record.{Record}
+use Rattle.ll_report.specs.declared.shown.Shown.{Shown}
+use Rattle.ll_report.specs.declared.spans.Form.TheVariants.{Answers, Explanations}
+use Rattle.ll_report.specs.Found.{Found, answer_at, explanation_at}
+use Rattle.ll_report.specs.Lines.{verdict_of}
+use Rattle.ll_report.specs.Names.{op_name}
+use Rattle.ll_report.specs.Report.{Verdict, counts_text, is_allowed, is_moot, is_refused, record_text, verdict_text}
+use Rattle.ll_report.specs.Shown.{behind_line}
+use Rattle.ll_report.specs.Spans.{agree, versions_text}
+
+-- how the report tells of the record of a line
+abbrev pub told_of : Record → List ℕ
+told_of of = record_text of.line of.pid (op_name of.op)
+
+-- what is answered to the record at a place, and how it is explained, under each version
+abbrev pub answers_said : List Found → ℕ → List (List ℕ)
+answers_said founds place = map (λ found. verdict_text (verdict_of (answer_at found place))) founds
+
+abbrev pub explanations_said : List Found → ℕ → List (List ℕ)
+explanations_said founds place = map (λ found. explanation_at found place) founds
+
+-- some version refuses the record at a place
+abbrev pub is_refused_under_some : List Found → ℕ → Bool
+is_refused_under_some founds place = list_any (λ found. is_refused (verdict_of (answer_at found place))) founds
+
+-- a record that is left out: only refused ones are shown, or only those whose answer differs, and it is none
+abbrev pub is_row_left_out : Shown → List Found → ℕ → Bool
+is_row_left_out shown founds place =
+    (shown.refused_alone && not (is_refused_under_some founds place)) || (shown.differing_alone && agree (answers_said founds place))
+
+-- What is shown of the record at a place, of which the report tells so: nothing, or its line and what is behind it.
+abbrev pub row_text : Shown → ℕ → List Found → ℕ → List ℕ → List ℕ
+row_text shown oldest founds place told =
+    if is_row_left_out shown founds place then []
+    else told ++ versions_text Answers oldest (answers_said founds place) ++ codes "\n"
+    ++ behind_line shown.explanations (versions_text Explanations oldest (explanations_said founds place))
+
+-- what is shown of records, the first of which is at a place of the trace
+unfoldable pub rows_from : Shown → ℕ → List Found → ℕ → List Record → List ℕ
+rows_from shown oldest founds place [] = []
+rows_from shown oldest founds place (of ∷ others) =
+    row_text shown oldest founds place (told_of of) ++ rows_from shown oldest founds (place + 1) others
+
+-- how many answers a test of their verdicts holds for
+abbrev pub count_under : (Verdict → Bool) → Found → ℕ
+count_under test found = count_by (λ answer. test (verdict_of answer)) found.answers
+
+-- the last line of a version
+abbrev pub total_under_text : ℕ → Found → List ℕ
+total_under_text abi found =
+    codes "total " ++ decimal (length found.answers) ++ codes " abi " ++ decimal abi
+    ++ counts_text (count_under is_allowed found) (count_under is_refused found) (count_under is_moot found)
+
+-- the last lines, one a version, of which the first has this number
+unfoldable pub totals_from : ℕ → List Found → List ℕ
+totals_from abi [] = []
+totals_from abi (found ∷ others) = total_under_text abi found ++ totals_from (abi + 1) others
+
+-- the report over versions of which the oldest has this number
+abbrev pub rows_text : Shown → ℕ → List Found → List Record → List ℕ
+rows_text shown oldest founds records = rows_from shown oldest founds 0 records ++ totals_from oldest founds
+
+-- how many records some version refuses
+abbrev pub refused_under_some : List Found → List Record → ℕ
+refused_under_some founds records = count_by (is_refused_under_some founds) (range_with_len 0 (length records))

@@ -1,0 +1,55 @@
+-- What is said of a record under neighbouring versions: where it is the same, it is said once.
+-- Source: docs/FORMATS.md, "Several versions".
+use Rattle.std.specs.Prelude.{◌+◌, ◌==◌, ◌++◌, ℕ, Bool, true, List, [], ◌∷◌, bytes_eq, codes, decimal, if◌then◌else◌}
+use Rattle.std.specs.List.{flat_map, list_all}
+use Rattle.ll_report.specs.declared.spans.Form.{Form}
+use Rattle.ll_report.specs.declared.spans.Form.TheVariants.{Answers, Explanations}
+
+-- what is said under the versions from the first to the last
+pub record Span : Type 0 where
+  pub first : ℕ
+  pub last : ℕ
+  pub said : List ℕ
+
+-- a span goes on for as long as the next version says the same
+unfoldable pub spans_from : Span → List (List ℕ) → List Span
+spans_from span [] = span ∷ []
+spans_from span (said ∷ others) =
+    if bytes_eq span.said said
+    then spans_from (record { first = span.first; last = span.last + 1; said = span.said }) others
+    else span ∷ spans_from (record { first = span.last + 1; last = span.last + 1; said = said }) others
+
+-- the spans of what is said under neighbouring versions, of which the oldest has this number
+abbrev pub spans_of : ℕ → List (List ℕ) → List Span
+spans_of oldest [] = []
+spans_of oldest (said ∷ others) = spans_from (record { first = oldest; last = oldest; said = said }) others
+
+-- the same is said under all versions
+abbrev pub agree : List (List ℕ) → Bool
+agree [] = true
+agree (said ∷ others) = list_all (λ (other : List ℕ). bytes_eq said other) others
+
+-- the numbers of the versions of a span
+abbrev pub numbers_text : ℕ → ℕ → List ℕ
+numbers_text first last = decimal first ++ (if first == last then [] else codes "-" ++ decimal last)
+
+-- An answer is behind the numbers of its versions. An explanation is under them, and where nothing is to be
+-- explained there is neither.
+abbrev pub span_text : Form → Span → List ℕ
+span_text Answers span = codes " " ++ numbers_text span.first span.last ++ codes " " ++ span.said
+span_text Explanations span = beneath (numbers_text span.first span.last) span.said
+  where
+    beneath : List ℕ → List ℕ → List ℕ
+    beneath numbers [] = []
+    beneath numbers (byte ∷ bytes) = codes "    abi " ++ numbers ++ codes ":\n" ++ byte ∷ bytes
+
+-- what all versions say is told without their numbers
+abbrev pub alone_text : Form → List ℕ → List ℕ
+alone_text Answers said = codes " " ++ said
+alone_text Explanations said = said
+
+-- what is said under neighbouring versions
+abbrev pub versions_text : Form → ℕ → List (List ℕ) → List ℕ
+versions_text form oldest [] = []
+versions_text form oldest (said ∷ others) =
+    if agree (said ∷ others) then alone_text form said else flat_map (span_text form) (spans_of oldest (said ∷ others))

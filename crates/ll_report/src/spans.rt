@@ -1,0 +1,129 @@
+//! What is said of a record under neighbouring versions.
+
+ghost use Rattle.std.specs.Prelude.{◌≡◌, ◌+◌, ◌++◌, ◌<◌, ◌^◌, OnOk, bytes_eq, length, map};
+ghost use Rattle.std.specs.List.{flat_map, list_all};
+ghost use Rattle.ll_report.specs.Spans.{agree, alone_text, numbers_text, span_text, spans_of, versions_text};
+
+use crate::report::push_number;
+use std::alloc::AllocError;
+
+/// What is said under each version.
+#[derive(Clone, Copy, Debug)]
+pub(crate) enum Form {
+    /// Answers, which are on the record's line.
+    Answers,
+    /// Explanations, which are lines of their own.
+    Explanations,
+}
+
+/// Whether all of these are the first.
+fn all_say(first: &[u8], others: &[Vec<u8>]) -> bool
+    ensures { result ≡ list_all (λ other. bytes_eq first.now other.items) others.now }
+{
+    others.iter().all(|other| first == other.as_slice())
+}
+
+/// Whether the same is said under all versions.
+pub(crate) fn agree(said: &[Vec<u8>]) -> bool
+    ensures { result ≡ agree (map (λ text. text.items) said.now) }
+{
+    match said.split_first() {
+        Some((first, others)) => all_say(first, others),
+        None => true,
+    }
+}
+
+/// Adds the numbers of neighbouring versions.
+fn push_numbers(text: &mut Vec<u8>, first: u64, last: u64) -> Result<(), AllocError>
+    ensures { OnOk result (text.new.items ≡ text.old.items ++ numbers_text first last) }
+{
+    push_number(text, first)?;
+    if first != last {
+        text.push(b'-')?;
+        push_number(text, last)?;
+    }
+    Ok(())
+}
+
+/// Adds what is said under the versions from the first to the last.
+fn push_span(
+    text: &mut Vec<u8>,
+    form: Form,
+    first: u64,
+    last: u64,
+    said: &[u8],
+) -> Result<(), AllocError>
+    ensures { OnOk result (text.new.items ≡ text.old.items
+        ++ span_text form (record { first = first; last = last; said = said.now })) }
+{
+    match form {
+        Form::Answers => {
+            text.push(b' ')?;
+            push_numbers(text, first, last)?;
+            text.push(b' ')?;
+        }
+        Form::Explanations => {
+            if said.is_empty() {
+                return Ok(());
+            }
+            text.extend_from_slice(b"    abi ")?;
+            push_numbers(text, first, last)?;
+            text.extend_from_slice(b":\n")?;
+        }
+    }
+    text.extend_from_slice(said)
+}
+
+/// Adds what is said under neighbouring versions, of which the oldest has this number.
+fn push_spans(
+    text: &mut Vec<u8>,
+    form: Form,
+    oldest: u64,
+    said: &[Vec<u8>],
+) -> Result<(), AllocError>
+    requires { oldest + length said.now < 2 ^ 64 }
+    ensures { OnOk result (text.new.items ≡ text.old.items
+        ++ flat_map (span_text form) (spans_of oldest (map (λ text. text.items) said.now))) }
+{
+    let Some((mut current, others)) = said.split_first() else {
+        return Ok(());
+    };
+    let mut first = oldest;
+    let mut last = oldest;
+    for other in others {
+        if current.as_slice() != other.as_slice() {
+            push_span(text, form, first, last, current)?;
+            first = last + 1;
+            current = other;
+        }
+        last += 1;
+    }
+    push_span(text, form, first, last, current)
+}
+
+/// Adds what all versions say.
+pub(crate) fn push_alone(text: &mut Vec<u8>, form: Form, said: &[u8]) -> Result<(), AllocError>
+    ensures { OnOk result (text.new.items ≡ text.old.items ++ alone_text form said.now) }
+{
+    if let Form::Answers = form {
+        text.push(b' ')?;
+    }
+    text.extend_from_slice(said)
+}
+
+/// Adds what is said under neighbouring versions, of which the oldest has this number: once, where all say the same.
+pub(crate) fn push_versions(
+    text: &mut Vec<u8>,
+    form: Form,
+    oldest: u64,
+    said: &[Vec<u8>],
+) -> Result<(), AllocError>
+    requires { oldest + length said.now < 2 ^ 64 }
+    ensures { OnOk result (text.new.items ≡ text.old.items
+        ++ versions_text form oldest (map (λ text. text.items) said.now)) }
+{
+    match said.first() {
+        Some(first) if agree(said) => push_alone(text, form, first),
+        _ => push_spans(text, form, oldest, said),
+    }
+}
