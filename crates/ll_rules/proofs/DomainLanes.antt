@@ -1,5 +1,5 @@
 -- The lanes of a domain: a row of them filled place by place, what is left of them on a climb, and the layers whose lanes are filled.
-use Rattle.std.proofs.Common.{◌≡◌, ℕ, zero, suc, ◌+◌, ◌*◌, ◌^◌, ◌<◌, ◌≤◌, Bool, true, false, not, ◌&&◌, ◌||◌, cond, List, [], ◌∷◌, ◌++◌, map, length, get_or, take, refl, sym, ap, subst, ◌∙◌, arith, inl, inr, append_assoc, append-nil, mul_comm, bit_or}
+use Rattle.std.proofs.Common.{◌≡◌, ℕ, zero, suc, ◌+◌, ◌*◌, ◌^◌, ◌<◌, ◌≤◌, Bool, true, false, not, ◌&&◌, ◌||◌, cond, eqb, List, [], ◌∷◌, ◌++◌, map, length, get_or, take, refl, sym, ap, subst, ◌∙◌, arith, inl, inr, append_assoc, append-nil, mul_comm, bit_or}
 use Rattle.std.specs.Prelude.{All, Option, Some, None, IfSome, IfNone}
 use Rattle.std.specs.Option.{option_map_or}
 use Rattle.std.proofs.lemmas.Bool.{cases_lt, cases_eq}
@@ -282,3 +282,16 @@ refusing_lanes tree layers ids path wanted lanes few same =
     filled_in_tree tree lanes layers ids (λ layer. lacks layer path wanted) few (none_lacking (has wanted) _)
     (λ place. some_agree (has (lane lanes place)) (λ right. has wanted right && handles (layer_in (domain_of layers ids) place) right && not (granted (in_tree tree (layer_in (domain_of layers ids) place)) path right))
     (λ right. same place right ∙ ap (λ (b : Bool). b && not (granted (in_tree tree (layer_in (domain_of layers ids) place)) path right)) (and_comm (handles (layer_in (domain_of layers ids) place) right) (has wanted right))))
+
+-- a domain of one layer refuses where its lane holds anything
+pub refusing_alone : (tree : List Entry) (layer : RulesOn ℕ) (path : Path) (wanted : Fs) (left : ℕ)
+    → ((right : FsRight) → has (set_of left) right ≡ ((handles layer right && has wanted right) && not (granted (in_tree tree layer) path right)))
+    → cond (not (eqb left 0)) (1 ∷ []) [] ≡ refusing (all_in_tree tree (layer ∷ [])) path wanted
+unfolding numbers_from
+refusing_alone tree layer path wanted left same =
+    let lacking : not (eqb left 0) ≡ lacks (in_tree tree layer) path wanted =
+    ap not (fs_is_empty (set_of left))
+    ∙ not_not (some_right (has (set_of left)))
+    ∙ some_agree (has (set_of left)) (λ right. has wanted right && handles layer right && not (granted (in_tree tree layer) path right))
+    (λ right. same right ∙ ap (λ (b : Bool). b && not (granted (in_tree tree layer) path right)) (and_comm (handles layer right) (has wanted right))) in
+    rw lacking (sym (append-nil _))

@@ -8,6 +8,7 @@ ghost use Rattle.ll_rules.specs.KeptLayers.{layer_at, domain_of, IsDomainOf};
 ghost use Rattle.ll_rules.specs.InTree.{all_in_tree};
 ghost use Rattle.ll_rules.specs.Checks.{refusing, refusing_port, refusing_mount};
 
+use crate::alone::check_alone;
 use crate::climb::{asked_in, climb};
 use crate::lanes::filled;
 use crate::{Domain, Layer, LayerId, LayerSet};
@@ -57,6 +58,9 @@ pub fn check_path_counted(
     ensures look_ups { result.1 ≤ length domain.now * (depth_at tree.now node + 1) }
 {
     let ids = domain.layers();
+    if let [id] = ids {
+        return check_alone(tree, layer_of(layers, *id), node, wanted);
+    }
     let mut look_ups = 0;
     let mut lacking = asked_in(layers, ids, wanted);
     climb(tree, layers, ids, node, &mut lacking, &mut look_ups);

@@ -23,6 +23,13 @@ fn handled_bits(layer: &Layer) -> u16
     bits_of(layer.handled())
 }
 
+/// What one layer handles of some rights, as the bits of a lane.
+pub(crate) fn asked_of(layer: &Layer, wanted: Fs) -> u16
+    ensures { (right : FsRight) → has (set_of result) right ≡ (handles layer.now right && has wanted right) }
+{
+    handled_bits(layer) & bits_of(wanted)
+}
+
 /// What each layer of a domain handles, in its lane.
 pub(crate) fn handled_in(layers: &[Layer], ids: &[LayerId]) -> [u16; 16]
     requires domain { IsDomainOf layers.now ids.now }
@@ -44,13 +51,13 @@ pub(crate) fn asked_in(layers: &[Layer], ids: &[LayerId], wanted: Fs) -> [u16; 1
 {
     let mut row = [0; 16];
     for (place, id) in ids.iter().enumerate() {
-        row[place] = handled_bits(layer_of(layers, *id)) & bits_of(wanted);
+        row[place] = asked_of(layer_of(layers, *id), wanted);
     }
     row
 }
 
 /// What is left in a lane once its layer was asked for its rule on a node. It isn't asked for nothing.
-fn left_of(layer: &Layer, node: NodeId, lane: u16, look_ups: &mut u64) -> u16
+pub(crate) fn left_of(layer: &Layer, node: NodeId, lane: u16, look_ups: &mut u64) -> u16
     requires room { look_ups.old + 1 < 2 ^ 64 }
     ensures left { (right : FsRight) → has (set_of result) right ≡ (has (set_of lane) right && not (granted_on_node layer.now node right)) }
     ensures count { look_ups.new ≤ look_ups.old + 1 }

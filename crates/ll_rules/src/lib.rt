@@ -2,6 +2,7 @@
 //! what a domain refuses.
 #![tactic(auto)]
 
+mod alone;
 mod check;
 mod climb;
 mod domain;

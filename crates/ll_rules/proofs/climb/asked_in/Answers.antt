@@ -1,10 +1,9 @@
-use Rattle.std.proofs.Common.{◌≡◌, ◌∙◌, ◌&&◌, ◌<◌, ℕ, Bool, length, ap, sym, arith, rules}
+use Rattle.std.proofs.Common.{◌≡◌, ◌∙◌, ◌&&◌, ◌<◌, ℕ, length, ap, sym, arith, rules}
 use Rattle.ll_rights.specs.Rights.{FsRight, has}
 use Rattle.ll_rules.specs.Layers.{RulesOn, handles}
 use Rattle.ll_rules.specs.KeptLayers.{domain_of}
 use Rattle.ll_rules.specs.Lanes.{set_of, layer_in}
 use Rattle.ll_rules.proofs.DomainLanes.{all_asked, layer_in-named, row_next, row_rest}
-use Rattle.ll_rules.proofs.LaneSets.{within_bits}
 use Rattle.ll_rules.proofs.climb.asked_in.Goals as goal
 
 pub loop-place-preserved : goal.loop-place-preserved
@@ -16,9 +15,8 @@ loop-place-preserved c =
           row_next (λ (place value : ℕ). (right : FsRight) → has (set_of value) right ≡ (handles (layer_in (domain_of c.args.layers.now c.args.ids.now) place) right && has c.args.wanted right))
           c.loop-place.row c.loop-place.place _ inside c.loop-place.invariant.so_far
           (λ right.
-          within_bits c.handled_bits.result c.bits_of.result c.args.wanted right c.handled_bits.type_inv c.bits_of.ensures
-          ∙ ap (λ (b : Bool). b && has c.args.wanted right)
-          (c.handled_bits.ensures right ∙ ap (λ (rules : RulesOn ℕ). handles rules right) (c.layer_of.ensures ∙ sym (layer_in-named c.args.layers.now c.args.ids.now c.loop-place.place _ c.loop-place-test.true))));
+          c.asked_of.ensures right
+          ∙ ap (λ (rules : RulesOn ℕ). handles rules right && has c.args.wanted right) (c.layer_of.ensures ∙ sym (layer_in-named c.args.layers.now c.args.ids.now c.loop-place.place _ c.loop-place-test.true)));
       rest = row_rest c.loop-place.row c.loop-place.place _ c.loop-place.invariant.rest;
     }
 
