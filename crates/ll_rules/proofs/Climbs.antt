@@ -14,6 +14,7 @@ use Rattle.ll_tree.proofs.Climbing.{path_eq-nodes}
 use Rattle.ll_rules.specs.Layers.{RulesOn, granted}
 use Rattle.ll_rules.specs.KeptLayers.{granted_on, granted_on_node}
 use Rattle.ll_rules.specs.InTree.{in_tree, rule_on_path, node, AreInTree}
+use Rattle.ll_rules.specs.WaysUp.{granted_above}
 use Rattle.ll_rules.proofs.Booleans.{or_false, and_or, or_and, list_any-agree, list_any-or, list_any-map}
 
 is_prefix-root : (path : Path) → is_prefix path [] ≡ path_eq path []
@@ -67,11 +68,6 @@ granted_on-node tree rules here right listed inside within =
     list_any-map (λ rule. path_eq rule.0 (path_at tree here) && has rule.1 right) (rule_on_path tree) rules.file_rules
     ∙ on_nodes tree rules.file_rules here right listed inside within
 
--- what is granted from a node up, if there is one
-unfoldable pub granted_above : List Entry → RulesOn ℕ → Option NodeId → FsRight → Bool
-granted_above tree rules None right = false
-granted_above tree rules (Some up) right = granted (in_tree tree rules) (path_at tree up) right
-
 or_same : (b : Bool) → b ≡ (b || b)
 or_same true = refl
 or_same false = refl
@@ -99,6 +95,14 @@ climbed tree rules here None right listed inside within top below =
     ∙ sym (or_false (granted_on_node rules here right))
 climbed tree rules here (Some above) right listed inside within top below =
     from_path (in_tree tree rules) (path_at tree here) (path_at tree above) (granted_on_node rules here right) right (granted_on-node tree rules here right listed inside within) below.is_front
+
+-- past a node on which nothing is granted the same is granted
+pub passed : (tree : List Entry) (rules : RulesOn ℕ) (here : NodeId) (up : Option NodeId) (right : FsRight) → IsTree tree → IsNode tree here → AreInTree tree rules
+    → IfNone up (path_at tree here ≡ []) → IfSome up (StandsIn tree here)
+    → granted_on_node rules here right ≡ false → granted_above tree rules up right ≡ granted_above tree rules (Some here) right
+unfolding granted_above
+passed tree rules here up right listed inside within top below none =
+    sym (climbed tree rules here up right listed inside within top below ∙ ap (λ (b : Bool). b || granted_above tree rules up right) none)
 
 pub nodes_above : (tree : List Entry) (here : NodeId) (up : Option NodeId) → IfSome up (StandsIn tree here) → IfSome up (IsNode tree)
 nodes_above tree here None below = tt

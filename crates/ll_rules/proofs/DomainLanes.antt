@@ -1,7 +1,6 @@
 -- The lanes of a domain: a row of them filled place by place, what is left of them on a climb, and the layers whose lanes are filled.
 use Rattle.std.proofs.Common.{◌≡◌, ℕ, zero, suc, ◌+◌, ◌*◌, ◌^◌, ◌<◌, ◌≤◌, Bool, true, false, not, ◌&&◌, ◌||◌, cond, eqb, List, [], ◌∷◌, ◌++◌, map, length, get_or, take, refl, sym, ap, subst, ◌∙◌, arith, inl, inr, append_assoc, append-nil, mul_comm, bit_or}
 use Rattle.std.specs.Prelude.{All, Option, Some, None, IfSome, IfNone}
-use Rattle.std.specs.Option.{option_map_or}
 use Rattle.std.proofs.lemmas.Bool.{cases_lt, cases_eq}
 use Rattle.std.proofs.lemmas.List.{get_or-map, get_or-set_same, get_or-set_other, get_or_past, length-map, take_all, length-take}
 use Rattle.std.proofs.Math.ListN.{set}
@@ -27,12 +26,13 @@ use Rattle.ll_rules.specs.InTree.{all_in_tree}
 use Rattle.ll_rules.specs.Checks.{numbers_from, lacks, refusing}
 use Rattle.ll_rules.specs.LayerNumbers.{passing_upto, numbers_passing}
 use Rattle.ll_rules.specs.Lanes.{set_of, lane, is_filled, layer_in}
+use Rattle.ll_rules.specs.WaysUp.{nodes_up, granted_above}
 use Rattle.ll_rules.proofs.RightSets.{has_nothing}
 use Rattle.ll_rules.proofs.AskedRights.{some_agree}
 use Rattle.ll_rules.proofs.Booleans.{and_none, and_true}
 use Rattle.ll_rules.proofs.Domains.{numbers_from-map}
 use Rattle.ll_rules.proofs.LaneSets.{nothing_in}
-use Rattle.ll_rules.proofs.Climbs.{granted_above, climbed}
+use Rattle.ll_rules.proofs.Climbs.{climbed}
 
 -- ---- a row, place by place
 
@@ -119,10 +119,6 @@ all_left layers ids before after count all here so_far rest place right =
 
 -- ---- one climb
 
--- how many nodes there are from a node up, it and the root included
-unfoldable pub nodes_up : List Entry → Option NodeId → ℕ
-nodes_up tree at = option_map_or (λ node. length (path_at tree node) + 1) at 0
-
 length-front : (name : List ℕ) (names : Path) → length (front (name ∷ names)) ≡ length names
 unfolding front
 length-front name [] = refl
@@ -133,7 +129,7 @@ unfolding parent_of front
 nodes_up-front [] above up tree is found = absurd cc
 nodes_up-front (name ∷ names) above up tree is found = omega (arith, ap length is, length-front name names)
 
-nodes_up-step : (tree : List Entry) (here : NodeId) (up : Option NodeId) → up ≡ parent_at tree here → IfSome up (StandsIn tree here) → nodes_up tree up + 1 ≤ nodes_up tree (Some here)
+pub nodes_up-step : (tree : List Entry) (here : NodeId) (up : Option NodeId) → up ≡ parent_at tree here → IfSome up (StandsIn tree here) → nodes_up tree up + 1 ≤ nodes_up tree (Some here)
 unfolding nodes_up parent_at
 nodes_up-step tree here None found below = omega arith
 nodes_up-step tree here (Some above) found below = omega (arith, nodes_up-front (path_at tree here) (path_at tree above) above tree below.is_front found)
@@ -141,6 +137,13 @@ nodes_up-step tree here (Some above) found below = omega (arith, nodes_up-front 
 pub count_begins : (tree : List Entry) (here : NodeId) (layers start : ℕ) → start + layers * nodes_up tree (Some here) ≤ start + layers * (depth_at tree here + 1)
 unfolding nodes_up depth_at
 count_begins tree here layers start = omega arith
+
+-- a node is one of those on the way up from it
+pub nodes_here : (tree : List Entry) (here : NodeId) (layers : ℕ) → layers ≤ layers * nodes_up tree (Some here)
+unfolding nodes_up
+nodes_here tree here layers =
+    let split : layers * (length (path_at tree here) + 1) ≡ layers * length (path_at tree here) + layers = omega arith in
+    omega arith
 
 -- one node further up, and at most one look-up for each layer more
 pub count_goes_on : (tree : List Entry) (here : NodeId) (up : Option NodeId) (layers before after bound : ℕ) → up ≡ parent_at tree here → IfSome up (StandsIn tree here)
@@ -179,6 +182,11 @@ left_goes_on tree rules here up right before after total listed inside within to
     ∙ ap (λ (b : Bool). before && not b) (sym (climbed tree rules here up right listed inside within top below))
     ∙ sym (left_begins tree rules here right before)
     ∙ so_far
+
+-- what is left stays where nothing that is granted was passed
+pub left_passed : (tree : List Entry) (rules : RulesOn ℕ) (at up : Option NodeId) (right : FsRight) (has_it total : Bool) → granted_above tree rules up right ≡ granted_above tree rules at right
+    → left_above tree rules at right has_it ≡ total → left_above tree rules up right has_it ≡ total
+left_passed tree rules at up right has_it total is so_far = ap (λ (b : Bool). has_it && not b) is ∙ so_far
 
 pub and_comm : (a b : Bool) → (a && b) ≡ (b && a)
 and_comm true true = refl

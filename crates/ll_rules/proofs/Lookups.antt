@@ -135,3 +135,8 @@ rule_found rules kept here found same is right =
     by_option : (rule : Option Fs) → has (unwrap_or rule no_right) right ≡ option_map_or (λ set. has set right) rule false
     by_option None = has_nothing right
     by_option (Some rule) = refl
+
+-- where a look-up finds no rule nothing is granted
+pub nothing_found : (rules : RulesOn ℕ) (kept : FinMap nat_cmp Fs) (here : NodeId) → entries kept ≡ rules.file_rules → None ≡ get kept here.0 → (right : FsRight) → granted_on_node rules here right ≡ false
+nothing_found rules kept here same none right =
+    sym (rule_found rules kept here no_right same (ap (λ (rule : Option Fs). unwrap_or rule no_right) none) right) ∙ has_nothing right

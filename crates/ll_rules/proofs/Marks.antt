@@ -1,9 +1,9 @@
 -- Which numbers are marked in a filter, and how a mark more changes that.
 use Rattle.std.proofs.Common.{◌≡◌, ℕ, ◌/◌, ◌%◌, ◌^◌, ◌*◌, ◌<◌, true, false, eqb, List, length, get_or, replicate, refl, ap, ◌∙◌, arith, inl, inr, bit_or, w64}
 use Rattle.std.specs.Int.{bit_at}
-use Rattle.std.proofs.lemmas.Bool.{cases_eq}
+use Rattle.std.proofs.lemmas.Bool.{cases_eq, eq-eqb, ne_eqb}
 use Rattle.std.proofs.lemmas.List.{get_or-set_same, get_or-set_other}
-use Rattle.std.proofs.lemmas.Nat.Bits.{bit_at-zero, bit_at_set_same, bit_at_set_other}
+use Rattle.std.proofs.lemmas.Nat.Bits.{bit_at-lt, bit_at-zero, bit_at_or, bit_at_set_same, bit_at_set_other}
 use Rattle.std.proofs.lemmas.Simd.{get_or-replicate}
 use Rattle.std.proofs.Math.ListN.{set}
 use Rattle.ll_rules.specs.Filters.{is_marked}
@@ -39,4 +39,25 @@ module _ (words : List ℕ) (number : ℕ) (whole : length words ≡ 64) where
               | inr other_bit ↦ rw (bit_at_set_other w64 word (number % 64) (omega arith) (other % 64) other_bit) before
             ])
         | inr other_word ↦ rw (get_or-set_other words (number / 64 % 64) (other / 64 % 64) more 0 other_word) was
+      ]
+
+-- a bit that two numbers have not together neither has
+pub neither_bit : (a b i : ℕ) → eqb (bit_at (bit_or a b) i) 1 ≡ false → (eqb (bit_at a i) 1 ≡ false) × (eqb (bit_at b i) 1 ≡ false)
+neither_bit a b i none = (first, second) where
+  first : eqb (bit_at a i) 1 ≡ false
+  first =
+      elim (cases_eq (bit_at a i) 1) [
+        | inl one ↦
+            let has_it : eqb (bit_at (bit_or a b) i) 1 ≡ true = eq-eqb (bit_at (bit_or a b) i) 1 (omega (arith, bit_at_or a b i, bit_at-lt b i)) in
+            absurd cc
+        | inr other ↦ ne_eqb (bit_at a i) 1 other
+      ]
+
+  second : eqb (bit_at b i) 1 ≡ false
+  second =
+      elim (cases_eq (bit_at b i) 1) [
+        | inl one ↦
+            let has_it : eqb (bit_at (bit_or a b) i) 1 ≡ true = eq-eqb (bit_at (bit_or a b) i) 1 (omega (arith, bit_at_or a b i, bit_at-lt a i)) in
+            absurd cc
+        | inr other ↦ ne_eqb (bit_at b i) 1 other
       ]

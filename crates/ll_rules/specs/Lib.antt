@@ -8,4 +8,5 @@ pub mod RuleFaults
 pub mod Checks
 pub mod Moves
 pub mod Lanes
+pub mod WaysUp
 pub mod WorkedRules

@@ -1,6 +1,6 @@
 //! One climb from a node to the root, for all layers of a domain at once.
 
-ghost use Rattle.std.specs.Prelude.{◌≡◌, ℕ, ◌+◌, ◌*◌, ◌^◌, ◌≤◌, ◌<◌, ◌&&◌, not, true, false, length, All};
+ghost use Rattle.std.specs.Prelude.{◌≡◌, ℕ, ◌+◌, ◌*◌, ◌^◌, ◌≤◌, ◌<◌, ◌&&◌, not, true, false, length, All, IfSome};
 ghost use Rattle.ll_rights.specs.Rights.{FsRight, has};
 ghost use Rattle.ll_tree.specs.Trees.{IsNode, path_at};
 ghost use Rattle.ll_tree.specs.TreeFacts.{depth_at};
@@ -9,6 +9,7 @@ ghost use Rattle.ll_rules.specs.Layers.{handles, granted};
 ghost use Rattle.ll_rules.specs.KeptLayers.{granted_on_node};
 ghost use Rattle.ll_rules.specs.KeptLayers.{domain_of, IsDomainOf};
 ghost use Rattle.ll_rules.specs.Lanes.{set_of, lane, layer_in};
+ghost use Rattle.ll_rules.specs.WaysUp.{nodes_up, granted_above};
 
 use crate::check::layer_of;
 use crate::lanes::bits_of;
@@ -93,6 +94,62 @@ pub(crate) fn ask_on(
     all != 0
 }
 
+/// Whether some layer of a domain may have a rule on a node: where the filters of all of them say no, none has.
+fn some_may_have_rule(layers: &[Layer], ids: &[LayerId], node: NodeId) -> bool
+    requires domain { IsDomainOf layers.now ids.now }
+    ensures { result ≡ false → (place : ℕ) (right : FsRight) → granted_on_node (layer_in (domain_of layers.now ids.now) place) node right ≡ false }
+{
+    let mut marks = 0;
+    for id in ids {
+        marks |= layer_of(layers, *id).marks_beside(node);
+    }
+    marks >> (node.index() % 64) & 1 == 1
+}
+
+/// The first node from one up on which some layer of a domain may have a rule, if there is one. On each node before
+/// it, where the filters say that there is none, the layers that are `asked` are counted.
+fn next_marked(
+    tree: &Tree,
+    layers: &[Layer],
+    ids: &[LayerId],
+    from: Option<NodeId>,
+    asked: u64,
+    look_ups: &mut u64,
+) -> Option<NodeId>
+    requires domain { IsDomainOf layers.now ids.now }
+    requires rules { All (AreInTree tree.now) layers.now }
+    requires from { IfSome from (IsNode tree.now) }
+    requires asked { asked ≤ length ids.now }
+    requires room { look_ups.old + length ids.now * nodes_up tree.now from < 2 ^ 64 }
+    ensures inside { IfSome result (IsNode tree.now) }
+    ensures above { nodes_up tree.now result ≤ nodes_up tree.now from }
+    ensures passed { (place : ℕ) (right : FsRight) → granted_above tree.now (layer_in (domain_of layers.now ids.now) place) result right ≡ granted_above tree.now (layer_in (domain_of layers.now ids.now) place) from right }
+    ensures count { look_ups.new + length ids.now * nodes_up tree.now result ≤ look_ups.old + length ids.now * nodes_up tree.now from }
+{
+    let mut at = from;
+    while let Some(here) = at {
+        if some_may_have_rule(layers, ids, here) {
+            return at;
+        }
+        *look_ups += asked;
+        at = tree.parent(here);
+    }
+    None
+}
+
+/// How many of the first lanes hold anything.
+fn count_filled(lanes: &[u16; 16], count: usize) -> u64
+    requires { count ≤ 16 }
+    ensures few { result ≤ count }
+    ensures none { result ≡ 0 → (place : ℕ) → place < count → (right : FsRight) → has (lane lanes.now place) right ≡ false }
+{
+    let mut filled = 0;
+    for place in 0..count {
+        filled += u64::from(lanes[place] != 0);
+    }
+    filled
+}
+
 /// Takes from each lane what its layer grants by its rules from a node up to the root. A layer whose lane is
 /// empty isn't asked any more.
 pub(crate) fn climb(
@@ -114,11 +171,16 @@ pub(crate) fn climb(
 {
     // The depth has 32 bits, so the count has room.
     let _depth = tree.depth(node);
+    let mut asked = count_filled(lanes, ids.len());
+    if asked == 0 {
+        return;
+    }
     let mut at = Some(node);
-    while let Some(here) = at {
+    while let Some(here) = next_marked(tree, layers, ids, at, asked, look_ups) {
         at = tree.parent(here);
         if !ask_on(layers, ids, here, lanes, look_ups) {
             return;
         }
+        asked = count_filled(lanes, ids.len());
     }
 }

@@ -1,6 +1,7 @@
 //! A small filter in front of the rules on nodes.
 
-ghost use Rattle.std.specs.Prelude.{◌≡◌, ℕ, true, false, IfOk, OnOk};
+ghost use Rattle.std.specs.Prelude.{◌≡◌, ℕ, ◌%◌, ◌==◌, true, false, IfOk, OnOk};
+ghost use Rattle.std.specs.Int.{bit_at};
 ghost use Rattle.ll_rules.specs.Filters.{is_marked, has_mark};
 
 use std::alloc::{AllocError, Global};
@@ -29,6 +30,14 @@ impl Filter {
     {
         let word = self.words[(number / 64 % 64) as usize];
         word >> (number % 64) & 1 == 1
+    }
+
+    /// The marks of 64 numbers together, a number's own at its rest by 64.
+    #[tactic(auto, unfolding(crate::specs::Filters::is_marked))]
+    fn beside(&self, number: u32) -> u64
+        ensures { (bit_at result (number % 64) == 1) ≡ is_marked self.now.words number }
+    {
+        self.words[(number / 64 % 64) as usize]
     }
 
     /// Marks a number.
@@ -67,6 +76,16 @@ impl Marks {
         match &self.filter {
             Some(filter) => filter.has(number),
             None => false,
+        }
+    }
+
+    /// The marks of 64 numbers together, a number's own at its rest by 64.
+    pub(crate) fn beside(&self, number: u32) -> u64
+        ensures { (bit_at result (number % 64) == 1) ≡ has_mark self.now number }
+    {
+        match &self.filter {
+            Some(filter) => filter.beside(number),
+            None => 0,
         }
     }
 

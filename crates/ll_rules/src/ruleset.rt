@@ -64,7 +64,8 @@ impl Model for Ruleset {
 }
 
 impl Layer {
-    ghost use Rattle.std.specs.Prelude.{◌≡◌, ◌+◌, ◌<◌, ◌^◌, false, not, OnOk, OnErr, IfOk, IsOkUnless};
+    ghost use Rattle.std.specs.Prelude.{◌≡◌, ◌+◌, ◌<◌, ◌^◌, ◌%◌, ◌==◌, false, not, OnOk, OnErr, IfOk, IsOkUnless};
+    ghost use Rattle.std.specs.Int.{bit_at};
     ghost use Rattle.ll_rights.specs.Rights.{FsRight, has, other, is_empty, is_within};
     ghost use Rattle.ll_rights.specs.NetRights as for_ports;
     ghost use Rattle.ll_tree.specs.Trees.{IsNode, path_at, kind_at};
@@ -97,6 +98,21 @@ impl Layer {
             return Fs::NONE;
         }
         self.rule_in_map(number)
+    }
+
+    /// Whether there may be a rule on a node: where the filter says no, there is none.
+    pub(crate) fn may_have_rule(&self, node: NodeId) -> bool
+        ensures { result ≡ false → (right : FsRight) → granted_on_node self.now node right ≡ false }
+    {
+        self.marks.has(node.index())
+    }
+
+    /// The filter's marks of 64 nodes together: where the bit at the rest of a node's number by 64 is no one, there
+    /// is no rule on the node.
+    pub(crate) fn marks_beside(&self, node: NodeId) -> u64
+        ensures { (bit_at result (node.0 % 64) == 1) ≡ false → (right : FsRight) → granted_on_node self.now node right ≡ false }
+    {
+        self.marks.beside(node.index())
     }
 
     /// The one look-up: asks the layer for its rule on a node, and counts the question.

@@ -1,4 +1,4 @@
-use Rattle.std.proofs.Common.{arith, subst, ℕ, ◌<◌, ◌^◌, length, inl, inr}
+use Rattle.std.proofs.Common.{arith, subst, ℕ, ◌+◌, ◌*◌, ◌<◌, ◌≤◌, ◌^◌, length, inl, inr}
 use Rattle.std.specs.Prelude.{Some, IfSome}
 use Rattle.std.proofs.lemmas.Bool.{cases_lt}
 use Rattle.ll_rights.specs.Rights.{has}
@@ -6,28 +6,39 @@ use Rattle.ll_tree.specs.Trees.{IsNode}
 use Rattle.ll_tree.specs.TreeFacts.{depth_at}
 use Rattle.ll_rules.specs.KeptLayers.{domain_of}
 use Rattle.ll_rules.specs.Lanes.{lane, layer_in}
+use Rattle.ll_rules.specs.WaysUp.{nodes_up}
 use Rattle.ll_rules.proofs.Climbs.{nodes_above}
-use Rattle.ll_rules.proofs.DomainLanes.{count_begins, count_goes_on, few_look_ups, left_begins, left_goes_on, left_ends, left_nothing, left_unasked, layer_in-past, layer_in-within}
+use Rattle.ll_rules.proofs.DomainLanes.{count_begins, count_goes_on, few_look_ups, nodes_up-step, left_begins, left_passed, left_goes_on, left_ends, left_nothing, left_unasked, layer_in-past, layer_in-within}
 use Rattle.ll_rules.proofs.climb.climb.Goals as goal
 
-pub loop-at-init : goal.loop-at-init
-loop-at-init c = record {
+-- of empty lanes nothing is left
+pub returns-then-asked-eq0-clause-left : goal.returns-then-asked-eq0-clause-left
+returns-then-asked-eq0-clause-left c = λ place right.
+    let rules = layer_in (domain_of c.args.layers.now c.args.ids.now) place in
+    let held = has (lane c.args.lanes.now place) right in
+    let begins = left_begins c.args.tree.now rules c.args.node right held in
+    elim (cases_lt place (length c.args.ids.now)) [
+      | inl inside ↦ left_nothing c.args.tree.now rules (Some c.args.node) right held _ (c.count_filled-asked.ensures.none c.if-asked-eq0.true place inside right) begins
+      | inr past ↦ left_unasked c.args.tree.now rules (Some c.args.node) right held _ (layer_in-past c.args.layers.now c.args.ids.now place past) begins
+    ]
+
+pub loop-here-init : goal.loop-here-init
+loop-here-init c = record {
   inside = c.requires.node;
   so_far = λ place right. left_begins c.args.tree.now (layer_in (domain_of c.args.layers.now c.args.ids.now) place) c.args.node right _;
+  few = c.count_filled-asked.ensures.few;
   count = count_begins c.args.tree.now c.args.node (length c.args.ids.now) c.args.look_ups.now;
 }
-
-pub ask_on-requires-clause-room : goal.ask_on-requires-clause-room
-ask_on-requires-clause-room c = omega (arith, c.loop-at.invariant.count, few_look_ups (length c.args.ids.now) (depth_at c.args.tree.now c.args.node) c.requires.few (subst (λ (depth : ℕ). depth < 2 ^ 32) c.depth-depth.ensures c.depth-depth.type_inv))
 
 -- once nothing is left, all that the lanes had is granted
 pub returns-then-not-ask_on-clause-left : goal.returns-then-not-ask_on-clause-left
 returns-then-not-ask_on-clause-left c = λ place right.
-    let here : IfSome (Some c.in-Some.here) (IsNode c.args.tree.now) = rw c.in-Some.is at c.loop-at.invariant.inside in
+    let here : IfSome (Some c.in-Some.here) (IsNode c.args.tree.now) = rw c.in-Some.is at c.next_marked.ensures.inside in
     let rules = layer_in (domain_of c.args.layers.now c.args.ids.now) place in
-    let so_far = left_goes_on c.args.tree.now rules c.in-Some.here c.parent-at.result right (has (lane c.loop-at.lanes place) right) (has (lane c.ask_on.new.lanes place) right) _
+    let passed = left_passed c.args.tree.now rules c.loop-here.at c.next_marked.result right (has (lane c.loop-here.lanes place) right) _ (c.next_marked.ensures.passed place right) (c.loop-here.invariant.so_far place right) in
+    let so_far = left_goes_on c.args.tree.now rules c.in-Some.here c.parent-at.result right (has (lane c.loop-here.lanes place) right) (has (lane c.ask_on.new.lanes place) right) _
     c.parent-at.ensures.tree here (layer_in-within c.args.tree.now c.args.layers.now c.args.ids.now place c.requires.rules) c.parent-at.ensures.root c.parent-at.ensures.front
-    (c.ask_on.ensures.left place right) (rw c.in-Some.is at c.loop-at.invariant.so_far place right) in
+    (c.ask_on.ensures.left place right) (rw c.in-Some.is at passed) in
     elim (cases_lt place (length c.args.ids.now)) [
       | inl inside ↦ left_nothing c.args.tree.now rules c.parent-at.result right (has (lane c.ask_on.new.lanes place) right) _ (c.ask_on.ensures.none c.if-not-ask_on.true place inside right) so_far
       | inr past ↦ left_unasked c.args.tree.now rules c.parent-at.result right (has (lane c.ask_on.new.lanes place) right) _ (layer_in-past c.args.layers.now c.args.ids.now place past) so_far
@@ -35,32 +46,43 @@ returns-then-not-ask_on-clause-left c = λ place right.
 
 pub returns-then-not-ask_on-clause-count : goal.returns-then-not-ask_on-clause-count
 returns-then-not-ask_on-clause-count c =
+    let bound : c.next_marked.new.look_ups + length c.args.ids.now * nodes_up c.args.tree.now c.next_marked.result ≤ c.args.look_ups.now + length c.args.ids.now * (depth_at c.args.tree.now c.args.node + 1) = omega (arith, c.next_marked.ensures.count, c.loop-here.invariant.count) in
     omega (
       arith,
-      count_goes_on c.args.tree.now c.in-Some.here c.parent-at.result (length c.args.ids.now) c.loop-at.look_ups c.ask_on.new.look_ups _
-          c.parent-at.ensures.exact c.parent-at.ensures.front c.ask_on.ensures.count (rw c.in-Some.is at c.loop-at.invariant.count),
+      count_goes_on c.args.tree.now c.in-Some.here c.parent-at.result (length c.args.ids.now) c.next_marked.new.look_ups c.ask_on.new.look_ups _
+          c.parent-at.ensures.exact c.parent-at.ensures.front c.ask_on.ensures.count (rw c.in-Some.is at bound),
     )
 
-pub loop-at-preserved : goal.loop-at-preserved
-loop-at-preserved c =
-    let here : IfSome (Some c.in-Some.here) (IsNode c.args.tree.now) = rw c.in-Some.is at c.loop-at.invariant.inside in
+pub loop-here-preserved : goal.loop-here-preserved
+loop-here-preserved c =
+    let here : IfSome (Some c.in-Some.here) (IsNode c.args.tree.now) = rw c.in-Some.is at c.next_marked.ensures.inside in
+    let bound : c.next_marked.new.look_ups + length c.args.ids.now * nodes_up c.args.tree.now c.next_marked.result ≤ c.args.look_ups.now + length c.args.ids.now * (depth_at c.args.tree.now c.args.node + 1) = omega (arith, c.next_marked.ensures.count, c.loop-here.invariant.count) in
     record {
       inside = nodes_above c.args.tree.now c.in-Some.here c.parent-at.result c.parent-at.ensures.front;
       so_far = λ place right.
-          left_goes_on c.args.tree.now (layer_in (domain_of c.args.layers.now c.args.ids.now) place) c.in-Some.here c.parent-at.result right (has (lane c.loop-at.lanes place) right) (has (lane c.ask_on.new.lanes place) right) _
+          let rules = layer_in (domain_of c.args.layers.now c.args.ids.now) place in
+          let passed = left_passed c.args.tree.now rules c.loop-here.at c.next_marked.result right (has (lane c.loop-here.lanes place) right) _ (c.next_marked.ensures.passed place right) (c.loop-here.invariant.so_far place right) in
+          left_goes_on c.args.tree.now rules c.in-Some.here c.parent-at.result right (has (lane c.loop-here.lanes place) right) (has (lane c.ask_on.new.lanes place) right) _
           c.parent-at.ensures.tree here (layer_in-within c.args.tree.now c.args.layers.now c.args.ids.now place c.requires.rules) c.parent-at.ensures.root c.parent-at.ensures.front
-          (c.ask_on.ensures.left place right) (rw c.in-Some.is at c.loop-at.invariant.so_far place right);
+          (c.ask_on.ensures.left place right) (rw c.in-Some.is at passed);
+      few = c.count_filled-asked-in-Some.ensures.few;
       count =
-          count_goes_on c.args.tree.now c.in-Some.here c.parent-at.result (length c.args.ids.now) c.loop-at.look_ups c.ask_on.new.look_ups _
-          c.parent-at.ensures.exact c.parent-at.ensures.front c.ask_on.ensures.count (rw c.in-Some.is at c.loop-at.invariant.count);
+          count_goes_on c.args.tree.now c.in-Some.here c.parent-at.result (length c.args.ids.now) c.next_marked.new.look_ups c.ask_on.new.look_ups _
+          c.parent-at.ensures.exact c.parent-at.ensures.front c.ask_on.ensures.count (rw c.in-Some.is at bound);
     }
+
+pub loop-here-smaller : goal.loop-here-smaller
+loop-here-smaller c = omega (arith, nodes_up-step c.args.tree.now c.in-Some.here c.parent-at.result c.parent-at.ensures.exact c.parent-at.ensures.front, rw c.in-Some.is at c.next_marked.ensures.above)
 
 pub returns-clause-left : goal.returns-clause-left
 returns-clause-left c = λ place right.
-    left_ends c.args.tree.now (layer_in (domain_of c.args.layers.now c.args.ids.now) place) right (has (lane c.loop-at.lanes place) right) _ (rw c.in_default.is at c.loop-at.invariant.so_far place right)
+    let rules = layer_in (domain_of c.args.layers.now c.args.ids.now) place in
+    let passed = left_passed c.args.tree.now rules c.loop-here.at c.next_marked.result right (has (lane c.loop-here.lanes place) right) _ (c.next_marked.ensures.passed place right) (c.loop-here.invariant.so_far place right) in
+    left_ends c.args.tree.now rules right (has (lane c.loop-here.lanes place) right) _ (rw c.in_default.is at passed)
 
 pub returns-clause-count : goal.returns-clause-count
-returns-clause-count c = omega (arith, c.loop-at.invariant.count)
+returns-clause-count c = omega (arith, c.loop-here.invariant.count, c.next_marked.ensures.count)
 
 pub returns-clause-little : goal.returns-clause-little
-returns-clause-little c = omega (arith, c.loop-at.invariant.count, few_look_ups (length c.args.ids.now) (depth_at c.args.tree.now c.args.node) c.requires.few (subst (λ (depth : ℕ). depth < 2 ^ 32) c.depth-depth.ensures c.depth-depth.type_inv))
+returns-clause-little c =
+    omega (arith, c.loop-here.invariant.count, c.next_marked.ensures.count, few_look_ups (length c.args.ids.now) (depth_at c.args.tree.now c.args.node) c.requires.few (subst (λ (depth : ℕ). depth < 2 ^ 32) c.depth-depth.ensures c.depth-depth.type_inv))

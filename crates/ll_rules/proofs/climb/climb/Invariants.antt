@@ -1,6 +1,5 @@
 use Rattle.std.proofs.Common.{◌≡◌, ℕ, ◌+◌, ◌*◌, ◌≤◌, ◌&&◌, not, length}
 use Rattle.std.specs.Prelude.{IfSome}
-use Rattle.std.specs.Option.{option_map_or}
 use Rattle.ll_rights.specs.Rights.{FsRight, has}
 use Rattle.ll_tree.specs.Trees.{IsNode, path_at}
 use Rattle.ll_tree.specs.TreeFacts.{depth_at}
@@ -8,17 +7,19 @@ use Rattle.ll_rules.specs.Layers.{granted}
 use Rattle.ll_rules.specs.InTree.{in_tree}
 use Rattle.ll_rules.specs.KeptLayers.{domain_of}
 use Rattle.ll_rules.specs.Lanes.{lane, layer_in}
-use Rattle.ll_rules.proofs.DomainLanes.{left_above, nodes_up}
+use Rattle.ll_rules.specs.WaysUp.{nodes_up}
+use Rattle.ll_rules.proofs.DomainLanes.{left_above}
 use Rattle.ll_rules.proofs.climb.climb.Given as goal
 
 -- what is left of the lanes, less what is granted from here on up
-abbrev pub invariant-loop-at : goal.invariant-loop-at
-invariant-loop-at l = record {
+abbrev pub invariant-loop-here : goal.invariant-loop-here
+invariant-loop-here l = record {
   inside : IfSome l.at (IsNode l.tree);
   so_far : (place : ℕ) (right : FsRight) → left_above l.tree (layer_in (domain_of l.layers l.ids) place) l.at right (has (lane l.lanes place) right)
       ≡ (has (lane l.fn.lanes place) right && not (granted (in_tree l.tree (layer_in (domain_of l.layers l.ids) place)) (path_at l.tree l.fn.node) right));
+  few : l.asked ≤ length l.ids;
   count : l.look_ups + length l.ids * nodes_up l.tree l.at ≤ l.fn.look_ups + length l.ids * (depth_at l.tree l.fn.node + 1);
 }
 
-abbrev pub decreases-loop-at : goal.decreases-loop-at
-decreases-loop-at l = option_map_or (λ here. here.0 + 1) l.at 0
+abbrev pub decreases-loop-here : goal.decreases-loop-here
+decreases-loop-here l = nodes_up l.tree l.at

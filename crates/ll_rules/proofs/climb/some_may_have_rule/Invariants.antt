@@ -1,0 +1,10 @@
+use Rattle.std.proofs.Common.{◌≡◌, ℕ, ◌<◌, ◌%◌, false, eqb}
+use Rattle.std.specs.Int.{bit_at}
+use Rattle.ll_rights.specs.Rights.{FsRight}
+use Rattle.ll_rules.specs.KeptLayers.{granted_on_node, domain_of}
+use Rattle.ll_rules.specs.Lanes.{layer_in}
+use Rattle.ll_rules.proofs.climb.some_may_have_rule.Given as goal
+
+-- where the node has no mark so far, no layer so far has a rule on it
+abbrev pub invariant-loop-id : goal.invariant-loop-id
+invariant-loop-id l = (place : ℕ) → place < l.id-index → eqb (bit_at l.marks (l.node.0 % 64)) 1 ≡ false → (right : FsRight) → granted_on_node (layer_in (domain_of l.layers l.ids) place) l.node right ≡ false
