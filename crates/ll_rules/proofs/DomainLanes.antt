@@ -1,5 +1,7 @@
 -- The lanes of a domain: a row of them filled place by place, what is left of them on a climb, and the layers whose lanes are filled.
-use Rattle.std.proofs.Common.{◌≡◌, ℕ, zero, suc, ◌+◌, ◌*◌, ◌^◌, ◌<◌, ◌≤◌, Bool, true, false, not, ◌&&◌, ◌||◌, cond, eqb, List, [], ◌∷◌, ◌++◌, map, length, get_or, take, refl, sym, ap, subst, ◌∙◌, arith, inl, inr, append_assoc, append-nil, mul_comm, bit_or}
+use Rattle.std.proofs.Common.{◌≡◌, ℕ, zero, suc, ◌+◌, ◌*◌, ◌^◌, ◌<◌, ◌≤◌, Bool, true, false, not, ◌&&◌, ◌||◌, cond, eqb, List, [], ◌∷◌, ◌++◌, map, length, get_or, take, refl, sym, ap, subst, ◌∙◌, arith, inl, inr, append_assoc, append-nil, mul_comm, bit_and, bit_or, ◌/◌, ◌%◌}
+use Rattle.std.specs.Int.{bit_at}
+use Rattle.std.proofs.lemmas.Nat.Bits.{shr_and_one}
 use Rattle.std.specs.Prelude.{All, Option, Some, None, IfSome, IfNone}
 use Rattle.std.proofs.lemmas.Bool.{cases_lt, cases_eq}
 use Rattle.std.proofs.lemmas.List.{get_or-map, get_or-set_same, get_or-set_other, get_or_past, length-map, take_all, length-take}
@@ -33,6 +35,7 @@ use Rattle.ll_rules.proofs.Booleans.{and_none, and_true}
 use Rattle.ll_rules.proofs.Domains.{numbers_from-map}
 use Rattle.ll_rules.proofs.LaneSets.{nothing_in}
 use Rattle.ll_rules.proofs.Climbs.{climbed}
+use Rattle.ll_rules.proofs.Marks.{neither_bit}
 
 -- ---- a row, place by place
 
@@ -116,6 +119,32 @@ all_left layers ids before after count all here so_far rest place right =
           ∙ ap (λ (b : Bool). has (lane before place) right && not b)
           (sym (ap (λ (rules : RulesOn ℕ). granted_on_node rules here right) (layer_in-past layers ids place (omega arith)) ∙ nothing_granted here right))
     ]
+
+-- ---- marks of all layers together
+
+module _ (layers : List (RulesOn ℕ)) (ids : List LayerId) (here : NodeId) where
+  -- one layer more: where neither its marks nor those before it have the node's, no layer so far has a rule on the node
+  pub unmarked_next : (place marks more : ℕ) (d : LayerId) (rules : RulesOn ℕ) → place < length ids → rules ≡ layer_at layers (get_or ids place d)
+      → (eqb (bit_at more (here.0 % 64)) 1 ≡ false → (right : FsRight) → granted_on_node rules here right ≡ false)
+      → ((p : ℕ) → p < place → eqb (bit_at marks (here.0 % 64)) 1 ≡ false → (right : FsRight) → granted_on_node (layer_in (domain_of layers ids) p) here right ≡ false)
+      → (p : ℕ) → p < place + 1 → eqb (bit_at (bit_or marks more) (here.0 % 64)) 1 ≡ false → (right : FsRight) → granted_on_node (layer_in (domain_of layers ids) p) here right ≡ false
+  unmarked_next place marks more d rules inside is own before p lt unmarked right =
+      let parts = neither_bit marks more (here.0 % 64) unmarked in
+      elim (cases_eq p place) [
+        | inl same ↦ rw same (ap (λ (others : RulesOn ℕ). granted_on_node others here right) (layer_in-named layers ids place d inside ∙ sym is) ∙ own parts.1 right)
+        | inr differs ↦ before p (omega arith) parts.0 right
+      ]
+
+  -- where no layer of the domain has the node's mark, none has a rule on the node
+  pub unmarked_all : (count marks number : ℕ) → length ids ≤ count → number ≡ here.0 → eqb (bit_and (marks / 2 ^ (number % 64)) 1) 1 ≡ false
+      → ((p : ℕ) → p < count → eqb (bit_at marks (here.0 % 64)) 1 ≡ false → (right : FsRight) → granted_on_node (layer_in (domain_of layers ids) p) here right ≡ false)
+      → (p : ℕ) (right : FsRight) → granted_on_node (layer_in (domain_of layers ids) p) here right ≡ false
+  unmarked_all count marks number all is unmarked so_far p right =
+      let own : eqb (bit_and (marks / 2 ^ (here.0 % 64)) 1) 1 ≡ false = rw is at unmarked in
+      elim (cases_lt p (length ids)) [
+        | inl inside ↦ so_far p (omega arith) (sym (ap (λ (bit : ℕ). eqb bit 1) (shr_and_one marks (here.0 % 64))) ∙ own) right
+        | inr past ↦ ap (λ (rules : RulesOn ℕ). granted_on_node rules here right) (layer_in-past layers ids p past) ∙ nothing_granted here right
+      ]
 
 -- ---- one climb
 

@@ -106,6 +106,60 @@ fn some_may_have_rule(layers: &[Layer], ids: &[LayerId], node: NodeId) -> bool
     marks >> (node.index() % 64) & 1 == 1
 }
 
+/// Whether some layer of a domain may have a rule on either of two nodes. Each layer is taken once for both.
+fn some_may_have_rules(layers: &[Layer], ids: &[LayerId], lower: NodeId, upper: NodeId) -> bool
+    requires domain { IsDomainOf layers.now ids.now }
+    ensures lower { result ≡ false → (place : ℕ) (right : FsRight) → granted_on_node (layer_in (domain_of layers.now ids.now) place) lower right ≡ false }
+    ensures upper { result ≡ false → (place : ℕ) (right : FsRight) → granted_on_node (layer_in (domain_of layers.now ids.now) place) upper right ≡ false }
+{
+    let mut at_lower = 0;
+    let mut at_upper = 0;
+    for id in ids {
+        let layer = layer_of(layers, *id);
+        at_lower |= layer.marks_beside(lower);
+        at_upper |= layer.marks_beside(upper);
+    }
+    if at_lower >> (lower.index() % 64) & 1 == 1 {
+        return true;
+    }
+    at_upper >> (upper.index() % 64) & 1 == 1
+}
+
+/// Goes up from a node, two nodes at a time, until some layer of a domain may have a rule on either of the next two,
+/// or there is one node left at most. On the nodes that are passed the layers that are `asked` are counted.
+fn past_pairs(
+    tree: &Tree,
+    layers: &[Layer],
+    ids: &[LayerId],
+    from: Option<NodeId>,
+    asked: u64,
+    look_ups: &mut u64,
+) -> Option<NodeId>
+    requires domain { IsDomainOf layers.now ids.now }
+    requires rules { All (AreInTree tree.now) layers.now }
+    requires from { IfSome from (IsNode tree.now) }
+    requires asked { asked ≤ length ids.now }
+    requires room { look_ups.old + length ids.now * nodes_up tree.now from < 2 ^ 64 }
+    ensures inside { IfSome result (IsNode tree.now) }
+    ensures above { nodes_up tree.now result ≤ nodes_up tree.now from }
+    ensures passed { (place : ℕ) (right : FsRight) → granted_above tree.now (layer_in (domain_of layers.now ids.now) place) result right ≡ granted_above tree.now (layer_in (domain_of layers.now ids.now) place) from right }
+    ensures count { look_ups.new + length ids.now * nodes_up tree.now result ≤ look_ups.old + length ids.now * nodes_up tree.now from }
+{
+    let mut at = from;
+    while let Some(here) = at {
+        let Some(up) = tree.parent(here) else {
+            return at;
+        };
+        if some_may_have_rules(layers, ids, here, up) {
+            return at;
+        }
+        *look_ups += asked;
+        *look_ups += asked;
+        at = tree.parent(up);
+    }
+    None
+}
+
 /// The first node from one up on which some layer of a domain may have a rule, if there is one. On each node before
 /// it, where the filters say that there is none, the layers that are `asked` are counted.
 fn next_marked(
@@ -126,7 +180,7 @@ fn next_marked(
     ensures passed { (place : ℕ) (right : FsRight) → granted_above tree.now (layer_in (domain_of layers.now ids.now) place) result right ≡ granted_above tree.now (layer_in (domain_of layers.now ids.now) place) from right }
     ensures count { look_ups.new + length ids.now * nodes_up tree.now result ≤ look_ups.old + length ids.now * nodes_up tree.now from }
 {
-    let mut at = from;
+    let mut at = past_pairs(tree, layers, ids, from, asked, look_ups);
     while let Some(here) = at {
         if some_may_have_rule(layers, ids, here) {
             return at;
@@ -137,11 +191,23 @@ fn next_marked(
     None
 }
 
+/// Whether one of the first lanes holds anything.
+fn is_any_filled(lanes: &[u16; 16], count: usize) -> bool
+    requires { count ≤ 16 }
+    ensures { result ≡ false → (place : ℕ) → place < count → (right : FsRight) → has (lane lanes.now place) right ≡ false }
+{
+    for place in 0..count {
+        if lanes[place] != 0 {
+            return true;
+        }
+    }
+    false
+}
+
 /// How many of the first lanes hold anything.
 fn count_filled(lanes: &[u16; 16], count: usize) -> u64
     requires { count ≤ 16 }
-    ensures few { result ≤ count }
-    ensures none { result ≡ 0 → (place : ℕ) → place < count → (right : FsRight) → has (lane lanes.now place) right ≡ false }
+    ensures { result ≤ count }
 {
     let mut filled = 0;
     for place in 0..count {
@@ -171,10 +237,10 @@ pub(crate) fn climb(
 {
     // The depth has 32 bits, so the count has room.
     let _depth = tree.depth(node);
-    let mut asked = count_filled(lanes, ids.len());
-    if asked == 0 {
+    if !is_any_filled(lanes, ids.len()) {
         return;
     }
+    let mut asked = count_filled(lanes, ids.len());
     let mut at = Some(node);
     while let Some(here) = next_marked(tree, layers, ids, at, asked, look_ups) {
         at = tree.parent(here);
