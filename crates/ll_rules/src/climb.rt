@@ -94,23 +94,12 @@ pub(crate) fn ask_on(
     all != 0
 }
 
-/// Whether some layer of a domain may have a rule on a node: where the filters of all of them say no, none has.
-fn some_may_have_rule(layers: &[Layer], ids: &[LayerId], node: NodeId) -> bool
+/// On which of two nodes some layer of a domain may have a rule, by the filters of all of them. Each layer is taken
+/// once for both nodes.
+fn marked_of(layers: &[Layer], ids: &[LayerId], lower: NodeId, upper: NodeId) -> (bool, bool)
     requires domain { IsDomainOf layers.now ids.now }
-    ensures { result ≡ false → (place : ℕ) (right : FsRight) → granted_on_node (layer_in (domain_of layers.now ids.now) place) node right ≡ false }
-{
-    let mut marks = 0;
-    for id in ids {
-        marks |= layer_of(layers, *id).marks_beside(node);
-    }
-    marks >> (node.index() % 64) & 1 == 1
-}
-
-/// Whether some layer of a domain may have a rule on either of two nodes. Each layer is taken once for both.
-fn some_may_have_rules(layers: &[Layer], ids: &[LayerId], lower: NodeId, upper: NodeId) -> bool
-    requires domain { IsDomainOf layers.now ids.now }
-    ensures lower { result ≡ false → (place : ℕ) (right : FsRight) → granted_on_node (layer_in (domain_of layers.now ids.now) place) lower right ≡ false }
-    ensures upper { result ≡ false → (place : ℕ) (right : FsRight) → granted_on_node (layer_in (domain_of layers.now ids.now) place) upper right ≡ false }
+    ensures lower { result.0 ≡ false → (place : ℕ) (right : FsRight) → granted_on_node (layer_in (domain_of layers.now ids.now) place) lower right ≡ false }
+    ensures upper { result.1 ≡ false → (place : ℕ) (right : FsRight) → granted_on_node (layer_in (domain_of layers.now ids.now) place) upper right ≡ false }
 {
     let mut at_lower = 0;
     let mut at_upper = 0;
@@ -119,15 +108,15 @@ fn some_may_have_rules(layers: &[Layer], ids: &[LayerId], lower: NodeId, upper: 
         at_lower |= layer.marks_beside(lower);
         at_upper |= layer.marks_beside(upper);
     }
-    if at_lower >> (lower.index() % 64) & 1 == 1 {
-        return true;
-    }
-    at_upper >> (upper.index() % 64) & 1 == 1
+    let lower_is = at_lower >> (lower.index() % 64) & 1 == 1;
+    let upper_is = at_upper >> (upper.index() % 64) & 1 == 1;
+    (lower_is, upper_is)
 }
 
-/// Goes up from a node, two nodes at a time, until some layer of a domain may have a rule on either of the next two,
-/// or there is one node left at most. On the nodes that are passed the layers that are `asked` are counted.
-fn past_pairs(
+/// The first node from one up on which some layer of a domain may have a rule, if there is one. It goes up two nodes
+/// at a time, and the root, where it is left alone, may have one. On each node before, where the filters say that
+/// there is none, the layers that are `asked` are counted.
+fn next_marked(
     tree: &Tree,
     layers: &[Layer],
     ids: &[LayerId],
@@ -150,43 +139,16 @@ fn past_pairs(
         let Some(up) = tree.parent(here) else {
             return at;
         };
-        if some_may_have_rules(layers, ids, here, up) {
+        let (here_is, up_is) = marked_of(layers, ids, here, up);
+        if here_is {
             return at;
         }
         *look_ups += asked;
+        if up_is {
+            return Some(up);
+        }
         *look_ups += asked;
         at = tree.parent(up);
-    }
-    None
-}
-
-/// The first node from one up on which some layer of a domain may have a rule, if there is one. On each node before
-/// it, where the filters say that there is none, the layers that are `asked` are counted.
-fn next_marked(
-    tree: &Tree,
-    layers: &[Layer],
-    ids: &[LayerId],
-    from: Option<NodeId>,
-    asked: u64,
-    look_ups: &mut u64,
-) -> Option<NodeId>
-    requires domain { IsDomainOf layers.now ids.now }
-    requires rules { All (AreInTree tree.now) layers.now }
-    requires from { IfSome from (IsNode tree.now) }
-    requires asked { asked ≤ length ids.now }
-    requires room { look_ups.old + length ids.now * nodes_up tree.now from < 2 ^ 64 }
-    ensures inside { IfSome result (IsNode tree.now) }
-    ensures above { nodes_up tree.now result ≤ nodes_up tree.now from }
-    ensures passed { (place : ℕ) (right : FsRight) → granted_above tree.now (layer_in (domain_of layers.now ids.now) place) result right ≡ granted_above tree.now (layer_in (domain_of layers.now ids.now) place) from right }
-    ensures count { look_ups.new + length ids.now * nodes_up tree.now result ≤ look_ups.old + length ids.now * nodes_up tree.now from }
-{
-    let mut at = past_pairs(tree, layers, ids, from, asked, look_ups);
-    while let Some(here) = at {
-        if some_may_have_rule(layers, ids, here) {
-            return at;
-        }
-        *look_ups += asked;
-        at = tree.parent(here);
     }
     None
 }

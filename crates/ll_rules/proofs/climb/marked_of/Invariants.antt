@@ -3,7 +3,7 @@ use Rattle.std.specs.Int.{bit_at}
 use Rattle.ll_rights.specs.Rights.{FsRight}
 use Rattle.ll_rules.specs.KeptLayers.{granted_on_node, domain_of}
 use Rattle.ll_rules.specs.Lanes.{layer_in}
-use Rattle.ll_rules.proofs.climb.some_may_have_rules.Given as goal
+use Rattle.ll_rules.proofs.climb.marked_of.Given as goal
 
 -- where a node has no mark so far, no layer so far has a rule on it
 abbrev pub invariant-loop-id : goal.invariant-loop-id

@@ -1,7 +1,6 @@
 use Rattle.std.proofs.Common.{arith}
-use Rattle.std.proofs.lemmas.Bool.{ne_eqb}
 use Rattle.ll_rules.proofs.DomainLanes.{unmarked_next, unmarked_all}
-use Rattle.ll_rules.proofs.climb.some_may_have_rules.Goals as goal
+use Rattle.ll_rules.proofs.climb.marked_of.Goals as goal
 
 pub loop-id-preserved : goal.loop-id-preserved
 loop-id-preserved c = record {
@@ -10,8 +9,7 @@ loop-id-preserved c = record {
 }
 
 pub returns-clause-lower : goal.returns-clause-lower
-returns-clause-lower c = λ unmarked.
-    unmarked_all c.args.layers.now c.args.ids.now c.args.lower c.loop-id.id-index c.loop-id.at_lower c.index.result (omega arith) c.index.ensures (ne_eqb _ 1 c.if-at_lower-index-eq1.false) c.loop-id.invariant.lower
+returns-clause-lower c = λ unmarked. unmarked_all c.args.layers.now c.args.ids.now c.args.lower c.loop-id.id-index c.loop-id.at_lower c.index.result (omega arith) c.index.ensures unmarked c.loop-id.invariant.lower
 
 pub returns-clause-upper : goal.returns-clause-upper
 returns-clause-upper c = λ unmarked. unmarked_all c.args.layers.now c.args.ids.now c.args.upper c.loop-id.id-index c.loop-id.at_upper c.index-2.result (omega arith) c.index-2.ensures unmarked c.loop-id.invariant.upper
