@@ -1,6 +1,7 @@
 //! One climb from a node to the root, for all layers of a domain at once.
 
-ghost use Rattle.std.specs.Prelude.{◌≡◌, ℕ, ◌+◌, ◌*◌, ◌^◌, ◌≤◌, ◌<◌, ◌&&◌, not, true, false, length, All, IfSome};
+ghost use Rattle.std.specs.Prelude.{◌≡◌, ℕ, ◌+◌, ◌*◌, ◌^◌, ◌≤◌, ◌<◌, ◌&&◌, not, true, false, length, take, count_by, All, IfSome, ◌==◌};
+ghost use Rattle.std.specs.List.{list_any};
 ghost use Rattle.ll_rights.specs.Rights.{FsRight, has};
 ghost use Rattle.ll_tree.specs.Trees.{IsNode, path_at};
 ghost use Rattle.ll_tree.specs.TreeFacts.{depth_at};
@@ -156,7 +157,8 @@ fn next_marked(
 /// Whether one of the first lanes holds anything.
 fn is_any_filled(lanes: &[u16; 16], count: usize) -> bool
     requires { count ≤ 16 }
-    ensures { result ≡ false → (place : ℕ) → place < count → (right : FsRight) → has (lane lanes.now place) right ≡ false }
+    ensures exact { result ≡ list_any (λ bits. not (bits == 0)) (take count lanes.now) }
+    ensures none { result ≡ false → (place : ℕ) → place < count → (right : FsRight) → has (lane lanes.now place) right ≡ false }
 {
     for place in 0..count {
         if lanes[place] != 0 {
@@ -169,7 +171,8 @@ fn is_any_filled(lanes: &[u16; 16], count: usize) -> bool
 /// How many of the first lanes hold anything.
 fn count_filled(lanes: &[u16; 16], count: usize) -> u64
     requires { count ≤ 16 }
-    ensures { result ≤ count }
+    ensures exact { result ≡ count_by (λ bits. not (bits == 0)) (take count lanes.now) }
+    ensures few { result ≤ count }
 {
     let mut filled = 0;
     for place in 0..count {

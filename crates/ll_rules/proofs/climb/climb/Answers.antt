@@ -18,7 +18,7 @@ returns-then-not-is_any_filled-clause-left c = λ place right.
     let held = has (lane c.args.lanes.now place) right in
     let begins = left_begins c.args.tree.now rules c.args.node right held in
     elim (cases_lt place (length c.args.ids.now)) [
-      | inl inside ↦ left_nothing c.args.tree.now rules (Some c.args.node) right held _ (c.is_any_filled.ensures c.if-not-is_any_filled.true place inside right) begins
+      | inl inside ↦ left_nothing c.args.tree.now rules (Some c.args.node) right held _ (c.is_any_filled.ensures.none c.if-not-is_any_filled.true place inside right) begins
       | inr past ↦ left_unasked c.args.tree.now rules (Some c.args.node) right held _ (layer_in-past c.args.layers.now c.args.ids.now place past) begins
     ]
 
@@ -26,7 +26,7 @@ pub loop-here-init : goal.loop-here-init
 loop-here-init c = record {
   inside = c.requires.node;
   so_far = λ place right. left_begins c.args.tree.now (layer_in (domain_of c.args.layers.now c.args.ids.now) place) c.args.node right _;
-  few = c.count_filled-asked.ensures;
+  few = c.count_filled-asked.ensures.few;
   count = count_begins c.args.tree.now c.args.node (length c.args.ids.now) c.args.look_ups.now;
 }
 
@@ -65,7 +65,7 @@ loop-here-preserved c =
           left_goes_on c.args.tree.now rules c.in-Some.here c.parent-at.result right (has (lane c.loop-here.lanes place) right) (has (lane c.ask_on.new.lanes place) right) _
           c.parent-at.ensures.tree here (layer_in-within c.args.tree.now c.args.layers.now c.args.ids.now place c.requires.rules) c.parent-at.ensures.root c.parent-at.ensures.front
           (c.ask_on.ensures.left place right) (rw c.in-Some.is at passed);
-      few = c.count_filled-asked-in-Some.ensures;
+      few = c.count_filled-asked-in-Some.ensures.few;
       count =
           count_goes_on c.args.tree.now c.in-Some.here c.parent-at.result (length c.args.ids.now) c.next_marked.new.look_ups c.ask_on.new.look_ups _
           c.parent-at.ensures.exact c.parent-at.ensures.front c.ask_on.ensures.count (rw c.in-Some.is at bound);
