@@ -38,12 +38,6 @@ impl PlainLayer {
         Ok(())
     }
 
-    /// How many nodes have rules.
-    #[cfg(test)]
-    pub(crate) fn nodes(&self) -> usize {
-        self.on_nodes.len()
-    }
-
     fn rule_on(&self, node: NodeId) -> Fs {
         let number = node.index();
         self.on_nodes.get(&number).copied().unwrap_or(Fs::NONE)

@@ -4,8 +4,6 @@
 
 mod layer;
 mod moves;
-#[cfg(test)]
-mod tests;
 
 pub use layer::{PlainLayer, Refusing, refusing};
 pub use moves::{Attempt, Call, answer};

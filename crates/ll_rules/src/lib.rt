@@ -14,8 +14,6 @@ mod layer_set;
 mod moves;
 mod ruleset;
 mod sameness;
-#[cfg(test)]
-mod tests;
 
 pub use check::{check_mount, check_path, check_path_counted, check_port};
 pub use domain::{Domain, LayerId};

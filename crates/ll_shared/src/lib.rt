@@ -4,7 +4,5 @@
 
 mod map;
 mod node;
-#[cfg(test)]
-mod tests;
 
 pub use map::SharedMap;

@@ -1,7 +1,7 @@
 use Rattle.std.proofs.Common.{◌≤◌, length}
 use Rattle.std.specs.Prelude.{All}
 use Rattle.ll_rules.specs.InTree.{AreInTree}
-use Rattle.ll_plain.proofs.tests.layers_of.Given as goal
+use Rattle.ll_rules_tests.proofs.comparison.layers_of.Given as goal
 
 abbrev pub invariant-loop-number : goal.invariant-loop-number
 invariant-loop-number l = record {

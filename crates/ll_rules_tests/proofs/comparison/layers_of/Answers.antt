@@ -1,7 +1,7 @@
 use Rattle.std.proofs.Common.{arith}
 use Rattle.std.proofs.lemmas.List.Elements.{All-push, All-same}
 use Rattle.ll_rules.specs.InTree.{AreInTree}
-use Rattle.ll_plain.proofs.tests.layers_of.Goals as goal
+use Rattle.ll_rules_tests.proofs.comparison.layers_of.Goals as goal
 
 pub loop-number-preserved : goal.loop-number-preserved
 loop-number-preserved c = record {

@@ -1,0 +1,294 @@
+//! The checks by lanes against the plain ones, over a table of domains, nodes and sets.
+
+ghost use Rattle.std.specs.Prelude.{◌≤◌, All, IfOk, length};
+ghost use Rattle.ll_tree.specs.Trees.{IsNode};
+ghost use Rattle.ll_rules.specs.InTree.{AreInTree, IsTargetIn};
+ghost use Rattle.ll_rules.specs.KeptLayers.{IsDomainOf};
+
+use crate::numbers::Numbers;
+use crate::ready::{about_reading, grant_reading, node_named, stacked};
+use bitflags::Flags;
+use ll_plain::{Attempt, Call, PlainLayer, Refusing, answer, refusing};
+use ll_rights::{Abi, Fs, Kind, Net};
+use ll_rules::{
+    Domain, Errno, How, Layer, LayerSet, Move, Ruleset, Target, Verdict, check_move,
+    check_move_counted, check_path, check_path_counted, entering, leaving,
+};
+use ll_tree::{NodeId, Place, Tree};
+use std::alloc::{AllocError, Global};
+use std::test::Fail;
+
+/// How many numbers of nodes the filter of a layer tells apart: those that differ by a multiple share a mark.
+const MARKS: usize = 4096;
+
+/// How many objects the tree has, the root included.
+const OBJECTS: usize = 4600;
+
+/// How many of them, the first, have objects in them: three each.
+const PARENTS: usize = 1533;
+
+/// How many rules are tried for a layer. Those are added of which a right is left that it handles.
+const TRIED: u32 = 256;
+
+/// Kinds of objects without others in them.
+const KINDS: [&str; 7] = ["reg", "dir", "sym", "char", "block", "fifo", "sock"];
+
+/// The paths of a tree with more nodes than a filter has marks, in the order of their numbers, that of the root empty.
+fn listed_paths(alloc: Global) -> Result<Vec<String>, AllocError> {
+    let mut paths = Vec::new(alloc);
+    paths.push(String::new(alloc))?;
+    for number in 1..OBJECTS {
+        if let Some(above) = paths.get((number - 1) / 3) {
+            let path = format!(in alloc; "{above}/{number}")?;
+            paths.push(path)?;
+        }
+    }
+    Ok(paths)
+}
+
+/// The file of the tree with these paths.
+fn file_of(alloc: Global, paths: &[String]) -> Result<String, AllocError> {
+    let mut file = String::new(alloc);
+    for (number, path) in paths.iter().enumerate().skip(1) {
+        let kind = if number < PARENTS {
+            "dir"
+        } else {
+            KINDS[number % 7]
+        };
+        let line = format!(in alloc; "{{\"path\":\"{path}\",\"kind\":\"{kind}\"}}\n")?;
+        file.push_str(&line)?;
+    }
+    Ok(file)
+}
+
+/// One of the first objects, as many as said.
+fn picked(
+    tree: &Tree,
+    paths: &[String],
+    first: usize,
+    numbers: &mut Numbers,
+) -> Result<NodeId, Fail>
+    ensures { IfOk result (IsNode tree.now) }
+{
+    let place = numbers.next() as usize % first.max(1);
+    let path = paths.get(place.max(1)).ok_or("there is a path")?;
+    node_named(tree, path)
+}
+
+/// One layer in both forms, with the same rules by chance: half of them on objects with others in them.
+#[tactic(auto, using(ll_rules::proofs::Adding::place_of_tree, ll_rules::proofs::Adding::no_rules_in_tree))]
+fn layer_of(
+    alloc: Global,
+    tree: &Tree,
+    paths: &[String],
+    numbers: &mut Numbers,
+) -> Result<(Layer, PlainLayer), Fail>
+    ensures { IfOk result (λ both. AreInTree tree.now both.0) }
+{
+    let handled = numbers.rights();
+    let mut rules = Ruleset::create(alloc, Abi::V5, handled, Net::BIND_TCP)?;
+    let mut plain = PlainLayer::new(alloc, handled);
+    for number in 0..TRIED {
+        let first = if number % 2 == 0 { PARENTS } else { OBJECTS };
+        let node = picked(tree, paths, first, numbers)?;
+        let wanted = numbers.rights().intersection(handled);
+        let granted = match tree.kind(node) {
+            Kind::Dir => wanted,
+            _ => wanted.intersection(Fs::FILE),
+        };
+        if rules.add_path(tree, Place::Node(node), granted).is_ok() {
+            plain.grant(node, granted)?;
+        }
+    }
+    Ok((rules.freeze(alloc)?, plain))
+}
+
+/// Layers in both forms.
+#[derive(Drop)]
+struct Both {
+    lanes: Vec<Layer>,
+    plain: Vec<PlainLayer>,
+}
+
+/// This many layers, at most sixteen.
+fn layers_of(
+    alloc: Global,
+    tree: &Tree,
+    paths: &[String],
+    count: u32,
+    numbers: &mut Numbers,
+) -> Result<Both, Fail>
+    ensures rules { IfOk result (λ both. All (AreInTree tree.now) both.lanes.items) }
+    ensures few { IfOk result (λ both. length both.plain.items ≤ 16) }
+{
+    let mut lanes = Vec::new(alloc);
+    let mut plain = Vec::new(alloc);
+    for number in 0..count.min(16) {
+        let (layer, plain_layer) = layer_of(alloc, tree, paths, numbers)?;
+        lanes.push(layer)?;
+        plain.push(plain_layer)?;
+    }
+    Ok(Both { lanes, plain })
+}
+
+/// The numbers of a set of layers, as a plain answer has them.
+fn places_of(set: LayerSet) -> Refusing {
+    let mut places = [false; 16];
+    for place in 0..16u32 {
+        places[place as usize] = set.has(place + 1);
+    }
+    places
+}
+
+/// How many layers refuse.
+fn count_of(set: LayerSet) -> u64 {
+    let mut count = 0u64;
+    for number in 1..17u32 {
+        if set.has(number) {
+            count = count.saturating_add(1);
+        }
+    }
+    count
+}
+
+/// Whether both forms refuse the same on a path. Each layer is asked at most once on each node up to the root, and one
+/// that refuses was asked on all of them.
+fn paths_agree(tree: &Tree, both: &Both, domain: &Domain, node: NodeId, wanted: Fs) -> bool
+    requires rules { All (AreInTree tree.now) both.now.lanes.items }
+    requires domain { IsDomainOf both.now.lanes.items domain.now }
+    requires few { length both.now.plain.items ≤ 16 }
+    requires node { IsNode tree.now node }
+{
+    let set = check_path(tree, &both.lanes, domain, node, wanted);
+    let (counted, look_ups) = check_path_counted(tree, &both.lanes, domain, node, wanted);
+    let nodes = u64::from(tree.depth(node)) + 1;
+    places_of(set) == refusing(tree, &both.plain, node, wanted)
+        && counted == set
+        && look_ups <= nodes.saturating_mul(domain.layers().len() as u64)
+        && look_ups >= nodes.saturating_mul(count_of(set))
+}
+
+/// The same move as the product has it.
+fn move_of(tree: &Tree, attempt: &Attempt) -> Move
+    requires moved { IsNode tree.now attempt.now.moved }
+    requires at { IsNode tree.now attempt.now.at }
+    ensures moved { IsNode tree.now result.moved }
+    ensures target { IsTargetIn tree.now result.target }
+{
+    let (target, how) = match attempt.call {
+        Call::RenameToMissing => (Target::New(attempt.at), How::Rename),
+        Call::RenameOnto => (Target::Over(attempt.at), How::Rename),
+        Call::Exchange => (Target::Over(attempt.at), How::Exchange),
+        Call::Link => (Target::New(attempt.at), How::Link),
+    };
+    Move {
+        moved: attempt.moved,
+        target,
+        how,
+    }
+}
+
+/// A verdict as a plain answer, and how many layers deny.
+fn plainly(verdict: Verdict) -> (Option<(Errno, Refusing)>, u64) {
+    match verdict {
+        Verdict::Passed => (None, 0),
+        Verdict::Refused(error, set) => {
+            let denying = if error == Errno::Acces {
+                count_of(set)
+            } else {
+                0
+            };
+            (Some((error, places_of(set))), denying)
+        }
+    }
+}
+
+/// Whether both forms answer a move alike. Each layer is asked at most once on each node from either directory up to
+/// the root, and at most twice more; one that denies was asked on all nodes up from one of the two.
+fn moves_agree(tree: &Tree, both: &Both, domain: &Domain, attempt: &Attempt) -> bool
+    requires rules { All (AreInTree tree.now) both.now.lanes.items }
+    requires domain { IsDomainOf both.now.lanes.items domain.now }
+    requires few { length both.now.plain.items ≤ 16 }
+    requires moved { IsNode tree.now attempt.now.moved }
+    requires at { IsNode tree.now attempt.now.at }
+{
+    let asked = move_of(tree, attempt);
+    let verdict = check_move(tree, &both.lanes, domain, &asked);
+    let (counted, look_ups) = check_move_counted(tree, &both.lanes, domain, &asked);
+    let (lanes, denying) = plainly(verdict);
+    let from = u64::from(tree.depth(leaving(tree, &asked).directory)) + 1;
+    let to = u64::from(tree.depth(entering(tree, &asked).directory)) + 1;
+    lanes == answer(tree, &both.plain, attempt)
+        && counted == verdict
+        && look_ups <= (from + to + 2).saturating_mul(domain.layers().len() as u64)
+        && look_ups >= from.min(to).saturating_mul(denying)
+}
+
+#[test]
+fn lanes_and_plain_layers(rt: HostRuntime) -> Result<(), Fail> {
+    let alloc = rt.alloc();
+    let paths = listed_paths(alloc)?;
+    let tree = Tree::read(alloc, file_of(alloc, &paths)?.as_bytes())?;
+    let mut numbers = Numbers { last: 1 };
+    for round in 0..34u32 {
+        let both = layers_of(alloc, &tree, &paths, round % 17, &mut numbers)?;
+        let domain = stacked(&both.lanes)?;
+        for turn in 0..60u32 {
+            let first = if turn % 2 == 0 { PARENTS } else { OBJECTS };
+            let moved = picked(&tree, &paths, first, &mut numbers)?;
+            let wanted = numbers.rights();
+            assert!(rt;
+                paths_agree(&tree, &both, &domain, moved, wanted),
+                "{round} {turn}"
+            );
+            let object = picked(&tree, &paths, OBJECTS, &mut numbers)?;
+            let directory = picked(&tree, &paths, PARENTS, &mut numbers)?;
+            for (call, at) in [
+                (Call::RenameToMissing, directory),
+                (Call::RenameOnto, object),
+                (Call::Exchange, object),
+                (Call::Link, directory),
+            ] {
+                let attempt = Attempt { call, moved, at };
+                assert!(rt;
+                    moves_agree(&tree, &both, &domain, &attempt),
+                    "{round} {turn} {call:?}"
+                );
+            }
+        }
+    }
+    Ok(())
+}
+
+/// A layer with more rules than a filter marks apart from these: it grants reading on some objects alone.
+fn granting(alloc: Global, tree: &Tree, paths: &[String]) -> Result<Layer, Fail>
+    ensures { IfOk result (AreInTree tree.now) }
+{
+    let mut rules = about_reading(alloc, tree)?;
+    for path in paths {
+        grant_reading(&mut rules, tree, path)?;
+    }
+    Ok(rules.freeze(alloc)?)
+}
+
+/// Objects without others in them have rules, and those whose numbers are 4,096 below share their marks.
+#[test]
+fn nodes_that_share_a_mark(rt: HostRuntime) -> Result<(), Fail> {
+    let alloc = rt.alloc();
+    let paths = listed_paths(alloc)?;
+    let tree = Tree::read(alloc, file_of(alloc, &paths)?.as_bytes())?;
+    let granted = paths
+        .get(MARKS + 1..MARKS + 129)
+        .ok_or("there are so many nodes")?;
+    let others = paths.get(1..129).ok_or("there are so many nodes")?;
+    let layers = [granting(alloc, &tree, granted)?];
+    let domain = stacked(&layers)?;
+    for (path, other) in granted.iter().zip(others) {
+        let node = node_named(&tree, path)?;
+        let sharing = node_named(&tree, other)?;
+        assert_eq!(rt; node.index() % MARKS as u32, sharing.index() % MARKS as u32);
+        assert!(rt; check_path(&tree, &layers, &domain, node, Fs::READ_FILE).is_empty());
+        assert!(rt; !check_path(&tree, &layers, &domain, sharing, Fs::READ_FILE).is_empty());
+    }
+    Ok(())
+}
