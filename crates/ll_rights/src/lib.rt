@@ -13,6 +13,3 @@ pub use fs::{Fs, fs_of_name};
 pub use kind::Kind;
 pub use laws::{file_rights, sets_by_rights, supported_sets};
 pub use net::{Net, net_of_name};
-
-#[cfg(test)]
-mod tests;

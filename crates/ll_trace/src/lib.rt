@@ -24,8 +24,3 @@ pub use path_text::{PathText, SecondPath};
 pub use record::{ProcessId, Record};
 pub use rows::{calls_at_best_effort, faulty_traces, whole_traces};
 pub use trace::Trace;
-
-#[cfg(test)]
-mod part_tests;
-#[cfg(test)]
-mod tests;

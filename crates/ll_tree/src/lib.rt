@@ -12,6 +12,3 @@ pub use ll_lines::{Cause, ReadFault};
 pub use path::{front_text, path_ok, path_texts};
 pub use place::{NodeId, Place};
 pub use tree::Tree;
-
-#[cfg(test)]
-mod tests;

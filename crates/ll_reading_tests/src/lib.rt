@@ -1,0 +1,14 @@
+//! Tests of reading: the tables of rights, the lines of a file and their values, trees, and traces. With ample memory,
+//! through refusals of memory, at limits, and by several threads.
+#![tactic(auto)]
+
+#[cfg(test)]
+mod lines;
+#[cfg(test)]
+mod rights;
+#[cfg(test)]
+mod texts;
+#[cfg(test)]
+mod traces;
+#[cfg(test)]
+mod trees;

@@ -1,0 +1,91 @@
+//! The tables of rights, against the kernel's header.
+
+use bitflags::Flags;
+use ll_rights::{Abi, Fs, Kind, Net, fs_of_name, net_of_name};
+use std::test::Fail;
+
+/// Each right with its bit in `linux/landlock.h` and the version it came with.
+const FILES: [(&str, u32, u64); 16] = [
+    ("execute", 1 << 0, 1),
+    ("write_file", 1 << 1, 1),
+    ("read_file", 1 << 2, 1),
+    ("read_dir", 1 << 3, 1),
+    ("remove_dir", 1 << 4, 1),
+    ("remove_file", 1 << 5, 1),
+    ("make_char", 1 << 6, 1),
+    ("make_dir", 1 << 7, 1),
+    ("make_reg", 1 << 8, 1),
+    ("make_sock", 1 << 9, 1),
+    ("make_fifo", 1 << 10, 1),
+    ("make_block", 1 << 11, 1),
+    ("make_sym", 1 << 12, 1),
+    ("refer", 1 << 13, 2),
+    ("truncate", 1 << 14, 3),
+    ("ioctl_dev", 1 << 15, 5),
+];
+
+/// Each version with the bits of its rights for ports.
+const VERSIONS: [(u64, u32); 5] = [(1, 0), (2, 0), (3, 0), (4, 3), (5, 3)];
+
+/// Whether the version of a number knows a right, and supports it, just where it came with that version or before.
+fn is_since(abi: Abi, number: u64, right: Fs, bit: u32, since: u64) -> bool {
+    let left = if since <= number { bit } else { 0 };
+    right.bits() == bit
+        && abi.fs().bits() & (bit | 0x10000) == left
+        && right.supported(abi).bits() == left
+}
+
+/// Whether the version of a number has these bits of rights for ports.
+fn has_ports(abi: Abi, number: u64, known: u32) -> bool {
+    abi.number() == number
+        && abi.net().bits() == known
+        && Net::BIND_TCP.union(Net::CONNECT_TCP).supported(abi).bits() == known
+}
+
+#[test]
+fn names_and_versions(rt: HostRuntime) -> Result<(), Fail> {
+    for (number, known) in VERSIONS {
+        let abi = Abi::new(number).ok_or("the version is there")?;
+        assert!(rt; has_ports(abi, number, known));
+        for (name, bit, since) in FILES {
+            assert!(rt;
+                is_since(abi, number, fs_of_name(name), bit, since),
+                "{name}"
+            );
+        }
+    }
+    Ok(())
+}
+
+#[test]
+fn other_names_and_numbers(rt: HostRuntime) {
+    for (name, bit) in [("bind_tcp", 1), ("connect_tcp", 2)] {
+        assert_eq!(rt; net_of_name(name).bits(), bit);
+    }
+    for name in ["", "READ_FILE", "read", "read_file ", "ioctl"] {
+        assert!(rt;
+            fs_of_name(name) == Fs::OTHER && net_of_name(name) == Net::OTHER,
+            "{name}"
+        );
+    }
+    for number in [0, 6, 256, 257, u64::MAX] {
+        assert!(rt; Abi::new(number).is_none());
+    }
+    assert_eq!(rt; Fs::FILE.bits(), 0xc007);
+}
+
+#[test]
+fn kinds(rt: HostRuntime) {
+    for (kind, make, remove) in [
+        (Kind::Dir, "make_dir", "remove_dir"),
+        (Kind::Reg, "make_reg", "remove_file"),
+        (Kind::Sym, "make_sym", "remove_file"),
+        (Kind::Char, "make_char", "remove_file"),
+        (Kind::Block, "make_block", "remove_file"),
+        (Kind::Fifo, "make_fifo", "remove_file"),
+        (Kind::Sock, "make_sock", "remove_file"),
+    ] {
+        assert_eq!(rt; kind.make_right(), fs_of_name(make));
+        assert_eq!(rt; kind.remove_right(), fs_of_name(remove));
+    }
+}
