@@ -7,6 +7,7 @@ use Rattle.ll_rights.specs.NetRights.{bind_tcp, connect_tcp}
 use Rattle.ll_rules.specs.declared.errno.Errno.TheVariants.{Acces, Inval}
 use Rattle.ll_tree.specs.Paths.{Path}
 use Rattle.ll_tree.specs.WorkedTree.{worked_tree}
+use Rattle.ll_rules.specs.WorkedRules.{a, b, a_f}
 use Rattle.ll_trace.specs.declared.record.Record.{Record}
 use Rattle.ll_trace.specs.declared.op.Op.TheVariants as calls
 use Rattle.ll_trace.specs.declared.op.RuleType.TheVariants.{PathBeneath, NetPort}
@@ -26,17 +27,7 @@ explained_there abi records place (Some pair) = explained_at worked_tree abi rec
 abbrev pub IsExplained : Abi → List (Record × Answer) → ℕ → Explanation → Type 0
 IsExplained abi trace place why = explained_there abi (map (λ pair. pair.0) trace) place (slice_get trace place) ≡ why
 
--- ---- paths
-
-abbrev pub a : Path
-a = codes "a" ∷ []
-
-abbrev pub b : Path
-b = codes "b" ∷ []
-
-abbrev pub a_f : Path
-a_f = codes "a" ∷ codes "f" ∷ []
-
+-- a path that is not in the tree
 abbrev pub none : Path
 none = codes "none" ∷ []
 

@@ -5,7 +5,7 @@ ghost use Rattle.ll_tree.specs.Trees.{IsNode, place};
 ghost use Rattle.ll_reasons.specs.Meant.{meant};
 ghost use Rattle.ll_reasons.specs.Reasons.{linked_to, moved_to, onto, spelt, unlinked, unrenamed};
 
-use crate::objects::{is_root, nowhere};
+use crate::objects::nowhere;
 use crate::spelt_path::SpeltPath;
 use crate::why::Why;
 use ll_trace::PathText;
@@ -24,7 +24,7 @@ fn onto<'t>(
     requires there_is_node { IsNode tree.now there }
     ensures { meant result ≡ onto tree.now (spelt from.now) moved (spelt to.now) there }
 {
-    if is_root(there) {
+    if there.is_root() {
         return Why::Root;
     }
     if moved == there {
@@ -65,7 +65,7 @@ pub fn unrenamed<'t>(tree: &Tree, from: &'t PathText, to: &'t PathText, exchange
     ensures { meant result ≡ unrenamed tree.now (spelt from.now) (place tree.now from.now) (spelt to.now) (place tree.now to.now) exchange }
 {
     match tree.place_of(from.as_str()) {
-        Place::Node(moved) if is_root(moved) => Why::Root,
+        Place::Node(moved) if moved.is_root() => Why::Root,
         Place::Node(moved) => moved_to(tree, from, moved, to, exchange),
         Place::Gap(_) => Why::Absent(SpeltPath::of(from)),
         Place::Nowhere => nowhere(tree, from),
@@ -91,7 +91,7 @@ pub fn unlinked<'t>(tree: &Tree, from: &'t PathText, to: &'t PathText) -> Why<'t
     ensures { meant result ≡ unlinked tree.now (spelt from.now) (place tree.now from.now) (spelt to.now) (place tree.now to.now) }
 {
     match tree.place_of(from.as_str()) {
-        Place::Node(linked) if is_root(linked) => Why::Root,
+        Place::Node(linked) if linked.is_root() => Why::Root,
         Place::Node(linked) => linked_to(tree, from, linked, to),
         Place::Gap(_) => Why::Absent(SpeltPath::of(from)),
         Place::Nowhere => nowhere(tree, from),

@@ -1,31 +1,14 @@
 //! Why there is no object, or no gap, at a path that a call names.
 
 ghost use Rattle.std.specs.Prelude.{◌≡◌};
-ghost use Rattle.ll_tree.specs.Trees.{IsNode, is_dir, kind_at, place};
-ghost use Rattle.ll_semantics.specs.Moves.{is_root};
+ghost use Rattle.ll_tree.specs.Trees.{place};
 ghost use Rattle.ll_reasons.specs.Meant.{meant};
 ghost use Rattle.ll_reasons.specs.Reasons.{no_gap, no_object, not_removed, nowhere, spelt};
 
 use crate::spelt_path::SpeltPath;
 use crate::why::Why;
-use ll_rights::Kind;
 use ll_trace::PathText;
-use ll_tree::{NodeId, Place, Tree};
-
-/// Whether a node is the root.
-pub(crate) fn is_root(node: NodeId) -> bool
-    ensures { result ≡ is_root node }
-{
-    node.index() == 0
-}
-
-/// Whether a node is a directory.
-fn is_directory(tree: &Tree, node: NodeId) -> bool
-    requires { IsNode tree.now node }
-    ensures { result ≡ is_dir (kind_at tree.now node) }
-{
-    tree.kind(node) == Kind::Dir
-}
+use ll_tree::{Place, Tree};
 
 /// Where the tree ends on the way to a path that isn't there: at the first path, going up, whose directory is there.
 #[tactic(auto, unfolding(crate::specs::Meant::meant))]
@@ -35,7 +18,7 @@ pub(crate) fn nowhere<'t>(tree: &Tree, path: &'t PathText) -> Why<'t>
     let mut missing = SpeltPath::of(path);
     while let Some(above) = missing.front() {
         if let Some(node) = above.node(tree) {
-            if is_directory(tree, node) {
+            if tree.is_directory(node) {
                 return Why::Absent(missing);
             }
             return Why::NoDirectory(above);
@@ -63,7 +46,7 @@ pub fn not_removed<'t>(tree: &Tree, path: &'t PathText) -> Why<'t>
     ensures { meant result ≡ not_removed tree.now (spelt path.now) (place tree.now path.now) }
 {
     match tree.place_of(path.as_str()) {
-        Place::Node(removed) if is_root(removed) => Why::Root,
+        Place::Node(removed) if removed.is_root() => Why::Root,
         Place::Node(removed) => Why::OfKind(SpeltPath::of(path), tree.kind(removed)),
         Place::Gap(_) => Why::Absent(SpeltPath::of(path)),
         Place::Nowhere => nowhere(tree, path),

@@ -3,13 +3,14 @@
 
 ghost use Rattle.std.specs.Prelude.{[], ◌∷◌, Some};
 ghost use Rattle.ll_rights.specs.declared.abi.Abi.TheVariants.{V1, V2, V3, V4};
+ghost use Rattle.ll_rules.specs.WorkedRules.{a_f};
 ghost use Rattle.ll_semantics.specs.WorkedWords.{IsAnswered};
 ghost use Rattle.ll_semantics.specs.WorkedLayers.{rule_errors};
 ghost use Rattle.ll_semantics.specs.WorkedCalls.{unreferred, gaining, truncating, port_zero, moot_calls};
 ghost use Rattle.ll_reasons.specs.Conditions as conditions;
 ghost use Rattle.ll_reasons.specs.Reasons as reasons;
 ghost use Rattle.ll_reasons.specs.Explanations.{nothing, failure, mootness};
-ghost use Rattle.ll_reasons.specs.WorkedExplanations.{IsExplained, a_f, refer_on_both, would_gain, truncate_on_both_layers, truncate_kept, bind_to, write_unhandled, connect_unhandled, directories_alone, nothing_there, best_effort, execute_unhandled, execute_on_the_second};
+ghost use Rattle.ll_reasons.specs.WorkedExplanations.{IsExplained, refer_on_both, would_gain, truncate_on_both_layers, truncate_kept, bind_to, write_unhandled, connect_unhandled, directories_alone, nothing_there, best_effort, execute_unhandled, execute_on_the_second};
 
 /// How records are explained that layers refuse: with the missing right, `refer` on both directories, what an object
 /// would gain, and the opening of a descriptor, also after a fork and a duplicate.

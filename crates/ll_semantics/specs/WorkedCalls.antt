@@ -11,16 +11,14 @@ use Rattle.ll_trace.specs.declared.op.Mode.TheVariants.{Read, Write, Both}
 use Rattle.ll_trace.specs.declared.op.Sort.TheVariants.{Regular, Device}
 use Rattle.ll_trace.specs.declared.op.RuleType.TheVariants.{PathBeneath, NetPort}
 use Rattle.ll_semantics.specs.declared.answer.Answer.{Answer}
-use Rattle.ll_semantics.specs.WorkedWords.{begins, ok, moot, refused, start, creates, adds, adds_port, opens}
+use Rattle.ll_semantics.specs.WorkedWords.{begins, confines, grant, renames, ok, moot, refused, start, creates, adds, adds_port, opens}
 
 -- what each call asks of the file tree
 abbrev pub path_requests : List (Record × Answer)
 path_requests =
-    begins
-    ++ ok 0 (creates 3 (make_reg ∷ make_dir ∷ write_file ∷ truncate ∷ remove_file ∷ execute ∷ []) [])
-    ∷ ok 0 (adds 3 (codes "/a") (make_reg ∷ write_file ∷ []))
-    ∷ ok 0 (calls.Restrict 3)
-    ∷ ok 0 (calls.OpenFile (codes "/a/n") 4 Write true true)
+    confines (make_reg ∷ make_dir ∷ write_file ∷ truncate ∷ remove_file ∷ execute ∷ [])
+    (grant (codes "/a") (make_reg ∷ write_file ∷ []) ∷ [])
+    ++ ok 0 (calls.OpenFile (codes "/a/n") 4 Write true true)
     ∷ moot 0 (calls.OpenFile (codes "/a/n") 4 Write true false)
     ∷ refused Acces (1 ∷ []) 0 (calls.Ftruncate 4)
     ∷ refused Acces (1 ∷ []) 0 (calls.OpenFile (codes "/b/n") 5 Write true false)
@@ -44,11 +42,11 @@ moot_calls =
     ∷ moot 0 (calls.OpenFile (codes "/a") 4 Read true false)
     ∷ moot 0 (calls.Close 4)
     ∷ moot 0 (calls.Dup 4 5)
-    ∷ moot 0 (calls.Rename (codes "/a/f") (codes "/a/f") false)
-    ∷ moot 0 (calls.Rename (codes "/a") (codes "/a/s/x") false)
-    ∷ moot 0 (calls.Rename (codes "/a/s") (codes "/a") false)
-    ∷ moot 0 (calls.Rename (codes "/a/f") (codes "/b") false)
-    ∷ moot 0 (calls.Rename (codes "/none") (codes "/b/h") false)
+    ∷ moot 0 (renames (codes "/a/f") (codes "/a/f"))
+    ∷ moot 0 (renames (codes "/a") (codes "/a/s/x"))
+    ∷ moot 0 (renames (codes "/a/s") (codes "/a"))
+    ∷ moot 0 (renames (codes "/a/f") (codes "/b"))
+    ∷ moot 0 (renames (codes "/none") (codes "/b/h"))
     ∷ moot 0 (calls.Rename (codes "/a/f") (codes "/b/h") true)
     ∷ moot 0 (calls.Link (codes "/a") (codes "/b/h"))
     ∷ moot 0 (calls.Link (codes "/a/f") (codes "/b/g"))
@@ -108,12 +106,8 @@ driver_commands =
 -- devices through dup, fork and adopt
 abbrev pub device_descriptors : List (Record × Answer)
 device_descriptors =
-    begins
-    ++ ok 0 (creates 3 (ioctl_dev ∷ []) [])
-    ∷ ok 0 (adds 3 (codes "/dev") (ioctl_dev ∷ []))
-    ∷ ok 0 (adds 3 (codes "/a/f") (ioctl_dev ∷ []))
-    ∷ ok 0 (calls.Restrict 3)
-    ∷ ok 0 (opens (codes "/dev/tty") 4 Read)
+    confines (ioctl_dev ∷ []) (grant (codes "/dev") (ioctl_dev ∷ []) ∷ grant (codes "/a/f") (ioctl_dev ∷ []) ∷ [])
+    ++ ok 0 (opens (codes "/dev/tty") 4 Read)
     ∷ ok 0 (calls.Ioctl 4 true)
     ∷ ok 0 (calls.Fork 11)
     ∷ ok 1 (creates 5 (ioctl_dev ∷ []) [])
@@ -136,57 +130,54 @@ ioctl_dev_unknown =
     ∷ ok 0 (calls.Ioctl 4 true)
     ∷ []
 
+-- rules for ports, of which one has two, and a restriction by them
+abbrev pub confined_to_ports : List (Record × Answer)
+confined_to_ports =
+    ok 0 (adds_port 3 443 (connect_tcp ∷ []))
+    ∷ ok 0 (adds_port 3 8080 (bind_tcp ∷ []))
+    ∷ ok 0 (adds_port 3 8080 (connect_tcp ∷ []))
+    ∷ ok 0 (calls.Restrict 3)
+    ∷ []
+
+-- what these rules grant, and a mount, which the second layer alone refuses
+abbrev pub under_ports : List (Record × Answer)
+under_ports =
+    refused Acces (1 ∷ []) 0 (calls.Bind 80)
+    ∷ ok 0 (calls.Connect 443)
+    ∷ refused Acces (1 ∷ []) 0 (calls.Bind 443)
+    ∷ ok 0 (calls.Bind 8080)
+    ∷ ok 0 (calls.Connect 8080)
+    ∷ ok 0 calls.Mount
+    ∷ ok 0 (creates 4 (read_dir ∷ []) [])
+    ∷ ok 0 (calls.Restrict 4)
+    ∷ refused Perm (2 ∷ []) 0 calls.Mount
+    ∷ []
+
 -- ports, and changes of what is mounted
 abbrev pub ports_and_mounts : List (Record × Answer)
 ports_and_mounts =
     begins
     ++ ok 0 (creates 3 [] (bind_tcp ∷ connect_tcp ∷ []))
     ∷ ok 0 (adds_port 3 0 (bind_tcp ∷ []))
-    ∷ ok 0 (adds_port 3 443 (connect_tcp ∷ []))
-    ∷ ok 0 (adds_port 3 8080 (bind_tcp ∷ []))
-    ∷ ok 0 (adds_port 3 8080 (connect_tcp ∷ []))
-    ∷ ok 0 (calls.Restrict 3)
-    ∷ ok 0 (calls.Bind 0)
-    ∷ refused Acces (1 ∷ []) 0 (calls.Bind 80)
-    ∷ ok 0 (calls.Connect 443)
-    ∷ refused Acces (1 ∷ []) 0 (calls.Bind 443)
-    ∷ ok 0 (calls.Bind 8080)
-    ∷ ok 0 (calls.Connect 8080)
-    ∷ ok 0 calls.Mount
-    ∷ ok 0 (creates 4 (read_dir ∷ []) [])
-    ∷ ok 0 (calls.Restrict 4)
-    ∷ refused Perm (2 ∷ []) 0 calls.Mount
-    ∷ []
+    ∷ confined_to_ports
+    ++ ok 0 (calls.Bind 0)
+    ∷ under_ports
 
 -- port 0 is a port like any other
 abbrev pub port_zero : List (Record × Answer)
 port_zero =
     begins
     ++ ok 0 (creates 3 [] (bind_tcp ∷ connect_tcp ∷ []))
-    ∷ ok 0 (adds_port 3 443 (connect_tcp ∷ []))
-    ∷ ok 0 (adds_port 3 8080 (bind_tcp ∷ []))
-    ∷ ok 0 (adds_port 3 8080 (connect_tcp ∷ []))
-    ∷ ok 0 (calls.Restrict 3)
-    ∷ refused Acces (1 ∷ []) 0 (calls.Bind 0)
-    ∷ refused Acces (1 ∷ []) 0 (calls.Bind 80)
-    ∷ ok 0 (calls.Connect 443)
-    ∷ refused Acces (1 ∷ []) 0 (calls.Bind 443)
-    ∷ ok 0 (calls.Bind 8080)
-    ∷ ok 0 (calls.Connect 8080)
-    ∷ ok 0 calls.Mount
-    ∷ ok 0 (creates 4 (read_dir ∷ []) [])
-    ∷ ok 0 (calls.Restrict 4)
-    ∷ refused Perm (2 ∷ []) 0 calls.Mount
-    ∷ []
+    ∷ confined_to_ports
+    ++ refused Acces (1 ∷ []) 0 (calls.Bind 0)
+    ∷ under_ports
 
 -- no right to move between directories
 abbrev pub unreferred : List (Record × Answer)
 unreferred =
-    begins
-    ++ ok 0 (creates 3 (read_file ∷ []) [])
-    ∷ ok 0 (calls.Restrict 3)
-    ∷ ok 0 (calls.Rename (codes "/a/f") (codes "/a/h") false)
-    ∷ refused XDev (1 ∷ []) 0 (calls.Rename (codes "/a/f") (codes "/b/h") false)
+    confines (read_file ∷ []) []
+    ++ ok 0 (renames (codes "/a/f") (codes "/a/h"))
+    ∷ refused XDev (1 ∷ []) 0 (renames (codes "/a/f") (codes "/b/h"))
     ∷ refused XDev (1 ∷ []) 0 (calls.Link (codes "/a/f") (codes "/b/h"))
     ∷ ok 0 (calls.Link (codes "/a/f") (codes "/a/h"))
     ∷ []
@@ -197,8 +188,8 @@ ports_alone =
     begins
     ++ ok 0 (creates 3 [] (bind_tcp ∷ []))
     ∷ ok 0 (calls.Restrict 3)
-    ∷ ok 0 (calls.Rename (codes "/a/f") (codes "/a/h") false)
-    ∷ ok 0 (calls.Rename (codes "/a/f") (codes "/b/h") false)
+    ∷ ok 0 (renames (codes "/a/f") (codes "/a/h"))
+    ∷ ok 0 (renames (codes "/a/f") (codes "/b/h"))
     ∷ ok 0 (calls.Link (codes "/a/f") (codes "/b/h"))
     ∷ ok 0 (calls.Link (codes "/a/f") (codes "/a/h"))
     ∷ []
@@ -206,13 +197,10 @@ ports_alone =
 -- moves by which an object gains a right
 abbrev pub gaining : List (Record × Answer)
 gaining =
-    begins
-    ++ ok 0 (creates 3 (refer ∷ make_reg ∷ remove_file ∷ execute ∷ []) [])
-    ∷ ok 0 (adds 3 (codes "/a") (refer ∷ make_reg ∷ remove_file ∷ []))
-    ∷ ok 0 (adds 3 (codes "/b") (refer ∷ make_reg ∷ remove_file ∷ execute ∷ []))
-    ∷ ok 0 (calls.Restrict 3)
-    ∷ refused XDev (1 ∷ []) 0 (calls.Rename (codes "/a/f") (codes "/b/h") false)
-    ∷ ok 0 (calls.Rename (codes "/b/g") (codes "/a/h") false)
+    confines (refer ∷ make_reg ∷ remove_file ∷ execute ∷ [])
+    (grant (codes "/a") (refer ∷ make_reg ∷ remove_file ∷ []) ∷ grant (codes "/b") (refer ∷ make_reg ∷ remove_file ∷ execute ∷ []) ∷ [])
+    ++ refused XDev (1 ∷ []) 0 (renames (codes "/a/f") (codes "/b/h"))
+    ∷ ok 0 (renames (codes "/b/g") (codes "/a/h"))
     ∷ ok 0 (calls.Link (codes "/b/g") (codes "/a/h"))
     ∷ refused XDev (1 ∷ []) 0 (calls.Rename (codes "/b/g") (codes "/a/f") true)
     ∷ []
@@ -220,14 +208,10 @@ gaining =
 -- a rule on the object itself
 abbrev pub not_gaining : List (Record × Answer)
 not_gaining =
-    begins
-    ++ ok 0 (creates 3 (refer ∷ make_reg ∷ remove_file ∷ execute ∷ []) [])
-    ∷ ok 0 (adds 3 (codes "/a") (refer ∷ make_reg ∷ remove_file ∷ []))
-    ∷ ok 0 (adds 3 (codes "/b") (refer ∷ make_reg ∷ remove_file ∷ execute ∷ []))
-    ∷ ok 0 (adds 3 (codes "/a/f") (execute ∷ []))
-    ∷ ok 0 (calls.Restrict 3)
-    ∷ ok 0 (calls.Rename (codes "/a/f") (codes "/b/h") false)
-    ∷ ok 0 (calls.Rename (codes "/b/g") (codes "/a/h") false)
+    confines (refer ∷ make_reg ∷ remove_file ∷ execute ∷ [])
+    (grant (codes "/a") (refer ∷ make_reg ∷ remove_file ∷ []) ∷ grant (codes "/b") (refer ∷ make_reg ∷ remove_file ∷ execute ∷ []) ∷ grant (codes "/a/f") (execute ∷ []) ∷ [])
+    ++ ok 0 (renames (codes "/a/f") (codes "/b/h"))
+    ∷ ok 0 (renames (codes "/b/g") (codes "/a/h"))
     ∷ ok 0 (calls.Link (codes "/b/g") (codes "/a/h"))
     ∷ ok 0 (calls.Rename (codes "/b/g") (codes "/a/f") true)
     ∷ []
@@ -235,57 +219,42 @@ not_gaining =
 -- what is denied comes before what would be gained
 abbrev pub denied_and_gaining : List (Record × Answer)
 denied_and_gaining =
-    begins
-    ++ ok 0 (creates 3 (refer ∷ make_reg ∷ remove_file ∷ execute ∷ []) [])
-    ∷ ok 0 (adds 3 (codes "/a") (refer ∷ make_reg ∷ remove_file ∷ []))
-    ∷ ok 0 (adds 3 (codes "/b") (refer ∷ remove_file ∷ execute ∷ []))
-    ∷ ok 0 (calls.Restrict 3)
-    ∷ refused Acces (1 ∷ []) 0 (calls.Rename (codes "/a/f") (codes "/b/h") false)
+    confines (refer ∷ make_reg ∷ remove_file ∷ execute ∷ [])
+    (grant (codes "/a") (refer ∷ make_reg ∷ remove_file ∷ []) ∷ grant (codes "/b") (refer ∷ remove_file ∷ execute ∷ []) ∷ [])
+    ++ refused Acces (1 ∷ []) 0 (renames (codes "/a/f") (codes "/b/h"))
     ∷ []
 
 -- what is denied comes before the missing right to move between directories
 abbrev pub denied_first : List (Record × Answer)
 denied_first =
-    begins
-    ++ ok 0 (creates 3 (make_reg ∷ remove_file ∷ []) [])
-    ∷ ok 0 (adds 3 (codes "/a") (make_reg ∷ remove_file ∷ []))
-    ∷ ok 0 (adds 3 (codes "/b") (remove_file ∷ []))
-    ∷ ok 0 (calls.Restrict 3)
-    ∷ refused Acces (1 ∷ []) 0 (calls.Rename (codes "/a/f") (codes "/b/h") false)
-    ∷ ok 0 (calls.Rename (codes "/a/f") (codes "/a/h") false)
+    confines (make_reg ∷ remove_file ∷ [])
+    (grant (codes "/a") (make_reg ∷ remove_file ∷ []) ∷ grant (codes "/b") (remove_file ∷ []) ∷ [])
+    ++ refused Acces (1 ∷ []) 0 (renames (codes "/a/f") (codes "/b/h"))
+    ∷ ok 0 (renames (codes "/a/f") (codes "/a/h"))
     ∷ []
 
 -- a rename removes a name, and a link doesn't
 abbrev pub link_removes_nothing : List (Record × Answer)
 link_removes_nothing =
-    begins
-    ++ ok 0 (creates 3 (remove_file ∷ make_reg ∷ []) [])
-    ∷ ok 0 (adds 3 (codes "/a") (make_reg ∷ []))
-    ∷ ok 0 (calls.Restrict 3)
-    ∷ refused Acces (1 ∷ []) 0 (calls.Rename (codes "/a/f") (codes "/a/h") false)
+    confines (remove_file ∷ make_reg ∷ []) (grant (codes "/a") (make_reg ∷ []) ∷ [])
+    ++ refused Acces (1 ∷ []) 0 (renames (codes "/a/f") (codes "/a/h"))
     ∷ ok 0 (calls.Link (codes "/a/f") (codes "/a/h"))
     ∷ []
 
 -- a directory gains what counts for directories too
 abbrev pub directory_gaining : List (Record × Answer)
 directory_gaining =
-    begins
-    ++ ok 0 (creates 3 (refer ∷ make_dir ∷ remove_dir ∷ read_dir ∷ []) [])
-    ∷ ok 0 (adds 3 (codes "/a") (refer ∷ make_dir ∷ remove_dir ∷ []))
-    ∷ ok 0 (adds 3 (codes "/b") (refer ∷ make_dir ∷ read_dir ∷ []))
-    ∷ ok 0 (calls.Restrict 3)
-    ∷ refused XDev (1 ∷ []) 0 (calls.Rename (codes "/a/s") (codes "/b/x") false)
+    confines (refer ∷ make_dir ∷ remove_dir ∷ read_dir ∷ [])
+    (grant (codes "/a") (refer ∷ make_dir ∷ remove_dir ∷ []) ∷ grant (codes "/b") (refer ∷ make_dir ∷ read_dir ∷ []) ∷ [])
+    ++ refused XDev (1 ∷ []) 0 (renames (codes "/a/s") (codes "/b/x"))
     ∷ []
 
 -- a file gains a right for devices too
 abbrev pub device_right_gaining : List (Record × Answer)
 device_right_gaining =
-    begins
-    ++ ok 0 (creates 3 (refer ∷ make_reg ∷ remove_file ∷ ioctl_dev ∷ []) [])
-    ∷ ok 0 (adds 3 (codes "/a") (refer ∷ make_reg ∷ remove_file ∷ []))
-    ∷ ok 0 (adds 3 (codes "/b") (refer ∷ make_reg ∷ ioctl_dev ∷ []))
-    ∷ ok 0 (calls.Restrict 3)
-    ∷ refused XDev (1 ∷ []) 0 (calls.Rename (codes "/a/f") (codes "/b/h") false)
+    confines (refer ∷ make_reg ∷ remove_file ∷ ioctl_dev ∷ [])
+    (grant (codes "/a") (refer ∷ make_reg ∷ remove_file ∷ []) ∷ grant (codes "/b") (refer ∷ make_reg ∷ ioctl_dev ∷ []) ∷ [])
+    ++ refused XDev (1 ∷ []) 0 (renames (codes "/a/f") (codes "/b/h"))
     ∷ []
 
 -- A program makes do with a ruleset that handles nothing, and leaves out a rule for it. The ruleset's number is held,
@@ -302,7 +271,7 @@ makes_do =
     ∷ ok 0 (calls.Restrict 3)
     ∷ ok 0 (opens (codes "/a/f") 4 Both)
     ∷ ok 0 (calls.Ftruncate 4)
-    ∷ ok 0 (calls.Rename (codes "/a/f") (codes "/b/h") false)
+    ∷ ok 0 (renames (codes "/a/f") (codes "/b/h"))
     ∷ ok 0 calls.Mount
     ∷ ok 0 (calls.Bind 80)
     ∷ ok 0 (creates 4 (read_file ∷ truncate ∷ []) [])
@@ -311,7 +280,7 @@ makes_do =
     ∷ ok 0 (calls.Ftruncate 4)
     ∷ ok 0 (opens (codes "/a/f") 6 Write)
     ∷ refused Acces (2 ∷ []) 0 (calls.Ftruncate 6)
-    ∷ refused XDev (2 ∷ []) 0 (calls.Rename (codes "/a/f") (codes "/b/h") false)
+    ∷ refused XDev (2 ∷ []) 0 (renames (codes "/a/f") (codes "/b/h"))
     ∷ refused Perm (2 ∷ []) 0 calls.Mount
     ∷ ok 0 (calls.CloseRs 3)
     ∷ moot 0 (calls.CloseRs 3)

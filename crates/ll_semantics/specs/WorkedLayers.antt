@@ -10,16 +10,13 @@ use Rattle.ll_trace.specs.declared.record.Record.{Record}
 use Rattle.ll_trace.specs.declared.op.Op.TheVariants as calls
 use Rattle.ll_trace.specs.declared.op.Mode.TheVariants.{Read, Write, Both}
 use Rattle.ll_semantics.specs.declared.answer.Answer.{Answer}
-use Rattle.ll_semantics.specs.WorkedWords.{begins, ok, moot, refused, start, privileged_start, creates, adds, adds_port, opens}
+use Rattle.ll_semantics.specs.WorkedWords.{begins, confines, grant, ok, moot, refused, start, privileged_start, creates, adds, adds_port, opens}
 
 -- a process confines itself to reading under one directory
 abbrev pub confined : List (Record × Answer)
 confined =
-    begins
-    ++ ok 0 (creates 3 (read_file ∷ []) [])
-    ∷ ok 0 (adds 3 (codes "/a") (read_file ∷ []))
-    ∷ ok 0 (calls.Restrict 3)
-    ∷ ok 0 (opens (codes "/a/f") 4 Read)
+    confines (read_file ∷ []) (grant (codes "/a") (read_file ∷ []) ∷ [])
+    ++ ok 0 (opens (codes "/a/f") 4 Read)
     ∷ refused Acces (1 ∷ []) 0 (opens (codes "/b/g") 5 Read)
     ∷ ok 0 (opens (codes "/b/g") 5 Write)
     ∷ []
@@ -27,12 +24,9 @@ confined =
 -- two rules on the way to a file grant together what neither grants alone
 abbrev pub granted_together : List (Record × Answer)
 granted_together =
-    begins
-    ++ ok 0 (creates 3 (read_file ∷ write_file ∷ []) [])
-    ∷ ok 0 (adds 3 (codes "/a") (write_file ∷ []))
-    ∷ ok 0 (adds 3 (codes "/a/f") (read_file ∷ []))
-    ∷ ok 0 (calls.Restrict 3)
-    ∷ ok 0 (opens (codes "/a/f") 4 Both)
+    confines (read_file ∷ write_file ∷ [])
+    (grant (codes "/a") (write_file ∷ []) ∷ grant (codes "/a/f") (read_file ∷ []) ∷ [])
+    ++ ok 0 (opens (codes "/a/f") 4 Both)
     ∷ refused Acces (1 ∷ []) 0 (opens (codes "/b/g") 5 Both)
     ∷ []
 
@@ -139,10 +133,8 @@ sixteen_layers =
 -- a layer is the ruleset as it was when it was enforced
 abbrev pub frozen_layers : List (Record × Answer)
 frozen_layers =
-    begins
-    ++ ok 0 (creates 3 (read_file ∷ []) [])
-    ∷ ok 0 (calls.Restrict 3)
-    ∷ ok 0 (adds 3 (codes "/a") (read_file ∷ []))
+    confines (read_file ∷ []) []
+    ++ ok 0 (adds 3 (codes "/a") (read_file ∷ []))
     ∷ refused Acces (1 ∷ []) 0 (opens (codes "/a/f") 4 Read)
     ∷ ok 0 (calls.Restrict 3)
     ∷ refused Acces (1 ∷ []) 0 (opens (codes "/a/f") 4 Read)
@@ -182,10 +174,8 @@ started_again =
 -- a process that inherits a layer, one that doesn't, and again one that does
 abbrev pub three_processes : List (Record × Answer)
 three_processes =
-    begins
-    ++ ok 0 (creates 3 (read_file ∷ []) [])
-    ∷ ok 0 (calls.Restrict 3)
-    ∷ ok 0 (calls.Fork 11)
+    confines (read_file ∷ []) []
+    ++ ok 0 (calls.Fork 11)
     ∷ refused Acces (1 ∷ []) 1 (opens (codes "/b/g") 4 Read)
     ∷ ok 1 calls.Exit
     ∷ ok 2 start

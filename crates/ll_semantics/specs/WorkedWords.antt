@@ -1,6 +1,6 @@
 -- Short words for records and their answers, over the small tree of the worked tree file.
 -- Source: docs/FORMATS.md, "The trace file" and "The report".
-use Rattle.std.specs.Prelude.{◌≡◌, ℕ, List, [], ◌∷◌, map, true, false}
+use Rattle.std.specs.Prelude.{◌≡◌, ℕ, List, [], ◌∷◌, ◌++◌, map, true, false}
 use Rattle.ll_rights.specs.declared.abi.Abi.{Abi}
 use Rattle.ll_rights.specs.Rights.{FsRight}
 use Rattle.ll_rights.specs.NetRights.{NetRight}
@@ -54,6 +54,23 @@ refused error layers process op = (record_of process op, Refused error layers)
 -- a process that starts, and can't gain privileges
 abbrev pub begins : List (Record × Answer)
 begins = ok 0 start ∷ ok 0 calls.Nnp ∷ []
+
+-- a rule: a path, and what is granted under it
+abbrev pub grant : List ℕ → List FsRight → (List ℕ × List FsRight)
+grant path granted = (path, granted)
+
+-- the first process restricts itself by a ruleset that handles these rights for files and has these rules
+abbrev pub confines : List FsRight → List (List ℕ × List FsRight) → List (Record × Answer)
+confines handled rules =
+    begins
+    ++ ok 0 (creates 3 handled [])
+    ∷ map (λ rule. ok 0 (adds 3 rule.0 rule.1)) rules
+    ++ ok 0 (calls.Restrict 3)
+    ∷ []
+
+-- it renames an object, without an exchange
+abbrev pub renames : List ℕ → List ℕ → Op
+renames from to = calls.Rename from to false
 
 -- each record of a trace is answered as it says
 abbrev pub IsAnswered : Abi → List (Record × Answer) → Type 0

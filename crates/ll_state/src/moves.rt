@@ -1,29 +1,13 @@
 //! Which renames and links the policy is asked about.
 
 ghost use Rattle.std.specs.Prelude.{◌≡◌, ◌<◌, false, IfSome};
-ghost use Rattle.ll_tree.specs.Trees.{IsNode, kind_at, is_dir};
+ghost use Rattle.ll_tree.specs.Trees.{IsNode};
 ghost use Rattle.ll_tree.specs.TreeFacts.{IsPlace};
 ghost use Rattle.ll_semantics.specs.Fits.{IsFitMove};
 ghost use Rattle.ll_semantics.specs.Moves.{is_root, is_mixed, rename_into, rename_onto, rename_to, rename_move, link_to, link_move};
 
-use ll_rights::Kind;
 use ll_rules::{How, Move, Target};
 use ll_tree::{NodeId, Place, Tree};
-
-/// Whether a node is the root.
-fn is_root(node: NodeId) -> bool
-    ensures { result ≡ is_root node }
-{
-    node.index() == 0
-}
-
-/// Whether a node is a directory.
-fn is_directory(tree: &Tree, node: NodeId) -> bool
-    requires { IsNode tree.now node }
-    ensures { result ≡ is_dir (kind_at tree.now node) }
-{
-    tree.kind(node) == Kind::Dir
-}
 
 /// Whether one of two nodes is a directory and the other isn't.
 fn is_mixed(tree: &Tree, a: NodeId, b: NodeId) -> bool
@@ -31,7 +15,7 @@ fn is_mixed(tree: &Tree, a: NodeId, b: NodeId) -> bool
     requires b_is_node { IsNode tree.now b }
     ensures { result ≡ is_mixed tree.now a b }
 {
-    is_directory(tree, a) != is_directory(tree, b)
+    tree.is_directory(a) != tree.is_directory(b)
 }
 
 /// A rename into a gap: nothing goes under itself.
@@ -63,7 +47,7 @@ fn rename_onto(tree: &Tree, from: NodeId, to: NodeId, exchange: bool) -> Option<
     ensures exact { result ≡ rename_onto tree.now from to exchange }
     ensures fit { IfSome result (IsFitMove tree.now) }
 {
-    if is_root(to) || tree.is_above(from, to) || tree.is_above(to, from) {
+    if to.is_root() || tree.is_above(from, to) || tree.is_above(to, from) {
         return None;
     }
     let how = if exchange { How::Exchange } else { How::Rename };
@@ -88,7 +72,7 @@ pub fn rename_move(tree: &Tree, from: Place, to: Place, exchange: bool) -> Optio
     let Place::Node(from) = from else {
         return None;
     };
-    if is_root(from) {
+    if from.is_root() {
         return None;
     }
     match to {
@@ -109,7 +93,7 @@ pub fn link_move(tree: &Tree, from: Place, to: Place) -> Option<Move>
     let (Place::Node(from), Place::Gap(directory)) = (from, to) else {
         return None;
     };
-    if is_root(from) || is_directory(tree, from) {
+    if from.is_root() || tree.is_directory(from) {
         return None;
     }
     Some(Move {

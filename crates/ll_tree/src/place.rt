@@ -1,6 +1,6 @@
 //! Nodes of a tree, and the places that texts name.
 
-ghost use Rattle.std.specs.Prelude.{◌≡◌};
+ghost use Rattle.std.specs.Prelude.{◌≡◌, ◌==◌};
 
 /// A node of a tree. Its number is its place in the list of the tree's objects, and that of the root is 0.
 #[derive(Clone, Copy, PartialEq, Eq, PartialOrd, Ord, Debug)]
@@ -12,6 +12,13 @@ impl NodeId {
         ensures { result ≡ self.0 }
     {
         self.0
+    }
+
+    /// Whether the node is the root.
+    pub fn is_root(self) -> bool
+        ensures { result ≡ (self.0 == 0) }
+    {
+        self.index() == 0
     }
 }
 

@@ -10,7 +10,7 @@ ghost use Rattle.ll_lines.specs.LineByLine.{GivesReading, reading, with_line, wi
 ghost use Rattle.ll_tree.specs.TreeReading.{IsTreeOf, tree_format};
 ghost use Rattle.ll_tree.specs.TreeByLine.{IsRooted, below_root, with_value};
 ghost use Rattle.ll_tree.specs.Paths.{Path, path_of, is_prefix};
-ghost use Rattle.ll_tree.specs.Trees.{Entry, root, IsNode, path_at, kind_at, parent_at, node_at, gap_in, place};
+ghost use Rattle.ll_tree.specs.Trees.{Entry, root, IsNode, is_dir, path_at, kind_at, parent_at, node_at, gap_in, place};
 ghost use Rattle.ll_tree.specs.TreeFacts.{named, IsTree, IsPlace, StandsIn, depth_at};
 
 use crate::hints::Hints;
@@ -217,6 +217,14 @@ impl Tree {
         self.object(node).kind
     }
 
+    /// Whether a node is a directory.
+    pub fn is_directory(&self, node: NodeId) -> bool
+        requires { IsNode self.now node }
+        ensures { result ≡ is_dir (kind_at self.now node) }
+    {
+        self.kind(node) == Kind::Dir
+    }
+
     /// The directory that a node is in, and None for the root.
     pub fn parent(&self, node: NodeId) -> Option<NodeId>
         requires { IsNode self.now node }
@@ -323,10 +331,8 @@ impl Tree {
     {
         match node {
             None => Place::Nowhere,
-            Some(node) => match self.kind(node) {
-                Kind::Dir => Place::Gap(node),
-                _ => Place::Nowhere,
-            },
+            Some(node) if self.is_directory(node) => Place::Gap(node),
+            Some(_) => Place::Nowhere,
         }
     }
 }
