@@ -66,8 +66,9 @@ test:
 	$(call UNIT_TESTS,packaging)
 	rt ci
 	@log=$$(mktemp); \
-	{ bench/refuse-memory $$(ls crates/landaudit/out/landaudit) && bench/refuse-tests && bench/drive; } \
-	> $$log 2>&1; status=$$?; test $$status -eq 0 || cat $$log >&2; rm -f $$log; exit $$status
+	{ bench/refuse-memory $$(ls $(PROGRAM)) & bench/refuse-tests; tests=$$?; \
+	wait $$! && test $$tests -eq 0 && bench/drive; } > $$log 2>&1; status=$$?; \
+	test $$status -eq 0 || cat $$log >&2; rm -f $$log; exit $$status
 
 # What needs strace and a kernel with Landlock, and is no part of the gate; says what it skips and why.
 live:
