@@ -4,7 +4,7 @@ use Rattle.std.specs.Prelude.{ℕ, suc, ◌<◌, List, [], ◌∷◌, Bool, true
 use Rattle.std.specs.List.{list_any}
 use Rattle.std.specs.Option.{option_map}
 use Rattle.ll_rights.specs.declared.kind.Kind.{Kind}
-use Rattle.ll_rights.specs.declared.kind.Kind.TheVariants.{Dir, Reg, Sym, Char, Block, Fifo, Sock}
+use Rattle.ll_rights.specs.declared.kind.Kind.TheVariants.{Dir}
 use Rattle.ll_tree.specs.declared.place.NodeId.{NodeId}
 use Rattle.ll_tree.specs.declared.place.Place.{Place}
 use Rattle.ll_tree.specs.declared.place.Place.TheVariants as places
@@ -31,12 +31,7 @@ kind_at tree node = (slice_index_or tree node.0 root).kind
 
 abbrev pub is_dir : Kind → Bool
 is_dir Dir = true
-is_dir Reg = false
-is_dir Sym = false
-is_dir Char = false
-is_dir Block = false
-is_dir Fifo = false
-is_dir Sock = false
+is_dir kind = false
 
 -- the path is that of a directory of the list
 unfoldable pub is_dir_in : List Entry → Path → Bool
