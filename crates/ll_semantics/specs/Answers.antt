@@ -19,7 +19,7 @@ use Rattle.ll_rules.specs.Moves.{move_verdict}
 use Rattle.ll_trace.specs.declared.op.Op.{Op}
 use Rattle.ll_trace.specs.declared.op.Op.TheVariants as calls
 use Rattle.ll_trace.specs.declared.op.Sort.{Sort}
-use Rattle.ll_trace.specs.declared.op.Sort.TheVariants.{Regular, Device, Other}
+use Rattle.ll_trace.specs.declared.op.Sort.TheVariants.{Regular, Device}
 use Rattle.ll_semantics.specs.declared.answer.Answer.{Answer}
 use Rattle.ll_semantics.specs.declared.answer.Answer.TheVariants.{Allowed, Moot, Refused}
 use Rattle.ll_semantics.specs.declared.request.Request.{Request}
@@ -109,8 +109,7 @@ open_answer (Some held) asked = Moot
 -- a descriptor of a file keeps the layers that refused truncate when it was opened
 abbrev pub truncate_kept : Sort → List ℕ → Answer
 truncate_kept Regular kept = refused_by Acces kept
-truncate_kept Device kept = Moot
-truncate_kept Other kept = Moot
+truncate_kept sort kept = Moot
 
 unfoldable pub ftruncate_answer : Option Descriptor → Answer
 ftruncate_answer None = Moot
@@ -119,8 +118,7 @@ ftruncate_answer (Some held) = truncate_kept held.sort held.kept
 -- a descriptor of a device keeps the layers that refused ioctl_dev when it was opened; they refuse the commands that the policy judges, which driver says, and no other
 abbrev pub ioctl_kept : Sort → List ℕ → Bool → Answer
 ioctl_kept Device kept driver = if driver then refused_by Acces kept else Allowed
-ioctl_kept Regular kept driver = Allowed
-ioctl_kept Other kept driver = Allowed
+ioctl_kept sort kept driver = Allowed
 
 unfoldable pub ioctl_answer : Option Descriptor → Bool → Answer
 ioctl_answer None driver = Moot

@@ -3,7 +3,7 @@
 use Rattle.std.specs.Prelude.{ℕ, List, [], ◌∷◌, ◌++◌, length, true, Option, Some, None, option_map, option_to_list, unwrap_or, nat_eq, slice_get, slice_set}
 use Rattle.std.specs.Map.{update}
 use Rattle.ll_rights.specs.declared.kind.Kind.{Kind}
-use Rattle.ll_rights.specs.declared.kind.Kind.TheVariants.{Dir, Reg, Sym, Char, Block, Fifo, Sock}
+use Rattle.ll_rights.specs.declared.kind.Kind.TheVariants.{Reg, Char, Block}
 use Rattle.ll_rights.specs.Rights.{truncate, ioctl_dev, only, no_right}
 use Rattle.ll_rights.specs.NetRights as network
 use Rattle.ll_tree.specs.declared.place.NodeId.{NodeId}
@@ -16,7 +16,7 @@ use Rattle.ll_rules.specs.Checks.{refusing}
 use Rattle.ll_trace.specs.declared.op.Op.{Op}
 use Rattle.ll_trace.specs.declared.op.Op.TheVariants as calls
 use Rattle.ll_trace.specs.declared.op.Mode.{Mode}
-use Rattle.ll_trace.specs.declared.op.Mode.TheVariants.{Read, Write, Both}
+use Rattle.ll_trace.specs.declared.op.Mode.TheVariants.{Read}
 use Rattle.ll_trace.specs.declared.op.Sort.{Sort}
 use Rattle.ll_trace.specs.declared.op.Sort.TheVariants.{Regular, Device, Other}
 use Rattle.ll_semantics.specs.declared.descriptor.Descriptor.{Descriptor}
@@ -31,18 +31,14 @@ descriptor sort kept = record { sort = sort; kept = kept }
 -- a file that is open for writing keeps the layers that lack truncate on its node
 abbrev pub opened_file : List ℕ → Mode → Descriptor
 opened_file kept Read = descriptor Other []
-opened_file kept Write = descriptor Regular kept
-opened_file kept Both = descriptor Regular kept
+opened_file kept mode = descriptor Regular kept
 
 -- what opening an object makes
 unfoldable pub opened_kind : List Entry → List Layer → Kind → NodeId → Mode → Descriptor
 opened_kind tree domain Reg node mode = opened_file (refusing domain (path_at tree node) (only truncate)) mode
 opened_kind tree domain Char node mode = descriptor Device (refusing domain (path_at tree node) (only ioctl_dev))
 opened_kind tree domain Block node mode = descriptor Device (refusing domain (path_at tree node) (only ioctl_dev))
-opened_kind tree domain Dir node mode = descriptor Other []
-opened_kind tree domain Sym node mode = descriptor Other []
-opened_kind tree domain Fifo node mode = descriptor Other []
-opened_kind tree domain Sock node mode = descriptor Other []
+opened_kind tree domain kind node mode = descriptor Other []
 
 -- what opening a place makes; a new file keeps the layers that lack truncate on its directory
 unfoldable pub opened : List Entry → List Layer → Place → Mode → Descriptor

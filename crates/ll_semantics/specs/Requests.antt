@@ -3,7 +3,7 @@
 use Rattle.std.specs.Prelude.{List, Bool, if◌then◌else◌, Option, Some, None}
 use Rattle.ll_rights.specs.declared.fs.Fs.{Fs}
 use Rattle.ll_rights.specs.declared.kind.Kind.{Kind}
-use Rattle.ll_rights.specs.declared.kind.Kind.TheVariants.{Dir, Reg, Sym, Char, Block, Fifo, Sock}
+use Rattle.ll_rights.specs.declared.kind.Kind.TheVariants.{Dir, Reg, Char, Block, Fifo}
 use Rattle.ll_rights.specs.Rights.{write_file, read_file, read_dir, make_reg, truncate, only, united}
 use Rattle.ll_rights.specs.Kinds.{remove_right_of}
 use Rattle.ll_tree.specs.declared.place.NodeId.{NodeId}
@@ -34,14 +34,11 @@ new_file_rights mode = united (only make_reg) (rights_of_mode mode)
 -- opening an object that is there
 unfoldable pub open_kind : Kind → NodeId → Mode → Bool → Bool → Option Request
 open_kind Dir node Read create trunc = if create then None else (if trunc then None else ask node (only read_dir))
-open_kind Dir node Write create trunc = None
-open_kind Dir node Both create trunc = None
 open_kind Reg node mode create trunc = ask node (file_rights mode trunc)
 open_kind Char node mode create trunc = ask node (rights_of_mode mode)
 open_kind Block node mode create trunc = ask node (rights_of_mode mode)
 open_kind Fifo node mode create trunc = ask node (rights_of_mode mode)
-open_kind Sym node mode create trunc = None
-open_kind Sock node mode create trunc = None
+open_kind kind node mode create trunc = None
 
 -- opening a place, which may make a file in a gap
 unfoldable pub open_asks : List Entry → Place → Mode → Bool → Bool → Option Request
@@ -52,23 +49,16 @@ open_asks tree Nowhere mode create trunc = None
 -- rights that are asked on a regular file itself
 unfoldable pub regular_kind : Kind → NodeId → Fs → Option Request
 regular_kind Reg node rights = ask node rights
-regular_kind Dir node rights = None
-regular_kind Sym node rights = None
-regular_kind Char node rights = None
-regular_kind Block node rights = None
-regular_kind Fifo node rights = None
-regular_kind Sock node rights = None
+regular_kind kind node rights = None
 
 unfoldable pub regular_asks : List Entry → Place → Fs → Option Request
 regular_asks tree (Node node) rights = regular_kind (kind_at tree node) node rights
-regular_asks tree (Gap directory) rights = None
-regular_asks tree Nowhere rights = None
+regular_asks tree place rights = None
 
 -- making an object in a gap
 unfoldable pub make_asks : Place → Fs → Option Request
 make_asks (Gap directory) rights = ask directory rights
-make_asks (Node node) rights = None
-make_asks Nowhere rights = None
+make_asks place rights = None
 
 -- removing an object of a kind from the directory that it is in, which the root hasn't
 unfoldable pub remove_from : Kind → Option NodeId → Option Request
@@ -78,11 +68,9 @@ remove_from kind (Some directory) = ask directory (only (remove_right_of kind))
 -- unlink removes what isn't a directory
 unfoldable pub unlink_asks : List Entry → Place → Option Request
 unlink_asks tree (Node node) = if is_dir (kind_at tree node) then None else remove_from (kind_at tree node) (parent_at tree node)
-unlink_asks tree (Gap directory) = None
-unlink_asks tree Nowhere = None
+unlink_asks tree place = None
 
 -- rmdir removes a directory
 unfoldable pub rmdir_asks : List Entry → Place → Option Request
 rmdir_asks tree (Node node) = if is_dir (kind_at tree node) then remove_from (kind_at tree node) (parent_at tree node) else None
-rmdir_asks tree (Gap directory) = None
-rmdir_asks tree Nowhere = None
+rmdir_asks tree place = None
