@@ -1,14 +1,15 @@
 -- Members of a set of bits, place by place: what `|`, `&` and `!` make of them.
-use Rattle.std.proofs.Common.{◌≡◌, ◌≢◌, ℕ, zero, suc, ◌+◌, ◌-◌, ◌*◌, ◌%◌, ◌^◌, ◌<◌, ◌≤◌, min, max, Bool, true, false, not, ◌&&◌, ◌||◌, eqb, leb, List, [], ◌∷◌, length, get_or, refl, sym, ap, subst, ◌∙◌, arith, inl, inr, bit_and, bit_or, bit_xor}
+use Rattle.std.proofs.Common.{◌≡◌, ◌≢◌, ℕ, zero, suc, ◌+◌, ◌-◌, ◌%◌, ◌^◌, ◌<◌, ◌≤◌, min, max, Bool, true, false, not, ◌&&◌, ◌||◌, eqb, leb, List, [], ◌∷◌, length, get_or, refl, sym, ap, subst, ◌∙◌, arith, inl, inr, bit_and, bit_or, bit_xor}
 use Rattle.std.specs.Int.{bit_at, w32, bit_not}
 use Rattle.std.specs.List.{list_any, list_all, range_with_len}
 use Rattle.std.proofs.lemmas.Bool.{cases_Bool, cases_lt, cases_eq, and_parts, leb-false, le-leb, lt-leb, lt-ltb, le-ltb, eqb-false, eq-eqb, ne_eqb, false≢true}
 use Rattle.std.specs.Int.Bits.{and_self, xor_assoc, xor_self, xor_add_and}
 use Rattle.std.proofs.lemmas.Nat.{pow_pos, pow_below, or_lt, xor_lt, le_or_l, le_or_r, and_le_l, and_le_r, and_assoc, and_comm, and-not}
-use Rattle.std.proofs.lemmas.Nat.Bits.{bit_at_or, bit_at_and, bit_at_xor, and_pow, bit_at_not, bit_at-lt, bit_at-zero, bit_at-pow_same, bit_at-pow_other, same_from_bits_below}
+use Rattle.std.proofs.lemmas.Nat.Bits.{bit_at_or, bit_at_and, bit_at_xor, bit_at_not, bit_at-lt, bit_at-zero, bit_at-pow_same, bit_at-pow_other, same_from_bits, same_from_bits_below}
 use Rattle.std.proofs.lemmas.List.FromFn.{get_or-range_with_len, length-range_with_len}
 use Rattle.std.proofs.lemmas.List.Folds.{list_any-from_Any}
 use Rattle.ll_rights.specs.Bits.{has_place}
+use Rattle.ll_rights.specs.Sets.{bits_without}
 
 one_of_max : (x y : ℕ) → x < 2 → y < 2 → eqb (max x y) 1 ≡ (eqb x 1 || eqb y 1)
 one_of_max zero zero p q = refl
@@ -147,7 +148,7 @@ nothing_from_places named bits none =
     let not_one : bit_at bits i ≢ 1 = eqb-false (bit_at bits i) 1 off in
     rw bit_at-zero (omega arith))
 
-zero_place : (named place : ℕ) → has_place named 0 place ≡ false
+pub zero_place : (named place : ℕ) → has_place named 0 place ≡ false
 zero_place named place =
     elim (cases_lt place named) [
       | inl lt ↦ has_place-named named 0 place lt ∙ ap (λ (k : ℕ). eqb k 1) (bit_at-zero place)
@@ -232,7 +233,7 @@ is_within_by_places named set whole known =
           ])
     ]
 
--- ---- one place taken out
+-- ---- bits taken out
 
 -- what lacks another's bits is the difference
 pub lacks_taken : (a taken : ℕ) → a < 2 ^ 32 → taken < 2 ^ 32 → bit_and a (4294967295 - taken) ≡ a - bit_and a taken
@@ -240,28 +241,50 @@ lacks_taken a taken fits small =
     let whole : bit_and (4294967295 - taken) a + bit_and taken a ≡ a = and-not 32 taken a small fits in
     omega (arith, whole, and_comm a (4294967295 - taken), and_comm a taken)
 
-without-xor : (a k : ℕ) → a - bit_and a (2 ^ k) ≡ bit_xor a (bit_and a (2 ^ k))
-without-xor a k =
-    let own : bit_and a (bit_and a (2 ^ k)) ≡ bit_and a (2 ^ k) = sym (and_assoc (2 ^ k) a a) ∙ ap (λ (x : ℕ). bit_and x (2 ^ k)) (and_self a) in
-    omega (arith, xor_add_and a (bit_and a (2 ^ k)), own)
+without-xor : (a m : ℕ) → bits_without a m ≡ bit_xor a (bit_and a m)
+without-xor a m =
+    let own : bit_and a (bit_and a m) ≡ bit_and a m = sym (and_assoc m a a) ∙ ap (λ (x : ℕ). bit_and x m) (and_self a) in
+    omega (arith, xor_add_and a (bit_and a m), own)
 
-bit_at-without : (a k i : ℕ) → bit_at (a - bit_and a (2 ^ k)) i ≡ (bit_at a i + min (bit_at a i) (bit_at (2 ^ k) i)) % 2
-bit_at-without a k i =
-    ap (λ (n : ℕ). bit_at n i) (without-xor a k) ∙ bit_at_xor a (bit_and a (2 ^ k)) i ∙ ap (λ (x : ℕ). (bit_at a i + x) % 2) (bit_at_and a (2 ^ k) i)
+-- a bit that is left, by the bit and by what is taken
+left_bit : ℕ → ℕ → ℕ
+left_bit x y = (x + min x y) % 2
 
-one_taken : (x : ℕ) → x < 2 → eqb ((x + min x 1) % 2) 1 ≡ (eqb x 1 && false)
-one_taken zero p = refl
-one_taken (suc zero) p = refl
-one_taken (suc (suc x)) p = absurd (omega arith)
+bit_at-without : (a m i : ℕ) → bit_at (bits_without a m) i ≡ left_bit (bit_at a i) (bit_at m i)
+unfolding left_bit
+bit_at-without a m i =
+    ap (λ (n : ℕ). bit_at n i) (without-xor a m) ∙ bit_at_xor a (bit_and a m) i ∙ ap (λ (x : ℕ). (bit_at a i + x) % 2) (bit_at_and a m i)
 
-one_left : (x : ℕ) → x < 2 → eqb ((x + min x 0) % 2) 1 ≡ (eqb x 1 && true)
-one_left zero p = refl
-one_left (suc zero) p = refl
-one_left (suc (suc x)) p = absurd (omega arith)
+one_left : (x y : ℕ) → x < 2 → y < 2 → eqb (left_bit x y) 1 ≡ (eqb x 1 && not (eqb y 1))
+unfolding left_bit
+one_left zero zero p q = refl
+one_left zero (suc zero) p q = refl
+one_left (suc zero) zero p q = refl
+one_left (suc zero) (suc zero) p q = refl
+one_left (suc (suc x)) y p q = absurd (omega arith)
+one_left x (suc (suc y)) p q = absurd (omega arith)
 
-and_true : (b : Bool) → b ≡ (b && true)
-and_true true = refl
-and_true false = refl
+-- what is taken first, and is among what is taken then, makes no difference
+left_twice : (x n m : ℕ) → x < 2 → m < 2 → min n m ≡ n → left_bit (left_bit x n) m ≡ left_bit x m
+unfolding left_bit
+left_twice zero zero zero p q e = refl
+left_twice zero zero (suc zero) p q e = refl
+left_twice zero (suc zero) (suc zero) p q e = refl
+left_twice (suc zero) zero zero p q e = refl
+left_twice (suc zero) zero (suc zero) p q e = refl
+left_twice (suc zero) (suc zero) (suc zero) p q e = refl
+left_twice (suc (suc x)) n m p q e = absurd (omega arith)
+left_twice x n (suc (suc m)) p q e = absurd (omega arith)
+left_twice x (suc n) zero p q e = absurd (omega arith)
+left_twice x (suc (suc n)) (suc zero) p q e = absurd (omega arith)
+
+pub without-twice : (a n m : ℕ) → bit_and n m ≡ n → bits_without (bits_without a n) m ≡ bits_without a m
+without-twice a n m within =
+    same_from_bits (bits_without (bits_without a n) m) (bits_without a m)
+    (λ i.
+    let among : min (bit_at n i) (bit_at m i) ≡ bit_at n i = sym (bit_at_and n m i) ∙ ap (λ (k : ℕ). bit_at k i) within in
+    bit_at-without (bits_without a n) m i ∙ ap (λ (x : ℕ). left_bit x (bit_at m i)) (bit_at-without a n i)
+    ∙ left_twice (bit_at a i) (bit_at n i) (bit_at m i) (bit_at-lt a i) (bit_at-lt m i) among ∙ sym (bit_at-without a m i))
 
 xor_above : (named a b : ℕ) → b < 2 ^ named → leb (2 ^ named) (bit_xor a b) ≡ leb (2 ^ named) a
 xor_above named a b small =
@@ -278,27 +301,32 @@ xor_above named a b small =
     xor_zero : (n : ℕ) → bit_xor n 0 ≡ n
     xor_zero n = omega (arith, xor_add_and n 0, and_le_r n 0)
 
--- what is left has all places but this one
-pub has_place-without : (named a k place : ℕ) → k < named → place ≤ named → has_place named (a - bit_and a (2 ^ k)) place ≡ (has_place named a place && not (eqb place k))
-has_place-without named a k place k_in place_in =
+and_true : (b c : Bool) → c ≡ false → b ≡ (b && not c)
+and_true true c e = sym (ap not e)
+and_true false c e = refl
+
+-- what is left has all places but those that are taken
+pub has_place-without : (named a taken place : ℕ) → taken < 2 ^ named → has_place named (bits_without a taken) place ≡ (has_place named a place && not (has_place named taken place))
+has_place-without named a taken place low =
     elim (cases_lt place named) [
       | inl lt ↦
-          rw (has_place-named named (a - bit_and a (2 ^ k)) place lt, has_place-named named a place lt, bit_at-without a k place)
-          (elim (cases_eq place k) [
-            | inl same ↦ rw (eq-eqb place k same, same, bit_at-pow_same k) (one_taken (bit_at a k) (bit_at-lt a k))
-            | inr differs ↦ rw (ne_eqb place k differs, bit_at-pow_other k place differs) (one_left (bit_at a place) (bit_at-lt a place))
-          ])
+          rw (has_place-named named (bits_without a taken) place lt, has_place-named named a place lt, has_place-named named taken place lt, bit_at-without a taken place)
+          (one_left (bit_at a place) (bit_at taken place) (bit_at-lt a place) (bit_at-lt taken place))
       | inr le ↦
-          let differs : place ≢ k = λ same. omega (arith, same) in
-          rw (has_place-other named (a - bit_and a (2 ^ k)) place le, has_place-other named a place le, ne_eqb place k differs, without-xor a k)
-          (xor_above named a (bit_and a (2 ^ k)) (omega (arith, and_le_r a (2 ^ k), pow_below k named k_in)) ∙ and_true (leb (2 ^ named) a))
+          rw (has_place-other named (bits_without a taken) place le, has_place-other named a place le, without-xor a taken)
+          (xor_above named a (bit_and a taken) (omega (arith, and_le_r a taken))
+          ∙ and_true (leb (2 ^ named) a) (has_place named taken place) (has_place-other named taken place le ∙ lt-leb (2 ^ named) taken low))
     ]
 
--- what isn't there can't be taken out
-pub without-absent : (named a k : ℕ) → k < named → has_place named a k ≡ false → a - bit_and a (2 ^ k) ≡ a
-without-absent named a k lt none =
-    let off : eqb (bit_at a k) 1 ≡ false = sym (has_place-named named a k lt) ∙ none in
-    let not_one : bit_at a k ≢ 1 = eqb-false (bit_at a k) 1 off in
-    let clear : bit_at a k ≡ 0 = omega (arith, bit_at-lt a k) in
-    let nothing : bit_and a (2 ^ k) ≡ 0 * 2 ^ k = and_pow a k ∙ ap (λ (x : ℕ). x * 2 ^ k) clear in
-    omega (arith, nothing)
+-- what two numbers share, the second of named places alone
+pub has_place-and : (named a b place : ℕ) → b < 2 ^ named → has_place named (bit_and a b) place ≡ (has_place named a place && has_place named b place)
+has_place-and named a b place low =
+    elim (cases_lt place named) [
+      | inl lt ↦
+          rw (has_place-named named (bit_and a b) place lt, has_place-named named a place lt, has_place-named named b place lt, bit_at_and a b place)
+          (one_of_min (bit_at a place) (bit_at b place) (bit_at-lt a place) (bit_at-lt b place))
+      | inr le ↦
+          let less : bit_and a b < 2 ^ named = omega (arith, and_le_r a b) in
+          has_place-other named (bit_and a b) place le ∙ lt-leb (2 ^ named) (bit_and a b) less
+          ∙ sym (and_false (has_place named a place) (has_place named b place) (has_place-other named b place le ∙ lt-leb (2 ^ named) b low))
+    ]

@@ -1,77 +1,24 @@
--- Sets of rights, from the places of their bits.
-use Rattle.std.proofs.Common.{◌≡◌, ℕ, ◌^◌, ◌<◌, ◌≤◌, false, not, ◌||◌, eqb, List, refl, inl, inr, lit≤, bit_and}
+-- The sets of rights for files and those for the network, from their tables.
+use Rattle.std.proofs.Common.{◌≡◌, ◌^◌, ◌<◌, ◌≤◌, ℕ, true, false, not, ◌||◌, eqb, List, [], ◌∷◌, ◌++◌, get_or, refl, inl, inr, lit≤, bit_and}
 use Rattle.std.specs.Prelude.{bytes_eq}
 use Rattle.std.specs.Int.{w32, bit_not}
+use Rattle.std.specs.List.{list_any}
 use Rattle.std.proofs.lemmas.Bool.{cases_Bool}
 use Rattle.std.proofs.lemmas.Slice.Eq.{bytes_eq-Decides}
 use Rattle.ll_rights.specs.declared.fs.Fs.{Fs}
 use Rattle.ll_rights.specs.declared.net.Net.{Net}
 use Rattle.ll_rights.specs.Rights as files
 use Rattle.ll_rights.specs.NetRights as network
-use Rattle.ll_rights.proofs.Places.{has_place-or, has_place-power, is_zero_by_places, is_lacking_by_places, is_within_by_places}
-
-pub fs_narrow : (right : files.FsRight) → files.bit_of right ≤ 16
-fs_narrow files.other = lit≤ tt
-fs_narrow right = lit≤ tt
-
-pub net_narrow : (right : network.NetRight) → network.bit_of right ≤ 2
-net_narrow network.other = lit≤ tt
-net_narrow right = lit≤ tt
-
--- ---- files
-
--- a set of one right has that right and no other
-pub fs_has-only : (right one : files.FsRight) → files.has (files.only one) right ≡ files.is_right right one
-unfolding files.has files.only
-fs_has-only right one = has_place-power 16 (files.bit_of one) (files.bit_of right) (fs_narrow one) (fs_narrow right)
-
--- a union has what either has
-pub fs_has-united : (a b : Fs) (right : files.FsRight) → files.has (files.united a b) right ≡ (files.has a right || files.has b right)
-unfolding files.has files.united
-fs_has-united a b right = has_place-or 16 a.0 b.0 (files.bit_of right)
-
-pub fs_is_empty : (set : Fs) → eqb set.0 0 ≡ files.is_empty set
-unfolding files.has files.some_right files.all_rights files.named_rights
-fs_is_empty set = is_zero_by_places 16 set.0
-
-pub fs_is_within : (set whole : Fs) → files.has whole files.other ≡ false → eqb (bit_and set.0 whole.0) set.0 ≡ files.is_within set whole
-unfolding files.has files.every_right files.all_rights files.named_rights
-fs_is_within set whole known = is_within_by_places 16 set.0 whole.0 known
-
-pub fs_is_lacking : (wanted handled granted : Fs) → granted.0 < 2 ^ 32 → files.has handled files.other ≡ false
-    → not (eqb (bit_and (bit_and wanted.0 handled.0) (bit_not w32 granted.0)) 0) ≡ files.is_lacking (files.has wanted) (files.has handled) (files.has granted)
-unfolding files.has files.some_right files.all_rights files.named_rights
-fs_is_lacking wanted handled granted fits known = is_lacking_by_places 16 wanted.0 handled.0 granted.0 (lit≤ tt) fits known
-
--- ---- the network
-
--- a set of one right has that right and no other
-pub net_has-only : (right one : network.NetRight) → network.has (network.only one) right ≡ network.is_right right one
-unfolding network.has network.only
-net_has-only right one = has_place-power 2 (network.bit_of one) (network.bit_of right) (net_narrow one) (net_narrow right)
-
--- a union has what either has
-pub net_has-united : (a b : Net) (right : network.NetRight) → network.has (network.united a b) right ≡ (network.has a right || network.has b right)
-unfolding network.has network.united
-net_has-united a b right = has_place-or 2 a.0 b.0 (network.bit_of right)
-
-pub net_is_empty : (set : Net) → eqb set.0 0 ≡ network.is_empty set
-unfolding network.has network.some_right network.all_rights
-net_is_empty set = is_zero_by_places 2 set.0
-
-pub net_is_within : (set whole : Net) → network.has whole network.other ≡ false → eqb (bit_and set.0 whole.0) set.0 ≡ network.is_within set whole
-unfolding network.has network.every_right network.all_rights
-net_is_within set whole known = is_within_by_places 2 set.0 whole.0 known
-
-pub net_is_lacking : (wanted handled granted : Net) → granted.0 < 2 ^ 32 → network.has handled network.other ≡ false
-    → not (eqb (bit_and (bit_and wanted.0 handled.0) (bit_not w32 granted.0)) 0) ≡ network.is_lacking (network.has wanted) (network.has handled) (network.has granted)
-unfolding network.has network.some_right network.all_rights
-net_is_lacking wanted handled granted fits known = is_lacking_by_places 2 wanted.0 handled.0 granted.0 (lit≤ tt) fits known
+use Rattle.ll_rights.specs.Sets.{Row, first_named}
+use Rattle.ll_rights.proofs.Places.{has_place-or}
+use Rattle.ll_rights.proofs.Tables.{IsTable, has-only, is_empty, is_within, is_lacking, same_right}
 
 -- ---- names
 
-abbrev IsNot : List ℕ → files.FsRight → Type 0
-IsNot text right = text ≡ files.name_of right → ⊥
+-- a text that is the name of none of some rights
+abbrev pub Unnamed : {R : Type 0} (row : R → Row) → List ℕ → List R → Type 0
+Unnamed row text [] = Unit
+Unnamed row text (right ∷ rights) = (text ≡ (row right).name → ⊥) × Unnamed row text rights
 
 no_name : (text name : List ℕ) → (text ≡ name → ⊥) → bytes_eq text name ≡ false
 no_name text name differs =
@@ -80,14 +27,95 @@ no_name text name differs =
       | inr not_same ↦ not_same
     ]
 
-named_not : (text : List ℕ) (right : files.FsRight) → IsNot text right → bytes_eq text (files.name_of right) ≡ false
-named_not text right differs = no_name text (files.name_of right) differs
+pub first-unnamed : {R : Type 0} (row : R → Row) (other : R) (text : List ℕ) (rights : List R) → Unnamed row text rights → first_named row other rights text ≡ other
+first-unnamed row other text [] none = refl
+first-unnamed row other text (right ∷ rights) none = rw (no_name text (row right).name none.0) (first-unnamed row other text rights none.1)
 
--- a text that names no right stands for `other`
-pub fs_unnamed : (text : List ℕ) → IsNot text files.execute → IsNot text files.write_file → IsNot text files.read_file → IsNot text files.read_dir → IsNot text files.remove_dir → IsNot text files.remove_file
-    → IsNot text files.make_char → IsNot text files.make_dir → IsNot text files.make_reg → IsNot text files.make_sock → IsNot text files.make_fifo → IsNot text files.make_block → IsNot text files.make_sym → IsNot text files.refer → IsNot text files.truncate → IsNot text files.ioctl_dev
-    → record { 0 = 65536 } ≡ files.only (files.right_named text)
-unfolding files.only files.right_named files.named_rights
-fs_unnamed text a b c d e f g h i j k l m n o p =
-    rw (named_not text files.execute a, named_not text files.write_file b, named_not text files.read_file c, named_not text files.read_dir d, named_not text files.remove_dir e, named_not text files.remove_file f, named_not text files.make_char g, named_not text files.make_dir h, named_not text files.make_reg i, named_not text files.make_sock j, named_not text files.make_fifo k, named_not text files.make_block l, named_not text files.make_sym m, named_not text files.refer n, named_not text files.truncate o, named_not text files.ioctl_dev p)
-    refl
+-- ---- files
+
+fs_found : (right : files.FsRight) → get_or (files.named_rights ++ files.other ∷ []) (files.bit_of right) files.other ≡ right
+unfolding files.named_rights
+fs_found files.other = refl
+fs_found right = refl
+
+fs_listed : (right : files.FsRight) → list_any (files.is_right right) files.named_rights ≡ not (files.is_right right files.other)
+unfolding files.named_rights
+fs_listed files.other = refl
+fs_listed right = refl
+
+pub fs_narrow : (right : files.FsRight) → files.bit_of right ≤ files.bit_of files.other
+fs_narrow files.other = lit≤ tt
+fs_narrow right = lit≤ tt
+
+pub fs_table : IsTable files.row files.named_rights files.other
+unfolding files.named_rights
+fs_table = record { numbered = refl; found = fs_found; listed = fs_listed; narrow = fs_narrow; fits = lit≤ tt }
+
+pub fs_same_right : (a b : files.FsRight) → files.is_right a b ≡ true → a ≡ b
+fs_same_right = same_right files.row files.named_rights files.other fs_table
+
+-- a set of one right has that right and no other
+pub fs_has-only : (right one : files.FsRight) → files.has (files.only one) right ≡ files.is_right right one
+unfolding files.has files.only
+fs_has-only = has-only files.row files.named_rights files.other fs_table
+
+-- a union has what either has
+pub fs_has-united : (a b : Fs) (right : files.FsRight) → files.has (files.united a b) right ≡ (files.has a right || files.has b right)
+unfolding files.has files.united
+fs_has-united a b right = has_place-or (files.bit_of files.other) a.0 b.0 (files.bit_of right)
+
+pub fs_is_empty : (set : Fs) → eqb set.0 0 ≡ files.is_empty set
+unfolding files.has files.some_right files.all_rights
+fs_is_empty set = is_empty files.row files.named_rights files.other fs_table set.0
+
+pub fs_is_within : (set whole : Fs) → files.has whole files.other ≡ false → eqb (bit_and set.0 whole.0) set.0 ≡ files.is_within set whole
+unfolding files.has files.every_right files.all_rights
+fs_is_within set whole known = is_within files.row files.named_rights files.other fs_table set.0 whole.0 known
+
+pub fs_is_lacking : (wanted handled granted : Fs) → granted.0 < 2 ^ 32 → files.has handled files.other ≡ false
+    → not (eqb (bit_and (bit_and wanted.0 handled.0) (bit_not w32 granted.0)) 0) ≡ files.is_lacking (files.has wanted) (files.has handled) (files.has granted)
+unfolding files.has files.some_right files.all_rights
+fs_is_lacking wanted handled granted fits known = is_lacking files.row files.named_rights files.other fs_table wanted.0 handled.0 granted.0 fits known
+
+-- ---- the network
+
+net_found : (right : network.NetRight) → get_or (network.named_rights ++ network.other ∷ []) (network.bit_of right) network.other ≡ right
+net_found network.other = refl
+net_found right = refl
+
+net_listed : (right : network.NetRight) → list_any (network.is_right right) network.named_rights ≡ not (network.is_right right network.other)
+net_listed network.other = refl
+net_listed right = refl
+
+pub net_narrow : (right : network.NetRight) → network.bit_of right ≤ network.bit_of network.other
+net_narrow network.other = lit≤ tt
+net_narrow right = lit≤ tt
+
+pub net_table : IsTable network.row network.named_rights network.other
+net_table = record { numbered = refl; found = net_found; listed = net_listed; narrow = net_narrow; fits = lit≤ tt }
+
+pub net_same_right : (a b : network.NetRight) → network.is_right a b ≡ true → a ≡ b
+net_same_right = same_right network.row network.named_rights network.other net_table
+
+-- a set of one right has that right and no other
+pub net_has-only : (right one : network.NetRight) → network.has (network.only one) right ≡ network.is_right right one
+unfolding network.has network.only
+net_has-only = has-only network.row network.named_rights network.other net_table
+
+-- a union has what either has
+pub net_has-united : (a b : Net) (right : network.NetRight) → network.has (network.united a b) right ≡ (network.has a right || network.has b right)
+unfolding network.has network.united
+net_has-united a b right = has_place-or (network.bit_of network.other) a.0 b.0 (network.bit_of right)
+
+pub net_is_empty : (set : Net) → eqb set.0 0 ≡ network.is_empty set
+unfolding network.has network.some_right network.all_rights
+net_is_empty set = is_empty network.row network.named_rights network.other net_table set.0
+
+pub net_is_within : (set whole : Net) → network.has whole network.other ≡ false → eqb (bit_and set.0 whole.0) set.0 ≡ network.is_within set whole
+unfolding network.has network.every_right network.all_rights
+net_is_within set whole known = is_within network.row network.named_rights network.other net_table set.0 whole.0 known
+
+pub net_is_lacking : (wanted handled granted : Net) → granted.0 < 2 ^ 32 → network.has handled network.other ≡ false
+    → not (eqb (bit_and (bit_and wanted.0 handled.0) (bit_not w32 granted.0)) 0) ≡ network.is_lacking (network.has wanted) (network.has handled) (network.has granted)
+unfolding network.has network.some_right network.all_rights
+net_is_lacking wanted handled granted fits known = is_lacking network.row network.named_rights network.other net_table wanted.0 handled.0 granted.0 fits known

@@ -1,6 +1,8 @@
 pub mod Bits
+pub mod Sets
 pub mod Rights
 pub mod NetRights
+pub mod CodeRights
 pub mod Abis
 pub mod Supported
 pub mod Kinds

@@ -1,9 +1,10 @@
--- The access rights for the network: their names, the ABI that each comes with, and sets of them.
+-- The access rights for the network: their table, and sets of them.
 -- Source: the kernel's userspace document on Landlock, "Network flags".
-use Rattle.std.specs.Prelude.{ℕ, ◌^◌, bit_or, Bool, not, ◌&&◌, ◌||◌, List, [], ◌∷◌, Option, Some, None, codes, bytes_eq, ◌==◌, if◌then◌else◌}
+use Rattle.std.specs.Prelude.{ℕ, ◌^◌, bit_or, Bool, not, ◌&&◌, ◌||◌, List, [], ◌∷◌, ◌++◌, Option, codes, ◌==◌}
 use Rattle.std.specs.List.{list_any, list_all}
 use Rattle.ll_rights.specs.declared.net.Net.{Net}
 use Rattle.ll_rights.specs.Bits.{has_place}
+use Rattle.ll_rights.specs.Sets.{Row, not_for_files, unnamed, first_named}
 
 -- An access right for TCP ports. `other` stands for every name that is none of the rest.
 pub data NetRight : Type 0 where
@@ -11,37 +12,41 @@ pub data NetRight : Type 0 where
   connect_tcp : NetRight
   other : NetRight
 
--- a right's name: the constant of the kernel's header without its prefix, in lower case
+-- The table: each right's name, which is the constant of the kernel's header without its prefix, in lower case, the number of
+-- its bit, and the ABI that it comes with.
+abbrev pub row : NetRight → Row
+row bind_tcp = not_for_files (codes "bind_tcp") 0 4
+row connect_tcp = not_for_files (codes "connect_tcp") 1 4
+row other = unnamed 2
+
+-- the rights that have a name
+abbrev pub named_rights : List NetRight
+named_rights = bind_tcp ∷ connect_tcp ∷ []
+
 abbrev pub name_of : NetRight → List ℕ
-name_of bind_tcp = codes "bind_tcp"
-name_of connect_tcp = codes "connect_tcp"
-name_of other = []
+name_of right = (row right).name
+
+-- the number of a right's bit
+abbrev pub bit_of : NetRight → ℕ
+bit_of right = (row right).bit
+
+-- the ABI that a right comes with
+abbrev pub since : NetRight → Option ℕ
+since right = (row right).since
 
 -- the right that a text names
 unfoldable pub right_named : List ℕ → NetRight
-right_named text = if bytes_eq text (name_of bind_tcp) then bind_tcp else (if bytes_eq text (name_of connect_tcp) then connect_tcp else other)
-
--- the ABI that a right comes with; `other` comes with none
-abbrev pub since : NetRight → Option ℕ
-since bind_tcp = Some 4
-since connect_tcp = Some 4
-since other = None
-
--- the number of a right's bit; `other` has the first bit after the named ones
-abbrev pub bit_of : NetRight → ℕ
-bit_of bind_tcp = 0
-bit_of connect_tcp = 1
-bit_of other = 2
+right_named text = first_named row other named_rights text
 
 -- ---- sets of rights
 
 -- whether a set has a right
 unfoldable pub has : Net → NetRight → Bool
-has set right = has_place 2 set.0 (bit_of right)
+has set right = has_place (bit_of other) set.0 (bit_of right)
 
 -- all rights
 unfoldable pub all_rights : List NetRight
-all_rights = bind_tcp ∷ connect_tcp ∷ other ∷ []
+all_rights = named_rights ++ other ∷ []
 
 -- whether some right passes a test
 unfoldable pub some_right : (NetRight → Bool) → Bool

@@ -1,9 +1,10 @@
--- The access rights for files: their names, the ABI that each comes with, and sets of them.
+-- The access rights for files: their table, and sets of them.
 -- Source: landlock(7), "Filesystem actions"; the kernel's userspace document on Landlock, "Filesystem flags".
-use Rattle.std.specs.Prelude.{ℕ, ◌^◌, bit_or, Bool, true, false, not, ◌&&◌, ◌||◌, List, [], ◌∷◌, ◌++◌, Option, Some, None, codes, bytes_eq, ◌==◌, if◌then◌else◌}
+use Rattle.std.specs.Prelude.{ℕ, ◌^◌, bit_or, Bool, not, ◌&&◌, ◌||◌, List, [], ◌∷◌, ◌++◌, Option, codes, ◌==◌}
 use Rattle.std.specs.List.{list_any, list_all}
 use Rattle.ll_rights.specs.declared.fs.Fs.{Fs}
 use Rattle.ll_rights.specs.Bits.{has_place}
+use Rattle.ll_rights.specs.Sets.{Row, for_files, not_for_files, unnamed, first_named}
 
 -- An access right for files. `other` stands for every name that is none of the rest.
 pub data FsRight : Type 0 where
@@ -25,106 +26,57 @@ pub data FsRight : Type 0 where
   ioctl_dev : FsRight
   other : FsRight
 
--- a right's name: the constant of the kernel's header without its prefix, in lower case
-abbrev pub name_of : FsRight → List ℕ
-name_of execute = codes "execute"
-name_of write_file = codes "write_file"
-name_of read_file = codes "read_file"
-name_of read_dir = codes "read_dir"
-name_of remove_dir = codes "remove_dir"
-name_of remove_file = codes "remove_file"
-name_of make_char = codes "make_char"
-name_of make_dir = codes "make_dir"
-name_of make_reg = codes "make_reg"
-name_of make_sock = codes "make_sock"
-name_of make_fifo = codes "make_fifo"
-name_of make_block = codes "make_block"
-name_of make_sym = codes "make_sym"
-name_of refer = codes "refer"
-name_of truncate = codes "truncate"
-name_of ioctl_dev = codes "ioctl_dev"
-name_of other = []
+-- The table: each right's name, which is the constant of the kernel's header without its prefix, in lower case, the number of
+-- its bit, and the ABI that it comes with.
+abbrev pub row : FsRight → Row
+row execute = for_files (codes "execute") 0 1
+row write_file = for_files (codes "write_file") 1 1
+row read_file = for_files (codes "read_file") 2 1
+row read_dir = not_for_files (codes "read_dir") 3 1
+row remove_dir = not_for_files (codes "remove_dir") 4 1
+row remove_file = not_for_files (codes "remove_file") 5 1
+row make_char = not_for_files (codes "make_char") 6 1
+row make_dir = not_for_files (codes "make_dir") 7 1
+row make_reg = not_for_files (codes "make_reg") 8 1
+row make_sock = not_for_files (codes "make_sock") 9 1
+row make_fifo = not_for_files (codes "make_fifo") 10 1
+row make_block = not_for_files (codes "make_block") 11 1
+row make_sym = not_for_files (codes "make_sym") 12 1
+row refer = not_for_files (codes "refer") 13 2
+row truncate = for_files (codes "truncate") 14 3
+row ioctl_dev = for_files (codes "ioctl_dev") 15 5
+row other = unnamed 16
 
 -- the rights that have a name
 unfoldable pub named_rights : List FsRight
 named_rights =
     execute ∷ write_file ∷ read_file ∷ read_dir ∷ remove_dir ∷ remove_file ∷ make_char ∷ make_dir ∷ make_reg ∷ make_sock ∷ make_fifo ∷ make_block ∷ make_sym ∷ refer ∷ truncate ∷ ioctl_dev ∷ []
 
--- the first of some rights that a text names, else `other`
-abbrev pub first_named : List FsRight → List ℕ → FsRight
-first_named [] text = other
-first_named (right ∷ rights) text = if bytes_eq text (name_of right) then right else first_named rights text
+abbrev pub name_of : FsRight → List ℕ
+name_of right = (row right).name
+
+-- the number of a right's bit
+abbrev pub bit_of : FsRight → ℕ
+bit_of right = (row right).bit
+
+-- the ABI that a right comes with
+abbrev pub since : FsRight → Option ℕ
+since right = (row right).since
+
+-- whether a right is among those that apply to what isn't a directory
+abbrev pub is_file_right : FsRight → Bool
+is_file_right right = (row right).of_files
 
 -- the right that a text names
 unfoldable pub right_named : List ℕ → FsRight
 unfolding named_rights
-right_named text = first_named named_rights text
-
--- the ABI that a right comes with; `other` comes with none
-abbrev pub since : FsRight → Option ℕ
-since execute = Some 1
-since write_file = Some 1
-since read_file = Some 1
-since read_dir = Some 1
-since remove_dir = Some 1
-since remove_file = Some 1
-since make_char = Some 1
-since make_dir = Some 1
-since make_reg = Some 1
-since make_sock = Some 1
-since make_fifo = Some 1
-since make_block = Some 1
-since make_sym = Some 1
-since refer = Some 2
-since truncate = Some 3
-since ioctl_dev = Some 5
-since other = None
-
--- whether a right is among those that apply to what isn't a directory
-abbrev pub is_file_right : FsRight → Bool
-is_file_right execute = true
-is_file_right write_file = true
-is_file_right read_file = true
-is_file_right read_dir = false
-is_file_right remove_dir = false
-is_file_right remove_file = false
-is_file_right make_char = false
-is_file_right make_dir = false
-is_file_right make_reg = false
-is_file_right make_sock = false
-is_file_right make_fifo = false
-is_file_right make_block = false
-is_file_right make_sym = false
-is_file_right refer = false
-is_file_right truncate = true
-is_file_right ioctl_dev = true
-is_file_right other = false
-
--- the number of a right's bit; `other` has the first bit after the named ones
-abbrev pub bit_of : FsRight → ℕ
-bit_of execute = 0
-bit_of write_file = 1
-bit_of read_file = 2
-bit_of read_dir = 3
-bit_of remove_dir = 4
-bit_of remove_file = 5
-bit_of make_char = 6
-bit_of make_dir = 7
-bit_of make_reg = 8
-bit_of make_sock = 9
-bit_of make_fifo = 10
-bit_of make_block = 11
-bit_of make_sym = 12
-bit_of refer = 13
-bit_of truncate = 14
-bit_of ioctl_dev = 15
-bit_of other = 16
+right_named text = first_named row other named_rights text
 
 -- ---- sets of rights
 
 -- whether a set has a right
 unfoldable pub has : Fs → FsRight → Bool
-has set right = has_place 16 set.0 (bit_of right)
+has set right = has_place (bit_of other) set.0 (bit_of right)
 
 -- all rights
 unfoldable pub all_rights : List FsRight

@@ -22,7 +22,15 @@ impl Abi {
     ghost use Rattle.std.specs.Prelude.{◌≡◌, ◌≤◌, ◌↔◌, IsSome, IfSome};
     ghost use Rattle.ll_rights.specs.Rights as files;
     ghost use Rattle.ll_rights.specs.NetRights as network;
-    ghost use Rattle.ll_rights.specs.Abis.{number_of, knows_fs, knows_net};
+    ghost use Rattle.ll_rights.specs.Abis.{all_versions, number_of, knows_fs, knows_net};
+
+    /// All versions, the oldest first.
+    #[tactic(auto, unfolding(crate::specs::Abis::all_versions))]
+    pub fn all() -> &'static [Abi]
+        ensures { result.now ≡ all_versions }
+    {
+        &[Abi::V1, Abi::V2, Abi::V3, Abi::V4, Abi::V5]
+    }
 
     /// The version of a number: there for 1 to 5.
     pub fn new(number: u64) -> Option<Abi>

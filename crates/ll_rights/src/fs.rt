@@ -1,10 +1,13 @@
 //! Sets of access rights for files.
 
 ghost use Rattle.std.specs.Prelude.{⊤, ◌≡◌, ◌-◌, ◌∷◌, [], false, bit_and, codes};
+ghost use Rattle.ll_rights.specs.CodeRights.{fs_right};
 ghost use Rattle.ll_rights.specs.Rights as rights;
 ghost use Rattle.ll_rights.specs.Supported.{supported_fs};
 
 use crate::abi::Abi;
+use crate::bits::has_place;
+use crate::right::FsRight;
 use bitflags::{Flag, Flags, bitflag_items};
 
 /// A set of access rights for files (landlock(7), "Filesystem actions"; the kernel's userspace
@@ -66,21 +69,33 @@ impl Fs {
     pub const NONE: Fs = Fs(0);
 
     /// The rights that apply to a file that isn't a directory.
-    pub const FILE: Fs = Fs(0xc007);
+    pub const FILE: Fs = Fs(
+        Fs::EXECUTE.0 | Fs::WRITE_FILE.0 | Fs::READ_FILE.0 | Fs::TRUNCATE.0 | Fs::IOCTL_DEV.0,
+    );
 
-    pub(crate) const SINCE_1: Fs = Fs(0x1fff);
+    /// The rights that have a name.
+    const NAMED: Fs = Fs(Fs::OTHER.0 - 1);
 
-    pub(crate) const SINCE_2: Fs = Fs(0x3fff);
+    pub(crate) const SINCE_1: Fs = Fs(Fs::REFER.0 - 1);
 
-    pub(crate) const SINCE_3: Fs = Fs(0x7fff);
+    pub(crate) const SINCE_2: Fs = Fs(Fs::SINCE_1.0 | Fs::REFER.0);
 
-    pub(crate) const SINCE_5: Fs = Fs(0xffff);
+    pub(crate) const SINCE_3: Fs = Fs(Fs::SINCE_2.0 | Fs::TRUNCATE.0);
+
+    pub(crate) const SINCE_5: Fs = Fs(Fs::SINCE_3.0 | Fs::IOCTL_DEV.0);
 
     /// Whether the set has no right.
     pub fn is_empty(self) -> bool
         ensures { result ≡ rights.is_empty self }
     {
         self.0 == 0
+    }
+
+    /// Whether the set has a right.
+    pub fn has(self, right: FsRight) -> bool
+        ensures { result ≡ rights.has self (fs_right right) }
+    {
+        has_place(FsRight::Other.bit(), self.0, right.bit())
     }
 
     /// The rights of either set.
@@ -100,19 +115,10 @@ impl Fs {
 
     /// What a program keeps of the set that goes by its kernel's version: the rights that came with
     /// a later version are taken out, and any other right stays.
-    #[tactic(auto, unfolding(crate::specs::Supported::without_fs, crate::specs::Supported::supported_fs))]
     pub fn supported(self, abi: Abi) -> Fs
         ensures { result ≡ supported_fs abi self }
     {
-        match abi {
-            Abi::V1 => self
-                .without(Fs::IOCTL_DEV)
-                .without(Fs::TRUNCATE)
-                .without(Fs::REFER),
-            Abi::V2 => self.without(Fs::IOCTL_DEV).without(Fs::TRUNCATE),
-            Abi::V3 | Abi::V4 => self.without(Fs::IOCTL_DEV),
-            Abi::V5 => self,
-        }
+        self.without(Fs::NAMED.without(abi.fs()))
     }
 
     /// Whether each right of the set is one of `whole`, a set of known rights.

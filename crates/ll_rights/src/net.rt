@@ -1,10 +1,13 @@
 //! Sets of access rights for the network.
 
 ghost use Rattle.std.specs.Prelude.{⊤, ◌≡◌, ◌-◌, ◌∷◌, [], false, bit_and, codes};
+ghost use Rattle.ll_rights.specs.CodeRights.{net_right};
 ghost use Rattle.ll_rights.specs.NetRights as rights;
 ghost use Rattle.ll_rights.specs.Supported.{supported_net};
 
 use crate::abi::Abi;
+use crate::bits::has_place;
+use crate::right::NetRight;
 use bitflags::{Flag, Flags, bitflag_items};
 
 /// A set of access rights for TCP ports (the kernel's userspace document on Landlock, "Network
@@ -46,13 +49,23 @@ impl Net {
     /// No right.
     pub const NONE: Net = Net(0);
 
-    pub(crate) const SINCE_4: Net = Net(0x3);
+    /// The rights that have a name.
+    const NAMED: Net = Net(Net::OTHER.0 - 1);
+
+    pub(crate) const SINCE_4: Net = Net(Net::BIND_TCP.0 | Net::CONNECT_TCP.0);
 
     /// Whether the set has no right.
     pub fn is_empty(self) -> bool
         ensures { result ≡ rights.is_empty self }
     {
         self.0 == 0
+    }
+
+    /// Whether the set has a right.
+    pub fn has(self, right: NetRight) -> bool
+        ensures { result ≡ rights.has self (net_right right) }
+    {
+        has_place(NetRight::Other.bit(), self.0, right.bit())
     }
 
     /// The rights of either set.
@@ -72,14 +85,10 @@ impl Net {
 
     /// What a program keeps of the set that goes by its kernel's version: the rights that came with
     /// a later version are taken out, and any other right stays.
-    #[tactic(auto, unfolding(crate::specs::Supported::without_net, crate::specs::Supported::supported_net))]
     pub fn supported(self, abi: Abi) -> Net
         ensures { result ≡ supported_net abi self }
     {
-        match abi {
-            Abi::V1 | Abi::V2 | Abi::V3 => self.without(Net::CONNECT_TCP).without(Net::BIND_TCP),
-            Abi::V4 | Abi::V5 => self,
-        }
+        self.without(Net::NAMED.without(abi.net()))
     }
 
     /// Whether each right of the set is one of `whole`, a set of known rights.

@@ -83,12 +83,12 @@ pub fn whole_traces()
     ensures sets_and_paths { IsTrace (codes "{\"op\":\"start\",\"pid\":10,\"admin\":true}\n{\"op\":\"create\",\"pid\":10,\"rs\":3,\"fs\":[\"read_file\",\"write_file\",\"read_file\"]}\n{\"op\":\"add_path\",\"pid\":10,\"rs\":3,\"path\":\"/a/f\",\"fs\":[\"nosuch\"]}\n{\"op\":\"rename\",\"pid\":10,\"from\":\"/a\",\"to\":\"/b\"}")
         (record { line = 1; process = record { 0 = 0 }; pid = 10; op = Op.Start false true }
         ∷ record { line = 2; process = record { 0 = 0 }; pid = 10; op = Op.Create 3 (record { 0 = 6 }) (record { 0 = 0 }) }
-        ∷ record { line = 3; process = record { 0 = 0 }; pid = 10; op = Op.AddPath 3 (codes "/a/f") (record { 0 = 65536 }) }
+        ∷ record { line = 3; process = record { 0 = 0 }; pid = 10; op = Op.AddPath 3 (codes "/a/f") (files.only files.other) }
         ∷ record { line = 4; process = record { 0 = 0 }; pid = 10; op = Op.Rename (codes "/a") (codes "/b") false } ∷ []) }
 {}
 
 /// Calls of a program that goes by its kernel's version (landlock(7), "VERSIONS").
-#[tactic(auto, unfolding(crate::specs::BestEffort::at_best_effort, ll_rights::specs::Supported::supported_fs, ll_rights::specs::Supported::supported_net, ll_rights::specs::Supported::without_fs, ll_rights::specs::Supported::without_net, ll_rights::specs::Rights::united, ll_rights::specs::Rights::only, ll_rights::specs::Rights::has, ll_rights::specs::Rights::some_right, ll_rights::specs::Rights::all_rights, ll_rights::specs::Rights::named_rights, ll_rights::specs::NetRights::only, ll_rights::specs::NetRights::has, ll_rights::specs::NetRights::some_right, ll_rights::specs::NetRights::all_rights))]
+#[tactic(auto, unfolding(crate::specs::BestEffort::at_best_effort, ll_rights::specs::Supported::supported_fs, ll_rights::specs::Supported::supported_net, ll_rights::specs::Rights::united, ll_rights::specs::Rights::only, ll_rights::specs::Rights::has, ll_rights::specs::Rights::some_right, ll_rights::specs::Rights::all_rights, ll_rights::specs::Rights::named_rights, ll_rights::specs::NetRights::only, ll_rights::specs::NetRights::has, ll_rights::specs::NetRights::some_right, ll_rights::specs::NetRights::all_rights))]
 pub fn calls_at_best_effort()
     ensures refer_is_of_2 { at_best_effort Abi.V1 (Op.Create 3 (files.united (files.only files.execute) (files.only files.refer)) network.no_right)
         ≡ Op.Create 3 (files.only files.execute) network.no_right }

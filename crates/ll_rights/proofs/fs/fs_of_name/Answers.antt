@@ -1,7 +1,8 @@
-use Rattle.ll_rights.proofs.Sets.{fs_unnamed}
+use Rattle.std.proofs.Common.{sym, ap}
+use Rattle.ll_rights.specs.Rights as rights
+use Rattle.ll_rights.proofs.Sets.{first-unnamed}
 use Rattle.ll_rights.proofs.fs.fs_of_name.Goals as goal
 
 pub returns-in_default : goal.returns-in_default
-returns-in_default c =
-    let no = c.in_default in
-    fs_unnamed c.args.name.now no.not-execute no.not-write_file no.not-read_file no.not-read_dir no.not-remove_dir no.not-remove_file no.not-make_char no.not-make_dir no.not-make_reg no.not-make_sock no.not-make_fifo no.not-make_block no.not-make_sym no.not-refer no.not-truncate no.not-ioctl_dev
+unfolding rights.only rights.right_named rights.named_rights
+returns-in_default c = ap rights.only (sym (first-unnamed rights.row rights.other c.args.name.now rights.named_rights (assumption c.in_default)))

@@ -1,0 +1,37 @@
+-- Tables of rights, and sets of rights as bits: what the rights for files and those for the network have in common.
+-- Source: landlock_create_ruleset(2), whose access rights are bits of a mask.
+use Rattle.std.specs.Prelude.{ℕ, ◌-◌, ◌^◌, bit_and, bit_or, Bool, true, false, List, [], ◌∷◌, Option, Some, None, bytes_eq, if◌then◌else◌}
+
+-- What a table says of a right: its name, the number of its bit, the ABI that it comes with, and whether it applies to what
+-- isn't a directory.
+pub record Row : Type 0 where
+  pub name : List ℕ
+  pub bit : ℕ
+  pub since : Option ℕ
+  pub of_files : Bool
+
+-- a right that applies to all files, and one that doesn't
+abbrev pub for_files : List ℕ → ℕ → ℕ → Row
+for_files name bit abi = record { name = name; bit = bit; since = Some abi; of_files = true }
+
+abbrev pub not_for_files : List ℕ → ℕ → ℕ → Row
+not_for_files name bit abi = record { name = name; bit = bit; since = Some abi; of_files = false }
+
+-- what stands for all rights without a name: it has the first bit behind the named ones, and comes with no ABI
+abbrev pub unnamed : ℕ → Row
+unnamed bit = record { name = []; bit = bit; since = None; of_files = false }
+
+module _ {R : Type 0} (row : R → Row) where
+  -- the first of some rights that a text names, else `other`
+  abbrev pub first_named : R → List R → List ℕ → R
+  first_named other [] text = other
+  first_named other (right ∷ rights) text = if bytes_eq text (row right).name then right else first_named other rights text
+
+  -- the bits of some rights
+  abbrev pub bits_of : List R → ℕ
+  bits_of [] = 0
+  bits_of (right ∷ rights) = bit_or (2 ^ (row right).bit) (bits_of rights)
+
+-- what is left of some bits when others are taken out
+abbrev pub bits_without : ℕ → ℕ → ℕ
+bits_without bits taken = bits - bit_and bits taken

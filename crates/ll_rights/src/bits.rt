@@ -1,0 +1,17 @@
+//! Sets of named bits.
+
+ghost use Rattle.std.specs.Prelude.{◌≡◌, ◌<◌};
+ghost use Rattle.ll_rights.specs.Bits.{has_place};
+
+/// Whether a set of bits, this many of them named, has the one at a place; all bits without a name are one member, which has
+/// the place behind the named ones.
+pub(crate) fn has_place(named: u32, bits: u32, place: u32) -> bool
+    requires { named < 32 }
+    ensures { result ≡ has_place named bits place }
+{
+    if place < named {
+        bits >> place & 1 == 1
+    } else {
+        bits >= 1 << named
+    }
+}
