@@ -35,12 +35,12 @@ fs_step right set name = fs_has-united set (files.only (files.right_named name))
 net_step : (right : network.NetRight) (set : Net) (name : List ℕ) → network.has (with_net set name) right ≡ (network.has set right || network.is_right right (network.right_named name))
 net_step right set name = net_has-united set (network.only (network.right_named name)) right ∙ ap (λ b. network.has set right || b) (net_has-only right (network.right_named name))
 
-no_fs : (right : files.FsRight) → files.has files.no_right right ≡ false
+pub no_fs : (right : files.FsRight) → files.has files.no_right right ≡ false
 unfolding files.has
 no_fs files.other = refl
 no_fs _ = refl
 
-no_net : (right : network.NetRight) → network.has network.no_right right ≡ false
+pub no_net : (right : network.NetRight) → network.has network.no_right right ≡ false
 unfolding network.has
 no_net network.other = refl
 no_net _ = refl

@@ -1,23 +1,23 @@
 -- Best effort at a version that supports all rights, and at one version after another.
 use Rattle.std.proofs.Common.{◌≡◌, ℕ, ◌≤◌, Bool, true, false, not, ◌&&◌, List, [], ◌∷◌, refl, sym, ap, ◌∙◌, if◌then◌else◌}
-use Rattle.std.specs.Prelude.{All}
+use Rattle.std.specs.Prelude.{All, ◌||◌}
 use Rattle.std.specs.List.{AllByRecursion}
 use Rattle.std.proofs.lemmas.Bool.{eqb-true}
 use Rattle.std.proofs.lemmas.List.Elements.{recursion_from_All}
 use Rattle.ll_rights.specs.declared.abi.Abi.{Abi}
-use Rattle.ll_rights.specs.declared.abi.Abi.TheVariants.{V1, V2, V3, V4, V5}
 use Rattle.ll_rights.specs.declared.fs.Fs.{Fs}
 use Rattle.ll_rights.specs.declared.net.Net.{Net}
-use Rattle.ll_rights.specs.Abis.{number_of}
-use Rattle.ll_rights.specs.Supported.{supported_fs, supported_net, without_fs, without_net}
+use Rattle.ll_rights.specs.Abis.{knows_fs, knows_net, number_of}
+use Rattle.ll_rights.specs.Supported.{supported_fs, supported_net}
 use Rattle.ll_rights.specs.Rights as files
 use Rattle.ll_rights.specs.NetRights as network
-use Rattle.ll_rights.proofs.Sets.{fs_is_empty, net_is_empty}
-use Rattle.ll_rights.proofs.Supported.{fs_supported-older, net_supported-older}
+use Rattle.ll_rights.proofs.Sets.{fs_has-only, fs_is_empty, net_has-only, net_is_empty}
+use Rattle.ll_rights.proofs.Supported.{fs_supported-known, fs_supported-older, net_supported-known, net_supported-older}
 use Rattle.ll_trace.specs.declared.op.Op.{Op}
 use Rattle.ll_trace.specs.declared.op.Op.TheVariants as calls
 use Rattle.ll_trace.specs.declared.op.RuleType.TheVariants.{PathBeneath, NetPort}
 use Rattle.ll_trace.specs.declared.record.Record.{Record}
+use Rattle.ll_trace.proofs.SetLemmas.{no_fs, no_net}
 use Rattle.ll_trace.specs.BestEffort.{creates, adds_path, adds_port, at_best_effort, record_at_best_effort, records_at_best_effort, IsSupported}
 
 -- ---- all rights are supported
@@ -51,39 +51,32 @@ records-supported abi records all = each-supported abi records (recursion_from_A
 
 -- ---- a name that is no right's
 
-pub other_name-stays : (abi : Abi) (rs : ℕ) → at_best_effort abi (calls.Create rs (files.only files.other) network.no_right) ≡ calls.Create rs (files.only files.other) network.no_right
-unfolding at_best_effort supported_fs supported_net without_fs files.only files.has files.some_right files.all_rights files.named_rights without_net network.only network.has network.some_right network.all_rights
-other_name-stays V1 rs = refl
-other_name-stays V2 rs = refl
-other_name-stays V3 rs = refl
-other_name-stays V4 rs = refl
-other_name-stays V5 rs = refl
+known : (has known : Bool) → (has && not (known || has)) ≡ false
+known true true = refl
+known true false = refl
+known false _ = refl
 
-pub other_port_name-stays : (abi : Abi) (rs : ℕ) → at_best_effort abi (calls.Create rs files.no_right (network.only network.other)) ≡ calls.Create rs files.no_right (network.only network.other)
-unfolding at_best_effort supported_fs supported_net without_fs files.only files.has files.some_right files.all_rights files.named_rights without_net network.only network.has network.some_right network.all_rights
-other_port_name-stays V1 rs = refl
-other_port_name-stays V2 rs = refl
-other_port_name-stays V3 rs = refl
-other_port_name-stays V4 rs = refl
-other_port_name-stays V5 rs = refl
+other_stays : (abi : Abi) → supported_fs abi (files.only files.other) ≡ files.only files.other
+other_stays abi = fs_supported-known abi (files.only files.other) (λ right. rw (fs_has-only right files.other) (known (files.is_right right files.other) (knows_fs abi right)))
 
--- ---- one version after another
+other_port_stays : (abi : Abi) → supported_net abi (network.only network.other) ≡ network.only network.other
+other_port_stays abi = net_supported-known abi (network.only network.other) (λ right. rw (net_has-only right network.other) (known (network.is_right right network.other) (knows_net abi right)))
 
 none_of : (abi : Abi) → supported_fs abi files.no_right ≡ files.no_right
-unfolding supported_fs without_fs
-none_of V1 = refl
-none_of V2 = refl
-none_of V3 = refl
-none_of V4 = refl
-none_of V5 = refl
+none_of abi = fs_supported-known abi files.no_right (λ right. rw (no_fs right) refl)
 
 no_port_of : (abi : Abi) → supported_net abi network.no_right ≡ network.no_right
-unfolding supported_net without_net
-no_port_of V1 = refl
-no_port_of V2 = refl
-no_port_of V3 = refl
-no_port_of V4 = refl
-no_port_of V5 = refl
+no_port_of abi = net_supported-known abi network.no_right (λ right. rw (no_net right) refl)
+
+pub other_name-stays : (abi : Abi) (rs : ℕ) → at_best_effort abi (calls.Create rs (files.only files.other) network.no_right) ≡ calls.Create rs (files.only files.other) network.no_right
+unfolding IsSupported
+other_name-stays abi rs = call-supported abi (calls.Create rs (files.only files.other) network.no_right) (other_stays abi, no_port_of abi)
+
+pub other_port_name-stays : (abi : Abi) (rs : ℕ) → at_best_effort abi (calls.Create rs files.no_right (network.only network.other)) ≡ calls.Create rs files.no_right (network.only network.other)
+unfolding IsSupported
+other_port_name-stays abi rs = call-supported abi (calls.Create rs files.no_right (network.only network.other)) (none_of abi, other_port_stays abi)
+
+-- ---- one version after another
 
 -- of nothing nothing is supported
 fs_empty : (abi : Abi) (set : Fs) → files.is_empty set ≡ true → files.is_empty (supported_fs abi set) ≡ true
