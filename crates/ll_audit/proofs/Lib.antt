@@ -4,6 +4,5 @@ pub mod FilesByName
 pub mod Endings
 pub mod Wants
 pub mod OneReport
-pub mod SameWords
 pub mod Beginnings
 pub mod VersionByVersion

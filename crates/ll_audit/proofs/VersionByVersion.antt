@@ -15,7 +15,7 @@ use Rattle.ll_trace.specs.declared.record.Record.{Record}
 use Rattle.ll_trace.specs.BestEffort.{at_best_effort, records_at_best_effort}
 use Rattle.ll_trace.proofs.Versions.{records-older}
 use Rattle.ll_report.specs.Found.{Found, found_under}
-use Rattle.ll_report.specs.Names.{op_name}
+use Rattle.ll_trace.specs.Operations.{op_name}
 use Rattle.ll_report.specs.Report.{record_text}
 use Rattle.ll_report.specs.Rows.{told_of}
 use Rattle.ll_audit.specs.declared.fault.Fault.{Fault}

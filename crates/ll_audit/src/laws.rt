@@ -15,7 +15,7 @@ ghost use Rattle.ll_report.specs.declared.report.Report.{Report as Made};
 ghost use Rattle.ll_report.specs.declared.shown.TheConstants.{ALL_LINES};
 ghost use Rattle.ll_audit.specs.Audits.{IsReport};
 ghost use Rattle.ll_audit.specs.Command.{faults, request_of};
-ghost use Rattle.ll_audit.specs.TraceWords.{SaysOperation};
+ghost use Rattle.ll_trace.specs.SaidByName.{SaysOperation};
 ghost use Rattle.ll_audit.specs.declared.options.Effort.TheVariants.{AsRecorded, Best};
 
 /// What some command lines ask for, and what is wrong with others.

@@ -1,39 +1,21 @@
 -- What each reason for a moot call says of the tree, of the call and of the state of its process.
 -- Source: docs/SEMANTICS.md, "Three answers", "What each call asks" and "Moving and linking"; path_resolution(7).
-use Rattle.std.specs.Prelude.{◌≡◌, ℕ, ◌==◌, Bool, true, false, List, [], ◌∷◌, Some, None, is_some}
-use Rattle.std.specs.List.{list_any, list_all}
+use Rattle.std.specs.Prelude.{◌≡◌, ◌==◌, Bool, true, false, List, Some, None, is_some}
+use Rattle.std.specs.List.{list_any}
 use Rattle.ll_tree.specs.declared.place.NodeId.{NodeId}
 use Rattle.ll_tree.specs.declared.place.Place.{Place}
 use Rattle.ll_tree.specs.declared.place.Place.TheVariants.{Node, Gap, Nowhere}
-use Rattle.ll_tree.specs.Paths.{Path, front, is_prefix, path_of}
+use Rattle.ll_tree.specs.Paths.{Path, front, is_prefix}
 use Rattle.ll_tree.specs.Trees.{Entry, kind_at, is_dir, node_at, place}
 use Rattle.ll_trace.specs.declared.op.Op.{Op}
 use Rattle.ll_trace.specs.declared.op.Op.TheVariants as calls
 use Rattle.ll_trace.specs.declared.op.Sort.{Sort}
 use Rattle.ll_trace.specs.declared.op.Sort.TheVariants.{Regular, Device, Other}
+unfoldable pub use Rattle.ll_trace.specs.Operations.{paths_of, are_spelt}
 use Rattle.ll_semantics.specs.declared.descriptor.Descriptor.{Descriptor}
 use Rattle.ll_semantics.specs.Moves.{is_root, is_mixed}
 use Rattle.ll_semantics.specs.States.{State}
 use Rattle.ll_reasons.specs.Reasons.{Reason, absent, no_directory, present, of_kind, root, unmoved, beneath_itself, over_itself, mixed, open_already, unopened, not_for_writing, held_already, unheld, unsupported}
-
--- the texts of the paths that a call names
-unfoldable pub paths_of : Op → List (List ℕ)
-paths_of (calls.AddPath rs path fs) = path ∷ []
-paths_of (calls.OpenFile path fd mode create trunc) = path ∷ []
-paths_of (calls.Truncate path) = path ∷ []
-paths_of (calls.Exec path) = path ∷ []
-paths_of (calls.Mknod path kind) = path ∷ []
-paths_of (calls.Mkdir path) = path ∷ []
-paths_of (calls.Symlink path) = path ∷ []
-paths_of (calls.Unlink path) = path ∷ []
-paths_of (calls.Rmdir path) = path ∷ []
-paths_of (calls.Rename from to exchange) = from ∷ to ∷ []
-paths_of (calls.Link from to) = from ∷ to ∷ []
-paths_of op = []
-
--- each of them spells a path
-unfoldable pub are_spelt : Op → Bool
-are_spelt op = list_all (λ text. is_some (path_of text)) (paths_of op)
 
 -- a place is the root
 abbrev pub is_at_root : Place → Bool

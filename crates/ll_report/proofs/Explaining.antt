@@ -24,11 +24,19 @@ as_many of answers records place are same below =
 pub stands : {X : Type 0} (xs : List X) (place : ℕ) (x : X) → place < length xs → x ≡ get_or xs place x → slice_get xs place ≡ Some x
 stands xs place x below is = slice_get-get_or xs place x below ∙ ap Some (sym is)
 
+-- a place among the answers is one among the records
+pub among : (of : Matter) (answers : List Answer) (place : ℕ) → answers ≡ judged of.tree of.abi of.records → place < length answers → place < length of.records
+among of answers place are below = subst (λ n. place < n) (ap length are ∙ length-judged of.tree of.abi of.records) below
+
+pub given_at : (of : Matter) (answers : List Answer) (place : ℕ) (answer : Answer) → answers ≡ judged of.tree of.abi of.records → place < length answers
+    → answer ≡ get_or answers place answer → slice_get (judged of.tree of.abi of.records) place ≡ Some answer
+given_at of answers place answer are below is = ap (λ given. slice_get given place) (sym are) ∙ stands answers place answer below is
+
 -- the answer at a place is that to the record there
 pub answer_at : (of : Matter) (answers : List Answer) (place : ℕ) (answer : Answer) (blocks : Blocks) (shown : Shown) → answers ≡ judged of.tree of.abi of.records
     → place < length answers → answer ≡ get_or answers place answer → AreAt shown of place blocks → IsAnswerAt blocks.case.now place answer
 answer_at of answers place answer blocks shown are below is at =
-    rw at.same_case (ap (λ given. slice_get given place) (sym are) ∙ stands answers place answer below is)
+    rw at.same_case (given_at of answers place answer are below is)
 
 -- a block is that of the case
 pub block_by : (of : Matter) (shown : Shown) (place : ℕ) (blocks : Blocks) (said : ReportLine) (before after : List ℕ) → AreAt shown of place blocks

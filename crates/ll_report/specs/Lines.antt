@@ -2,9 +2,10 @@
 -- Source: docs/FORMATS.md, "The report".
 use Rattle.std.specs.Prelude.{ℕ, List, [], ◌∷◌}
 use Rattle.ll_trace.specs.declared.record.Record.{Record}
+use Rattle.ll_trace.specs.Operations.{op_name}
 use Rattle.ll_semantics.specs.declared.answer.Answer.{Answer}
 use Rattle.ll_semantics.specs.declared.answer.Answer.TheVariants.{Allowed, Moot, Refused}
-use Rattle.ll_report.specs.Names.{op_name, error_name}
+use Rattle.ll_report.specs.Names.{error_name}
 use Rattle.ll_report.specs.Report.{ReportLine, Verdict, allowed, moot, refused, count_of, is_refused}
 
 -- how an answer is told

@@ -9,7 +9,7 @@ ghost use Rattle.ll_report.specs.Report.{counts_text, head_text, layers_text, li
 ghost use Rattle.ll_report.specs.Names as spec;
 
 use crate::blocks::push_blocks;
-use crate::names::{error_name, op_name};
+use crate::names::error_name;
 use crate::shown::Shown;
 use itoa::Buffer;
 use ll_process::{Answer, Case};
@@ -181,7 +181,7 @@ pub(crate) fn push_line(
 ) -> Result<(), AllocError>
     ensures { OnOk result (text.new.items ≡ text.old.items ++ line_text (line_of «record».now answer.now)) }
 {
-    push_head(text, record.line, record.pid, op_name(&record.op))?;
+    push_head(text, record.line, record.pid, record.op.name())?;
     push_verdict(text, answer)?;
     text.push(b'\n')?;
     Ok(())

@@ -12,7 +12,6 @@ ghost use Rattle.ll_report.specs.Rows.{answers_said, explanations_said, is_refus
 use crate::alike::{common_answer, common_explanation};
 use crate::blocks::is_hidden;
 use crate::found::Finding;
-use crate::names::op_name;
 use crate::report::{Report, Totals, is_refused, push_line, push_record, push_verdict};
 use crate::shown::Shown;
 use crate::spans::{Form, agree, push_alone, push_versions};
@@ -134,7 +133,7 @@ fn push_row_by_versions(
     if is_left_out(shown, findings, place, &answers) {
         return Ok(());
     }
-    push_record(text, record.line, record.pid, op_name(&record.op))?;
+    push_record(text, record.line, record.pid, record.op.name())?;
     push_versions(text, Form::Answers, oldest, &answers)?;
     text.push(b'\n')?;
     push_behind(alloc, text, shown, oldest, findings, place)

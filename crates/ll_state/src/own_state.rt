@@ -100,7 +100,7 @@ impl OwnState {
     }
 
     /// Judges a call whose answer rests on the state of its process alone.
-    #[tactic(auto, unfolding(crate::specs::Agreement::is_still, ll_semantics::specs::Notes::NoteFits, ll_semantics::specs::Notes::is_on_rulesets, ll_trace::specs::FirstPlaces::first_place))]
+    #[tactic(auto, unfolding(crate::specs::Agreement::is_still, ll_semantics::specs::Notes::NoteFits, ll_semantics::specs::Notes::is_on_rulesets, ll_trace::specs::FirstPlaces::first_place, ll_trace::specs::Operations::paths_of))]
     fn judge_alone(
         &mut self,
         tree: &Tree,
@@ -142,7 +142,7 @@ impl OwnState {
     }
 
     /// The answer to a call that changes nothing of its process's state.
-    #[tactic(auto, unfolding(crate::specs::Agreement::is_still, ll_trace::specs::FirstPlaces::first_place, ll_semantics::specs::Situations::answered, ll_semantics::specs::Answers::answer, ll_rights::specs::Rights::only, ll_rights::specs::NetRights::has, ll_rights::specs::NetRights::only))]
+    #[tactic(auto, unfolding(crate::specs::Agreement::is_still, ll_trace::specs::FirstPlaces::first_place, ll_trace::specs::Operations::paths_of, ll_semantics::specs::Situations::answered, ll_semantics::specs::Answers::answer, ll_rights::specs::Rights::only, ll_rights::specs::NetRights::has, ll_rights::specs::NetRights::only))]
     fn answer(&self, tree: &Tree, layers: &[Layer], op: &Op, known: Option<Place>) -> Answer
         ghost at: { Situation }
         requires met { IsMet at tree.now layers.now }

@@ -14,6 +14,7 @@ use Rattle.ll_tree.specs.declared.place.Place.TheVariants.{Nowhere}
 use Rattle.ll_tree.specs.Trees as trees
 use Rattle.ll_trace.specs.declared.op.Op.{Op}
 use Rattle.ll_trace.specs.declared.op.Op.TheVariants as calls
+use Rattle.ll_trace.specs.declared.op.RuleType.{RuleType}
 use Rattle.ll_trace.specs.declared.op.RuleType.TheVariants.{PathBeneath, NetPort}
 use Rattle.ll_trace.specs.declared.record.ProcessId.{ProcessId}
 use Rattle.ll_trace.specs.declared.record.Record.{Record}
@@ -24,7 +25,7 @@ use Rattle.ll_trace.specs.Records.{entry_of, record_of, records_after, process_o
 use Rattle.ll_trace.specs.RecordFacts.{ArePlaced, AreRecords}
 use Rattle.ll_trace.specs.Processes.{is_starting, process_count, number_if, started_at, own_from, own_records, forked_by, parents}
 use Rattle.ll_trace.specs.Indexed.{Indexes}
-use Rattle.ll_trace.specs.FirstPlaces.{AreFirstPlaces, first_place}
+use Rattle.ll_trace.specs.FirstPlaces.{AreFirstPlaces, first_place, paths_of}
 use Rattle.ll_trace.specs.BestEffort.{at_best_effort, record_at_best_effort, records_at_best_effort}
 use Rattle.ll_trace.proofs.Numbering.{are_numbered}
 use Rattle.ll_trace.proofs.Numbers.{process_count-cons}
@@ -37,64 +38,42 @@ of_both says true x y what first second = first
 of_both says false x y what first second = second
 
 module _ (abi : Abi) where
-  -- what is so of all that a call can become is so of what it becomes
-  of_create : {X : Type 0} (says : Op → X) (what : X) (rs : ℕ) (fs : Fs) (net : Net) → says (calls.CreateEmpty rs) ≡ what → says (calls.Create rs (supported_fs abi fs) (supported_net abi net)) ≡ what
-      → says (at_best_effort abi (calls.Create rs fs net)) ≡ what
+  -- What is the same of all calls whose rights best effort takes out, and of what it makes of them, is so of each call at best effort.
+  kept : {X : Type 0} (says : Op → X) (what : X) → ((rs : ℕ) (fs : Fs) (net : Net) → says (calls.Create rs fs net) ≡ what) → ((rs : ℕ) → says (calls.CreateEmpty rs) ≡ what)
+      → ((rs : ℕ) (path : List ℕ) (fs : Fs) → says (calls.AddPath rs path fs) ≡ what) → ((rs port : ℕ) (net : Net) → says (calls.AddPort rs port net) ≡ what)
+      → ((rule : RuleType) → says (calls.LeaveOut rule) ≡ what) → (op : Op) → says (at_best_effort abi op) ≡ says op
   unfolding at_best_effort
-  of_create says what rs fs net =
-      of_both says (files.is_empty (supported_fs abi fs) && network.is_empty (supported_net abi net) && not (files.is_empty fs && network.is_empty net)) (calls.CreateEmpty rs) (calls.Create rs (supported_fs abi fs) (supported_net abi net)) what
-
-  of_add_path : {X : Type 0} (says : Op → X) (what : X) (rs : ℕ) (path : List ℕ) (fs : Fs) → says (calls.LeaveOut PathBeneath) ≡ what → says (calls.AddPath rs path (supported_fs abi fs)) ≡ what
-      → says (at_best_effort abi (calls.AddPath rs path fs)) ≡ what
-  unfolding at_best_effort
-  of_add_path says what rs path fs = of_both says (files.is_empty (supported_fs abi fs) && not (files.is_empty fs)) (calls.LeaveOut PathBeneath) (calls.AddPath rs path (supported_fs abi fs)) what
-
-  of_add_port : {X : Type 0} (says : Op → X) (what : X) (rs port : ℕ) (net : Net) → says (calls.LeaveOut NetPort) ≡ what → says (calls.AddPort rs port (supported_net abi net)) ≡ what
-      → says (at_best_effort abi (calls.AddPort rs port net)) ≡ what
-  unfolding at_best_effort
-  of_add_port says what rs port net = of_both says (network.is_empty (supported_net abi net) && not (network.is_empty net)) (calls.LeaveOut NetPort) (calls.AddPort rs port (supported_net abi net)) what
+  kept says what create empty path port left (calls.Create rs fs net) =
+      of_both says (files.is_empty (supported_fs abi fs) && network.is_empty (supported_net abi net) && not (files.is_empty fs && network.is_empty net)) _ _ what (empty rs) (create rs _ _) ∙ sym (create rs fs net)
+  kept says what create empty path port left (calls.AddPath rs text fs) =
+      of_both says (files.is_empty (supported_fs abi fs) && not (files.is_empty fs)) _ _ what (left PathBeneath) (path rs text _) ∙ sym (path rs text fs)
+  kept says what create empty path port left (calls.AddPort rs number net) =
+      of_both says (network.is_empty (supported_net abi net) && not (network.is_empty net)) _ _ what (left NetPort) (port rs number _) ∙ sym (port rs number net)
+  kept says what create empty path port left op = refl
 
   is_start-kept : (op : Op) → is_start (at_best_effort abi op) ≡ is_start op
-  unfolding is_start at_best_effort
-  is_start-kept (calls.Create rs fs net) = of_create is_start false rs fs net refl refl
-  is_start-kept (calls.AddPath rs path fs) = of_add_path is_start false rs path fs refl refl
-  is_start-kept (calls.AddPort rs port net) = of_add_port is_start false rs port net refl refl
-  is_start-kept op = refl
+  unfolding is_start
+  is_start-kept = kept is_start false (λ _ _ _. refl) (λ _. refl) (λ _ _ _. refl) (λ _ _ _. refl) (λ _. refl)
 
   is_exit-kept : (op : Op) → is_exit (at_best_effort abi op) ≡ is_exit op
-  unfolding is_exit at_best_effort
-  is_exit-kept (calls.Create rs fs net) = of_create is_exit false rs fs net refl refl
-  is_exit-kept (calls.AddPath rs path fs) = of_add_path is_exit false rs path fs refl refl
-  is_exit-kept (calls.AddPort rs port net) = of_add_port is_exit false rs port net refl refl
-  is_exit-kept op = refl
+  unfolding is_exit
+  is_exit-kept = kept is_exit false (λ _ _ _. refl) (λ _. refl) (λ _ _ _. refl) (λ _ _ _. refl) (λ _. refl)
 
   pid_started-kept : (op : Op) (pid : ℕ) → pid_started (at_best_effort abi op) pid ≡ pid_started op pid
-  unfolding pid_started at_best_effort
-  pid_started-kept (calls.Create rs fs net) pid = of_create (λ op. pid_started op pid) None rs fs net refl refl
-  pid_started-kept (calls.AddPath rs path fs) pid = of_add_path (λ op. pid_started op pid) None rs path fs refl refl
-  pid_started-kept (calls.AddPort rs port net) pid = of_add_port (λ op. pid_started op pid) None rs port net refl refl
-  pid_started-kept op pid = refl
+  unfolding pid_started
+  pid_started-kept op pid = kept (λ op. pid_started op pid) None (λ _ _ _. refl) (λ _. refl) (λ _ _ _. refl) (λ _ _ _. refl) (λ _. refl) op
 
   is_starting-kept : (op : Op) → is_starting (at_best_effort abi op) ≡ is_starting op
-  unfolding is_starting at_best_effort
-  is_starting-kept (calls.Create rs fs net) = of_create is_starting false rs fs net refl refl
-  is_starting-kept (calls.AddPath rs path fs) = of_add_path is_starting false rs path fs refl refl
-  is_starting-kept (calls.AddPort rs port net) = of_add_port is_starting false rs port net refl refl
-  is_starting-kept op = refl
+  unfolding is_starting
+  is_starting-kept = kept is_starting false (λ _ _ _. refl) (λ _. refl) (λ _ _ _. refl) (λ _ _ _. refl) (λ _. refl)
 
   forked_by-kept : (op : Op) (own : ProcessId) → forked_by (at_best_effort abi op) own ≡ forked_by op own
-  unfolding forked_by at_best_effort
-  forked_by-kept (calls.Create rs fs net) own = of_create (λ op. forked_by op own) None rs fs net refl refl
-  forked_by-kept (calls.AddPath rs path fs) own = of_add_path (λ op. forked_by op own) None rs path fs refl refl
-  forked_by-kept (calls.AddPort rs port net) own = of_add_port (λ op. forked_by op own) None rs port net refl refl
-  forked_by-kept op own = refl
+  unfolding forked_by
+  forked_by-kept op own = kept (λ op. forked_by op own) None (λ _ _ _. refl) (λ _. refl) (λ _ _ _. refl) (λ _ _ _. refl) (λ _. refl) op
 
   first_place-kept : (tree : List trees.Entry) (op : Op) → first_place tree (at_best_effort abi op) ≡ first_place tree op
-  unfolding first_place at_best_effort
-  first_place-kept tree (calls.Create rs fs net) = of_create (first_place tree) Nowhere rs fs net refl refl
-  first_place-kept tree (calls.AddPath rs path fs) = of_add_path (first_place tree) Nowhere rs path fs refl refl
-  first_place-kept tree (calls.AddPort rs port net) = of_add_port (first_place tree) Nowhere rs port net refl refl
-  first_place-kept tree op = refl
+  unfolding first_place paths_of
+  first_place-kept tree = kept (first_place tree) Nowhere (λ _ _ _. refl) (λ _. refl) (λ _ _ _. refl) (λ _ _ _. refl) (λ _. refl)
 
   -- ---- entries
 

@@ -15,3 +15,4 @@ pub mod OnLiterals
 pub mod SetLemmas
 pub mod BestEffort
 pub mod Versions
+pub mod SaidByName

@@ -1,13 +1,13 @@
 -- Best effort at a version that supports all rights, and at one version after another.
-use Rattle.std.proofs.Common.{◌≡◌, ℕ, ◌≤◌, Bool, true, false, not, ◌&&◌, ◌||◌, List, [], ◌∷◌, refl, sym, ap, ◌∙◌, if◌then◌else◌}
-use Rattle.std.specs.Prelude.{All}
+use Rattle.std.proofs.Common.{◌≡◌, ℕ, ◌≤◌, Bool, true, false, not, ◌&&◌, List, [], ◌∷◌, refl, sym, ap, ◌∙◌, if◌then◌else◌}
+use Rattle.std.specs.Prelude.{All, ◌||◌}
 use Rattle.std.specs.List.{AllByRecursion}
 use Rattle.std.proofs.lemmas.Bool.{eqb-true}
 use Rattle.std.proofs.lemmas.List.Elements.{recursion_from_All}
 use Rattle.ll_rights.specs.declared.abi.Abi.{Abi}
 use Rattle.ll_rights.specs.declared.fs.Fs.{Fs}
 use Rattle.ll_rights.specs.declared.net.Net.{Net}
-use Rattle.ll_rights.specs.Abis.{number_of, knows_fs, knows_net}
+use Rattle.ll_rights.specs.Abis.{knows_fs, knows_net, number_of}
 use Rattle.ll_rights.specs.Supported.{supported_fs, supported_net}
 use Rattle.ll_rights.specs.Rights as files
 use Rattle.ll_rights.specs.NetRights as network
@@ -51,36 +51,30 @@ records-supported abi records all = each-supported abi records (recursion_from_A
 
 -- ---- a name that is no right's
 
--- nothing is taken out of a set with no right
+known : (has known : Bool) → (has && not (known || has)) ≡ false
+known true true = refl
+known true false = refl
+known false _ = refl
+
+other_stays : (abi : Abi) → supported_fs abi (files.only files.other) ≡ files.only files.other
+other_stays abi = fs_supported-known abi (files.only files.other) (λ right. rw (fs_has-only right files.other) (known (files.is_right right files.other) (knows_fs abi right)))
+
+other_port_stays : (abi : Abi) → supported_net abi (network.only network.other) ≡ network.only network.other
+other_port_stays abi = net_supported-known abi (network.only network.other) (λ right. rw (net_has-only right network.other) (known (network.is_right right network.other) (knows_net abi right)))
+
 none_of : (abi : Abi) → supported_fs abi files.no_right ≡ files.no_right
-none_of abi = fs_supported-known abi files.no_right (λ right. ap (λ b. b && not (knows_fs abi right || files.is_right right files.other)) (no_fs right))
+none_of abi = fs_supported-known abi files.no_right (λ right. rw (no_fs right) refl)
 
 no_port_of : (abi : Abi) → supported_net abi network.no_right ≡ network.no_right
-no_port_of abi = net_supported-known abi network.no_right (λ right. ap (λ b. b && not (knows_net abi right || network.is_right right network.other)) (no_net right))
-
--- nor what no version knows
-either : (b knows : Bool) → (b && not (knows || b)) ≡ false
-either false knows = refl
-either true true = refl
-either true false = refl
-
-other_of : (abi : Abi) → supported_fs abi (files.only files.other) ≡ files.only files.other
-other_of abi =
-    fs_supported-known abi (files.only files.other)
-    (λ right. ap (λ b. b && not (knows_fs abi right || files.is_right right files.other)) (fs_has-only right files.other) ∙ either (files.is_right right files.other) (knows_fs abi right))
-
-other_port_of : (abi : Abi) → supported_net abi (network.only network.other) ≡ network.only network.other
-other_port_of abi =
-    net_supported-known abi (network.only network.other)
-    (λ right. ap (λ b. b && not (knows_net abi right || network.is_right right network.other)) (net_has-only right network.other) ∙ either (network.is_right right network.other) (knows_net abi right))
+no_port_of abi = net_supported-known abi network.no_right (λ right. rw (no_net right) refl)
 
 pub other_name-stays : (abi : Abi) (rs : ℕ) → at_best_effort abi (calls.Create rs (files.only files.other) network.no_right) ≡ calls.Create rs (files.only files.other) network.no_right
 unfolding IsSupported
-other_name-stays abi rs = call-supported abi (calls.Create rs (files.only files.other) network.no_right) (other_of abi, no_port_of abi)
+other_name-stays abi rs = call-supported abi (calls.Create rs (files.only files.other) network.no_right) (other_stays abi, no_port_of abi)
 
 pub other_port_name-stays : (abi : Abi) (rs : ℕ) → at_best_effort abi (calls.Create rs files.no_right (network.only network.other)) ≡ calls.Create rs files.no_right (network.only network.other)
 unfolding IsSupported
-other_port_name-stays abi rs = call-supported abi (calls.Create rs files.no_right (network.only network.other)) (none_of abi, other_port_of abi)
+other_port_name-stays abi rs = call-supported abi (calls.Create rs files.no_right (network.only network.other)) (none_of abi, other_port_stays abi)
 
 -- ---- one version after another
 

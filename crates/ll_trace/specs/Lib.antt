@@ -1,3 +1,4 @@
+pub mod Forms
 pub mod Members
 pub mod NameTexts
 pub mod Operations
@@ -12,3 +13,4 @@ pub mod Traces
 pub mod SingleUse
 pub mod BestEffort
 pub mod FirstPlaces
+pub mod SaidByName

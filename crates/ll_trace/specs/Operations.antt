@@ -1,132 +1,115 @@
--- The operation of a record's line: its name and its members. A missing or misshapen member is Field, and only then is a path looked at.
+-- The operation of a record's line: its name and its members. A missing or misshapen member is Field, and only then are its paths looked at.
 -- Source: docs/FORMATS.md, "The trace file".
-use Rattle.std.specs.Prelude.{ℕ, List, codes, bytes_eq, Result, Ok, Err, if◌then◌else◌}
+use Rattle.std.specs.Prelude.{ℕ, List, [], ◌∷◌, is_some, Bool, codes, Result, Ok, Err, if◌then◌else◌}
+use Rattle.std.specs.List.{list_all}
 use Rattle.serde_json.specs.Data.{Data}
 use Rattle.ll_lines.specs.declared.fault.Cause.{Cause}
-use Rattle.ll_lines.specs.declared.fault.Cause.TheVariants.{Field}
+use Rattle.ll_lines.specs.declared.fault.Cause.TheVariants.{BadPath}
 use Rattle.ll_lines.specs.Fault.{◌>>=◌}
 use Rattle.ll_lines.specs.Members.{text_at, number_at, truth_at, flag_at}
+use Rattle.ll_tree.specs.Paths.{path_of}
 use Rattle.ll_trace.specs.declared.op.Op.{Op}
-use Rattle.ll_trace.specs.declared.op.Op.TheVariants.{Start, Fork, Exit, Nnp, Create, AddPath, AddPort, CloseRs, Restrict, OpenFile, Adopt, Dup, Close, Ftruncate, Truncate, Exec, Mknod, Mkdir, Symlink, Unlink, Rmdir, Rename, Link, Mount, Bind, Connect, Ioctl}
-use Rattle.ll_trace.specs.Members.{path_in, path_at, fs_at, net_at, mode_at, sort_at, made_kind_at, port_at}
+use Rattle.ll_trace.specs.declared.op.Op.TheVariants.{Start, Fork, Exit, Nnp, Create, AddPath, AddPort, CloseRs, Restrict, OpenFile, Adopt, Dup, Close, Ftruncate, Truncate, Exec, Mknod, Mkdir, Symlink, Unlink, Rmdir, Rename, Link, Mount, Bind, Connect, Ioctl, CreateEmpty, LeaveOut}
+use Rattle.ll_trace.specs.declared.op.RuleType.TheVariants.{PathBeneath, NetPort}
+use Rattle.ll_trace.specs.Members.{path_at, fs_at, net_at, mode_at, sort_at, made_kind_at, port_at}
+use Rattle.ll_trace.specs.Forms.{meaning, of_one, of_two, of_three, of_five}
 
-unfoldable pub start_at : Data → Result Op Cause
-start_at value = do
-  nnp ← flag_at (codes "nnp") value
-  admin ← flag_at (codes "admin") value
-  Ok (Start nnp admin)
+-- the name of an operation, as the trace and the report spell it
+unfoldable pub op_name : Op → List ℕ
+op_name (Start nnp admin) = codes "start"
+op_name (Fork child) = codes "fork"
+op_name Exit = codes "exit"
+op_name Nnp = codes "nnp"
+op_name (Create rs fs net) = codes "create"
+op_name (AddPath rs path fs) = codes "add_path"
+op_name (AddPort rs port net) = codes "add_port"
+op_name (CloseRs rs) = codes "close_rs"
+op_name (Restrict rs) = codes "restrict"
+op_name (OpenFile path fd mode create trunc) = codes "open"
+op_name (Adopt fd kind) = codes "adopt"
+op_name (Dup fd to) = codes "dup"
+op_name (Close fd) = codes "close"
+op_name (Ftruncate fd) = codes "ftruncate"
+op_name (Truncate path) = codes "truncate"
+op_name (Exec path) = codes "exec"
+op_name (Mknod path kind) = codes "mknod"
+op_name (Mkdir path) = codes "mkdir"
+op_name (Symlink path) = codes "symlink"
+op_name (Unlink path) = codes "unlink"
+op_name (Rmdir path) = codes "rmdir"
+op_name (Rename from to exchange) = codes "rename"
+op_name (Link from to) = codes "link"
+op_name Mount = codes "mount"
+op_name (Bind port) = codes "bind"
+op_name (Connect port) = codes "connect"
+op_name (Ioctl fd driver) = codes "ioctl"
+op_name (CreateEmpty rs) = codes "create"
+op_name (LeaveOut PathBeneath) = codes "add_path"
+op_name (LeaveOut NetPort) = codes "add_port"
 
-unfoldable pub create_at : Data → Result Op Cause
-create_at value = do
-  rs ← number_at (codes "rs") value
-  fs ← fs_at value
-  net ← net_at value
-  Ok (Create rs fs net)
+-- the texts of the paths that a call names
+unfoldable pub paths_of : Op → List (List ℕ)
+paths_of (AddPath rs path fs) = path ∷ []
+paths_of (OpenFile path fd mode create trunc) = path ∷ []
+paths_of (Truncate path) = path ∷ []
+paths_of (Exec path) = path ∷ []
+paths_of (Mknod path kind) = path ∷ []
+paths_of (Mkdir path) = path ∷ []
+paths_of (Symlink path) = path ∷ []
+paths_of (Unlink path) = path ∷ []
+paths_of (Rmdir path) = path ∷ []
+paths_of (Rename from to exchange) = from ∷ to ∷ []
+paths_of (Link from to) = from ∷ to ∷ []
+paths_of op = []
 
-unfoldable pub add_path_at : Data → Result Op Cause
-add_path_at value = do
-  rs ← number_at (codes "rs") value
-  path_text ← text_at (codes "path") value
-  fs ← fs_at value
-  path ← path_in path_text
-  Ok (AddPath rs path fs)
+-- each of them spells a path
+unfoldable pub are_spelt : Op → Bool
+are_spelt op = list_all (λ text. is_some (path_of text)) (paths_of op)
 
-unfoldable pub add_port_at : Data → Result Op Cause
-add_port_at value = do
-  rs ← number_at (codes "rs") value
-  port ← number_at (codes "port") value
-  net ← net_at value
-  Ok (AddPort rs port net)
+abbrev pub spelt : Op → Result Op Cause
+spelt op = if are_spelt op then Ok op else Err BadPath
 
-unfoldable pub open_at : Data → Result Op Cause
-open_at value = do
-  path_text ← text_at (codes "path") value
-  fd ← number_at (codes "fd") value
-  mode ← mode_at value
-  create ← flag_at (codes "create") value
-  trunc ← flag_at (codes "trunc") value
-  path ← path_in path_text
-  Ok (OpenFile path fd mode create trunc)
-
-unfoldable pub adopt_at : Data → Result Op Cause
-adopt_at value = do
-  fd ← number_at (codes "fd") value
-  kind ← sort_at value
-  Ok (Adopt fd kind)
-
-unfoldable pub dup_at : Data → Result Op Cause
-dup_at value = do
-  fd ← number_at (codes "fd") value
-  to ← number_at (codes "to") value
-  Ok (Dup fd to)
-
-unfoldable pub mknod_at : Data → Result Op Cause
-mknod_at value = do
-  path_text ← text_at (codes "path") value
-  kind ← made_kind_at value
-  path ← path_in path_text
-  Ok (Mknod path kind)
-
-unfoldable pub rename_at : Data → Result Op Cause
-rename_at value = do
-  from_text ← text_at (codes "from") value
-  to_text ← text_at (codes "to") value
-  exchange ← flag_at (codes "exchange") value
-  from ← path_in from_text
-  to ← path_in to_text
-  Ok (Rename from to exchange)
-
-unfoldable pub link_at : Data → Result Op Cause
-link_at value = do
-  from_text ← text_at (codes "from") value
-  to_text ← text_at (codes "to") value
-  from ← path_in from_text
-  to ← path_in to_text
-  Ok (Link from to)
-
-unfoldable pub ioctl_at : Data → Result Op Cause
-ioctl_at value = do
-  fd ← number_at (codes "fd") value
-  driver ← truth_at (codes "driver") value
-  Ok (Ioctl fd driver)
-
--- the operation that takes one member alone, if that member reads
-abbrev pub operation_on : {A : Type 0} → (A → Op) → Result A Cause → Result Op Cause
-operation_on operation member = do
-  given ← member
-  Ok (operation given)
+-- what the members of a line read as, for the name of each operation
+unfoldable pub operations : Data → List (List ℕ × Result Op Cause)
+operations value =
+    (codes "start", of_two Start (flag_at (codes "nnp") value) (flag_at (codes "admin") value))
+    ∷ (codes "fork", of_one Fork (number_at (codes "child") value))
+    ∷ (codes "exit", Ok Exit)
+    ∷ (codes "nnp", Ok Nnp)
+    ∷ (codes "create", of_three Create (number_at (codes "rs") value) (fs_at value) (net_at value))
+    ∷ (codes "add_path", of_three AddPath (number_at (codes "rs") value) (text_at (codes "path") value) (fs_at value) >>= spelt)
+    ∷ (codes "add_port", of_three AddPort (number_at (codes "rs") value) (number_at (codes "port") value) (net_at value))
+    ∷ (codes "close_rs", of_one CloseRs (number_at (codes "rs") value))
+    ∷ (codes "restrict", of_one Restrict (number_at (codes "rs") value))
+    ∷ (
+      codes "open",
+      of_five OpenFile (text_at (codes "path") value) (number_at (codes "fd") value) (mode_at value) (flag_at (codes "create") value)
+          (flag_at (codes "trunc") value) >>= spelt,
+    )
+    ∷ (codes "adopt", of_two Adopt (number_at (codes "fd") value) (sort_at value))
+    ∷ (codes "dup", of_two Dup (number_at (codes "fd") value) (number_at (codes "to") value))
+    ∷ (codes "close", of_one Close (number_at (codes "fd") value))
+    ∷ (codes "ftruncate", of_one Ftruncate (number_at (codes "fd") value))
+    ∷ (codes "truncate", of_one Truncate (path_at value))
+    ∷ (codes "exec", of_one Exec (path_at value))
+    ∷ (codes "mknod", of_two Mknod (text_at (codes "path") value) (made_kind_at value) >>= spelt)
+    ∷ (codes "mkdir", of_one Mkdir (path_at value))
+    ∷ (codes "symlink", of_one Symlink (path_at value))
+    ∷ (codes "unlink", of_one Unlink (path_at value))
+    ∷ (codes "rmdir", of_one Rmdir (path_at value))
+    ∷ (codes "rename", of_three Rename (text_at (codes "from") value) (text_at (codes "to") value) (flag_at (codes "exchange") value) >>= spelt)
+    ∷ (codes "link", of_two Link (text_at (codes "from") value) (text_at (codes "to") value) >>= spelt)
+    ∷ (codes "mount", Ok Mount)
+    ∷ (codes "bind", of_one Bind (port_at value))
+    ∷ (codes "connect", of_one Connect (port_at value))
+    ∷ (codes "ioctl", of_two Ioctl (number_at (codes "fd") value) (truth_at (codes "driver") value))
+    ∷ []
 
 -- the operation of a name
 unfoldable pub operation_named : List ℕ → Data → Result Op Cause
-operation_named name value =
-    if bytes_eq name (codes "start") then start_at value else (
-    if bytes_eq name (codes "fork") then operation_on Fork (number_at (codes "child") value) else (
-    if bytes_eq name (codes "exit") then Ok Exit else (
-    if bytes_eq name (codes "nnp") then Ok Nnp else (
-    if bytes_eq name (codes "create") then create_at value else (
-    if bytes_eq name (codes "add_path") then add_path_at value else (
-    if bytes_eq name (codes "add_port") then add_port_at value else (
-    if bytes_eq name (codes "close_rs") then operation_on CloseRs (number_at (codes "rs") value) else (
-    if bytes_eq name (codes "restrict") then operation_on Restrict (number_at (codes "rs") value) else (
-    if bytes_eq name (codes "open") then open_at value else (
-    if bytes_eq name (codes "adopt") then adopt_at value else (
-    if bytes_eq name (codes "dup") then dup_at value else (
-    if bytes_eq name (codes "close") then operation_on Close (number_at (codes "fd") value) else (
-    if bytes_eq name (codes "ftruncate") then operation_on Ftruncate (number_at (codes "fd") value) else (
-    if bytes_eq name (codes "truncate") then operation_on Truncate (path_at value) else (
-    if bytes_eq name (codes "exec") then operation_on Exec (path_at value) else (
-    if bytes_eq name (codes "mknod") then mknod_at value else (
-    if bytes_eq name (codes "mkdir") then operation_on Mkdir (path_at value) else (
-    if bytes_eq name (codes "symlink") then operation_on Symlink (path_at value) else (
-    if bytes_eq name (codes "unlink") then operation_on Unlink (path_at value) else (
-    if bytes_eq name (codes "rmdir") then operation_on Rmdir (path_at value) else (
-    if bytes_eq name (codes "rename") then rename_at value else (
-    if bytes_eq name (codes "link") then link_at value else (
-    if bytes_eq name (codes "mount") then Ok Mount else (
-    if bytes_eq name (codes "bind") then operation_on Bind (port_at value) else (
-    if bytes_eq name (codes "connect") then operation_on Connect (port_at value) else (
-    if bytes_eq name (codes "ioctl") then ioctl_at value else (
-    Err Field)))))))))))))))))))))))))))
+operation_named name value = do
+  reading ← meaning (operations value) name
+  reading
 
 -- the operation that an object says
 unfoldable pub operation_at : Data → Result Op Cause

@@ -10,13 +10,16 @@ ghost use Rattle.ll_rights.specs.Abis.{number_of};
 ghost use Rattle.ll_rights.specs.Rights as files;
 ghost use Rattle.ll_rights.specs.NetRights as network;
 ghost use Rattle.ll_lines.specs.declared.fault.ReadFault.{ReadFault};
+ghost use Rattle.ll_lines.specs.Lines.{Line};
 ghost use Rattle.ll_lines.specs.Members.{fold_texts};
 ghost use Rattle.ll_lines.specs.Reading.{IsBad};
 ghost use Rattle.ll_trace.specs.Members.{with_fs, with_net};
 ghost use Rattle.ll_trace.specs.NameTexts.{texts_of};
 ghost use Rattle.ll_trace.specs.declared.record.ProcessId.{ProcessId};
 ghost use Rattle.ll_trace.specs.declared.record.Record.{Record};
-ghost use Rattle.ll_trace.specs.Entries.{trace_file};
+ghost use Rattle.ll_trace.specs.Entries.{Entry, entry_at, trace_file};
+ghost use Rattle.ll_trace.specs.Operations.{op_name};
+ghost use Rattle.ll_trace.specs.SaidByName.{SaysOperation};
 ghost use Rattle.ll_trace.specs.RecordFacts.{ArePlaced};
 ghost use Rattle.ll_trace.specs.Records.{entry_of, records_after, IsTrace};
 ghost use Rattle.ll_trace.specs.Processes.{process_count, parent_of, forked_by, started_at, IsNumbered};
@@ -69,6 +72,12 @@ pub fn sets_are_their_names()
     ensures net { (names : Items) (set : Net) (right : network.NetRight)
         → fold_texts with_net network.no_right names ≡ Ok set → network.has set right
         ≡ list_any (λ name. network.is_right right (network.right_named name)) (texts_of names) }
+{}
+
+/// A line that reads as an entry says its operation by the operation's name, in its member `op`.
+pub fn lines_say_operations_by_name()
+    ensures { (line : Line) (entry : Entry) → entry_at line ≡ Ok entry
+        → SaysOperation line (op_name entry.op) }
 {}
 
 /// Best effort changes no record at a version that supports all rights that the records name. At an older version it

@@ -15,8 +15,8 @@ mod tables;
 mod trace;
 
 pub use laws::{
-    best_effort_by_version, files_read_as_one_trace, processes_are_numbered, sets_are_their_names,
-    traces_of_single_pids,
+    best_effort_by_version, files_read_as_one_trace, lines_say_operations_by_name,
+    processes_are_numbered, sets_are_their_names, traces_of_single_pids,
 };
 pub use located::Located;
 pub use op::{Mode, Op, RuleType, Sort};

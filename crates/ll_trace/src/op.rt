@@ -243,7 +243,7 @@ impl Op {
 
     /// Where the path leads that the call names, or the first of its two; `Nowhere` for a call without one, and for
     /// one that adds a rule, whose path is the ruleset's.
-    #[tactic(auto, unfolding(crate::specs::FirstPlaces::first_place))]
+    #[tactic(auto, unfolding(crate::specs::FirstPlaces::first_place, crate::specs::Operations::paths_of))]
     pub fn first_place(&self, tree: &Tree) -> Place
         ensures { result ≡ first_place tree.now self.now }
     {

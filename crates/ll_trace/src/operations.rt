@@ -1,11 +1,12 @@
-//! The operation of a record's line, by its name.
+//! The names of operations, and the operation of a record's line by its name.
 
+ghost use Rattle.std.specs.Prelude.{◌≡◌, codes};
 ghost use Rattle.ll_lines.specs.Readers.{Gives, Reads};
 ghost use Rattle.ll_lines.specs.Values.{value_data};
-ghost use Rattle.ll_trace.specs.Operations.{start_at, create_at, add_path_at, add_port_at, open_at, adopt_at, dup_at, mknod_at, rename_at, link_at, ioctl_at, operation_named, operation_at};
+ghost use Rattle.ll_trace.specs.Operations.{op_name, operation_named, operation_at};
 
 use crate::members::{fs_of, made_kind_of, mode_of, net_of, path_of, port_of, sort_of};
-use crate::op::Op;
+use crate::op::{Op, RuleType};
 use crate::path_text::{PathText, SecondPath};
 use json::Value;
 use ll_lines::Cause;
@@ -21,7 +22,7 @@ pub fn operation_of(alloc: Global, value: &Value<'_>) -> Result<Op, Cause>
     operation_by_name(alloc, name, value)
 }
 
-#[tactic(auto, unfolding(crate::specs::Operations::operation_named))]
+#[tactic(auto, unfolding(crate::specs::Operations::operations, crate::specs::Operations::operation_named))]
 fn operation_by_name(alloc: Global, name: &str, value: &Value<'_>) -> Result<Op, Cause>
     ensures { Gives (λ op. op) result (operation_named name.now (value_data value.now)) }
 {
@@ -83,18 +84,18 @@ fn operation_by_name(alloc: Global, name: &str, value: &Value<'_>) -> Result<Op,
     }
 }
 
-#[tactic(auto, unfolding(crate::specs::Operations::start_at))]
+#[tactic(auto, unfolding(crate::specs::Operations::operations, crate::specs::Operations::operation_named))]
 fn start_of(value: &Value<'_>) -> Result<Op, Cause>
-    ensures { Reads (λ op. op) result (start_at (value_data value.now)) }
+    ensures { Reads (λ op. op) result (operation_named (codes "start") (value_data value.now)) }
 {
     let nnp = flag_of(value, "nnp")?;
     let admin = flag_of(value, "admin")?;
     Ok(Op::Start { nnp, admin })
 }
 
-#[tactic(auto, unfolding(crate::specs::Operations::create_at))]
+#[tactic(auto, unfolding(crate::specs::Operations::operations, crate::specs::Operations::operation_named))]
 fn create_of(value: &Value<'_>) -> Result<Op, Cause>
-    ensures { Reads (λ op. op) result (create_at (value_data value.now)) }
+    ensures { Reads (λ op. op) result (operation_named (codes "create") (value_data value.now)) }
 {
     let rs = number_of(value, "rs")?;
     let fs = fs_of(value)?;
@@ -102,9 +103,9 @@ fn create_of(value: &Value<'_>) -> Result<Op, Cause>
     Ok(Op::Create { rs, fs, net })
 }
 
-#[tactic(auto, unfolding(crate::specs::Operations::add_path_at))]
+#[tactic(auto, unfolding(crate::specs::Operations::operations, crate::specs::Operations::operation_named, crate::specs::Operations::paths_of, crate::specs::Operations::are_spelt, crate::specs::Members::path_in))]
 fn add_path_of(alloc: Global, value: &Value<'_>) -> Result<Op, Cause>
-    ensures { Gives (λ op. op) result (add_path_at (value_data value.now)) }
+    ensures { Gives (λ op. op) result (operation_named (codes "add_path") (value_data value.now)) }
 {
     let rs = number_of(value, "rs")?;
     let path = text_of(value, "path")?;
@@ -113,9 +114,9 @@ fn add_path_of(alloc: Global, value: &Value<'_>) -> Result<Op, Cause>
     Ok(Op::AddPath { rs, path, fs })
 }
 
-#[tactic(auto, unfolding(crate::specs::Operations::add_port_at))]
+#[tactic(auto, unfolding(crate::specs::Operations::operations, crate::specs::Operations::operation_named))]
 fn add_port_of(value: &Value<'_>) -> Result<Op, Cause>
-    ensures { Reads (λ op. op) result (add_port_at (value_data value.now)) }
+    ensures { Reads (λ op. op) result (operation_named (codes "add_port") (value_data value.now)) }
 {
     let rs = number_of(value, "rs")?;
     let port = number_of(value, "port")?;
@@ -123,9 +124,9 @@ fn add_port_of(value: &Value<'_>) -> Result<Op, Cause>
     Ok(Op::AddPort { rs, port, net })
 }
 
-#[tactic(auto, unfolding(crate::specs::Operations::open_at))]
+#[tactic(auto, unfolding(crate::specs::Operations::operations, crate::specs::Operations::operation_named, crate::specs::Operations::paths_of, crate::specs::Operations::are_spelt, crate::specs::Members::path_in))]
 fn open_of(alloc: Global, value: &Value<'_>) -> Result<Op, Cause>
-    ensures { Gives (λ op. op) result (open_at (value_data value.now)) }
+    ensures { Gives (λ op. op) result (operation_named (codes "open") (value_data value.now)) }
 {
     let path = text_of(value, "path")?;
     let fd = number_of(value, "fd")?;
@@ -142,27 +143,27 @@ fn open_of(alloc: Global, value: &Value<'_>) -> Result<Op, Cause>
     })
 }
 
-#[tactic(auto, unfolding(crate::specs::Operations::adopt_at))]
+#[tactic(auto, unfolding(crate::specs::Operations::operations, crate::specs::Operations::operation_named))]
 fn adopt_of(value: &Value<'_>) -> Result<Op, Cause>
-    ensures { Reads (λ op. op) result (adopt_at (value_data value.now)) }
+    ensures { Reads (λ op. op) result (operation_named (codes "adopt") (value_data value.now)) }
 {
     let fd = number_of(value, "fd")?;
     let kind = sort_of(value)?;
     Ok(Op::Adopt { fd, kind })
 }
 
-#[tactic(auto, unfolding(crate::specs::Operations::dup_at))]
+#[tactic(auto, unfolding(crate::specs::Operations::operations, crate::specs::Operations::operation_named))]
 fn dup_of(value: &Value<'_>) -> Result<Op, Cause>
-    ensures { Reads (λ op. op) result (dup_at (value_data value.now)) }
+    ensures { Reads (λ op. op) result (operation_named (codes "dup") (value_data value.now)) }
 {
     let fd = number_of(value, "fd")?;
     let to = number_of(value, "to")?;
     Ok(Op::Dup { fd, to })
 }
 
-#[tactic(auto, unfolding(crate::specs::Operations::mknod_at))]
+#[tactic(auto, unfolding(crate::specs::Operations::operations, crate::specs::Operations::operation_named, crate::specs::Operations::paths_of, crate::specs::Operations::are_spelt, crate::specs::Members::path_in))]
 fn mknod_of(alloc: Global, value: &Value<'_>) -> Result<Op, Cause>
-    ensures { Gives (λ op. op) result (mknod_at (value_data value.now)) }
+    ensures { Gives (λ op. op) result (operation_named (codes "mknod") (value_data value.now)) }
 {
     let path = text_of(value, "path")?;
     let kind = made_kind_of(value)?;
@@ -170,9 +171,9 @@ fn mknod_of(alloc: Global, value: &Value<'_>) -> Result<Op, Cause>
     Ok(Op::Mknod { path, kind })
 }
 
-#[tactic(auto, unfolding(crate::specs::Operations::rename_at))]
+#[tactic(auto, unfolding(crate::specs::Operations::operations, crate::specs::Operations::operation_named, crate::specs::Operations::paths_of, crate::specs::Operations::are_spelt, crate::specs::Members::path_in))]
 fn rename_of(alloc: Global, value: &Value<'_>) -> Result<Op, Cause>
-    ensures { Gives (λ op. op) result (rename_at (value_data value.now)) }
+    ensures { Gives (λ op. op) result (operation_named (codes "rename") (value_data value.now)) }
 {
     let from = text_of(value, "from")?;
     let to = text_of(value, "to")?;
@@ -182,9 +183,9 @@ fn rename_of(alloc: Global, value: &Value<'_>) -> Result<Op, Cause>
     Ok(Op::Rename { from, to, exchange })
 }
 
-#[tactic(auto, unfolding(crate::specs::Operations::link_at))]
+#[tactic(auto, unfolding(crate::specs::Operations::operations, crate::specs::Operations::operation_named, crate::specs::Operations::paths_of, crate::specs::Operations::are_spelt, crate::specs::Members::path_in))]
 fn link_of(alloc: Global, value: &Value<'_>) -> Result<Op, Cause>
-    ensures { Gives (λ op. op) result (link_at (value_data value.now)) }
+    ensures { Gives (λ op. op) result (operation_named (codes "link") (value_data value.now)) }
 {
     let from = text_of(value, "from")?;
     let to = text_of(value, "to")?;
@@ -193,11 +194,54 @@ fn link_of(alloc: Global, value: &Value<'_>) -> Result<Op, Cause>
     Ok(Op::Link { from, to })
 }
 
-#[tactic(auto, unfolding(crate::specs::Operations::ioctl_at))]
+#[tactic(auto, unfolding(crate::specs::Operations::operations, crate::specs::Operations::operation_named))]
 fn ioctl_of(value: &Value<'_>) -> Result<Op, Cause>
-    ensures { Reads (λ op. op) result (ioctl_at (value_data value.now)) }
+    ensures { Reads (λ op. op) result (operation_named (codes "ioctl") (value_data value.now)) }
 {
     let fd = number_of(value, "fd")?;
     let driver = truth_of(value, "driver")?;
     Ok(Op::Ioctl { fd, driver })
+}
+
+impl Op {
+    /// The operation's name, as the trace and the report spell it.
+    #[tactic(auto, unfolding(crate::specs::Operations::op_name))]
+    pub fn name(&self) -> &'static str
+        ensures { result.now ≡ op_name self.now }
+    {
+        match self {
+            Op::Start { .. } => "start",
+            Op::Fork { .. } => "fork",
+            Op::Exit => "exit",
+            Op::Nnp => "nnp",
+            Op::Create { .. } => "create",
+            Op::AddPath { .. } => "add_path",
+            Op::AddPort { .. } => "add_port",
+            Op::CloseRs { .. } => "close_rs",
+            Op::Restrict { .. } => "restrict",
+            Op::OpenFile { .. } => "open",
+            Op::Adopt { .. } => "adopt",
+            Op::Dup { .. } => "dup",
+            Op::Close { .. } => "close",
+            Op::Ftruncate { .. } => "ftruncate",
+            Op::Truncate { .. } => "truncate",
+            Op::Exec { .. } => "exec",
+            Op::Mknod { .. } => "mknod",
+            Op::Mkdir { .. } => "mkdir",
+            Op::Symlink { .. } => "symlink",
+            Op::Unlink { .. } => "unlink",
+            Op::Rmdir { .. } => "rmdir",
+            Op::Rename { .. } => "rename",
+            Op::Link { .. } => "link",
+            Op::Mount => "mount",
+            Op::Bind { .. } => "bind",
+            Op::Connect { .. } => "connect",
+            Op::Ioctl { .. } => "ioctl",
+            Op::CreateEmpty { .. } => "create",
+            Op::LeaveOut { rule } => match rule {
+                RuleType::PathBeneath => "add_path",
+                RuleType::NetPort => "add_port",
+            },
+        }
+    }
 }

@@ -1,41 +1,31 @@
 use Rattle.std.proofs.Common.{◌≡◌, ◌∙◌, ◌∷◌, ◌++◌, ℕ, List, [], ap, arith, length, map, sym}
-use Rattle.std.specs.Prelude.{slice_get}
 use Rattle.std.specs.List.{range_with_len}
-use Rattle.ll_semantics.specs.declared.answer.Answer.{Answer}
 use Rattle.std.proofs.lemmas.List.FromFn.{map-range_with_len_more}
 use Rattle.ll_explain.specs.Explained.{text_at}
 use Rattle.ll_semantics.proofs.Worlds.{length-judged}
 use Rattle.ll_trails.proofs.AtPlaces.{begins_at}
-use Rattle.ll_report.proofs.Explaining.{stands}
+use Rattle.ll_report.proofs.Explaining.{among, given_at}
 use Rattle.ll_report.proofs.found.explanations_of.Goals as goal
 
 pub loop-place-init : goal.loop-place-init
 loop-place-init c = (c.new-texts.ensures, begins_at c.args.case.now c.new-trails.result c.new-trails.ensures)
 
 pub push_explanation-requires-clause-place : goal.push_explanation-requires-clause-place
-push_explanation-requires-clause-place c =
-    let of = c.args.case.now in
-    let counts : length c.args.answers.now ≡ length of.records = ap length c.requires ∙ length-judged of.tree of.abi of.records in
-    omega (arith, counts, c.loop-place-test.true)
+push_explanation-requires-clause-place c = among c.args.case.now c.args.answers.now c.loop-place.place c.requires c.loop-place-test.true
 
 pub push_explanation-requires-clause-answer : goal.push_explanation-requires-clause-answer
 push_explanation-requires-clause-answer c =
-    ap (λ (given : List Answer). slice_get given c.loop-place.place) (sym c.requires)
-    ∙ stands c.args.answers.now c.loop-place.place c.index-answers-place.result c.loop-place-test.true c.index-answers-place.is
+    given_at c.args.case.now c.args.answers.now c.loop-place.place c.index-answers-place.result c.requires c.loop-place-test.true c.index-answers-place.is
 
 pub push_explanation-requires-clause-trails : goal.push_explanation-requires-clause-trails
 push_explanation-requires-clause-trails c = c.loop-place.invariant.1
 
 pub follow-requires-clause-place : goal.follow-requires-clause-place
-follow-requires-clause-place c =
-    let of = c.args.case.now in
-    let counts : length c.args.answers.now ≡ length of.records = ap length c.requires ∙ length-judged of.tree of.abi of.records in
-    omega (arith, counts, c.loop-place-test.true)
+follow-requires-clause-place c = among c.args.case.now c.args.answers.now c.loop-place.place c.requires c.loop-place-test.true
 
 pub follow-requires-clause-answer : goal.follow-requires-clause-answer
 follow-requires-clause-answer c =
-    ap (λ (given : List Answer). slice_get given c.loop-place.place) (sym c.requires)
-    ∙ stands c.args.answers.now c.loop-place.place c.index-answers-place.result c.loop-place-test.true c.index-answers-place.is
+    given_at c.args.case.now c.args.answers.now c.loop-place.place c.index-answers-place.result c.requires c.loop-place-test.true c.index-answers-place.is
 
 pub loop-place-preserved : goal.loop-place-preserved
 loop-place-preserved c =
