@@ -21,7 +21,7 @@ use ll_tree::{NodeId, Tree};
 pub(crate) struct Alone<'a> {
     pub(crate) tree: &'a Tree,
     pub(crate) layer: &'a Layer,
-    pub ghost rules: { AreInTree tree.now layer.now } by { Prim.hlevel props },
+    ghost rules: { AreInTree tree.now layer.now } by { Prim.hlevel props },
 }
 
 impl<'a> Alone<'a> {

@@ -215,14 +215,16 @@ pub fn check_move_counted(
     let to = entering(tree, attempt);
     let (lacking, look_ups) = stack.lacking_of(from.directory, to.directory);
     let denied = filled(lacking.denied(from, to));
-    if !denied.is_empty() || to.directory == from.directory {
-        return (verdict_of(denied, LayerSet::new()), look_ups);
-    }
-    let passage = Passage {
-        stack,
-        attempt: *attempt,
-        lacking,
+    let (held_back, more) = if !denied.is_empty() || to.directory == from.directory {
+        (LayerSet::new(), 0)
+    } else {
+        let attempt = *attempt;
+        Passage {
+            stack,
+            attempt,
+            lacking,
+        }
+        .held_back()
     };
-    let (held_back, more) = passage.held_back();
-    (verdict_of(denied, filled(held_back)), look_ups + more)
+    (verdict_of(denied, held_back), look_ups + more)
 }

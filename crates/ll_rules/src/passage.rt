@@ -5,16 +5,17 @@ ghost use Rattle.std.proofs.Props.{props};
 ghost use Rattle.ll_rights.specs.Rights.{FsRight, has, is_file_right, some_right};
 ghost use Rattle.ll_tree.specs.Trees.{IsNode, path_at, kind_at, is_dir};
 ghost use Rattle.ll_tree.specs.TreeFacts.{IsTree, depth_at};
-ghost use Rattle.ll_rules.specs.InTree.{in_tree, IsTargetIn, IsTargetIn-once};
+ghost use Rattle.ll_rules.specs.InTree.{in_tree, all_in_tree, IsTargetIn, IsTargetIn-once};
+ghost use Rattle.ll_rules.specs.Checks.{numbers_where};
 ghost use Rattle.ll_rules.specs.KeptLayers.{granted_on_node};
 ghost use Rattle.ll_rules.specs.Moves.{source_of, destination_of, other_gains, holds_back};
 ghost use Rattle.ll_rules.specs.Lanes.{lane, AreLacking};
 ghost use Rattle.ll_rules.specs.Stacks.{layers_of, stacked};
 
-use crate::lanes::{either, no_rights, within, without};
+use crate::lanes::{either, filled, no_rights, within, without};
 use crate::ruleset::is_directory;
 use crate::stack::Stack;
-use crate::{Asked, How, Move, Target};
+use crate::{Asked, How, LayerSet, Move, Target};
 use ll_rights::{Fs, Kind};
 use ll_tree::NodeId;
 use std::simd::prelude::*;
@@ -110,11 +111,11 @@ pub(crate) struct Passage<'a> {
     pub(crate) stack: Stack<'a>,
     pub(crate) attempt: Move,
     pub(crate) lacking: Lacking,
-    pub ghost tree: { IsTree stack.tree.now } by { Prim.hlevel props },
-    pub ghost moved: { IsNode stack.tree.now attempt.moved },
-    pub ghost target: { IsTargetIn stack.tree.now attempt.target } by { IsTargetIn-once stack.tree.now attempt.target },
-    pub ghost at_source: { AreLacking stack.tree.now (layers_of stack) (source_of stack.tree.now attempt) lacking.source } by { Prim.hlevel props },
-    pub ghost at_destination: { AreLacking stack.tree.now (layers_of stack) (destination_of stack.tree.now attempt.target) lacking.destination } by { Prim.hlevel props },
+    ghost tree: { IsTree stack.tree.now } by { Prim.hlevel props },
+    ghost moved: { IsNode stack.tree.now attempt.moved },
+    ghost target: { IsTargetIn stack.tree.now attempt.target } by { IsTargetIn-once stack.tree.now attempt.target },
+    ghost at_source: { AreLacking stack.tree.now (layers_of stack) (source_of stack.tree.now attempt) lacking.source } by { Prim.hlevel props },
+    ghost at_destination: { AreLacking stack.tree.now (layers_of stack) (destination_of stack.tree.now attempt.target) lacking.destination } by { Prim.hlevel props },
 }
 
 impl<'a> Passage<'a> {
@@ -136,11 +137,10 @@ impl<'a> Passage<'a> {
         }
     }
 
-    /// Why each layer keeps the move from leaving the directory: the right to move files between directories where
-    /// it is missing, and what an object would gain. And how many look-ups it took to tell.
-    pub(crate) fn held_back(&self) -> (u16x16, u64)
-        ensures held { (place : ℕ) → some_right (has (lane result.0 place))
-            ≡ holds_back self.now.stack.tree.now self.now.attempt (in_tree self.now.stack.tree.now (stacked self.now.stack place)) }
+    /// The layers that keep the move from leaving the directory: those under which the right to move files between
+    /// directories is missing, or an object would gain a right. And how many look-ups it took to tell.
+    pub(crate) fn held_back(&self) -> (LayerSet, u64)
+        ensures held { result.0 ≡ numbers_where (holds_back self.now.stack.tree.now self.now.attempt) (all_in_tree self.now.stack.tree.now (layers_of self.now.stack)) }
         ensures count { result.1 ≤ length self.now.stack.ids.now * 2 }
     {
         let source = u16x16::from_array(self.lacking.source);
@@ -148,6 +148,6 @@ impl<'a> Passage<'a> {
         let kept = within(either(source, destination), Fs::REFER);
         let (own, first) = self.stack.gained(self.attempt.moved, source, destination);
         let (other, second) = self.other_gained();
-        (either(kept, either(own, other)), first + second)
+        (filled(either(kept, either(own, other))), first + second)
     }
 }

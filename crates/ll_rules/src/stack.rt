@@ -14,7 +14,7 @@ pub(crate) struct Stack<'a> {
     pub(crate) tree: &'a Tree,
     pub(crate) layers: &'a [Layer],
     pub(crate) ids: &'a [LayerId],
-    pub ghost domain: { IsDomainOf layers.now ids.now } by { Prim.hlevel props },
-    pub ghost few: { length ids.now ≤ 16 },
-    pub ghost rules: { All (AreInTree tree.now) layers.now } by { Prim.hlevel props },
+    ghost domain: { IsDomainOf layers.now ids.now } by { Prim.hlevel props },
+    ghost few: { length ids.now ≤ 16 },
+    ghost rules: { All (AreInTree tree.now) layers.now } by { Prim.hlevel props },
 }
