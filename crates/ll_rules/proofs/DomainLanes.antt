@@ -241,7 +241,7 @@ pub left_unasked : (tree : List Entry) (rules : RulesOn ℕ) (at : Option NodeId
 left_unasked tree rules at right has_it total is so_far = sym (and_true has_it) ∙ sym (ap (λ (b : Bool). has_it && not b) (nothing_above tree rules at right is)) ∙ so_far
 
 -- the layers of a domain have their rules in the tree
-all_in : (tree : List Entry) (layers : List (RulesOn ℕ)) (id : LayerId) → All (AreInTree tree) layers → AreInTree tree (layer_at layers id)
+pub all_in : (tree : List Entry) (layers : List (RulesOn ℕ)) (id : LayerId) → All (AreInTree tree) layers → AreInTree tree (layer_at layers id)
 all_in tree layers id all =
     let nowhere = without_rules {P = ℕ} files.no_right network.no_right in
     elim (cases_lt id.0 (length layers)) [

@@ -1,6 +1,7 @@
 -- Layers with rules on the nodes of a tree, as layers with rules on the paths of these nodes.
 -- Source: landlock(7), "Landlock rules".
 use Rattle.std.specs.Prelude.{ℕ, ◌<◌, List, map, length, All}
+use Rattle.std.proofs.Props.{props}
 use Rattle.ll_rights.specs.declared.fs.Fs.{Fs}
 use Rattle.ll_tree.specs.declared.place.NodeId.{NodeId}
 use Rattle.ll_tree.specs.Paths.{Path}
@@ -41,3 +42,8 @@ IsOfTree tree Nowhere = Unit {0}
 abbrev pub IsTargetIn : List Entry → Target → Type 0
 IsTargetIn tree (New directory) = IsNode tree directory
 IsTargetIn tree (Over there) = IsNode tree there
+
+-- a fact on a target has one proof
+pub IsTargetIn-once : (tree : List Entry) (target : Target) → IsProp (IsTargetIn tree target)
+IsTargetIn-once tree (New directory) = hlevel props
+IsTargetIn-once tree (Over there) = hlevel props

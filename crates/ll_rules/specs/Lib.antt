@@ -8,5 +8,6 @@ pub mod RuleFaults
 pub mod Checks
 pub mod Moves
 pub mod Lanes
+pub mod Stacks
 pub mod WaysUp
 pub mod WorkedRules

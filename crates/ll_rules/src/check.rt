@@ -8,9 +8,9 @@ ghost use Rattle.ll_rules.specs.KeptLayers.{layer_at, domain_of, IsDomainOf};
 ghost use Rattle.ll_rules.specs.InTree.{all_in_tree};
 ghost use Rattle.ll_rules.specs.Checks.{refusing, refusing_port, refusing_mount};
 
-use crate::alone::check_alone;
-use crate::climb::{asked_in, climb};
+use crate::alone::Alone;
 use crate::lanes::filled;
+use crate::stack::Stack;
 use crate::{Domain, Layer, LayerId, LayerSet};
 use ll_rights::{Fs, Net};
 use ll_tree::{NodeId, Tree};
@@ -59,11 +59,12 @@ pub fn check_path_counted(
 {
     let ids = domain.layers();
     if let [id] = ids {
-        return check_alone(tree, layer_of(layers, *id), node, wanted);
+        let layer = layer_of(layers, *id);
+        return Alone { tree, layer }.check(node, wanted);
     }
-    let mut look_ups = 0;
-    let mut lacking = asked_in(layers, ids, wanted);
-    climb(tree, layers, ids, node, &mut lacking, &mut look_ups);
+    let stack = Stack { tree, layers, ids };
+    let mut lacking = stack.asked_in(wanted);
+    let look_ups = stack.climb(node, &mut lacking);
     (filled(u16x16::from_array(lacking)), look_ups)
 }
 

@@ -1,22 +1,23 @@
 //! One climb from a node to the root, for all layers of a domain at once.
 
-ghost use Rattle.std.specs.Prelude.{◌≡◌, ℕ, ◌+◌, ◌*◌, ◌^◌, ◌≤◌, ◌<◌, ◌&&◌, not, true, false, length, take, count_by, All, IfSome, ◌==◌};
+ghost use Rattle.std.specs.Prelude.{◌≡◌, ℕ, ◌+◌, ◌*◌, ◌^◌, ◌≤◌, ◌<◌, ◌&&◌, not, true, false, length, take, count_by, IfSome, ◌==◌};
 ghost use Rattle.std.specs.List.{list_any};
 ghost use Rattle.ll_rights.specs.Rights.{FsRight, has};
 ghost use Rattle.ll_tree.specs.Trees.{IsNode, path_at};
 ghost use Rattle.ll_tree.specs.TreeFacts.{depth_at};
-ghost use Rattle.ll_rules.specs.InTree.{AreInTree, in_tree};
+ghost use Rattle.ll_rules.specs.InTree.{in_tree};
 ghost use Rattle.ll_rules.specs.Layers.{handles, granted};
 ghost use Rattle.ll_rules.specs.KeptLayers.{granted_on_node};
-ghost use Rattle.ll_rules.specs.KeptLayers.{domain_of, IsDomainOf};
-ghost use Rattle.ll_rules.specs.Lanes.{set_of, lane, layer_in};
+ghost use Rattle.ll_rules.specs.Lanes.{set_of, lane};
+ghost use Rattle.ll_rules.specs.Stacks.{stacked};
 ghost use Rattle.ll_rules.specs.WaysUp.{nodes_up, granted_above};
 
+use crate::Layer;
 use crate::check::layer_of;
 use crate::lanes::bits_of;
-use crate::{Layer, LayerId};
+use crate::stack::Stack;
 use ll_rights::Fs;
-use ll_tree::{NodeId, Tree};
+use ll_tree::NodeId;
 
 /// What one layer handles, as the bits of a lane.
 fn handled_bits(layer: &Layer) -> u16
@@ -32,32 +33,6 @@ pub(crate) fn asked_of(layer: &Layer, wanted: Fs) -> u16
     handled_bits(layer) & bits_of(wanted)
 }
 
-/// What each layer of a domain handles, in its lane.
-pub(crate) fn handled_in(layers: &[Layer], ids: &[LayerId]) -> [u16; 16]
-    requires domain { IsDomainOf layers.now ids.now }
-    requires few { length ids.now ≤ 16 }
-    ensures { (place : ℕ) (right : FsRight) → has (lane result place) right ≡ handles (layer_in (domain_of layers.now ids.now) place) right }
-{
-    let mut row = [0; 16];
-    for (place, id) in ids.iter().enumerate() {
-        row[place] = handled_bits(layer_of(layers, *id));
-    }
-    row
-}
-
-/// What each layer of a domain handles of some rights, in its lane.
-pub(crate) fn asked_in(layers: &[Layer], ids: &[LayerId], wanted: Fs) -> [u16; 16]
-    requires domain { IsDomainOf layers.now ids.now }
-    requires few { length ids.now ≤ 16 }
-    ensures { (place : ℕ) (right : FsRight) → has (lane result place) right ≡ (handles (layer_in (domain_of layers.now ids.now) place) right && has wanted right) }
-{
-    let mut row = [0; 16];
-    for (place, id) in ids.iter().enumerate() {
-        row[place] = asked_of(layer_of(layers, *id), wanted);
-    }
-    row
-}
-
 /// What is left in a lane once its layer was asked for its rule on a node. It isn't asked for nothing.
 pub(crate) fn left_of(layer: &Layer, node: NodeId, lane: u16, look_ups: &mut u64) -> u16
     requires room { look_ups.old + 1 < 2 ^ 64 }
@@ -70,148 +45,146 @@ pub(crate) fn left_of(layer: &Layer, node: NodeId, lane: u16, look_ups: &mut u64
     lane & !bits_of(layer.rule_on(node, look_ups))
 }
 
-/// Asks each layer of a domain for its rule on a node, where its lane isn't empty, and takes from the lane what
-/// the rule grants. Answers whether anything is left in the lanes of these layers.
-pub(crate) fn ask_on(
-    layers: &[Layer],
-    ids: &[LayerId],
-    node: NodeId,
-    lanes: &mut [u16; 16],
-    look_ups: &mut u64,
-) -> bool
-    requires domain { IsDomainOf layers.now ids.now }
-    requires few { length ids.now ≤ 16 }
-    requires room { look_ups.old + 16 < 2 ^ 64 }
-    ensures left { (place : ℕ) (right : FsRight) → has (lane lanes.new place) right ≡ (has (lane lanes.old place) right && not (granted_on_node (layer_in (domain_of layers.now ids.now) place) node right)) }
-    ensures none { result ≡ false → (place : ℕ) → place < length ids.now → (right : FsRight) → has (lane lanes.new place) right ≡ false }
-    ensures count { look_ups.new ≤ look_ups.old + length ids.now }
-{
-    let mut all = 0;
-    for (place, id) in ids.iter().enumerate() {
-        let left = left_of(layer_of(layers, *id), node, lanes[place], look_ups);
-        lanes[place] = left;
-        all |= left;
-    }
-    all != 0
-}
-
-/// On which of two nodes some layer of a domain may have a rule, by the filters of all of them. Each layer is taken
-/// once for both nodes.
-fn marked_of(layers: &[Layer], ids: &[LayerId], lower: NodeId, upper: NodeId) -> (bool, bool)
-    requires domain { IsDomainOf layers.now ids.now }
-    ensures lower { result.0 ≡ false → (place : ℕ) (right : FsRight) → granted_on_node (layer_in (domain_of layers.now ids.now) place) lower right ≡ false }
-    ensures upper { result.1 ≡ false → (place : ℕ) (right : FsRight) → granted_on_node (layer_in (domain_of layers.now ids.now) place) upper right ≡ false }
-{
-    let mut at_lower = 0;
-    let mut at_upper = 0;
-    for id in ids {
-        let layer = layer_of(layers, *id);
-        at_lower |= layer.marks_beside(lower);
-        at_upper |= layer.marks_beside(upper);
-    }
-    let lower_is = at_lower >> (lower.index() % 64) & 1 == 1;
-    let upper_is = at_upper >> (upper.index() % 64) & 1 == 1;
-    (lower_is, upper_is)
-}
-
-/// The first node from one up on which some layer of a domain may have a rule, if there is one. It goes up two nodes
-/// at a time, and the root, where it is left alone, may have one. On each node before, where the filters say that
-/// there is none, the layers that are `asked` are counted.
-fn next_marked(
-    tree: &Tree,
-    layers: &[Layer],
-    ids: &[LayerId],
-    from: Option<NodeId>,
-    asked: u64,
-    look_ups: &mut u64,
-) -> Option<NodeId>
-    requires domain { IsDomainOf layers.now ids.now }
-    requires rules { All (AreInTree tree.now) layers.now }
-    requires from { IfSome from (IsNode tree.now) }
-    requires asked { asked ≤ length ids.now }
-    requires room { look_ups.old + length ids.now * nodes_up tree.now from < 2 ^ 64 }
-    ensures inside { IfSome result (IsNode tree.now) }
-    ensures above { nodes_up tree.now result ≤ nodes_up tree.now from }
-    ensures passed { (place : ℕ) (right : FsRight) → granted_above tree.now (layer_in (domain_of layers.now ids.now) place) result right ≡ granted_above tree.now (layer_in (domain_of layers.now ids.now) place) from right }
-    ensures count { look_ups.new + length ids.now * nodes_up tree.now result ≤ look_ups.old + length ids.now * nodes_up tree.now from }
-{
-    let mut at = from;
-    while let Some(here) = at {
-        let Some(up) = tree.parent(here) else {
-            return at;
-        };
-        let (here_is, up_is) = marked_of(layers, ids, here, up);
-        if here_is {
-            return at;
+impl<'a> Stack<'a> {
+    /// What each layer handles, in its lane.
+    pub(crate) fn handled_in(&self) -> [u16; 16]
+        ensures { (place : ℕ) (right : FsRight) → has (lane result place) right ≡ handles (stacked self.now place) right }
+    {
+        let mut row = [0; 16];
+        for (place, id) in self.ids.iter().enumerate() {
+            row[place] = handled_bits(layer_of(self.layers, *id));
         }
-        *look_ups += asked;
-        if up_is {
-            return Some(up);
-        }
-        *look_ups += asked;
-        at = tree.parent(up);
+        row
     }
-    None
-}
 
-/// Whether one of the first lanes holds anything.
-fn is_any_filled(lanes: &[u16; 16], count: usize) -> bool
-    requires { count ≤ 16 }
-    ensures exact { result ≡ list_any (λ bits. not (bits == 0)) (take count lanes.now) }
-    ensures none { result ≡ false → (place : ℕ) → place < count → (right : FsRight) → has (lane lanes.now place) right ≡ false }
-{
-    for place in 0..count {
-        if lanes[place] != 0 {
-            return true;
+    /// What each layer handles of some rights, in its lane.
+    pub(crate) fn asked_in(&self, wanted: Fs) -> [u16; 16]
+        ensures { (place : ℕ) (right : FsRight) → has (lane result place) right ≡ (handles (stacked self.now place) right && has wanted right) }
+    {
+        let mut row = [0; 16];
+        for (place, id) in self.ids.iter().enumerate() {
+            row[place] = asked_of(layer_of(self.layers, *id), wanted);
         }
+        row
     }
-    false
-}
 
-/// How many of the first lanes hold anything.
-fn count_filled(lanes: &[u16; 16], count: usize) -> u64
-    requires { count ≤ 16 }
-    ensures exact { result ≡ count_by (λ bits. not (bits == 0)) (take count lanes.now) }
-    ensures few { result ≤ count }
-{
-    let mut filled = 0;
-    for place in 0..count {
-        filled += u64::from(lanes[place] != 0);
-    }
-    filled
-}
-
-/// Takes from each lane what its layer grants by its rules from a node up to the root. A layer whose lane is
-/// empty isn't asked any more.
-pub(crate) fn climb(
-    tree: &Tree,
-    layers: &[Layer],
-    ids: &[LayerId],
-    node: NodeId,
-    lanes: &mut [u16; 16],
-    look_ups: &mut u64,
-)
-    requires domain { IsDomainOf layers.now ids.now }
-    requires rules { All (AreInTree tree.now) layers.now }
-    requires node { IsNode tree.now node }
-    requires few { length ids.now ≤ 16 }
-    requires room { look_ups.old < 2 ^ 60 }
-    ensures left { (place : ℕ) (right : FsRight) → has (lane lanes.new place) right ≡ (has (lane lanes.old place) right && not (granted (in_tree tree.now (layer_in (domain_of layers.now ids.now) place)) (path_at tree.now node) right)) }
-    ensures count { look_ups.new ≤ look_ups.old + length ids.now * (depth_at tree.now node + 1) }
-    ensures little { look_ups.new ≤ look_ups.old + 2 ^ 40 }
-{
-    // The depth has 32 bits, so the count has room.
-    let _depth = tree.depth(node);
-    if !is_any_filled(lanes, ids.len()) {
-        return;
-    }
-    let mut asked = count_filled(lanes, ids.len());
-    let mut at = Some(node);
-    while let Some(here) = next_marked(tree, layers, ids, at, asked, look_ups) {
-        at = tree.parent(here);
-        if !ask_on(layers, ids, here, lanes, look_ups) {
-            return;
+    /// Asks each layer for its rule on a node, where its lane isn't empty, and takes from the lane what the rule
+    /// grants. Answers whether anything is left in the lanes of these layers.
+    pub(crate) fn ask_on(&self, node: NodeId, lanes: &mut [u16; 16], look_ups: &mut u64) -> bool
+        requires room { look_ups.old + 16 < 2 ^ 64 }
+        ensures left { (place : ℕ) (right : FsRight) → has (lane lanes.new place) right ≡ (has (lane lanes.old place) right && not (granted_on_node (stacked self.now place) node right)) }
+        ensures none { result ≡ false → (place : ℕ) → place < length self.now.ids.now → (right : FsRight) → has (lane lanes.new place) right ≡ false }
+        ensures count { look_ups.new ≤ look_ups.old + length self.now.ids.now }
+    {
+        let mut all = 0;
+        for (place, id) in self.ids.iter().enumerate() {
+            let left = left_of(layer_of(self.layers, *id), node, lanes[place], look_ups);
+            lanes[place] = left;
+            all |= left;
         }
-        asked = count_filled(lanes, ids.len());
+        all != 0
+    }
+
+    /// On which of two nodes some layer may have a rule, by the filters of all of them. Each layer is taken once for
+    /// both nodes.
+    fn marked_of(&self, lower: NodeId, upper: NodeId) -> (bool, bool)
+        ensures lower { result.0 ≡ false → (place : ℕ) (right : FsRight) → granted_on_node (stacked self.now place) lower right ≡ false }
+        ensures upper { result.1 ≡ false → (place : ℕ) (right : FsRight) → granted_on_node (stacked self.now place) upper right ≡ false }
+    {
+        let mut at_lower = 0;
+        let mut at_upper = 0;
+        for id in self.ids {
+            let layer = layer_of(self.layers, *id);
+            at_lower |= layer.marks_beside(lower);
+            at_upper |= layer.marks_beside(upper);
+        }
+        let lower_is = at_lower >> (lower.index() % 64) & 1 == 1;
+        let upper_is = at_upper >> (upper.index() % 64) & 1 == 1;
+        (lower_is, upper_is)
+    }
+
+    /// The first node from one up on which some layer may have a rule, if there is one. It goes up two nodes at a
+    /// time, and the root, where it is left alone, may have one. On each node before, where the filters say that
+    /// there is none, the layers whose lanes hold anything are counted.
+    fn next_marked(
+        &self,
+        from: Option<NodeId>,
+        lanes: &[u16; 16],
+        look_ups: &mut u64,
+    ) -> Option<NodeId>
+        requires from { IfSome from (IsNode self.now.tree.now) }
+        requires room { look_ups.old + length self.now.ids.now * nodes_up self.now.tree.now from < 2 ^ 64 }
+        ensures inside { IfSome result (IsNode self.now.tree.now) }
+        ensures above { nodes_up self.now.tree.now result ≤ nodes_up self.now.tree.now from }
+        ensures passed { (place : ℕ) (right : FsRight) → granted_above self.now.tree.now (stacked self.now place) result right ≡ granted_above self.now.tree.now (stacked self.now place) from right }
+        ensures count { look_ups.new + length self.now.ids.now * nodes_up self.now.tree.now result ≤ look_ups.old + length self.now.ids.now * nodes_up self.now.tree.now from }
+    {
+        let asked = self.count_filled(lanes);
+        let mut at = from;
+        while let Some(here) = at {
+            let Some(up) = self.tree.parent(here) else {
+                return at;
+            };
+            let (here_is, up_is) = self.marked_of(here, up);
+            if here_is {
+                return at;
+            }
+            *look_ups += asked;
+            if up_is {
+                return Some(up);
+            }
+            *look_ups += asked;
+            at = self.tree.parent(up);
+        }
+        None
+    }
+
+    /// Whether the lane of some layer holds anything.
+    fn is_any_filled(&self, lanes: &[u16; 16]) -> bool
+        ensures exact { result ≡ list_any (λ bits. not (bits == 0)) (take (length self.now.ids.now) lanes.now) }
+        ensures none { result ≡ false → (place : ℕ) → place < length self.now.ids.now → (right : FsRight) → has (lane lanes.now place) right ≡ false }
+    {
+        for place in 0..self.ids.len() {
+            if lanes[place] != 0 {
+                return true;
+            }
+        }
+        false
+    }
+
+    /// Of how many layers the lanes hold anything.
+    fn count_filled(&self, lanes: &[u16; 16]) -> u64
+        ensures exact { result ≡ count_by (λ bits. not (bits == 0)) (take (length self.now.ids.now) lanes.now) }
+        ensures few { result ≤ length self.now.ids.now }
+    {
+        let mut filled = 0;
+        for place in 0..self.ids.len() {
+            filled += u64::from(lanes[place] != 0);
+        }
+        filled
+    }
+
+    /// Takes from each lane what its layer grants by its rules from a node up to the root, and answers how many
+    /// look-ups that took. A layer whose lane is empty isn't asked any more.
+    pub(crate) fn climb(&self, node: NodeId, lanes: &mut [u16; 16]) -> u64
+        requires { IsNode self.now.tree.now node }
+        ensures left { (place : ℕ) (right : FsRight) → has (lane lanes.new place) right ≡ (has (lane lanes.old place) right && not (granted (in_tree self.now.tree.now (stacked self.now place)) (path_at self.now.tree.now node) right)) }
+        ensures count { result ≤ length self.now.ids.now * (depth_at self.now.tree.now node + 1) }
+        ensures little { result ≤ 2 ^ 40 }
+    {
+        // The depth has 32 bits, so the count has room.
+        let _depth = self.tree.depth(node);
+        let mut look_ups = 0;
+        if !self.is_any_filled(lanes) {
+            return look_ups;
+        }
+        let mut at = Some(node);
+        while let Some(here) = self.next_marked(at, lanes, &mut look_ups) {
+            at = self.tree.parent(here);
+            if !self.ask_on(here, lanes, &mut look_ups) {
+                return look_ups;
+            }
+        }
+        look_ups
     }
 }

@@ -12,8 +12,10 @@ mod lanes;
 mod laws;
 mod layer_set;
 mod moves;
+mod passage;
 mod ruleset;
 mod sameness;
+mod stack;
 
 pub use check::{check_mount, check_path, check_path_counted, check_port};
 pub use domain::{Domain, LayerId};

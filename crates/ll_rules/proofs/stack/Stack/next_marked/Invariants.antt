@@ -1,0 +1,20 @@
+use Rattle.std.proofs.Common.{◌≡◌, ℕ, ◌+◌, ◌*◌, ◌≤◌, length}
+use Rattle.std.specs.Prelude.{IfSome}
+use Rattle.std.specs.Option.{option_map_or}
+use Rattle.ll_rights.specs.Rights.{FsRight}
+use Rattle.ll_tree.specs.Trees.{IsNode}
+use Rattle.ll_rules.specs.WaysUp.{nodes_up, granted_above}
+use Rattle.ll_rules.specs.Stacks.{stacked}
+use Rattle.ll_rules.proofs.stack.Stack.next_marked.Given as goal
+
+-- nothing is granted on what was passed
+abbrev pub invariant-loop-at : goal.invariant-loop-at
+invariant-loop-at l = record {
+  inside : IfSome l.at (IsNode l.self.tree.now);
+  above : nodes_up l.self.tree.now l.at ≤ nodes_up l.self.tree.now l.fn.from;
+  passed : (place : ℕ) (right : FsRight) → granted_above l.self.tree.now (stacked l.self place) l.at right ≡ granted_above l.self.tree.now (stacked l.self place) l.fn.from right;
+  count : l.look_ups + length l.self.ids.now * nodes_up l.self.tree.now l.at ≤ l.fn.look_ups + length l.self.ids.now * nodes_up l.self.tree.now l.fn.from;
+}
+
+abbrev pub decreases-loop-at : goal.decreases-loop-at
+decreases-loop-at l = option_map_or (λ here. here.0 + 1) l.at 0
