@@ -1,3 +1,4 @@
+pub mod MemoryLemmas
 pub mod LinesLemmas
 pub mod PartsLemmas
 pub mod ValueLemmas

@@ -1,13 +1,14 @@
 -- Reading line after line answers the entries of a good file, and the first fault of a bad one.
-use Rattle.std.proofs.Common.{◌≡◌, ◌≢◌, ◌↔◌, ℕ, ◌⊎◌, inl, inr, List, [], ◌∷◌, ◌++◌, Option, Some, None, Result, Ok, Err, refl, sym, ap, ◌∙◌, append_assoc}
+use Rattle.std.proofs.Common.{◌≡◌, ◌≢◌, ◌↔◌, ℕ, ◌⊎◌, inl, inr, List, [], ◌∷◌, ◌++◌, Option, Some, None, Result, Ok, Err, refl, sym, ap, ◌∙◌, append_assoc, subst}
 use Rattle.std.proofs.lemmas.List.{append-nil}
 use Rattle.ll_lines.specs.declared.fault.Cause.{Cause}
 use Rattle.ll_lines.specs.declared.fault.ReadFault.{ReadFault}
-use Rattle.ll_lines.specs.declared.fault.Cause.TheVariants.{Json, Field, BadPath, NoParent, Twice, TooMany, UnknownProcess, Memory}
+use Rattle.ll_lines.specs.declared.fault.Cause.TheVariants.{Memory}
 use Rattle.ll_lines.specs.Readers.{Fails}
 use Rattle.ll_lines.specs.Lines.{Line, filled_lines}
 use Rattle.ll_lines.specs.Reading.{Format, entries_of, first_fault, IsGood, IsBad}
 use Rattle.ll_lines.specs.LineByLine.{with_line, read_lines, reading, MeetsFault}
+use Rattle.ll_lines.proofs.MemoryLemmas.{unless-map, unless-other}
 
 -- the same, where these entries are before the lines
 abbrev pub fault_from : {Entry : Type 0} → Format Entry → List Entry → List Line → Line → Option Cause
@@ -184,32 +185,21 @@ read_lines_next format earlier entries line others reads = rw reads refl
 pub read_lines_fault : {Entry : Type 0} (format : Format Entry) (earlier : List Entry) (line : Line) (others : List Line) (cause : Cause) → Fails cause (with_line format earlier line)
     → MeetsFault line.number cause (read_lines format earlier (line ∷ others))
 unfolding read_lines
-read_lines_fault format earlier line others Memory fails = tt
-read_lines_fault format earlier line others Json fails = rw fails refl
-read_lines_fault format earlier line others Field fails = rw fails refl
-read_lines_fault format earlier line others BadPath fails = rw fails refl
-read_lines_fault format earlier line others NoParent fails = rw fails refl
-read_lines_fault format earlier line others Twice fails = rw fails refl
-read_lines_fault format earlier line others TooMany fails = rw fails refl
-read_lines_fault format earlier line others UnknownProcess fails = rw fails refl
+read_lines_fault format earlier line others cause fails =
+    unless-map cause (with_line format earlier line) (Err cause) (read_lines format earlier (line ∷ others)) (Err (record { line = line.number; cause = cause })) (λ fault. rw fault refl) fails
+
+pub meets_fault : {Entry : Type 0} (format : Format Entry) (earlier : List Entry) (lines : List Line) (line : Line) (others : List Line) (cause : Cause) (whole : Result (List Entry) ReadFault)
+    → lines ≡ line ∷ others → read_lines format earlier lines ≡ whole → Fails cause (with_line format earlier line) → MeetsFault line.number cause whole
+meets_fault format earlier lines line others cause whole cut reads fails =
+    subst (MeetsFault line.number cause) (sym (ap (read_lines format earlier) cut) ∙ reads) (read_lines_fault format earlier line others cause fails)
 
 pub read_lines_end : {Entry : Type 0} (format : Format Entry) (earlier : List Entry) → read_lines format earlier [] ≡ Ok earlier
 unfolding read_lines
 read_lines_end format earlier = refl
 
-meets_other : {Entry : Type 0} (line : ℕ) (cause : Cause) (read : Result (List Entry) ReadFault) → MeetsFault line cause read → cause ≢ Memory → read ≡ Err (record { line = line; cause = cause })
-meets_other line Memory read meets other = absurd (other refl)
-meets_other line Json read meets other = meets
-meets_other line Field read meets other = meets
-meets_other line BadPath read meets other = meets
-meets_other line NoParent read meets other = meets
-meets_other line Twice read meets other = meets
-meets_other line TooMany read meets other = meets
-meets_other line UnknownProcess read meets other = meets
-
 -- what a reader answers is what the file is
 pub bad_from_fault : {Entry : Type 0} (format : Format Entry) (bytes : List ℕ) (fault : ReadFault) → MeetsFault fault.line fault.cause (reading format bytes) → fault.cause ≢ Memory → IsBad format bytes fault
-bad_from_fault format bytes fault meets other = bad_from_reading format bytes fault (meets_other fault.line fault.cause (reading format bytes) meets other)
+bad_from_fault format bytes fault meets other = bad_from_reading format bytes fault (unless-other fault.cause (reading format bytes) (Err fault) other meets)
 
 pub good_iff_reading : {Entry : Type 0} (format : Format Entry) (bytes : List ℕ) (entries : List Entry) → IsGood format bytes entries ↔ (reading format bytes ≡ Ok entries)
 good_iff_reading format bytes entries = (reading-good format bytes entries, good_from_reading format bytes entries)

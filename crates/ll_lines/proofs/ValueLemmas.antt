@@ -1,21 +1,21 @@
 -- The value that json reads is the one that serde_json says, where every number of it is in range.
-use Rattle.std.proofs.Common.{◌≡◌, ℕ, ◌&&◌, List, Bool, true, false, Option, Some, None, Result, Ok, Err, cond, option_map, refl, sym, ap, ◌∙◌, true≢false}
+use Rattle.std.proofs.Common.{◌≡◌, ℕ, ◌&&◌, List, Bool, true, false, Option, Some, None, Ok, Err, cond, option_map, refl, sym, ap, ◌∙◌, true≢false}
 use Rattle.std.specs.Prelude.{IsUtf8, is_some, option_and_then, ok_or}
 use Rattle.std.specs.Str.{is_utf8, bytes_eq}
-use Rattle.std.specs.declared.alloc.Global.{Global}
 use Rattle.std.proofs.lemmas.Slice.Eq.{bytes_eq-Decides}
 use Rattle.std.proofs.lemmas.Str.{is_utf8-from_IsUtf8, IsUtf8-from_is_utf8}
 use Rattle.json.specs.Json as json
 use Rattle.json.specs.Find as json_find
-use Rattle.serde_json.specs.Data.{Num, Data, null, number, array, object, item, Members, no_members, put}
+use Rattle.serde_json.specs.Data.{Num, Data, null, boolean, number, string, array, object, Members, no_members, put}
 use Rattle.serde_json.specs.Read.{number_of, of_json, of_items, of_members, read}
 use Rattle.serde_json.specs.Find.{get, get_member, as_str, as_number, as_u64, as_bool, as_array}
 use Rattle.serde_json.proofs.Views.{get_member-put, get_member-put_other}
 use Rattle.ll_lines.specs.declared.fault.Cause.{Cause}
-use Rattle.ll_lines.specs.declared.fault.Cause.TheVariants.{Json, Field, BadPath, NoParent, Twice, TooMany, UnknownProcess, Memory}
+use Rattle.ll_lines.specs.declared.fault.Cause.TheVariants.{Json, Field}
 use Rattle.ll_lines.specs.Readers.{Fails}
-use Rattle.ll_lines.specs.Members.{value_of, value_at, text_at, number_at, truth_at, flag_at, flag_in, items_at, items_in, text_in}
+use Rattle.ll_lines.specs.Members.{value_at, text_at, number_at, truth_at, flag_at, items_at, items_in, text_in}
 use Rattle.ll_lines.specs.Values.{number_or_null, data_of, data_of_items, data_of_members, is_in_range, are_in_range, have_range, parsed}
+use Rattle.ll_lines.proofs.MemoryLemmas.{unless-map}
 
 both : (a b : Bool) → (a && b) ≡ true → (a ≡ true) × (b ≡ true)
 both true b e = (refl, e)
@@ -121,41 +121,35 @@ member_of name (json.string text) = refl
 member_of name (json.array values) = refl
 member_of name (json.object entries) = last_member name entries no_members ∙ or_none _
 
+-- two finders that agree on each form of value agree
+by_form : {A : Type 0} (f : Data → Option A) (g : json.Json → Option A) → f null ≡ g json.null → ((b : Bool) → f (boolean b) ≡ g (json.boolean b))
+    → ((text : List ℕ) → f (number_or_null (number_of text)) ≡ g (json.number text)) → ((text : List ℕ) → f (string text) ≡ g (json.string text))
+    → ((values : json.Items) → f (array (data_of_items values)) ≡ g (json.array values))
+    → ((entries : json.Members) → f (object (data_of_members entries no_members)) ≡ g (json.object entries)) → (value : json.Json) → f (data_of value) ≡ g value
+by_form f g at_null at_boolean at_number at_string at_array at_object json.null = at_null
+by_form f g at_null at_boolean at_number at_string at_array at_object (json.boolean b) = at_boolean b
+by_form f g at_null at_boolean at_number at_string at_array at_object (json.number text) = at_number text
+by_form f g at_null at_boolean at_number at_string at_array at_object (json.string text) = at_string text
+by_form f g at_null at_boolean at_number at_string at_array at_object (json.array values) = at_array values
+by_form f g at_null at_boolean at_number at_string at_array at_object (json.object entries) = at_object entries
+
 text_is : (value : json.Json) → as_str (data_of value) ≡ json_find.as_str value
-text_is json.null = refl
-text_is (json.boolean b) = refl
-text_is (json.number text) = none_of as_str refl (λ n. refl) (number_of text)
-text_is (json.string text) = refl
-text_is (json.array values) = refl
-text_is (json.object entries) = refl
+text_is = by_form as_str json_find.as_str refl (λ _. refl) (λ text. none_of as_str refl (λ n. refl) (number_of text)) (λ _. refl) (λ _. refl) (λ _. refl)
 
 truth_is : (value : json.Json) → as_bool (data_of value) ≡ json_find.as_bool value
-truth_is json.null = refl
-truth_is (json.boolean b) = refl
-truth_is (json.number text) = none_of as_bool refl (λ n. refl) (number_of text)
-truth_is (json.string text) = refl
-truth_is (json.array values) = refl
-truth_is (json.object entries) = refl
+truth_is = by_form as_bool json_find.as_bool refl (λ _. refl) (λ text. none_of as_bool refl (λ n. refl) (number_of text)) (λ _. refl) (λ _. refl) (λ _. refl)
 
 number_itself : (n : Option Num) → as_number (number_or_null n) ≡ n
 number_itself (Some n) = refl
 number_itself None = refl
 
 number_is : (value : json.Json) → as_number (data_of value) ≡ option_and_then number_of (json_find.as_number value)
-number_is json.null = refl
-number_is (json.boolean b) = refl
-number_is (json.number text) = number_itself (number_of text)
-number_is (json.string text) = refl
-number_is (json.array values) = refl
-number_is (json.object entries) = refl
+number_is =
+    by_form as_number (λ value. option_and_then number_of (json_find.as_number value)) refl (λ _. refl) (λ text. number_itself (number_of text)) (λ _. refl) (λ _. refl) (λ _. refl)
 
 list_is : (value : json.Json) → as_array (data_of value) ≡ option_map data_of_items (json_find.as_array value)
-list_is json.null = refl
-list_is (json.boolean b) = refl
-list_is (json.number text) = none_of as_array refl (λ n. refl) (number_of text)
-list_is (json.string text) = refl
-list_is (json.array values) = refl
-list_is (json.object entries) = refl
+list_is =
+    by_form as_array (λ value. option_map data_of_items (json_find.as_array value)) refl (λ _. refl) (λ text. none_of as_array refl (λ n. refl) (number_of text)) (λ _. refl) (λ _. refl) (λ _. refl)
 
 -- what a reader finds in a member's data, it finds in the member
 module _ {A : Type 0} (f : Data → Option A) (g : json.Json → Option A) (same : (value : json.Json) → f (data_of value) ≡ g value) where
@@ -231,14 +225,7 @@ not_parsed : (line : List ℕ) (cause : Cause) → IsUtf8 line → ok_or (parsed
 not_parsed line cause utf8 e = text line utf8 ∙ nothing_parsed (parsed line) cause e
 
 pub parse_fails : (line : List ℕ) (cause : Cause) → IsUtf8 line → Fails cause (ok_or (parsed line) Json) → Fails cause (value_at line)
-parse_fails line Memory utf8 e = tt
-parse_fails line Json utf8 e = not_parsed line Json utf8 e
-parse_fails line Field utf8 e = not_parsed line Field utf8 e
-parse_fails line BadPath utf8 e = not_parsed line BadPath utf8 e
-parse_fails line NoParent utf8 e = not_parsed line NoParent utf8 e
-parse_fails line Twice utf8 e = not_parsed line Twice utf8 e
-parse_fails line TooMany utf8 e = not_parsed line TooMany utf8 e
-parse_fails line UnknownProcess utf8 e = not_parsed line UnknownProcess utf8 e
+parse_fails line cause utf8 e = unless-map cause (ok_or (parsed line) Json) (Err cause) (value_at line) (Err cause) (λ fault. not_parsed line cause utf8 fault) e
 
 pub in_range : (line : List ℕ) (value : json.Json) → IsUtf8 line → ok_or (parsed line) Json ≡ Ok value → is_in_range value ≡ true → value_at line ≡ Ok (data_of value)
 in_range line value utf8 e range = text line utf8 ∙ rw (parsed_as (parsed line) value e, converts value range) refl

@@ -3,9 +3,9 @@
 use Rattle.std.specs.Prelude.{◌≡◌, ℕ, List, [], ◌∷◌, ◌++◌, Option, Some, None, Result, Ok, Err}
 use Rattle.ll_lines.specs.declared.fault.Cause.{Cause}
 use Rattle.ll_lines.specs.declared.fault.ReadFault.{ReadFault}
-use Rattle.ll_lines.specs.declared.fault.Cause.TheVariants.{Memory}
 use Rattle.ll_lines.specs.Fault.{◌>>=◌}
 use Rattle.ll_lines.specs.Lines.{Line, filled_lines}
+use Rattle.ll_lines.specs.Readers.{IsUnlessMemory}
 use Rattle.ll_lines.specs.Reading.{Format}
 
 -- the entries, and one more if it has no fault after them
@@ -34,10 +34,9 @@ read_lines format earlier (line ∷ others) = go_on line.number (λ entries. rea
 abbrev pub reading : {Entry : Type 0} → Format Entry → List ℕ → Result (List Entry) ReadFault
 reading format bytes = read_lines format [] (filled_lines bytes)
 
--- out of memory says nothing of the file, and any other fault is the one that reading meets
+-- the fault is the one that reading meets, unless memory ran out
 abbrev pub MeetsFault : {Entry : Type 0} → ℕ → Cause → Result (List Entry) ReadFault → Type 0
-MeetsFault line Memory read = Unit {0}
-MeetsFault line cause read = read ≡ Err (record { line = line; cause = cause })
+MeetsFault line cause read = IsUnlessMemory cause read (Err (record { line = line; cause = cause }))
 
 -- what a reader answered, seen by view, is what reading line after line meets, unless memory ran out
 abbrev pub GivesReading : {X Entry : Type 0} → (X → List Entry) → Result X ReadFault → Result (List Entry) ReadFault → Type 0

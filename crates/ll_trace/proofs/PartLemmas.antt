@@ -1,13 +1,13 @@
 -- Entries of a part that are admitted one after another are read as its lines are.
-use Rattle.std.proofs.Common.{◌≡◌, ℕ, List, [], ◌∷◌, ◌++◌, Option, Some, None, Ok, refl, sym, ap, ◌∙◌, subst, flat_map}
+use Rattle.std.proofs.Common.{◌≡◌, ℕ, List, [], ◌∷◌, ◌++◌, Option, Some, None, Ok, Err, refl, sym, ap, ◌∙◌, subst, flat_map}
 use Rattle.std.specs.List.{AllZip}
 use Rattle.std.proofs.lemmas.List.Concat.{flat_map-cons}
 use Rattle.ll_lines.specs.declared.fault.Cause.{Cause}
-use Rattle.ll_lines.specs.declared.fault.Cause.TheVariants.{Json, Field, BadPath, NoParent, Twice, TooMany, UnknownProcess, Memory}
 use Rattle.ll_lines.specs.declared.fault.ReadFault.{ReadFault}
 use Rattle.ll_lines.specs.Lines.{Line}
 use Rattle.ll_lines.specs.LineByLine.{read_lines, with_entry, with_line, MeetsFault}
 use Rattle.ll_lines.specs.Readers.{Fails}
+use Rattle.ll_lines.proofs.MemoryLemmas.{unless-map}
 use Rattle.ll_lines.proofs.ReadingLemmas.{read_lines_next, read_lines_fault, read_lines_end}
 use Rattle.ll_trace.specs.declared.parts.PartRead.{PartRead}
 use Rattle.ll_trace.specs.declared.reader.Entry as declared
@@ -71,14 +71,7 @@ Goes-all first now lines others goes =
     goes.same others ∙ ap (λ ls. read_lines trace_file now (ls ++ others)) none
 
 cause_of_line : (line : Line) (earlier : List Entry) (cause : Cause) → Fails cause (entry_at line) → Fails cause (with_line trace_file earlier line)
-cause_of_line line earlier Memory fails = tt
-cause_of_line line earlier Json fails = rw fails refl
-cause_of_line line earlier Field fails = rw fails refl
-cause_of_line line earlier BadPath fails = rw fails refl
-cause_of_line line earlier NoParent fails = rw fails refl
-cause_of_line line earlier Twice fails = rw fails refl
-cause_of_line line earlier TooMany fails = rw fails refl
-cause_of_line line earlier UnknownProcess fails = rw fails refl
+cause_of_line line earlier cause fails = unless-map cause (entry_at line) (Err cause) (with_line trace_file earlier line) (Err cause) (λ fault. rw fault refl) fails
 
 meets_line : (earlier : List Entry) (rest others : List Line) (fault : ReadFault) → EndsAt rest (Some fault) → MeetsFault fault.line fault.cause (read_lines trace_file earlier (rest ++ others))
 meets_line earlier [] others fault ends = absurd ends

@@ -10,7 +10,7 @@ use Rattle.ll_lines.specs.Lines.{Line}
 use Rattle.ll_lines.specs.Members.{number_at, text_at, value_at}
 use Rattle.ll_trace.specs.declared.op.Op.{Op}
 use Rattle.ll_trace.specs.Entries.{Entry, entry_at}
-use Rattle.ll_trace.specs.Forms.{meaning, of_one, of_two, of_three, of_four, of_five}
+use Rattle.ll_trace.specs.Forms.{meaning}
 use Rattle.ll_trace.specs.Operations.{op_name, are_spelt, spelt, operations, operation_at, operation_named}
 use Rattle.ll_trace.specs.SaidByName.{SaysOperation}
 

@@ -78,17 +78,6 @@ other_port_name-stays abi rs = call-supported abi (calls.Create rs files.no_righ
 
 -- ---- one version after another
 
--- of nothing nothing is supported
-fs_empty : (abi : Abi) (set : Fs) → files.is_empty set ≡ true → files.is_empty (supported_fs abi set) ≡ true
-fs_empty abi set empty =
-    let none : set ≡ files.no_right = ap (λ bits. record { 0 = bits }) (eqb-true set.0 0 (fs_is_empty set ∙ empty)) in
-    ap (λ (s : Fs). files.is_empty (supported_fs abi s)) none ∙ ap files.is_empty (none_of abi) ∙ sym (fs_is_empty files.no_right)
-
-net_empty : (abi : Abi) (set : Net) → network.is_empty set ≡ true → network.is_empty (supported_net abi set) ≡ true
-net_empty abi set empty =
-    let none : set ≡ network.no_right = ap (λ bits. record { 0 = bits }) (eqb-true set.0 0 (net_is_empty set ∙ empty)) in
-    ap (λ (s : Net). network.is_empty (supported_net abi s)) none ∙ ap network.is_empty (no_port_of abi) ∙ sym (net_is_empty network.no_right)
-
 both : (a b c d : Bool) → (a ≡ true → c ≡ true) → (b ≡ true → d ≡ true) → (a && b) ≡ true → (c && d) ≡ true
 both true true c d first last is = rw (first refl, last refl) refl
 both true false c d first last is = absurd cc
@@ -102,6 +91,29 @@ down f left kept last true false older less still lasts keeps = absurd (let no :
 down f left kept last false true older less still lasts keeps = rw (still refl) lasts
 down f left kept last false false older less still lasts keeps = keeps
 
+-- A kind of set, of which a version supports a part: of nothing it supports nothing.
+module _ {S : Type 0} (is_empty : S → Bool) (supported : Abi → S → S) (nothing : (abi : Abi) (set : S) → is_empty set ≡ true → is_empty (supported abi set) ≡ true)
+    (fewer : (older newer : Abi) (set : S) → number_of older ≤ number_of newer → supported older (supported newer set) ≡ supported older set)
+    (older newer : Abi) (le : number_of older ≤ number_of newer) where
+  still-empty : (set : S) → is_empty (supported newer set) ≡ true → is_empty (supported older set) ≡ true
+  still-empty set empty = ap is_empty (sym (fewer older newer set le)) ∙ nothing older (supported newer set) empty
+
+  rule-older : (f : Op → Op) (adds : S → Op) (left : Op) → f left ≡ left → ((set : S) → f (adds set) ≡ (if is_empty (supported older set) && not (is_empty set) then left else adds (supported older set)))
+      → (set : S) → f (if is_empty (supported newer set) && not (is_empty set) then left else adds (supported newer set)) ≡ (if is_empty (supported older set) && not (is_empty set) then left else adds (supported older set))
+  rule-older f adds left stays is set =
+      down f left (adds (supported newer set)) (adds (supported older set)) (is_empty set) (is_empty (supported newer set)) (is_empty (supported older set)) (nothing newer set) (still-empty set) stays
+      (is (supported newer set) ∙ ap (λ (s : S). if is_empty s && not (is_empty (supported newer set)) then left else adds s) (fewer older newer set le))
+
+fs_empty : (abi : Abi) (set : Fs) → files.is_empty set ≡ true → files.is_empty (supported_fs abi set) ≡ true
+fs_empty abi set empty =
+    let none : set ≡ files.no_right = ap (λ bits. record { 0 = bits }) (eqb-true set.0 0 (fs_is_empty set ∙ empty)) in
+    ap (λ (s : Fs). files.is_empty (supported_fs abi s)) none ∙ ap files.is_empty (none_of abi) ∙ sym (fs_is_empty files.no_right)
+
+net_empty : (abi : Abi) (set : Net) → network.is_empty set ≡ true → network.is_empty (supported_net abi set) ≡ true
+net_empty abi set empty =
+    let none : set ≡ network.no_right = ap (λ bits. record { 0 = bits }) (eqb-true set.0 0 (net_is_empty set ∙ empty)) in
+    ap (λ (s : Net). network.is_empty (supported_net abi s)) none ∙ ap network.is_empty (no_port_of abi) ∙ sym (net_is_empty network.no_right)
+
 call-older : (older newer : Abi) → number_of older ≤ number_of newer → (op : Op) → at_best_effort older (at_best_effort newer op) ≡ at_best_effort older op
 unfolding at_best_effort
 call-older older newer le (calls.Create rs fs net) =
@@ -113,27 +125,15 @@ call-older older newer le (calls.Create rs fs net) =
     (files.is_empty (supported_fs older fs) && network.is_empty (supported_net older net))
     (both (files.is_empty fs) (network.is_empty net) (files.is_empty (supported_fs newer fs)) (network.is_empty (supported_net newer net)) (fs_empty newer fs) (net_empty newer net))
     (both (files.is_empty (supported_fs newer fs)) (network.is_empty (supported_net newer net)) (files.is_empty (supported_fs older fs)) (network.is_empty (supported_net older net))
-    (λ empty. ap files.is_empty (sym fewer) ∙ fs_empty older (supported_fs newer fs) empty)
-    (λ empty. ap network.is_empty (sym fewer_ports) ∙ net_empty older (supported_net newer net) empty))
+    (still-empty files.is_empty supported_fs fs_empty fs_supported-older older newer le fs)
+    (still-empty network.is_empty supported_net net_empty net_supported-older older newer le net))
     refl
     (ap (λ (s : Fs). creates rs (supported_fs newer fs) (supported_net newer net) s (supported_net older (supported_net newer net))) fewer
     ∙ ap (creates rs (supported_fs newer fs) (supported_net newer net) (supported_fs older fs)) fewer_ports)
 call-older older newer le (calls.AddPath rs path fs) =
-    let fewer : supported_fs older (supported_fs newer fs) ≡ supported_fs older fs = fs_supported-older older newer fs le in
-    down (at_best_effort older) (calls.LeaveOut PathBeneath) (calls.AddPath rs path (supported_fs newer fs)) (calls.AddPath rs path (supported_fs older fs))
-    (files.is_empty fs) (files.is_empty (supported_fs newer fs)) (files.is_empty (supported_fs older fs))
-    (fs_empty newer fs)
-    (λ empty. ap files.is_empty (sym fewer) ∙ fs_empty older (supported_fs newer fs) empty)
-    refl
-    (ap (adds_path rs path (supported_fs newer fs)) fewer)
+    rule-older files.is_empty supported_fs fs_empty fs_supported-older older newer le (at_best_effort older) (calls.AddPath rs path) (calls.LeaveOut PathBeneath) refl (λ _. refl) fs
 call-older older newer le (calls.AddPort rs port net) =
-    let fewer_ports : supported_net older (supported_net newer net) ≡ supported_net older net = net_supported-older older newer net le in
-    down (at_best_effort older) (calls.LeaveOut NetPort) (calls.AddPort rs port (supported_net newer net)) (calls.AddPort rs port (supported_net older net))
-    (network.is_empty net) (network.is_empty (supported_net newer net)) (network.is_empty (supported_net older net))
-    (net_empty newer net)
-    (λ empty. ap network.is_empty (sym fewer_ports) ∙ net_empty older (supported_net newer net) empty)
-    refl
-    (ap (adds_port rs port (supported_net newer net)) fewer_ports)
+    rule-older network.is_empty supported_net net_empty net_supported-older older newer le (at_best_effort older) (calls.AddPort rs port) (calls.LeaveOut NetPort) refl (λ _. refl) net
 call-older older newer le op = refl
 
 pub records-older : (older newer : Abi) (records : List Record) → number_of older ≤ number_of newer → records_at_best_effort older (records_at_best_effort newer records) ≡ records_at_best_effort older records

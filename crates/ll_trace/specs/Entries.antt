@@ -86,12 +86,15 @@ is_twice past entry = is_live_pid past (started_pid entry)
 abbrev pub is_too_many : List Entry → Entry → Bool
 is_too_many past entry = nat_le 1000000 (length past) || (is_some (started_pid entry) && nat_le 65536 (process_count past))
 
--- the first cause by which an entry has no place after the past
-abbrev pub misplacement : List Entry → Entry → Option Cause
-misplacement past entry =
+-- the first cause by which an entry has no place after the past, where this tells of a pid that is used twice
+abbrev pub misplacement_by : (List Entry → Entry → Bool) → List Entry → Entry → Option Cause
+misplacement_by is_twice past entry =
     if is_unknown past entry then Some UnknownProcess else (
     if is_twice past entry then Some Twice else (
     if is_too_many past entry then Some TooMany else None))
+
+abbrev pub misplacement : List Entry → Entry → Option Cause
+misplacement past entry = misplacement_by is_twice past entry
 
 -- the trace file
 abbrev pub trace_file : Format Entry

@@ -1,11 +1,10 @@
 -- The stricter rule that a pid is never used again, for the law that traces which keep to it read as they did.
 -- Source: docs/FORMATS.md, "A pid that is used again".
-use Rattle.std.specs.Prelude.{◌≡◌, ℕ, ◌||◌, Bool, false, List, [], ◌∷◌, map, reverse, Option, Some, None, if◌then◌else◌}
+use Rattle.std.specs.Prelude.{◌≡◌, ℕ, ◌||◌, Bool, false, List, [], ◌∷◌, map, reverse, Option, Some, None}
 use Rattle.ll_lines.specs.declared.fault.Cause.{Cause}
-use Rattle.ll_lines.specs.declared.fault.Cause.TheVariants.{Twice, TooMany, UnknownProcess}
 use Rattle.ll_lines.specs.Reading.{Format, IsGood}
 use Rattle.ll_trace.specs.declared.record.Record.{Record}
-use Rattle.ll_trace.specs.Entries.{Entry, entry_at, is_start_of, is_unknown, is_too_many, started_pid}
+use Rattle.ll_trace.specs.Entries.{Entry, entry_at, is_start_of, misplacement_by, started_pid}
 use Rattle.ll_trace.specs.Records.{entry_of, records_after}
 
 -- whether an entry of the past starts a process under a pid
@@ -22,10 +21,7 @@ abbrev pub is_used_again : List Entry → Entry → Bool
 is_used_again past entry = is_used_pid past (started_pid entry)
 
 abbrev pub strict_misplacement : List Entry → Entry → Option Cause
-strict_misplacement past entry =
-    if is_unknown past entry then Some UnknownProcess else (
-    if is_used_again past entry then Some Twice else (
-    if is_too_many past entry then Some TooMany else None))
+strict_misplacement past entry = misplacement_by is_used_again past entry
 
 abbrev pub strict_file : Format Entry
 strict_file = record { entry_of_line = entry_at; fault_after = λ earlier entry. strict_misplacement (reverse earlier) entry }

@@ -202,6 +202,47 @@ macro_rules! changes_nothing {
     };
 }
 
+/// The calls that start, end or change a process, as a pattern.
+macro_rules! on_a_process {
+    () => {
+        $crate::Op::Start { .. } | $crate::Op::Fork { .. } | $crate::Op::Exit | $crate::Op::Nnp
+    };
+}
+
+/// The calls on a descriptor, without the one that opens a path.
+macro_rules! on_a_descriptor {
+    () => {
+        $crate::Op::Adopt { .. }
+            | $crate::Op::Dup { .. }
+            | $crate::Op::Close { .. }
+            | $crate::Op::Ftruncate { .. }
+            | $crate::Op::Ioctl { .. }
+    };
+}
+
+/// The calls that name a path of the tree.
+macro_rules! on_a_path {
+    () => {
+        $crate::Op::OpenFile { .. }
+            | $crate::Op::Truncate { .. }
+            | $crate::Op::Exec { .. }
+            | $crate::Op::Mknod { .. }
+            | $crate::Op::Mkdir { .. }
+            | $crate::Op::Symlink { .. }
+            | $crate::Op::Unlink { .. }
+            | $crate::Op::Rmdir { .. }
+            | $crate::Op::Rename { .. }
+            | $crate::Op::Link { .. }
+    };
+}
+
+/// The calls on a port, and those that change where file systems are mounted.
+macro_rules! on_the_system {
+    () => {
+        $crate::Op::Mount | $crate::Op::Bind { .. } | $crate::Op::Connect { .. }
+    };
+}
+
 impl Op {
     ghost use Rattle.ll_trace.specs.Entries.{is_start, is_exit, pid_started};
     ghost use Rattle.ll_trace.specs.FirstPlaces.{first_place};
@@ -258,23 +299,14 @@ impl Op {
             | Op::Rmdir { path }
             | Op::Rename { from: path, .. }
             | Op::Link { from: path, .. } => tree.place_of(path.as_str()),
-            Op::Start { .. }
-            | Op::Fork { .. }
-            | Op::Exit
-            | Op::Nnp
+            on_a_process!()
+            | on_a_descriptor!()
+            | on_the_system!()
             | Op::Create { .. }
             | Op::AddPath { .. }
             | Op::AddPort { .. }
             | Op::CloseRs { .. }
             | Op::Restrict { .. }
-            | Op::Adopt { .. }
-            | Op::Dup { .. }
-            | Op::Close { .. }
-            | Op::Ftruncate { .. }
-            | Op::Mount
-            | Op::Bind { .. }
-            | Op::Connect { .. }
-            | Op::Ioctl { .. }
             | Op::CreateEmpty { .. }
             | Op::LeaveOut { .. } => Place::Nowhere,
         }
@@ -310,17 +342,14 @@ impl Op {
                 }
             }
             Op::AddPort { rs, port, net } => *self = port_added(*rs, *port, *net, abi),
-            Op::Start { .. }
-            | Op::Fork { .. }
-            | Op::Nnp
+            on_a_process!()
+            | on_a_descriptor!()
+            | on_a_path!()
+            | on_the_system!()
             | Op::CloseRs { .. }
             | Op::Restrict { .. }
-            | Op::OpenFile { .. }
-            | Op::Adopt { .. }
-            | Op::Dup { .. }
-            | Op::Close { .. }
             | Op::CreateEmpty { .. }
-            | changes_nothing!() => {}
+            | Op::LeaveOut { .. } => {}
         }
     }
 }

@@ -214,9 +214,13 @@ impl Op {
             Op::Fork { .. } => "fork",
             Op::Exit => "exit",
             Op::Nnp => "nnp",
-            Op::Create { .. } => "create",
+            Op::Create { .. } | Op::CreateEmpty { .. } => "create",
             Op::AddPath { .. } => "add_path",
             Op::AddPort { .. } => "add_port",
+            Op::LeaveOut { rule } => match rule {
+                RuleType::PathBeneath => "add_path",
+                RuleType::NetPort => "add_port",
+            },
             Op::CloseRs { .. } => "close_rs",
             Op::Restrict { .. } => "restrict",
             Op::OpenFile { .. } => "open",
@@ -237,11 +241,6 @@ impl Op {
             Op::Bind { .. } => "bind",
             Op::Connect { .. } => "connect",
             Op::Ioctl { .. } => "ioctl",
-            Op::CreateEmpty { .. } => "create",
-            Op::LeaveOut { rule } => match rule {
-                RuleType::PathBeneath => "add_path",
-                RuleType::NetPort => "add_port",
-            },
         }
     }
 }

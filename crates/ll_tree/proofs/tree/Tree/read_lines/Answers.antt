@@ -1,21 +1,16 @@
 -- Each line is read past, or its fault is answered.
-use Rattle.std.proofs.Common.{◌≡◌, List, ◌∷◌, Result, sym, ap, ◌∙◌, subst}
-use Rattle.ll_lines.specs.declared.fault.ReadFault.{ReadFault}
+use Rattle.std.proofs.Common.{sym, ap, ◌∙◌}
 use Rattle.ll_lines.specs.LineView.{line_view}
-use Rattle.ll_lines.specs.LineByLine.{read_lines, reading, MeetsFault}
-use Rattle.ll_tree.specs.Trees.{Entry}
+use Rattle.ll_lines.specs.LineByLine.{read_lines, reading}
 use Rattle.ll_tree.specs.TreeReading.{tree_format}
 use Rattle.ll_tree.specs.TreeByLine.{below_root}
-use Rattle.ll_lines.proofs.ReadingLemmas.{read_lines_next, read_lines_fault, read_lines_end}
+use Rattle.ll_lines.proofs.ReadingLemmas.{meets_fault, read_lines_next, read_lines_end}
 use Rattle.ll_tree.proofs.tree.Tree.read_lines.Goals as goal
 
 pub returns-in-Err-clause-reading : goal.returns-in-Err-clause-reading
 returns-in-Err-clause-reading c =
-    let earlier = below_root c.loop-line.tree in
-    let line = line_view c.in-Some.line in
-    let whole : read_lines tree_format earlier (line ∷ c.next.new.self) ≡ reading tree_format c.args.bytes.now =
-    ap (read_lines tree_format earlier) (sym c.in-Some.ensures.steps) ∙ c.loop-line.invariant.0 in
-    subst (λ (r : Result (List Entry) ReadFault). MeetsFault line.number c.in-Err.cause r) whole (read_lines_fault tree_format earlier line c.next.new.self c.in-Err.cause c.in-Err.ensures.line)
+    meets_fault tree_format (below_root c.loop-line.tree) c.loop-line.line-iterator (line_view c.in-Some.line) c.next.new.self c.in-Err.cause (reading tree_format c.args.bytes.now)
+    c.in-Some.ensures.steps c.loop-line.invariant.0 c.in-Err.ensures.line
 
 pub loop-line-preserved : goal.loop-line-preserved
 loop-line-preserved c =
