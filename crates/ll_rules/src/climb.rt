@@ -70,25 +70,25 @@ impl<'a> Stack<'a> {
     }
 
     /// Asks each layer for its rule on a node, where its lane isn't empty, and takes from the lane what the rule
-    /// grants. Answers whether anything is left in the lanes of these layers.
-    pub(crate) fn ask_on(
-        &self,
-        node: NodeId,
-        lanes: &mut [u16; MOST_LAYERS],
-        look_ups: &mut u64,
-    ) -> bool
-        requires room { look_ups.old + 16 < 2 ^ 64 }
+    /// grants. Answers whether anything is left in the lanes of these layers, and how many look-ups that took.
+    pub(crate) fn ask_on(&self, node: NodeId, lanes: &mut [u16; MOST_LAYERS]) -> (bool, u64)
         ensures left { (place : ℕ) (right : FsRight) → has (lane lanes.new place) right ≡ (has (lane lanes.old place) right && not (granted_on_node (stacked self.now place) node right)) }
-        ensures none { result ≡ false → (place : ℕ) → place < length self.now.ids.now → (right : FsRight) → has (lane lanes.new place) right ≡ false }
-        ensures count { look_ups.new ≤ look_ups.old + length self.now.ids.now }
+        ensures none { result.0 ≡ false → (place : ℕ) → place < length self.now.ids.now → (right : FsRight) → has (lane lanes.new place) right ≡ false }
+        ensures count { result.1 ≤ length self.now.ids.now }
     {
+        let mut look_ups = 0;
         let mut all = 0;
         for (place, id) in self.ids.iter().enumerate() {
-            let left = left_of(layer_of(self.layers, *id), node, lanes[place], look_ups);
+            let left = left_of(
+                layer_of(self.layers, *id),
+                node,
+                lanes[place],
+                &mut look_ups,
+            );
             lanes[place] = left;
             all |= left;
         }
-        all != 0
+        (all != 0, look_ups)
     }
 
     /// On which of two nodes some layer may have a rule, by the filters of all of them. Each layer is taken once for
@@ -187,7 +187,9 @@ impl<'a> Stack<'a> {
         let mut at = Some(node);
         while let Some(here) = self.next_marked(at, lanes, &mut look_ups) {
             at = self.tree.parent(here);
-            if !self.ask_on(here, lanes, &mut look_ups) {
+            let (is_any_left, asked) = self.ask_on(here, lanes);
+            look_ups += asked;
+            if !is_any_left {
                 return look_ups;
             }
         }

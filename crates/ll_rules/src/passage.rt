@@ -100,8 +100,7 @@ impl<'a> Stack<'a> {
         let granted_there = without(here, there);
         let counted = counting_for(self.tree.kind(object), granted_there);
         let mut left = counted.to_array();
-        let mut look_ups = 0;
-        self.ask_on(object, &mut left, &mut look_ups);
+        let (_, look_ups) = self.ask_on(object, &mut left);
         (u16x16::from_array(left), look_ups)
     }
 }
