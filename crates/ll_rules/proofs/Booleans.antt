@@ -27,6 +27,10 @@ or_and true true false = refl
 or_and true false c = sym (or_false c)
 or_and false b c = refl
 
+pub and_true : (b : Bool) → (b && true) ≡ b
+and_true true = refl
+and_true false = refl
+
 pub and_none : (b : Bool) → (b && false) ≡ false
 and_none true = refl
 and_none false = refl
@@ -44,10 +48,6 @@ list_any-or f g (x ∷ xs) = ap (λ (b : Bool). (f x || g x) || b) (list_any-or 
 pub list_any-map : {X Y : Type 0} (f : Y → Bool) (h : X → Y) (xs : List X) → list_any f (map h xs) ≡ list_any (λ x. f (h x)) xs
 list_any-map f h [] = refl
 list_any-map f h (x ∷ xs) = ap (λ (b : Bool). f (h x) || b) (list_any-map f h xs)
-
-pub and_true : (b : Bool) → (b && true) ≡ b
-and_true true = refl
-and_true false = refl
 
 pub list_all-agree : {X : Type 0} (f g : X → Bool) → ((x : X) → f x ≡ g x) → (xs : List X) → list_all f xs ≡ list_all g xs
 list_all-agree f g same [] = refl

@@ -43,21 +43,12 @@ module _ (words : List ℕ) (number : ℕ) (whole : length words ≡ 64) where
 
 -- a bit that two numbers have not together neither has
 pub neither_bit : (a b i : ℕ) → eqb (bit_at (bit_or a b) i) 1 ≡ false → (eqb (bit_at a i) 1 ≡ false) × (eqb (bit_at b i) 1 ≡ false)
-neither_bit a b i none = (first, second) where
-  first : eqb (bit_at a i) 1 ≡ false
-  first =
-      elim (cases_eq (bit_at a i) 1) [
+neither_bit a b i none = (other_than_one (bit_at a i) (λ one. omega (arith, bit_at_or a b i, bit_at-lt b i)), other_than_one (bit_at b i) (λ one. omega (arith, bit_at_or a b i, bit_at-lt a i))) where
+  other_than_one : (bit : ℕ) → (bit ≡ 1 → bit_at (bit_or a b) i ≡ 1) → eqb bit 1 ≡ false
+  other_than_one bit together =
+      elim (cases_eq bit 1) [
         | inl one ↦
-            let has_it : eqb (bit_at (bit_or a b) i) 1 ≡ true = eq-eqb (bit_at (bit_or a b) i) 1 (omega (arith, bit_at_or a b i, bit_at-lt b i)) in
+            let has_it : eqb (bit_at (bit_or a b) i) 1 ≡ true = eq-eqb (bit_at (bit_or a b) i) 1 (together one) in
             absurd cc
-        | inr other ↦ ne_eqb (bit_at a i) 1 other
-      ]
-
-  second : eqb (bit_at b i) 1 ≡ false
-  second =
-      elim (cases_eq (bit_at b i) 1) [
-        | inl one ↦
-            let has_it : eqb (bit_at (bit_or a b) i) 1 ≡ true = eq-eqb (bit_at (bit_or a b) i) 1 (omega (arith, bit_at_or a b i, bit_at-lt a i)) in
-            absurd cc
-        | inr other ↦ ne_eqb (bit_at b i) 1 other
+        | inr other ↦ ne_eqb bit 1 other
       ]

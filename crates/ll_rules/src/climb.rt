@@ -14,6 +14,7 @@ ghost use Rattle.ll_rules.specs.WaysUp.{nodes_up, granted_above};
 
 use crate::Layer;
 use crate::check::layer_of;
+use crate::domain::MOST_LAYERS;
 use crate::lanes::bits_of;
 use crate::stack::Stack;
 use ll_rights::Fs;
@@ -47,10 +48,10 @@ pub(crate) fn left_of(layer: &Layer, node: NodeId, lane: u16, look_ups: &mut u64
 
 impl<'a> Stack<'a> {
     /// What each layer handles, in its lane.
-    pub(crate) fn handled_in(&self) -> [u16; 16]
+    pub(crate) fn handled_in(&self) -> [u16; MOST_LAYERS]
         ensures { (place : ℕ) (right : FsRight) → has (lane result place) right ≡ handles (stacked self.now place) right }
     {
-        let mut row = [0; 16];
+        let mut row = [0; MOST_LAYERS];
         for (place, id) in self.ids.iter().enumerate() {
             row[place] = handled_bits(layer_of(self.layers, *id));
         }
@@ -58,10 +59,10 @@ impl<'a> Stack<'a> {
     }
 
     /// What each layer handles of some rights, in its lane.
-    pub(crate) fn asked_in(&self, wanted: Fs) -> [u16; 16]
+    pub(crate) fn asked_in(&self, wanted: Fs) -> [u16; MOST_LAYERS]
         ensures { (place : ℕ) (right : FsRight) → has (lane result place) right ≡ (handles (stacked self.now place) right && has wanted right) }
     {
-        let mut row = [0; 16];
+        let mut row = [0; MOST_LAYERS];
         for (place, id) in self.ids.iter().enumerate() {
             row[place] = asked_of(layer_of(self.layers, *id), wanted);
         }
@@ -69,20 +70,25 @@ impl<'a> Stack<'a> {
     }
 
     /// Asks each layer for its rule on a node, where its lane isn't empty, and takes from the lane what the rule
-    /// grants. Answers whether anything is left in the lanes of these layers.
-    pub(crate) fn ask_on(&self, node: NodeId, lanes: &mut [u16; 16], look_ups: &mut u64) -> bool
-        requires room { look_ups.old + 16 < 2 ^ 64 }
+    /// grants. Answers whether anything is left in the lanes of these layers, and how many look-ups that took.
+    pub(crate) fn ask_on(&self, node: NodeId, lanes: &mut [u16; MOST_LAYERS]) -> (bool, u64)
         ensures left { (place : ℕ) (right : FsRight) → has (lane lanes.new place) right ≡ (has (lane lanes.old place) right && not (granted_on_node (stacked self.now place) node right)) }
-        ensures none { result ≡ false → (place : ℕ) → place < length self.now.ids.now → (right : FsRight) → has (lane lanes.new place) right ≡ false }
-        ensures count { look_ups.new ≤ look_ups.old + length self.now.ids.now }
+        ensures none { result.0 ≡ false → (place : ℕ) → place < length self.now.ids.now → (right : FsRight) → has (lane lanes.new place) right ≡ false }
+        ensures count { result.1 ≤ length self.now.ids.now }
     {
+        let mut look_ups = 0;
         let mut all = 0;
         for (place, id) in self.ids.iter().enumerate() {
-            let left = left_of(layer_of(self.layers, *id), node, lanes[place], look_ups);
+            let left = left_of(
+                layer_of(self.layers, *id),
+                node,
+                lanes[place],
+                &mut look_ups,
+            );
             lanes[place] = left;
             all |= left;
         }
-        all != 0
+        (all != 0, look_ups)
     }
 
     /// On which of two nodes some layer may have a rule, by the filters of all of them. Each layer is taken once for
@@ -109,7 +115,7 @@ impl<'a> Stack<'a> {
     fn next_marked(
         &self,
         from: Option<NodeId>,
-        lanes: &[u16; 16],
+        lanes: &[u16; MOST_LAYERS],
         look_ups: &mut u64,
     ) -> Option<NodeId>
         requires from { IfSome from (IsNode self.now.tree.now) }
@@ -140,7 +146,7 @@ impl<'a> Stack<'a> {
     }
 
     /// Whether the lane of some layer holds anything.
-    fn is_any_filled(&self, lanes: &[u16; 16]) -> bool
+    fn is_any_filled(&self, lanes: &[u16; MOST_LAYERS]) -> bool
         ensures exact { result ≡ list_any (λ bits. not (bits == 0)) (take (length self.now.ids.now) lanes.now) }
         ensures none { result ≡ false → (place : ℕ) → place < length self.now.ids.now → (right : FsRight) → has (lane lanes.now place) right ≡ false }
     {
@@ -153,7 +159,7 @@ impl<'a> Stack<'a> {
     }
 
     /// Of how many layers the lanes hold anything.
-    fn count_filled(&self, lanes: &[u16; 16]) -> u64
+    fn count_filled(&self, lanes: &[u16; MOST_LAYERS]) -> u64
         ensures exact { result ≡ count_by (λ bits. not (bits == 0)) (take (length self.now.ids.now) lanes.now) }
         ensures few { result ≤ length self.now.ids.now }
     {
@@ -166,7 +172,7 @@ impl<'a> Stack<'a> {
 
     /// Takes from each lane what its layer grants by its rules from a node up to the root, and answers how many
     /// look-ups that took. A layer whose lane is empty isn't asked any more.
-    pub(crate) fn climb(&self, node: NodeId, lanes: &mut [u16; 16]) -> u64
+    pub(crate) fn climb(&self, node: NodeId, lanes: &mut [u16; MOST_LAYERS]) -> u64
         requires { IsNode self.now.tree.now node }
         ensures left { (place : ℕ) (right : FsRight) → has (lane lanes.new place) right ≡ (has (lane lanes.old place) right && not (granted (in_tree self.now.tree.now (stacked self.now place)) (path_at self.now.tree.now node) right)) }
         ensures count { result ≤ length self.now.ids.now * (depth_at self.now.tree.now node + 1) }
@@ -181,7 +187,9 @@ impl<'a> Stack<'a> {
         let mut at = Some(node);
         while let Some(here) = self.next_marked(at, lanes, &mut look_ups) {
             at = self.tree.parent(here);
-            if !self.ask_on(here, lanes, &mut look_ups) {
+            let (is_any_left, asked) = self.ask_on(here, lanes);
+            look_ups += asked;
+            if !is_any_left {
                 return look_ups;
             }
         }

@@ -6,6 +6,9 @@ use crate::Full;
 use arrayvec::ArrayVec;
 use std::marker::Model;
 
+/// The most layers that a domain stacks (landlock_restrict_self(2), "ERRORS").
+pub(crate) const MOST_LAYERS: usize = 16;
+
 /// A layer by its place in a slice of layers.
 #[derive(Clone, Copy, Debug, Default, PartialEq, Eq)]
 pub struct LayerId(pub u32);
@@ -14,7 +17,7 @@ pub struct LayerId(pub u32);
 /// (landlock_restrict_self(2), "ERRORS").
 #[derive(Clone, Debug, Drop)]
 pub struct Domain {
-    ids: ArrayVec<LayerId, 16>,
+    ids: ArrayVec<LayerId, MOST_LAYERS>,
 }
 
 impl Model for Domain {

@@ -81,18 +81,6 @@ fn directory_of(tree: &Tree, object: NodeId) -> NodeId
     }
 }
 
-/// The directory that a move goes to.
-fn destination_of(tree: &Tree, target: Target) -> NodeId
-    requires { IsTargetIn tree.now target }
-    ensures path { path_at tree.now result ≡ destination_path tree.now target }
-    ensures inside { IsNode tree.now result }
-{
-    match target {
-        Target::New(directory) => directory,
-        Target::Over(there) => directory_of(tree, there),
-    }
-}
-
 /// The kind of the object that is there already, if there is one.
 fn kind_of_target(tree: &Tree, target: Target) -> Option<Kind>
     requires { IsTargetIn tree.now target }
@@ -158,7 +146,10 @@ pub fn entering(tree: &Tree, attempt: &Move) -> Asked
     let moved = tree.kind(attempt.moved);
     let there = kind_of_target(tree, attempt.target);
     Asked {
-        directory: destination_of(tree, attempt.target),
+        directory: match attempt.target {
+            Target::New(directory) => directory,
+            Target::Over(there) => directory_of(tree, there),
+        },
         rights: asked_of_destination(moved, there),
     }
 }

@@ -12,6 +12,7 @@ ghost use Rattle.ll_rules.specs.Moves.{source_of, destination_of, other_gains, h
 ghost use Rattle.ll_rules.specs.Lanes.{lane, AreLacking};
 ghost use Rattle.ll_rules.specs.Stacks.{layers_of, stacked};
 
+use crate::domain::MOST_LAYERS;
 use crate::lanes::{either, filled, no_rights, within, without};
 use crate::ruleset::is_directory;
 use crate::stack::Stack;
@@ -23,8 +24,8 @@ use std::simd::prelude::*;
 /// What the layers of a domain lack on the two directories of a move, in lanes.
 #[derive(Clone, Copy)]
 pub(crate) struct Lacking {
-    source: [u16; 16],
-    destination: [u16; 16],
+    source: [u16; MOST_LAYERS],
+    destination: [u16; MOST_LAYERS],
 }
 
 impl Lacking {
@@ -52,7 +53,7 @@ fn counting_for(kind: Kind, lanes: u16x16) -> u16x16
 
 impl<'a> Stack<'a> {
     /// What the layers handle and don't grant on a directory, in lanes, and how many look-ups it took to tell.
-    fn lacking_on(&self, directory: NodeId) -> ([u16; 16], u64)
+    fn lacking_on(&self, directory: NodeId) -> ([u16; MOST_LAYERS], u64)
         requires { IsNode self.now.tree.now directory }
         ensures lacking { AreLacking self.now.tree.now (layers_of self.now) (path_at self.now.tree.now directory) result.0 }
         ensures count { result.1 ≤ length self.now.ids.now * (depth_at self.now.tree.now directory + 1) }
@@ -99,8 +100,7 @@ impl<'a> Stack<'a> {
         let granted_there = without(here, there);
         let counted = counting_for(self.tree.kind(object), granted_there);
         let mut left = counted.to_array();
-        let mut look_ups = 0;
-        self.ask_on(object, &mut left, &mut look_ups);
+        let (_, look_ups) = self.ask_on(object, &mut left);
         (u16x16::from_array(left), look_ups)
     }
 }

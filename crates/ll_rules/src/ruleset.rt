@@ -325,7 +325,7 @@ impl Ruleset {
         if network.is_empty() {
             return Err(RuleFault::Errno(Errno::NoMsg));
         }
-        if !self.layer.handles_all_network(network) || port > 65535 {
+        if !self.layer.handles_all_network(network) || port > u16::MAX as u64 {
             return Err(RuleFault::Errno(Errno::Inval));
         }
         Ok(port as u16)

@@ -1,4 +1,4 @@
-use Rattle.std.proofs.Common.{◌≡◌, ℕ, ◌+◌, ◌<◌, ◌≤◌, ◌&&◌, not, length, get_or}
+use Rattle.std.proofs.Common.{◌≡◌, ℕ, ◌<◌, ◌≤◌, ◌&&◌, not, length, get_or}
 use Rattle.ll_rights.specs.Rights.{FsRight, has}
 use Rattle.ll_rules.specs.KeptLayers.{granted_on_node}
 use Rattle.ll_rules.specs.Lanes.{lane}
@@ -12,5 +12,5 @@ invariant-loop-place l = record {
   so_far : (place : ℕ) → place < l.place → (right : FsRight) → has (lane l.lanes place) right ≡ (has (lane l.fn.lanes place) right && not (granted_on_node (stacked l.self place) l.node right));
   rest : (place : ℕ) → l.place ≤ place → get_or l.lanes place 0 ≡ get_or l.fn.lanes place 0;
   none : (place : ℕ) → place < l.place → l.all ≡ 0 → get_or l.lanes place 0 ≡ 0;
-  count : l.look_ups ≤ l.fn.look_ups + l.place;
+  count : l.look_ups ≤ l.place;
 }

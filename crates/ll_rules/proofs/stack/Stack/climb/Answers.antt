@@ -31,26 +31,26 @@ loop-here-init c = record {
 }
 
 -- once nothing is left, all that the lanes had is granted
-pub returns-then-not-ask_on-clause-left : goal.returns-then-not-ask_on-clause-left
-returns-then-not-ask_on-clause-left c = λ place right.
+pub returns-then-not-is_any_left-clause-left : goal.returns-then-not-is_any_left-clause-left
+returns-then-not-is_any_left-clause-left c = λ place right.
     let here : IfSome (Some c.in-Some.here) (IsNode c.args.self.now.tree.now) = rw c.in-Some.is at c.next_marked.ensures.inside in
     let rules = stacked c.args.self.now place in
     let passed = left_passed c.args.self.now.tree.now rules c.loop-here.at c.next_marked.result right (has (lane c.loop-here.lanes place) right) _ (c.next_marked.ensures.passed place right) (c.loop-here.invariant.so_far place right) in
-    let so_far = left_goes_on c.args.self.now.tree.now rules c.in-Some.here c.parent-at.result right (has (lane c.loop-here.lanes place) right) (has (lane c.ask_on.new.lanes place) right) _
+    let so_far = left_goes_on c.args.self.now.tree.now rules c.in-Some.here c.parent-at.result right (has (lane c.loop-here.lanes place) right) (has (lane c.ask_on-is_any_left.new.lanes place) right) _
     c.parent-at.ensures.tree here (stacked-within c.args.self.now place) c.parent-at.ensures.root c.parent-at.ensures.front
-    (c.ask_on.ensures.left place right) (rw c.in-Some.is at passed) in
+    (c.ask_on-is_any_left.ensures.left place right) (rw c.in-Some.is at passed) in
     elim (cases_lt place (length c.args.self.now.ids.now)) [
-      | inl inside ↦ left_nothing c.args.self.now.tree.now rules c.parent-at.result right (has (lane c.ask_on.new.lanes place) right) _ (c.ask_on.ensures.none c.if-not-ask_on.true place inside right) so_far
-      | inr past ↦ left_unasked c.args.self.now.tree.now rules c.parent-at.result right (has (lane c.ask_on.new.lanes place) right) _ (layer_in-past c.args.self.now.layers.now c.args.self.now.ids.now place past) so_far
+      | inl inside ↦ left_nothing c.args.self.now.tree.now rules c.parent-at.result right (has (lane c.ask_on-is_any_left.new.lanes place) right) _ (c.ask_on-is_any_left.ensures.none c.if-not-is_any_left.true place inside right) so_far
+      | inr past ↦ left_unasked c.args.self.now.tree.now rules c.parent-at.result right (has (lane c.ask_on-is_any_left.new.lanes place) right) _ (layer_in-past c.args.self.now.layers.now c.args.self.now.ids.now place past) so_far
     ]
 
-pub returns-then-not-ask_on-clause-count : goal.returns-then-not-ask_on-clause-count
-returns-then-not-ask_on-clause-count c =
+pub returns-then-not-is_any_left-clause-count : goal.returns-then-not-is_any_left-clause-count
+returns-then-not-is_any_left-clause-count c =
     let bound : c.next_marked.new.look_ups + length c.args.self.now.ids.now * nodes_up c.args.self.now.tree.now c.next_marked.result ≤ length c.args.self.now.ids.now * (depth_at c.args.self.now.tree.now c.args.node + 1) = omega (arith, c.next_marked.ensures.count, c.loop-here.invariant.count) in
     omega (
       arith,
-      count_goes_on c.args.self.now.tree.now c.in-Some.here c.parent-at.result (length c.args.self.now.ids.now) c.next_marked.new.look_ups c.ask_on.new.look_ups _
-          c.parent-at.ensures.exact c.parent-at.ensures.front c.ask_on.ensures.count (rw c.in-Some.is at bound),
+      count_goes_on c.args.self.now.tree.now c.in-Some.here c.parent-at.result (length c.args.self.now.ids.now) c.next_marked.new.look_ups (c.next_marked.new.look_ups + c.ask_on-is_any_left.result.1) _
+          c.parent-at.ensures.exact c.parent-at.ensures.front (omega (arith, c.ask_on-is_any_left.ensures.count)) (rw c.in-Some.is at bound),
     )
 
 pub loop-here-preserved : goal.loop-here-preserved
@@ -62,12 +62,12 @@ loop-here-preserved c =
       so_far = λ place right.
           let rules = stacked c.args.self.now place in
           let passed = left_passed c.args.self.now.tree.now rules c.loop-here.at c.next_marked.result right (has (lane c.loop-here.lanes place) right) _ (c.next_marked.ensures.passed place right) (c.loop-here.invariant.so_far place right) in
-          left_goes_on c.args.self.now.tree.now rules c.in-Some.here c.parent-at.result right (has (lane c.loop-here.lanes place) right) (has (lane c.ask_on.new.lanes place) right) _
+          left_goes_on c.args.self.now.tree.now rules c.in-Some.here c.parent-at.result right (has (lane c.loop-here.lanes place) right) (has (lane c.ask_on-is_any_left.new.lanes place) right) _
           c.parent-at.ensures.tree here (stacked-within c.args.self.now place) c.parent-at.ensures.root c.parent-at.ensures.front
-          (c.ask_on.ensures.left place right) (rw c.in-Some.is at passed);
+          (c.ask_on-is_any_left.ensures.left place right) (rw c.in-Some.is at passed);
       count =
-          count_goes_on c.args.self.now.tree.now c.in-Some.here c.parent-at.result (length c.args.self.now.ids.now) c.next_marked.new.look_ups c.ask_on.new.look_ups _
-          c.parent-at.ensures.exact c.parent-at.ensures.front c.ask_on.ensures.count (rw c.in-Some.is at bound);
+          count_goes_on c.args.self.now.tree.now c.in-Some.here c.parent-at.result (length c.args.self.now.ids.now) c.next_marked.new.look_ups (c.next_marked.new.look_ups + c.ask_on-is_any_left.result.1) _
+          c.parent-at.ensures.exact c.parent-at.ensures.front (omega (arith, c.ask_on-is_any_left.ensures.count)) (rw c.in-Some.is at bound);
     }
 
 pub loop-here-smaller : goal.loop-here-smaller
