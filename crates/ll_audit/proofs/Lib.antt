@@ -1,9 +1,5 @@
-pub mod CommandLine
-pub mod Faultless
-pub mod FilesByName
 pub mod Endings
 pub mod Wants
 pub mod OneReport
 pub mod SameWords
-pub mod Beginnings
 pub mod VersionByVersion

@@ -1,11 +1,6 @@
-pub mod Command
-pub mod FaultLines
-pub mod Files
 pub mod TraceWords
 pub mod Audits
 pub mod Causes
 pub mod Fronts
-pub mod Outcomes
 pub mod Cuts
 pub mod ShownReports
-pub mod Versions
