@@ -9,7 +9,7 @@ from landaudit_record import cli
 
 from .places import TOP
 
-COMMAND = TOP / "crates" / "ll_audit" / "src" / "command.rt"
+COMMAND = TOP / "crates" / "ll_command" / "src" / "command.rt"
 #: A function that makes an option of its name, with its body.
 MAKER = re.compile(r"^fn (\w+)<'a>\([^)]*\bname: &'a str\b(?:.(?!^}))*?\.long\(name\)", re.MULTILINE | re.DOTALL)
 #: clap adds these by itself, the latter where the command has a version.

@@ -19,4 +19,4 @@ class Toolchain(unittest.TestCase):
     def test_the_version_names_the_toolchain_of_the_readme(self) -> None:
         trusted = named("README.md")
         self.assertEqual(len(trusted), 1)
-        self.assertEqual(named("crates/ll_audit/src/command.rt"), trusted)
+        self.assertEqual(named("crates/ll_command/src/command.rt"), trusted)

@@ -2,20 +2,18 @@
 use Rattle.std.proofs.Common.{◌≡◌, ◌∙◌, ℕ, List, Option, None, refl, sym, ap, subst, ◌≤◌, Bool, true, false, cond, eqb, inl, inr, arith}
 use Rattle.std.specs.Prelude.{◌⊎◌}
 use Rattle.std.proofs.lemmas.Option.{none-some, same_Some}
-use Rattle.clap.specs.Words.{Text}
-use Rattle.clap.specs.declared.error.kind.ErrorKind.TheVariants.{DisplayHelp, DisplayVersion}
 use Rattle.ll_report.specs.Report.{report_status}
-use Rattle.ll_audit.specs.declared.lines.Failure.{Failure}
-use Rattle.ll_audit.specs.declared.lines.Failure.TheVariants as failure
-use Rattle.ll_audit.specs.declared.outcome.Ending.{Ending}
-use Rattle.ll_audit.specs.declared.outcome.Outcome.{Outcome}
-use Rattle.ll_audit.specs.declared.outcome.Outcome.TheVariants as outcome
-use Rattle.ll_audit.specs.Command.{AskForText, Request, request_of}
-use Rattle.ll_audit.specs.FaultLines.{failure_status}
-use Rattle.ll_audit.specs.Files.{Files}
+use Rattle.ll_endings.specs.declared.lines.Failure.{Failure}
+use Rattle.ll_endings.specs.declared.lines.Failure.TheVariants as failure
+use Rattle.ll_endings.specs.declared.outcome.Ending.{Ending}
+use Rattle.ll_endings.specs.declared.outcome.Outcome.{Outcome}
+use Rattle.ll_endings.specs.declared.outcome.Outcome.TheVariants as outcome
+use Rattle.ll_command.specs.Command.{AskForText, Request, Text, request_of}
+use Rattle.ll_endings.specs.FaultLines.{failure_status}
+use Rattle.ll_source.specs.Files.{Files}
 use Rattle.ll_audit.specs.Fronts.{EndsWithoutRun, HasFailure, HasReason, HasWrongWords, IsOutcomeOf, IsWhy, Reports, StaysQuiet, TellsWhy, WritesNothing, WritesReport}
-use Rattle.ll_audit.specs.Outcomes.{Complains, EndsWith}
-use Rattle.ll_audit.proofs.CommandLine.{request_of-fault}
+use Rattle.ll_endings.specs.Outcomes.{Complains, EndsWith}
+use Rattle.ll_command.proofs.CommandLine.{asks_for_no_run}
 
 -- a failure's status is 3 or 4
 status_of-high : (of : Failure) → (failure_status of ≡ 3) ⊎ (failure_status of ≡ 4)
@@ -72,11 +70,6 @@ high_bounded status (inr a) = omega (arith, a)
 four_wrong : (status : ℕ) → status ≡ 4 → (status ≡ 2) ⊎ (status ≡ 3) → ⊥
 four_wrong status a (inl b) = omega (arith, a, b)
 four_wrong status a (inr b) = omega (arith, a, b)
-
--- words that ask for help or the version ask for no run
-asks_for_no_run : (words : List Text) → AskForText words → request_of words ≡ None
-asks_for_no_run words (inl help) = request_of-fault words DisplayHelp help
-asks_for_no_run words (inr version) = request_of-fault words DisplayVersion version
 
 module _ {Output Errors : Type 0} (contents : Output → Option (List ℕ)) (lines : Errors → Option (List ℕ)) (ending : Ending) (old new : Output) (errors_old errors_new : Errors) where
   pub bounded : (of : Outcome) → EndsWith contents lines of ending old new errors_old errors_new → ending.status ≤ 4

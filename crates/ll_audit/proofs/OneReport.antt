@@ -13,15 +13,15 @@ use Rattle.ll_trace.proofs.LawLemmas.{one_trace}
 use Rattle.ll_explain.specs.Explained.{text_at}
 use Rattle.ll_semantics.specs.Worlds.{judged}
 use Rattle.ll_report.specs.declared.report.Report.{Report}
-use Rattle.ll_report.specs.declared.shown.TheConstants.{ALL_LINES}
+use Rattle.ll_options.specs.declared.shown.TheConstants.{ALL_LINES}
 use Rattle.ll_report.specs.Lines.{lines_of, refused_among}
 use Rattle.ll_report.specs.Report.{report_text}
 use Rattle.ll_report.specs.Shown.{IsShownReportOn}
 use Rattle.ll_report.proofs.BlocksLeft.{is_report_text}
-use Rattle.ll_audit.specs.declared.options.Effort.TheVariants.{AsRecorded}
-use Rattle.ll_audit.specs.declared.options.Options.{Options}
+use Rattle.ll_options.specs.declared.options.Effort.TheVariants.{AsRecorded}
+use Rattle.ll_options.specs.declared.options.Options.{Options}
 use Rattle.ll_audit.specs.Audits.{IsReport}
-use Rattle.ll_audit.specs.declared.abis.AbiRange.{AbiRange}
+use Rattle.ll_options.specs.declared.abis.AbiRange.{AbiRange}
 use Rattle.ll_audit.specs.ShownReports.{IsReportBy, IsReportWith, taken}
 
 one_tree : (bytes : List ℕ) (tree other : List Entry) → IsTreeOf bytes tree → IsTreeOf bytes other → tree ≡ other

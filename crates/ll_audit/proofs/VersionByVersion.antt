@@ -1,8 +1,7 @@
 -- An audit from version to version, the newest first.
-use Rattle.std.proofs.Common.{◌≡◌, ◌∙◌, ℕ, ◌≤◌, Bool, true, false, not, ◌&&◌, List, [], ◌∷◌, Result, Ok, Err, cond, length, map, refl, ap, ap₂, arith}
-use Rattle.std.specs.Prelude.{IfOk, codes, filter, if◌then◌else◌}
+use Rattle.std.proofs.Common.{◌≡◌, ◌∙◌, ℕ, zero, suc, ◌<◌, ◌≤◌, Bool, true, false, not, ◌&&◌, leb, leb-true, List, [], ◌∷◌, cond, drop, get_or, length, map, refl, sym, subst, ap, ap₂, arith, ◌-◌}
+use Rattle.std.specs.Prelude.{codes, filter, if◌then◌else◌}
 use Rattle.ll_rights.specs.declared.abi.Abi.{Abi}
-use Rattle.ll_rights.specs.declared.abi.Abi.TheVariants.{V1, V2, V3, V4, V5}
 use Rattle.ll_rights.specs.Abis.{number_of}
 use Rattle.ll_rights.specs.NetRights as network
 use Rattle.ll_rights.specs.Rights as files
@@ -18,13 +17,14 @@ use Rattle.ll_report.specs.Found.{Found, found_under}
 use Rattle.ll_trace.specs.Operations.{op_name}
 use Rattle.ll_report.specs.Report.{record_text}
 use Rattle.ll_report.specs.Rows.{told_of}
-use Rattle.ll_audit.specs.declared.fault.Fault.{Fault}
-use Rattle.ll_audit.specs.declared.options.Effort.{Effort}
-use Rattle.ll_audit.specs.declared.options.Effort.TheVariants.{AsRecorded, Best}
-use Rattle.ll_audit.specs.declared.options.Options.{Options}
+use Rattle.ll_options.specs.declared.options.Effort.{Effort}
+use Rattle.ll_options.specs.declared.options.Effort.TheVariants.{AsRecorded, Best}
+use Rattle.ll_options.specs.declared.options.Options.{Options}
 use Rattle.ll_audit.specs.declared.ranging.Audited.{Audited}
 use Rattle.ll_audit.specs.ShownReports.{findings, taken}
-use Rattle.ll_audit.specs.Versions.{all_versions, is_in, versions_in}
+use Rattle.ll_options.specs.Versions.{all_versions, is_in, versions_in}
+use Rattle.ll_options.proofs.Few.{few_versions}
+use Rattle.std.proofs.Math.Seq.{drop-cons}
 use Rattle.std.proofs.lemmas.List.{length-map}
 
 -- ---- best effort keeps what the report tells of a record
@@ -71,86 +71,128 @@ no_longer {X = X} test (x ∷ xs) = go (test x) (no_longer test xs)
 
 -- ---- from version to version
 
+-- no version of a list is older than this one
+abbrev pub IsBefore : List Abi → Abi → Type 0
+IsBefore [] abi = Unit {0}
+IsBefore (newer ∷ others) abi = (number_of abi ≤ number_of newer) × IsBefore others abi
+
+-- each version of a list is before those behind it
+abbrev no_older : Abi → List Abi → Bool
+no_older abi [] = true
+no_older abi (newer ∷ others) = leb (number_of abi) (number_of newer) && no_older abi others
+
+abbrev rises : List Abi → Bool
+rises [] = true
+rises (abi ∷ newer) = no_older abi newer && rises newer
+
+both : (a b : Bool) → (a && b) ≡ true → (a ≡ true) × (b ≡ true)
+both true true is = (refl, refl)
+both true false is = cc
+both false b is = cc
+
+is_before : (abi : Abi) (versions : List Abi) → no_older abi versions ≡ true → IsBefore versions abi
+is_before abi [] is = tt
+is_before abi (newer ∷ others) is =
+    let parts = both (leb (number_of abi) (number_of newer)) (no_older abi others) is in
+    (leb-true (number_of abi) (number_of newer) parts.0, is_before abi others parts.1)
+
+before_those_behind : (versions : List Abi) (place : ℕ) (other : Abi) → rises versions ≡ true → place < length versions
+    → IsBefore (drop (suc place) versions) (get_or versions place other)
+before_those_behind [] place other rising small = omega (arith, small)
+before_those_behind (abi ∷ newer) zero other rising small = is_before abi newer (both (no_older abi newer) (rises newer) rising).0
+before_those_behind (abi ∷ newer) (suc place) other rising small =
+    before_those_behind newer place other (both (no_older abi newer) (rises newer) rising).1 (omega (arith, small))
+
+-- so is each of all versions
+pub before_newer : (place : ℕ) (other : Abi) → place < length all_versions
+    → IsBefore (drop (suc place) all_versions) (get_or all_versions place other)
+unfolding all_versions
+before_newer place other small = before_those_behind all_versions place other refl small
+
 module _ (options : Options) (tree : List Entry) (records : List Record) where
   -- what is found under a version
   abbrev pub found : Abi → Found
   found abi = found_under options.shown tree (taken options.effort abi records) abi
 
-  -- All versions of the range among some are gone over; those that are left have at most this number.
-  pub record IsDownTo (bound : ℕ) (done : List Abi) (audited : Audited) : Type 0 where
+  -- All versions of the range among some are gone over; those that are left are older.
+  pub record IsDownTo (done : List Abi) (audited : Audited) : Type 0 where
     pub same_tree : audited.located.tree ≡ tree
-    pub again : (abi : Abi) → number_of abi ≤ bound → taken options.effort abi audited.located.trace ≡ taken options.effort abi records
+    pub again : (abi : Abi) → IsBefore done abi → taken options.effort abi audited.located.trace ≡ taken options.effort abi records
     pub told : map told_of audited.located.trace ≡ map told_of records
     pub found : audited.findings.items ≡ map found (filter (is_in options.abis) done)
 
   -- one more version
-  pub one_down : (bound : ℕ) (done : List Abi) (abi : Abi) (audited next : Audited) → number_of abi ≤ bound → IsDownTo bound done audited
+  pub one_down : (done : List Abi) (abi : Abi) (audited next : Audited) → IsBefore done abi → IsDownTo done audited
       → next.located.tree ≡ audited.located.tree
       → next.located.trace ≡ (if is_in options.abis abi then taken options.effort abi audited.located.trace else audited.located.trace)
       → next.findings.items ≡ (if is_in options.abis abi then found_under options.shown audited.located.tree (taken options.effort abi audited.located.trace) abi ∷ audited.findings.items
       else audited.findings.items)
-      → IsDownTo (number_of abi) (abi ∷ done) next
-  one_down bound done abi audited next low is kept trace findings =
+      → IsDownTo (abi ∷ done) next
+  one_down done abi audited next before is kept trace findings =
       let more = go (is_in options.abis abi) trace findings in
       record { same_tree = kept ∙ is.same_tree; again = more.0; told = more.1; found = more.2 }
     where
       own : found_under options.shown audited.located.tree (taken options.effort abi audited.located.trace) abi ≡ found abi
-      own = ap₂ (λ (t : List Entry) (rs : List Record). found_under options.shown t rs abi) is.same_tree (is.again abi low)
+      own = ap₂ (λ (t : List Entry) (rs : List Record). found_under options.shown t rs abi) is.same_tree (is.again abi before)
 
       go : (b : Bool) → next.located.trace ≡ (if b then taken options.effort abi audited.located.trace else audited.located.trace)
           → next.findings.items ≡ (if b then found_under options.shown audited.located.tree (taken options.effort abi audited.located.trace) abi ∷ audited.findings.items else audited.findings.items)
-          → ((older : Abi) → number_of older ≤ number_of abi → taken options.effort older next.located.trace ≡ taken options.effort older records)
+          → ((older : Abi) → IsBefore (abi ∷ done) older → taken options.effort older next.located.trace ≡ taken options.effort older records)
           × (map told_of next.located.trace ≡ map told_of records)
           × (next.findings.items ≡ map found (cond b (abi ∷ filter (is_in options.abis) done) (filter (is_in options.abis) done)))
       go true trace findings = (
-        λ older le. ap (taken options.effort older) trace ∙ taken-older options.effort older abi audited.located.trace le ∙ is.again older (omega (arith, le, low)),
+        λ older le. ap (taken options.effort older) trace ∙ taken-older options.effort older abi audited.located.trace le.0 ∙ is.again older le.1,
         ap (map told_of) trace ∙ told-taken options.effort abi audited.located.trace ∙ is.told,
         findings ∙ ap₂ (λ (one : Found) (others : List Found). one ∷ others) own is.found,
       )
       go false trace findings = (
-        λ older le. ap (taken options.effort older) trace ∙ is.again older (omega (arith, le, low)),
+        λ older le. ap (taken options.effort older) trace ∙ is.again older le.1,
         ap (map told_of) trace ∙ is.told,
         findings ∙ is.found,
       )
 
-  -- and if it is the last of them
-  pub last_down : (bound : ℕ) (done : List Abi) (abi : Abi) (audited : Audited) (made : Result Audited Fault) → number_of abi ≤ bound → IsDownTo bound done audited
-      → IfOk made (λ next. next.located.tree ≡ audited.located.tree)
-      → IfOk made (λ next. next.located.trace ≡ (if is_in options.abis abi then taken options.effort abi audited.located.trace else audited.located.trace))
-      → IfOk made (λ next. next.findings.items
-      ≡ (if is_in options.abis abi then found_under options.shown audited.located.tree (taken options.effort abi audited.located.trace) abi ∷ audited.findings.items
-      else audited.findings.items))
-      → IfOk made (IsDownTo (number_of abi) (abi ∷ done))
-  last_down bound done abi audited (Ok next) low is kept trace findings = one_down bound done abi audited next low is kept trace findings
-  last_down bound done abi audited (Err fault) low is kept trace findings = tt
-
   -- before the newest version
-  pub none_yet : (audited : Audited) → audited.located.tree ≡ tree → audited.located.trace ≡ records → audited.findings.items ≡ [] → IsDownTo 5 [] audited
+  pub none_yet : (audited : Audited) → audited.located.tree ≡ tree → audited.located.trace ≡ records → audited.findings.items ≡ [] → IsDownTo [] audited
   none_yet audited kept same_trace none = record {
     same_tree = kept;
-    again = λ abi le. ap (taken options.effort abi) same_trace;
+    again = λ abi none. ap (taken options.effort abi) same_trace;
     told = ap (map told_of) same_trace;
     found = none;
   }
 
-  -- behind the oldest
-  pub all_versions_found : (audited : Audited) → IsDownTo 1 (V1 ∷ V2 ∷ V3 ∷ V4 ∷ V5 ∷ []) audited → audited.findings.items ≡ findings options tree records
-  unfolding versions_in
-  all_versions_found audited is = is.found
+  -- the version below a place
+  pub next_down : (versions : List Abi) (place : ℕ) (other : Abi) (audited next : Audited) → versions ≡ all_versions → 0 < place → place ≤ length versions
+      → IsDownTo (drop place versions) audited
+      → next.located.tree ≡ audited.located.tree
+      → next.located.trace ≡ (if is_in options.abis (get_or versions (place - 1) other) then taken options.effort (get_or versions (place - 1) other) audited.located.trace
+      else audited.located.trace)
+      → next.findings.items ≡ (if is_in options.abis (get_or versions (place - 1) other)
+      then found_under options.shown audited.located.tree (taken options.effort (get_or versions (place - 1) other) audited.located.trace) (get_or versions (place - 1) other) ∷ audited.findings.items
+      else audited.findings.items)
+      → IsDownTo (drop (place - 1) versions) next
+  next_down versions place other audited next same some within is kept trace more =
+      let abi : Abi = get_or versions (place - 1) other in
+      let below : place ≡ suc (place - 1) = omega (arith, some) in
+      let before : IsBefore (drop (suc (place - 1)) versions) abi =
+      subst (λ (vs : List Abi). place - 1 < length vs → IsBefore (drop (suc (place - 1)) vs) (get_or vs (place - 1) other)) (sym same) (before_newer (place - 1) other)
+      (omega (arith, some, within)) in
+      subst (λ (done : List Abi). IsDownTo done next) (sym (drop-cons versions (place - 1) other (omega (arith, some, within))))
+      (one_down (drop (suc (place - 1)) versions) abi audited next before (subst (λ (k : ℕ). IsDownTo (drop k versions) audited) below is) kept trace more)
 
-  -- there are at most five versions
-  pub few_versions : length (findings options tree records) ≤ 5
+  -- behind the oldest
+  pub all_versions_found : (versions : List Abi) (place : ℕ) (audited : Audited) → versions ≡ all_versions → place ≡ 0 → IsDownTo (drop place versions) audited
+      → audited.findings.items ≡ findings options tree records
   unfolding versions_in
-  few_versions =
+  all_versions_found versions place audited same none is =
+      is.found ∙ ap₂ (λ (k : ℕ) (vs : List Abi). map found (filter (is_in options.abis) (drop k vs))) none same
+
+  -- there are few versions
+  pub few_found : length (findings options tree records) ≤ 64
+  unfolding versions_in
+  few_found =
       omega (
         arith,
         length-map (versions_in options.abis) found,
         no_longer (is_in options.abis) all_versions,
+        few_versions,
       )
-
-pub number_small : (abi : Abi) → number_of abi ≤ 5
-number_small V1 = omega arith
-number_small V2 = omega arith
-number_small V3 = omega arith
-number_small V4 = omega arith
-number_small V5 = omega arith

@@ -2,7 +2,8 @@
 use Rattle.std.proofs.Common.{ℕ, List, Result, Ok, Err, sym, subst, inl, inr}
 use Rattle.std.specs.Prelude.{IfErr}
 use Rattle.ll_audit.specs.declared.fault.Fault.{Fault}
-use Rattle.ll_audit.specs.Audits.{IsCrew, IsFaultOf, ReadsAsTree, ReadsAsTrace}
+use Rattle.ll_options.specs.Crews.{IsCrew}
+use Rattle.ll_audit.specs.Audits.{IsFaultOf, ReadsAsTree, ReadsAsTrace}
 use Rattle.ll_audit.specs.Causes.{IsWant}
 
 want_is_fault : (workers : ℕ) (tree trace : List ℕ) (of : Fault) → IsCrew workers → ReadsAsTree tree → ReadsAsTrace trace → IsWant of

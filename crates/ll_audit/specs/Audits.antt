@@ -1,7 +1,8 @@
 -- What an audit answers: the report, or why there is none.
 -- Source: docs/FORMATS.md, "The report" and "Faults of a run"; docs/SEMANTICS.md.
-use Rattle.std.specs.Prelude.{◌≡◌, ◌≤◌, ℕ, List}
+use Rattle.std.specs.Prelude.{◌≡◌, ℕ, List}
 use Rattle.ll_rights.specs.declared.abi.Abi.{Abi}
+use Rattle.ll_options.specs.Crews.{IsCrew}
 use Rattle.ll_lines.specs.Reading.{IsBad}
 use Rattle.ll_tree.specs.TreeReading.{IsTreeOf, tree_format}
 use Rattle.ll_tree.specs.Trees.{Entry}
@@ -27,10 +28,6 @@ pub record IsReport (abi : Abi) (tree_bytes trace_bytes : List ℕ) (report : Re
   pub reads_tree : IsTreeOf tree_bytes tree
   pub reads_trace : IsTrace trace_bytes records
   pub report_on : IsReportOn tree abi records report
-
--- a number of threads that may judge
-abbrev pub IsCrew : ℕ → Type 0
-IsCrew workers = (1 ≤ workers) × (workers ≤ 64)
 
 -- some tree is what the bytes read as
 abbrev pub ReadsAsTree : List ℕ → Type 0

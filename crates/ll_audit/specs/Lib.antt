@@ -1,10 +1,5 @@
-pub mod Command
-pub mod FaultLines
-pub mod Files
 pub mod Audits
 pub mod Causes
 pub mod Fronts
-pub mod Outcomes
 pub mod Cuts
 pub mod ShownReports
-pub mod Versions

@@ -12,10 +12,10 @@ use Rattle.ll_report.specs.declared.report.Report.{Report}
 use Rattle.ll_report.specs.Found.{Found, found_under}
 use Rattle.ll_report.specs.Rows.{refused_under_some, rows_text}
 use Rattle.ll_report.specs.Shown.{IsShownReportOn}
-use Rattle.ll_audit.specs.declared.options.Effort.{Effort}
-use Rattle.ll_audit.specs.declared.options.Effort.TheVariants.{AsRecorded, Best}
-use Rattle.ll_audit.specs.declared.options.Options.{Options}
-use Rattle.ll_audit.specs.Versions.{versions_in}
+use Rattle.ll_options.specs.declared.options.Effort.{Effort}
+use Rattle.ll_options.specs.declared.options.Effort.TheVariants.{AsRecorded, Best}
+use Rattle.ll_options.specs.declared.options.Options.{Options}
+use Rattle.ll_options.specs.Versions.{versions_in}
 
 -- the records as they are taken: as they were recorded, or as a program calls that uses what its kernel supports
 abbrev pub taken : Effort → Abi → List Record → List Record

@@ -3,14 +3,14 @@
 ghost use Rattle.std.specs.Prelude.{◌≡◌, ◌∷◌, [], IfOk, IfErr, if◌then◌else◌, map};
 ghost use Rattle.ll_report.specs.Found.{found_under};
 ghost use Rattle.ll_report.specs.Rows.{told_of};
-ghost use Rattle.ll_audit.specs.Audits.{IsCrew};
+ghost use Rattle.ll_options.specs.Crews.{IsCrew};
 ghost use Rattle.ll_audit.specs.Causes.{IsWant};
 ghost use Rattle.ll_audit.specs.ShownReports.{IsReportOver, findings, taken};
-ghost use Rattle.ll_audit.specs.Versions.{is_in};
+ghost use Rattle.ll_options.specs.Versions.{is_in};
 
 use crate::auditing::answers_of;
 use crate::fault::Fault;
-use crate::options::{Effort, Options};
+use ll_options::{Effort, Options, all_versions};
 use ll_pool::Gate;
 use ll_process::Case;
 use ll_report::{Finding, Report};
@@ -63,7 +63,7 @@ impl Audited {
         })
     }
 
-    /// Audits under all versions that are asked for.
+    /// Audits under all versions that are asked for, the newest first.
     fn under_all<R: Threads + Wait + Sync, G: Gate + Sync>(
         self,
         rt: &R,
@@ -79,11 +79,13 @@ impl Audited {
         ensures records { IfOk result (λ all. map told_of all.located.trace ≡ map told_of self.located.trace) }
         ensures fault { IfErr result IsWant }
     {
-        self.under(rt, alloc, options, workers, cuts, gate, Abi::V5)?
-            .under(rt, alloc, options, workers, cuts, gate, Abi::V4)?
-            .under(rt, alloc, options, workers, cuts, gate, Abi::V3)?
-            .under(rt, alloc, options, workers, cuts, gate, Abi::V2)?
-            .under(rt, alloc, options, workers, cuts, gate, Abi::V1)
+        let versions = all_versions();
+        let mut audited = self;
+        for place in (0..versions.len()).rev() {
+            let abi = versions[place];
+            audited = audited.under(rt, alloc, options, workers, cuts, gate, abi)?;
+        }
+        Ok(audited)
     }
 }
 

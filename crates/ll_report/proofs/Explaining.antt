@@ -9,7 +9,7 @@ use Rattle.ll_semantics.specs.declared.answer.Answer.{Answer}
 use Rattle.ll_trace.specs.declared.record.Record.{Record}
 use Rattle.ll_trails.specs.CaseTrails.{IsAnswerAt}
 use Rattle.ll_report.specs.declared.blocks.Blocks.{Blocks}
-use Rattle.ll_report.specs.declared.shown.Shown.{Shown}
+use Rattle.ll_options.specs.declared.shown.Shown.{Shown}
 use Rattle.ll_report.specs.Report.{ReportLine}
 use Rattle.ll_report.specs.Shown.{block_text}
 use Rattle.ll_report.specs.ShownSoFar.{AreAt}

@@ -5,7 +5,7 @@ use Rattle.std.specs.List.{count_by}
 use Rattle.std.proofs.lemmas.List.Sums.{sum_by-cons}
 use Rattle.ll_trace.specs.declared.record.Record.{Record}
 use Rattle.ll_semantics.specs.declared.answer.Answer.{Answer}
-use Rattle.ll_report.specs.declared.shown.Shown.{Shown}
+use Rattle.ll_options.specs.declared.shown.Shown.{Shown}
 use Rattle.ll_report.specs.Report.{ReportLine, Verdict, count_of, is_allowed, is_moot, is_refused, total_text}
 use Rattle.ll_report.specs.Shown.{blocks_from, shown_text}
 use Rattle.ll_report.specs.Lines.{line_of, lines_of, refused_among, verdict_of}

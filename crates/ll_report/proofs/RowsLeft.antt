@@ -2,7 +2,7 @@
 use Rattle.std.proofs.Common.{◌≡◌, ◌∙◌, ℕ, ◌+◌, ◌<◌, ◌≤◌, List, [], ◌∷◌, ◌++◌, length, drop, get_or, map, refl, sym, ap, ap₂, append_assoc, append-nil, arith, drop_of_length-le}
 use Rattle.std.proofs.lemmas.List.{map-append}
 use Rattle.ll_trace.specs.declared.record.Record.{Record}
-use Rattle.ll_report.specs.declared.shown.Shown.{Shown}
+use Rattle.ll_options.specs.declared.shown.Shown.{Shown}
 use Rattle.ll_report.specs.Found.{Found}
 use Rattle.ll_report.specs.Rows.{row_text, rows_from, told_of, total_under_text, totals_from}
 use Rattle.ll_report.proofs.SpansLeft.{next_of}

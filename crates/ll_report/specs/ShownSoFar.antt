@@ -4,7 +4,7 @@ use Rattle.std.specs.Prelude.{◌≡◌, ℕ, IfSome, is_some}
 use Rattle.ll_process.specs.Cases.{Matter}
 use Rattle.ll_trails.specs.CaseTrails.{AreTrailsAt}
 use Rattle.ll_report.specs.declared.blocks.Blocks.{Blocks}
-use Rattle.ll_report.specs.declared.shown.Shown.{Shown}
+use Rattle.ll_options.specs.declared.shown.Shown.{Shown}
 
 -- The records of this case up to a place are shown. Where all that processes have comes from is kept just where
 -- explanations are shown.

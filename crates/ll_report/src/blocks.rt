@@ -9,8 +9,8 @@ ghost use Rattle.ll_report.specs.Shown.{behind_line, block_text, blocks_from, is
 ghost use Rattle.ll_report.specs.ShownSoFar.{AreAt};
 
 use crate::report::{is_refused, push_line};
-use crate::shown::Shown;
 use ll_explain::push_explanation;
+use ll_options::Shown;
 use ll_process::{Answer, Case};
 use ll_rules::NoMemory;
 use ll_trace::Record;

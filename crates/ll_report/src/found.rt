@@ -6,8 +6,8 @@ ghost use Rattle.ll_semantics.specs.Worlds.{judged};
 ghost use Rattle.ll_explain.specs.Explained.{text_at};
 ghost use Rattle.ll_report.specs.Found.{answer_at, explanation_at, found_under};
 
-use crate::shown::Shown;
 use crate::texts::Texts;
+use ll_options::Shown;
 use ll_process::{Answer, Case};
 use ll_rules::NoMemory;
 use ll_trails::Trails;

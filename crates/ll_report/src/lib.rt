@@ -8,11 +8,10 @@ mod laws;
 mod names;
 mod report;
 mod rows;
-mod shown;
 mod spans;
 mod texts;
 
 pub use found::Finding;
 pub use laws::empty_report;
+pub use ll_options::{ALL_LINES, Shown};
 pub use report::Report;
-pub use shown::{ALL_LINES, Shown};

@@ -10,8 +10,8 @@ ghost use Rattle.ll_report.specs.Names as spec;
 
 use crate::blocks::push_blocks;
 use crate::names::error_name;
-use crate::shown::Shown;
 use itoa::Buffer;
+use ll_options::Shown;
 use ll_process::{Answer, Case};
 use ll_rules::{Errno, LayerSet, NoMemory};
 use ll_trace::Record;

@@ -2,7 +2,6 @@
 //! writers that fail.
 #![tactic(auto)]
 
-mod failing;
 #[cfg(test)]
 mod families;
 #[cfg(test)]
@@ -17,5 +16,3 @@ mod refusals;
 mod runs;
 #[cfg(test)]
 mod words;
-
-pub use failing::FailingSource;

@@ -1,8 +1,8 @@
 //! Sources and writers that fail.
 
-use crate::failing::FailingSource;
 use crate::ready::{REPORT, TRACE, TREE, owned};
 use ll_audit::{Ending, Idle, MemorySource, SourceFault, front_ending};
+use ll_source::FailingSource;
 use std::io;
 use std::io::{ErrorKind, Write};
 use std::sync::Wait;

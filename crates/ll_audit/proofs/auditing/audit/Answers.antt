@@ -1,8 +1,8 @@
 use Rattle.std.proofs.Common.{subst}
 use Rattle.std.proofs.lemmas.Result.{IfOk-weaker}
-use Rattle.ll_report.specs.declared.shown.TheConstants.{ALL_LINES}
-use Rattle.ll_audit.specs.declared.abis.AbiRange.{AbiRange}
-use Rattle.ll_audit.specs.declared.options.Effort.TheVariants.{AsRecorded}
+use Rattle.ll_options.specs.declared.shown.TheConstants.{ALL_LINES}
+use Rattle.ll_options.specs.declared.abis.AbiRange.{AbiRange}
+use Rattle.ll_options.specs.declared.options.Effort.TheVariants.{AsRecorded}
 use Rattle.ll_audit.specs.ShownReports.{IsReportWith}
 use Rattle.ll_audit.proofs.OneReport.{with_all_lines}
 use Rattle.ll_audit.proofs.auditing.audit.Goals as goal

@@ -1,5 +1,6 @@
 use Rattle.std.proofs.Common.{arith, rules}
-use Rattle.ll_audit.specs.Audits.{IsCrew, ReadsAsTree}
+use Rattle.ll_options.specs.Crews.{IsCrew}
+use Rattle.ll_audit.specs.Audits.{ReadsAsTree}
 use Rattle.ll_audit.proofs.auditing.files_of.Goals as goal
 
 -- where the trace doesn't read, the number of workers is one that may judge, and the tree reads

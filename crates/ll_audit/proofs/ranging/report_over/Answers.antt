@@ -7,7 +7,8 @@ use Rattle.ll_report.specs.Rows.{is_refused_under_some, refused_under_some, rows
 use Rattle.ll_report.proofs.RowsLeft.{same_rows}
 use Rattle.ll_audit.specs.ShownReports.{findings}
 use Rattle.ll_rights.specs.Abis.{number_of}
-use Rattle.ll_audit.proofs.VersionByVersion.{few_versions, number_small}
+use Rattle.ll_options.proofs.Few.{small_number}
+use Rattle.ll_audit.proofs.VersionByVersion.{few_found}
 use Rattle.ll_audit.proofs.ranging.report_over.Goals as goal
 
 pub over-requires : goal.over-requires
@@ -15,9 +16,9 @@ over-requires g c =
     omega (
       arith,
       c.number-oldest.ensures,
-      number_small c.args.options.now.abis.oldest,
+      small_number c.args.options.now.abis.oldest,
       ap length (c.deref.ensures.value ∙ c.in_ok-all.ensures.findings),
-      few_versions c.args.options.now c.in_ok-located.located.tree c.in_ok-located.located.trace,
+      few_found c.args.options.now c.in_ok-located.located.tree c.in_ok-located.located.trace,
     )
 
 pub returns-clause-report : goal.returns-clause-report

@@ -1,0 +1,418 @@
+//! The command line.
+
+ghost use Rattle.std.specs.Prelude.{◌≡◌, ◌⊎◌, [], IfOk, IfSome, MatchResult, Some, false, find, is_some, map, option_map, string_bytes};
+ghost use Rattle.clap.specs.Words.{HasKind, app_of, fault_of, first_of, found_of, kind_of, matches_of, rows_of, rule_of};
+ghost use Rattle.clap.specs.declared.error.kind.ErrorKind.TheVariants.{OutOfMemory};
+ghost use Rattle.ll_options.specs.Crews.{IsCrew};
+ghost use Rattle.ll_command.specs.Command as spec;
+
+use crate::message::Message;
+use crate::misuse::Misuse;
+use clap::builder::ValueParser;
+use clap::error::ErrorKind;
+use clap::{Arg, ArgAction, ArgMatches, Command, Error};
+use ll_options::{AbiRange, Effort, Options, Shown, all_versions};
+use ll_rights::Abi;
+use std::alloc::{AllocError, Global};
+
+/// What a run is asked to do.
+#[derive(Clone, Copy, Debug)]
+pub struct Run<'a> {
+    /// The options of the audit.
+    pub options: Options,
+    /// How many threads judge.
+    pub workers: u64,
+    /// From how many records on a forked process may go to another thread.
+    pub grain: u64,
+    /// The name of the file with the tree.
+    pub tree: &'a str,
+    /// The name of the file with the trace.
+    pub trace: &'a str,
+}
+
+/// What the words of the command line ask for.
+#[derive(Debug, Drop)]
+pub enum Plan<'a> {
+    /// A run.
+    Run(Run<'a>),
+    /// Help or the version.
+    Text(Message),
+    /// Nothing: the words are at fault, and the message says why.
+    Usage(Message),
+    /// Nothing: each word is as its rule has it, and they are still wrong.
+    Misuse(Misuse),
+    /// Out of memory while the words were read.
+    Memory,
+}
+
+/// What `--version` prints behind the name: the version, and the line of the toolchain that proves and builds it.
+const VERSION: &str = "0.1 (rattle-kit-13f logic dac8208d650f15bf)";
+
+const ABOUT: &str = "Says for each call of a trace what Landlock answers";
+
+/// What help says of an argument: a line for `-h`, and the whole for `--help`.
+#[derive(Clone, Copy)]
+struct Help {
+    short: &'static str,
+    whole: &'static str,
+}
+
+const TREE_HELP: Help = Help {
+    short: "File with the file tree, or - for standard input",
+    whole: "\
+File with the file tree, one object a line, parents first, or - for
+standard input:
+  {\"path\":\"/a\",\"kind\":\"dir\"}
+  {\"path\":\"/a/f\",\"kind\":\"reg\"}",
+};
+
+const TRACE_HELP: Help = Help {
+    short: "File with the calls, or - for standard input",
+    whole: "\
+File with the calls, one a line, in the order in which they took
+effect, or - for standard input:
+  {\"op\":\"start\",\"pid\":10}
+  {\"op\":\"open\",\"pid\":10,\"path\":\"/a/f\",\"fd\":4,\"mode\":\"r\"}",
+};
+
+const ABI_HELP: Help = Help {
+    short: "Version of Landlock's interface, 1 to 5, or a range of them: 2-5",
+    whole: "\
+Version of Landlock's interface, 1 to 5, or a range of them, the older
+first: 2-5. Over a range each version answers by itself, and
+neighbouring versions with the same answer are named together.",
+};
+
+const WORKERS_HELP: Help = Help {
+    short: "Number of threads, 1 to 64",
+    whole: "\
+Number of threads beside the first that judge the trace's processes, 1
+to 64; where it is two or more, threads read the trace too. No more
+start than there can be work for. The report is the same for every
+number.",
+};
+
+const GRAIN_HELP: Help = Help {
+    short: "Fewest records of a forked process that may go to another thread",
+    whole: "\
+Fewest records of a forked process that may go to another thread. Set
+it lower where many short processes keep few threads busy, higher
+where handing them out takes longer than judging them. The report is
+the same for every number.",
+};
+
+const EFFORT_HELP: Help = Help {
+    short: "Drop the rights that the version lacks, as a program does that asks its kernel",
+    whole: "\
+Drop the rights that the version lacks, as a program does that asks
+its kernel for the version and uses what this supports. Without it
+rulesets are judged as they were recorded, and a right that the
+version lacks is an error: a recording of such a program would
+mislead at a version older than its kernel's.",
+};
+
+const REFUSED_HELP: Help = Help {
+    short: "Print only the records that some version refuses",
+    whole: "\
+Print only the records that some version refuses. The totals count
+all.",
+};
+
+const DIFFERS_HELP: Help = Help {
+    short: "Print only the records whose answer differs between the versions of the range",
+    whole: "\
+Print only the records whose answer differs between the versions of
+the range. The totals count all.",
+};
+
+const EXPLAIN_HELP: Help = Help {
+    short: "Print behind each refused or moot record why it is so",
+    whole: "\
+Print behind each refused or moot record why it is so: the layers that
+refuse it, the line of the restrict that made each of them, and what
+is missing on which path or port; or the condition of its error; or
+why the policy is not asked.",
+};
+
+const MORE_HELP: &str = "\
+Example: what some ABI refuses of a recording, and why
+  landaudit --abi 1-5 --explain --refused rec/tree.jsonl rec/trace.jsonl
+
+Status:
+  0  no call is refused, or this help or the version was asked for
+  1  some version refuses some call
+  2  the command line is wrong
+  3  a file can't be read, or a line of it is wrong
+  4  no memory or no thread is left, or the report can't be written
+
+The files and the report are described in landaudit(5) and docs/FORMATS.md.";
+
+/// An option `--name N`.
+fn number_option<'a>(alloc: Global, name: &'a str, least: u64, most: u64, help: Help) -> Arg<'a>
+    ensures rule { rule_of result ≡ spec.number_option name.entry.now least most }
+    ensures local { result.global ≡ false }
+{
+    Arg::new(alloc, name)
+        .long(name)
+        .action(ArgAction::Set)
+        .value_name("N")
+        .value_parser(ValueParser::unsigned(least, most))
+        .help(help.short)
+        .long_help(help.whole)
+}
+
+/// An option `--name N[-M]`.
+fn text_option<'a>(alloc: Global, name: &'a str, help: Help) -> Arg<'a>
+    ensures rule { rule_of result ≡ spec.text_option name.entry.now }
+    ensures local { result.global ≡ false }
+{
+    Arg::new(alloc, name)
+        .long(name)
+        .action(ArgAction::Set)
+        .value_name("N[-M]")
+        .help(help.short)
+        .long_help(help.whole)
+}
+
+/// An option `--name`, which has no value.
+fn flag_option<'a>(alloc: Global, name: &'a str, help: Help) -> Arg<'a>
+    ensures rule { rule_of result ≡ spec.flag name.entry.now }
+    ensures local { result.global ≡ false }
+{
+    Arg::new(alloc, name)
+        .long(name)
+        .action(ArgAction::SetTrue)
+        .help(help.short)
+        .long_help(help.whole)
+}
+
+/// The name of a file, which has to be given.
+fn file_argument<'a>(alloc: Global, name: &'a str, help: Help) -> Arg<'a>
+    ensures rule { rule_of result ≡ spec.file_argument name.entry.now }
+    ensures local { result.global ≡ false }
+{
+    Arg::new(alloc, name)
+        .required(true)
+        .action(ArgAction::Set)
+        .help(help.short)
+        .long_help(help.whole)
+}
+
+/// The command, with the texts of its help.
+#[tactic(auto, unfolding(crate::specs::Command::command))]
+fn command<'a>(alloc: Global) -> Result<Command<'a>, AllocError>
+    ensures { IfOk result (λ command. app_of command ≡ spec.command) }
+{
+    let abi = text_option(alloc, "abi", ABI_HELP);
+    let workers = number_option(alloc, "workers", 1, 64, WORKERS_HELP);
+    let grain = number_option(alloc, "grain", 0, u64::MAX, GRAIN_HELP);
+    Command::new(alloc, "landaudit")
+        .version(VERSION)
+        .about(ABOUT)
+        .after_long_help(MORE_HELP)
+        .arg(abi.required(true))?
+        .arg(workers.default_value("1"))?
+        .arg(grain.default_value("64"))?
+        .arg(flag_option(alloc, "best-effort", EFFORT_HELP))?
+        .arg(flag_option(alloc, "refused", REFUSED_HELP))?
+        .arg(flag_option(alloc, "differs", DIFFERS_HELP))?
+        .arg(flag_option(alloc, "explain", EXPLAIN_HELP))?
+        .arg(file_argument(alloc, "TREE", TREE_HELP))?
+        .arg(file_argument(alloc, "TRACE", TRACE_HELP))
+}
+
+/// Whether a digit is a version's number.
+fn is_number_of(digit: u8, abi: Abi) -> bool
+    ensures { result ≡ spec.is_number_of digit abi }
+{
+    b'0' <= digit && u64::from(digit - b'0') == abi.number()
+}
+
+/// The first of some versions whose number a digit is.
+fn numbered(versions: &[Abi], digit: u8) -> Option<Abi>
+    ensures { result ≡ find (spec.is_number_of digit) versions.now }
+{
+    versions
+        .iter()
+        .copied()
+        .find(|abi| is_number_of(digit, *abi))
+}
+
+/// The version of a digit.
+fn version(digit: u8) -> Option<Abi>
+    ensures { result ≡ spec.version_of digit }
+{
+    numbered(all_versions(), digit)
+}
+
+/// The range from a version to one that isn't older.
+fn range_between(oldest: Option<Abi>, newest: Option<Abi>) -> Option<AbiRange>
+    ensures { result ≡ spec.range_between oldest newest }
+{
+    let (oldest, newest) = (oldest?, newest?);
+    if oldest.number() <= newest.number() {
+        Some(AbiRange { oldest, newest })
+    } else {
+        None
+    }
+}
+
+/// The range that a text names: a version, or two with a hyphen between them.
+fn range(text: &str) -> Option<AbiRange>
+    ensures { result ≡ spec.range_in text.now }
+{
+    match text.as_bytes() {
+        [digit] => range_between(version(*digit), version(*digit)),
+        [oldest, b'-', newest] => range_between(version(*oldest), version(*newest)),
+        _ => None,
+    }
+}
+
+/// The number of workers, where it is 1 to 64.
+fn crew(number: u64) -> Option<u64>
+    ensures value { result ≡ spec.crew_of number }
+    ensures crew { IfSome result IsCrew }
+{
+    if 0 < number && number < 65 {
+        Some(number)
+    } else {
+        None
+    }
+}
+
+/// The number that the matches give an option.
+fn number(matches: &ArgMatches<'_>, name: &str) -> Option<u64>
+    ensures { result ≡ spec.number_at name.now (rows_of (found_of matches.now)) }
+{
+    matches.get_one::<u64>(name)
+}
+
+/// The text that the matches give an argument.
+fn text<'a>(matches: &ArgMatches<'a>, name: &str) -> Option<&'a str>
+    ensures { option_map (λ text. text.now) result
+        ≡ first_of name.now (rows_of (found_of matches.now)) }
+{
+    matches.get_str(name)
+}
+
+/// Whether the matches give an argument this text.
+fn is_text(matches: &ArgMatches<'_>, name: &str, wanted: &str) -> bool
+    ensures { result ≡ spec.is_text wanted.now (first_of name.now (rows_of (found_of matches.now))) }
+{
+    match text(matches, name) {
+        Some(text) => text == wanted,
+        None => false,
+    }
+}
+
+/// Whether the matches have a flag.
+fn flag(matches: &ArgMatches<'_>, name: &str) -> bool
+    ensures { result ≡ spec.flag_at name.now (rows_of (found_of matches.now)) }
+{
+    is_text(matches, name, "true")
+}
+
+/// What the matches ask to show.
+fn shown(matches: &ArgMatches<'_>) -> Shown
+    ensures { result ≡ spec.shown_in (rows_of (found_of matches.now)) }
+{
+    Shown {
+        explanations: flag(matches, "explain"),
+        refused_alone: flag(matches, "refused"),
+        differing_alone: flag(matches, "differs"),
+    }
+}
+
+/// How the matches ask to take rulesets.
+fn effort(matches: &ArgMatches<'_>) -> Effort
+    ensures { result ≡ spec.effort_in (rows_of (found_of matches.now)) }
+{
+    if flag(matches, "best-effort") {
+        Effort::Best
+    } else {
+        Effort::AsRecorded
+    }
+}
+
+/// What the matches ask of an audit under some versions.
+fn options(abis: AbiRange, matches: &ArgMatches<'_>) -> Options
+    ensures { result ≡ spec.options_in abis (rows_of (found_of matches.now)) }
+{
+    Options {
+        abis,
+        effort: effort(matches),
+        shown: shown(matches),
+    }
+}
+
+/// What the matches ask for.
+#[tactic(auto, unfolding(crate::specs::Command::request_in))]
+fn run_of<'a>(matches: &ArgMatches<'a>) -> Option<Run<'a>>
+    ensures request { option_map spec.request_by result
+        ≡ spec.request_in (rows_of (found_of matches.now)) }
+    ensures crew { IfSome result (λ run. IsCrew run.workers) }
+{
+    Some(Run {
+        options: options(range(text(matches, "abi")?)?, matches),
+        workers: crew(number(matches, "workers")?)?,
+        grain: number(matches, "grain")?,
+        tree: text(matches, "TREE")?,
+        trace: text(matches, "TRACE")?,
+    })
+}
+
+/// The matches of the words.
+fn parse<'a>(command: &mut Command<'a>, words: &'a [String]) -> Result<ArgMatches<'a>, Error>
+    requires { app_of command.old ≡ spec.command }
+    ensures { MatchResult result
+        (λ matches. (fault_of spec.command (map string_bytes words.entry.now) ≡ [])
+        × (rows_of (found_of matches) ≡ matches_of spec.command (map string_bytes words.entry.now)))
+        (HasKind (spec.faults (map string_bytes words.entry.now))) }
+{
+    command.try_get_matches_from_mut(words)
+}
+
+/// What is wrong with matches that are each as their rule has it, if anything is.
+fn misuse(matches: &ArgMatches<'_>) -> Option<Misuse>
+    ensures { is_some result ≡ spec.is_misuse (rows_of (found_of matches.now)) }
+{
+    match text(matches, "abi") {
+        Some(versions) if range(versions).is_some() => {}
+        _ => return Some(Misuse::Versions),
+    }
+    if is_text(matches, "TREE", "-") && is_text(matches, "TRACE", "-") {
+        return Some(Misuse::StandardInput);
+    }
+    None
+}
+
+/// Reads the words, of which the first is the program's name.
+fn read<'a>(alloc: Global, words: &'a [String]) -> Result<Plan<'a>, Error>
+    ensures { MatchResult result
+        (spec.IsPlanFor (map string_bytes words.entry.now))
+        (HasKind (spec.faults (map string_bytes words.entry.now))) }
+{
+    let mut command = command(alloc)?;
+    let matches = parse(&mut command, words)?;
+    if let Some(why) = misuse(&matches) {
+        return Ok(Plan::Misuse(why));
+    }
+    match run_of(&matches) {
+        Some(run) => Ok(Plan::Run(run)),
+        None => unreachable!(),
+    }
+}
+
+/// What the words ask for. The first is the program's name.
+pub fn plan_of<'a>(alloc: Global, words: &'a [String]) -> Plan<'a>
+    ensures { spec.IsPlanFor (map string_bytes words.entry.now) result }
+{
+    match read(alloc, words) {
+        Ok(plan) => plan,
+        Err(error) => match error.kind() {
+            ErrorKind::OutOfMemory => Plan::Memory,
+            ErrorKind::DisplayHelp | ErrorKind::DisplayVersion => Plan::Text(Message(error)),
+            _ => Plan::Usage(Message(error)),
+        },
+    }
+}

@@ -1,0 +1,23 @@
+//! Words of the command line that are each as their rule has it, and are still wrong.
+
+use std::fmt;
+
+/// What is wrong with such words. What it prints is a line without its end.
+#[derive(Clone, Copy, Debug, PartialEq, Eq)]
+pub enum Misuse {
+    /// The text that names the versions names no range of them.
+    Versions,
+    /// Both files are standard input.
+    StandardInput,
+}
+
+impl fmt::Display for Misuse {
+    fn fmt<W: fmt::Write>(&self, f: &mut fmt::Formatter<W>) -> fmt::Result {
+        f.write_str(match self {
+            Misuse::Versions => {
+                "--abi takes a version of Landlock's interface, 1 to 5, or a range of them, the older first: 2 or 2-5"
+            }
+            Misuse::StandardInput => "TREE and TRACE can't both be standard input",
+        })
+    }
+}

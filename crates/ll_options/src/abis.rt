@@ -1,0 +1,53 @@
+//! The versions of Landlock's interface that an audit goes over.
+
+ghost use Rattle.std.specs.Prelude.{◌≡◌, ◌==◌, Some, None, if◌then◌else◌};
+ghost use Rattle.ll_rights.specs.Abis.{number_of};
+ghost use Rattle.ll_options.specs.Versions.{all_versions, is_in};
+
+use ll_rights::Abi;
+
+/// All versions, the oldest first.
+#[tactic(auto, unfolding(crate::specs::Versions::all_versions))]
+pub fn all_versions() -> &'static [Abi]
+    ensures { result.now ≡ all_versions }
+{
+    &[Abi::V1, Abi::V2, Abi::V3, Abi::V4, Abi::V5]
+}
+
+/// Neighbouring versions of Landlock's interface: all from the oldest to the newest, which both belong to them.
+#[derive(Clone, Copy, Debug, PartialEq, Eq)]
+pub struct AbiRange {
+    pub oldest: Abi,
+    pub newest: Abi,
+}
+
+impl AbiRange {
+    /// One version alone.
+    pub fn only(abi: Abi) -> AbiRange
+        ensures { result ≡ record { oldest = abi; newest = abi } }
+    {
+        AbiRange {
+            oldest: abi,
+            newest: abi,
+        }
+    }
+
+    /// Whether a version is in the range.
+    pub fn has(self, abi: Abi) -> bool
+        ensures { result ≡ is_in self abi }
+    {
+        let number = abi.number();
+        self.oldest.number() <= number && number <= self.newest.number()
+    }
+
+    /// The version of the range, where it has just one.
+    pub fn single(self) -> Option<Abi>
+        ensures { result ≡ (if number_of self.oldest == number_of self.newest then Some self.oldest else None) }
+    {
+        if self.oldest.number() == self.newest.number() {
+            Some(self.oldest)
+        } else {
+            None
+        }
+    }
+}
