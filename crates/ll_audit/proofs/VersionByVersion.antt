@@ -2,7 +2,7 @@
 use Rattle.std.proofs.Common.{◌≡◌, ◌∙◌, ℕ, zero, suc, ◌<◌, ◌≤◌, Bool, true, false, not, ◌&&◌, leb, leb-true, List, [], ◌∷◌, cond, drop, get_or, length, map, refl, sym, subst, ap, ap₂, arith, ◌-◌}
 use Rattle.std.specs.Prelude.{codes, filter, if◌then◌else◌}
 use Rattle.ll_rights.specs.declared.abi.Abi.{Abi}
-use Rattle.ll_rights.specs.Abis.{number_of}
+use Rattle.ll_rights.specs.Abis.{all_versions, number_of}
 use Rattle.ll_rights.specs.NetRights as network
 use Rattle.ll_rights.specs.Rights as files
 use Rattle.ll_rights.specs.Supported.{supported_fs, supported_net}
@@ -22,7 +22,7 @@ use Rattle.ll_options.specs.declared.options.Effort.TheVariants.{AsRecorded, Bes
 use Rattle.ll_options.specs.declared.options.Options.{Options}
 use Rattle.ll_audit.specs.declared.ranging.Audited.{Audited}
 use Rattle.ll_audit.specs.ShownReports.{findings, taken}
-use Rattle.ll_options.specs.Versions.{all_versions, is_in, versions_in}
+use Rattle.ll_options.specs.Versions.{is_in, versions_in}
 use Rattle.ll_options.proofs.Few.{few_versions}
 use Rattle.std.proofs.Math.Seq.{drop-cons}
 use Rattle.std.proofs.lemmas.List.{length-map}

@@ -10,7 +10,7 @@ ghost use Rattle.ll_options.specs.Versions.{is_in};
 
 use crate::auditing::answers_of;
 use crate::fault::Fault;
-use ll_options::{Effort, Options, all_versions};
+use ll_options::{Effort, Options};
 use ll_pool::Gate;
 use ll_process::Case;
 use ll_report::{Finding, Report};
@@ -79,7 +79,7 @@ impl Audited {
         ensures records { IfOk result (λ all. map told_of all.located.trace ≡ map told_of self.located.trace) }
         ensures fault { IfErr result IsWant }
     {
-        let versions = all_versions();
+        let versions = Abi::all();
         let mut audited = self;
         for place in (0..versions.len()).rev() {
             let abi = versions[place];

@@ -12,10 +12,9 @@ use Rattle.clap.specs.Words.{App, IsAmong, Kinds, Row, Rule, fault_of, first_of,
 use Rattle.clap.specs.Simple.{on_top}
 use Rattle.clap.specs.ValueTests.{is_unsigned_in}
 use Rattle.ll_rights.specs.declared.abi.Abi.{Abi}
-use Rattle.ll_rights.specs.Abis.{number_of}
+use Rattle.ll_rights.specs.Abis.{all_versions, number_of}
 use Rattle.ll_options.specs.declared.shown.Shown.{Shown}
 use Rattle.ll_options.specs.Crews.{IsCrew}
-use Rattle.ll_options.specs.Versions.{all_versions}
 use Rattle.ll_options.specs.declared.abis.AbiRange.{AbiRange}
 use Rattle.ll_command.specs.declared.command.Run.{Run}
 use Rattle.ll_options.specs.declared.options.Effort.{Effort}

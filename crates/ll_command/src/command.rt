@@ -11,7 +11,7 @@ use crate::misuse::Misuse;
 use clap::builder::ValueParser;
 use clap::error::ErrorKind;
 use clap::{Arg, ArgAction, ArgMatches, Command, Error};
-use ll_options::{AbiRange, Effort, Options, Shown, all_versions};
+use ll_options::{AbiRange, Effort, Options, Shown};
 use ll_rights::Abi;
 use std::alloc::{AllocError, Global};
 
@@ -242,7 +242,7 @@ fn numbered(versions: &[Abi], digit: u8) -> Option<Abi>
 fn version(digit: u8) -> Option<Abi>
     ensures { result ≡ spec.version_of digit }
 {
-    numbered(all_versions(), digit)
+    numbered(Abi::all(), digit)
 }
 
 /// The range from a version to one that isn't older.

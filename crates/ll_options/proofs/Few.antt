@@ -2,8 +2,7 @@
 use Rattle.std.proofs.Common.{◌≤◌, length, arith}
 use Rattle.ll_rights.specs.declared.abi.Abi.{Abi}
 use Rattle.ll_rights.specs.declared.abi.Abi.TheVariants.{V1, V2, V3, V4, V5}
-use Rattle.ll_rights.specs.Abis.{number_of}
-use Rattle.ll_options.specs.Versions.{all_versions}
+use Rattle.ll_rights.specs.Abis.{all_versions, number_of}
 
 pub small_number : (abi : Abi) → number_of abi ≤ 64
 small_number V1 = omega arith

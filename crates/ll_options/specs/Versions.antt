@@ -1,14 +1,9 @@
 -- The versions of Landlock's interface that an audit goes over.
 -- Source: docs/FORMATS.md, "The command line".
-use Rattle.std.specs.Prelude.{◌&&◌, Bool, List, [], ◌∷◌, filter, nat_le}
+use Rattle.std.specs.Prelude.{◌&&◌, Bool, List, filter, nat_le}
 use Rattle.ll_rights.specs.declared.abi.Abi.{Abi}
-use Rattle.ll_rights.specs.declared.abi.Abi.TheVariants.{V1, V2, V3, V4, V5}
-use Rattle.ll_rights.specs.Abis.{number_of}
+use Rattle.ll_rights.specs.Abis.{all_versions, number_of}
 use Rattle.ll_options.specs.declared.abis.AbiRange.{AbiRange}
-
--- all versions, the oldest first
-unfoldable pub all_versions : List Abi
-all_versions = V1 ∷ V2 ∷ V3 ∷ V4 ∷ V5 ∷ []
 
 -- a version is in a range
 abbrev pub is_in : AbiRange → Abi → Bool

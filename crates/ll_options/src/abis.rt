@@ -2,17 +2,9 @@
 
 ghost use Rattle.std.specs.Prelude.{◌≡◌, ◌==◌, Some, None, if◌then◌else◌};
 ghost use Rattle.ll_rights.specs.Abis.{number_of};
-ghost use Rattle.ll_options.specs.Versions.{all_versions, is_in};
+ghost use Rattle.ll_options.specs.Versions.{is_in};
 
 use ll_rights::Abi;
-
-/// All versions, the oldest first.
-#[tactic(auto, unfolding(crate::specs::Versions::all_versions))]
-pub fn all_versions() -> &'static [Abi]
-    ensures { result.now ≡ all_versions }
-{
-    &[Abi::V1, Abi::V2, Abi::V3, Abi::V4, Abi::V5]
-}
 
 /// Neighbouring versions of Landlock's interface: all from the oldest to the newest, which both belong to them.
 #[derive(Clone, Copy, Debug, PartialEq, Eq)]

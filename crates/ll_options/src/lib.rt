@@ -6,6 +6,6 @@ mod abis;
 mod options;
 mod shown;
 
-pub use abis::{AbiRange, all_versions};
+pub use abis::AbiRange;
 pub use options::{Effort, Options};
 pub use shown::{ALL_LINES, Shown};
