@@ -9,7 +9,7 @@ use Rattle.std.proofs.lemmas.Nat.Bits.{bit_at_or, bit_at_and, bit_at_xor, bit_at
 use Rattle.std.proofs.lemmas.List.FromFn.{get_or-range_with_len, length-range_with_len}
 use Rattle.std.proofs.lemmas.List.Folds.{list_any-from_Any}
 use Rattle.ll_rights.specs.Bits.{has_place}
-use Rattle.ll_rights.specs.Sets.{bits_without}
+use Rattle.ll_rights.specs.BitSets.{bits_without}
 
 one_of_max : (x y : ℕ) → x < 2 → y < 2 → eqb (max x y) 1 ≡ (eqb x 1 || eqb y 1)
 one_of_max zero zero p q = refl

@@ -11,7 +11,7 @@ use Rattle.ll_rights.specs.Rights as files
 use Rattle.ll_rights.specs.NetRights as network
 use Rattle.ll_rights.specs.Sets.{Row, first_named}
 use Rattle.ll_rights.proofs.Places.{has_place-or}
-use Rattle.ll_rights.proofs.Tables.{IsTable, has-only, is_empty, is_within, is_lacking, same_right}
+use Rattle.ll_rights.proofs.Tables.{IsTable, has-only, is_empty, is_within, is_lacking}
 
 -- ---- names
 
@@ -50,9 +50,6 @@ fs_narrow right = lit≤ tt
 pub fs_table : IsTable files.row files.named_rights files.other
 unfolding files.named_rights
 fs_table = record { numbered = refl; found = fs_found; listed = fs_listed; narrow = fs_narrow; fits = lit≤ tt }
-
-pub fs_same_right : (a b : files.FsRight) → files.is_right a b ≡ true → a ≡ b
-fs_same_right = same_right files.row files.named_rights files.other fs_table
 
 -- a set of one right has that right and no other
 pub fs_has-only : (right one : files.FsRight) → files.has (files.only one) right ≡ files.is_right right one
@@ -93,9 +90,6 @@ net_narrow right = lit≤ tt
 
 pub net_table : IsTable network.row network.named_rights network.other
 net_table = record { numbered = refl; found = net_found; listed = net_listed; narrow = net_narrow; fits = lit≤ tt }
-
-pub net_same_right : (a b : network.NetRight) → network.is_right a b ≡ true → a ≡ b
-net_same_right = same_right network.row network.named_rights network.other net_table
 
 -- a set of one right has that right and no other
 pub net_has-only : (right one : network.NetRight) → network.has (network.only one) right ≡ network.is_right right one

@@ -5,7 +5,7 @@ use Rattle.ll_rights.specs.declared.abi.Abi.{Abi}
 use Rattle.ll_rights.specs.declared.fs.Fs.{Fs}
 use Rattle.ll_rights.specs.declared.net.Net.{Net}
 use Rattle.ll_rights.specs.Abis.{number_of, is_since, knows_fs, knows_net}
-use Rattle.ll_rights.specs.Sets.{bits_of, bits_without}
+use Rattle.ll_rights.specs.BitSets.{bits_of, bits_without}
 use Rattle.ll_rights.specs.Rights as files
 use Rattle.ll_rights.specs.NetRights as network
 use Rattle.ll_rights.specs.Supported.{supported_fs, supported_net}
@@ -36,7 +36,7 @@ pub fs_supported-older : (older newer : Abi) (set : Fs) → number_of older ≤ 
 unfolding supported_fs
 fs_supported-older older newer set le =
     ap (λ bits. record { 0 = bits })
-    (supported-older files.row files.named_rights files.other fs_table (knows_fs older) (knows_fs newer) (λ right. since_older (files.since right) older newer le) set.0)
+    (supported-older files.row files.named_rights files.other fs_table (knows_fs older) (knows_fs newer) (λ right. since_older (files.row right).since older newer le) set.0)
 
 -- the code takes out what the known rights lack of all named ones
 pub fs_supported-lacking : (abi : Abi) (known set left : Fs) → ((right : files.FsRight) → files.has known right ≡ knows_fs abi right) →
@@ -61,7 +61,7 @@ pub net_supported-older : (older newer : Abi) (set : Net) → number_of older �
 unfolding supported_net
 net_supported-older older newer set le =
     ap (λ bits. record { 0 = bits })
-    (supported-older network.row network.named_rights network.other net_table (knows_net older) (knows_net newer) (λ right. since_older (network.since right) older newer le) set.0)
+    (supported-older network.row network.named_rights network.other net_table (knows_net older) (knows_net newer) (λ right. since_older (network.row right).since older newer le) set.0)
 
 -- the code takes out what the known rights lack of all named ones
 pub net_supported-lacking : (abi : Abi) (known set left : Net) → ((right : network.NetRight) → network.has known right ≡ knows_net abi right) →

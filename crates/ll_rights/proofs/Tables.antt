@@ -6,7 +6,8 @@ use Rattle.std.proofs.lemmas.Bool.{eqb-true, eq-eqb}
 use Rattle.std.proofs.lemmas.Map.Views.{any-filter_same}
 use Rattle.std.proofs.lemmas.Nat.{and_comm}
 use Rattle.ll_rights.specs.Bits.{has_place}
-use Rattle.ll_rights.specs.Sets.{Row, bits_of, bits_without}
+use Rattle.ll_rights.specs.Sets.{Row}
+use Rattle.ll_rights.specs.BitSets.{bits_of, bits_without}
 use Rattle.ll_rights.proofs.Places.{has_place-or, has_place-power, has_place-without, has_place-and, without-twice, zero_place, known_below, is_zero_by_places, is_lacking_by_places, is_within_by_places}
 
 -- the rights of a table have the places 0, 1, .. in its order, and `other` has the last

@@ -25,8 +25,8 @@ is_since (Some first) abi = nat_le first (number_of abi)
 
 -- whether a version knows a right for files
 abbrev pub knows_fs : Abi → files.FsRight → Bool
-knows_fs abi right = is_since (files.since right) abi
+knows_fs abi right = is_since (files.row right).since abi
 
 -- whether a version knows a right for the network
 abbrev pub knows_net : Abi → network.NetRight → Bool
-knows_net abi right = is_since (network.since right) abi
+knows_net abi right = is_since (network.row right).since abi

@@ -17,9 +17,4 @@ make_right_of Sock = make_sock
 -- the right to remove an object of a kind
 abbrev pub remove_right_of : Kind → FsRight
 remove_right_of Dir = remove_dir
-remove_right_of Reg = remove_file
-remove_right_of Sym = remove_file
-remove_right_of Char = remove_file
-remove_right_of Block = remove_file
-remove_right_of Fifo = remove_file
-remove_right_of Sock = remove_file
+remove_right_of kind = remove_file

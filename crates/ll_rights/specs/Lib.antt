@@ -1,5 +1,6 @@
 pub mod Bits
 pub mod Sets
+pub mod BitSets
 pub mod Rights
 pub mod NetRights
 pub mod CodeRights

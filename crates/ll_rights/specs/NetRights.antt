@@ -1,6 +1,6 @@
 -- The access rights for the network: their table, and sets of them.
 -- Source: the kernel's userspace document on Landlock, "Network flags".
-use Rattle.std.specs.Prelude.{ℕ, ◌^◌, bit_or, Bool, not, ◌&&◌, ◌||◌, List, [], ◌∷◌, ◌++◌, Option, codes, ◌==◌}
+use Rattle.std.specs.Prelude.{ℕ, ◌^◌, bit_or, Bool, not, ◌&&◌, ◌||◌, List, [], ◌∷◌, ◌++◌, codes, ◌==◌}
 use Rattle.std.specs.List.{list_any, list_all}
 use Rattle.ll_rights.specs.declared.net.Net.{Net}
 use Rattle.ll_rights.specs.Bits.{has_place}
@@ -29,10 +29,6 @@ name_of right = (row right).name
 -- the number of a right's bit
 abbrev pub bit_of : NetRight → ℕ
 bit_of right = (row right).bit
-
--- the ABI that a right comes with
-abbrev pub since : NetRight → Option ℕ
-since right = (row right).since
 
 -- the right that a text names
 unfoldable pub right_named : List ℕ → NetRight

@@ -1,6 +1,6 @@
 -- The access rights for files: their table, and sets of them.
 -- Source: landlock(7), "Filesystem actions"; the kernel's userspace document on Landlock, "Filesystem flags".
-use Rattle.std.specs.Prelude.{ℕ, ◌^◌, bit_or, Bool, not, ◌&&◌, ◌||◌, List, [], ◌∷◌, ◌++◌, Option, codes, ◌==◌}
+use Rattle.std.specs.Prelude.{ℕ, ◌^◌, bit_or, Bool, not, ◌&&◌, ◌||◌, List, [], ◌∷◌, ◌++◌, codes, ◌==◌}
 use Rattle.std.specs.List.{list_any, list_all}
 use Rattle.ll_rights.specs.declared.fs.Fs.{Fs}
 use Rattle.ll_rights.specs.Bits.{has_place}
@@ -58,10 +58,6 @@ name_of right = (row right).name
 -- the number of a right's bit
 abbrev pub bit_of : FsRight → ℕ
 bit_of right = (row right).bit
-
--- the ABI that a right comes with
-abbrev pub since : FsRight → Option ℕ
-since right = (row right).since
 
 -- whether a right is among those that apply to what isn't a directory
 abbrev pub is_file_right : FsRight → Bool

@@ -1,6 +1,6 @@
--- Tables of rights, and sets of rights as bits: what the rights for files and those for the network have in common.
+-- Tables of rights: what the table of the rights for files and that of the rights for the network have in common.
 -- Source: landlock_create_ruleset(2), whose access rights are bits of a mask.
-use Rattle.std.specs.Prelude.{ℕ, ◌-◌, ◌^◌, bit_and, bit_or, Bool, true, false, List, [], ◌∷◌, Option, Some, None, bytes_eq, if◌then◌else◌}
+use Rattle.std.specs.Prelude.{ℕ, Bool, true, false, List, [], ◌∷◌, Option, Some, None, bytes_eq, if◌then◌else◌}
 
 -- What a table says of a right: its name, the number of its bit, the ABI that it comes with, and whether it applies to what
 -- isn't a directory.
@@ -26,12 +26,3 @@ module _ {R : Type 0} (row : R → Row) where
   abbrev pub first_named : R → List R → List ℕ → R
   first_named other [] text = other
   first_named other (right ∷ rights) text = if bytes_eq text (row right).name then right else first_named other rights text
-
-  -- the bits of some rights
-  abbrev pub bits_of : List R → ℕ
-  bits_of [] = 0
-  bits_of (right ∷ rights) = bit_or (2 ^ (row right).bit) (bits_of rights)
-
--- what is left of some bits when others are taken out
-abbrev pub bits_without : ℕ → ℕ → ℕ
-bits_without bits taken = bits - bit_and bits taken

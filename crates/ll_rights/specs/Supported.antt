@@ -6,7 +6,7 @@ use Rattle.ll_rights.specs.declared.abi.Abi.{Abi}
 use Rattle.ll_rights.specs.declared.fs.Fs.{Fs}
 use Rattle.ll_rights.specs.declared.net.Net.{Net}
 use Rattle.ll_rights.specs.Abis.{knows_fs, knows_net}
-use Rattle.ll_rights.specs.Sets.{bits_of, bits_without}
+use Rattle.ll_rights.specs.BitSets.{bits_of, bits_without}
 use Rattle.ll_rights.specs.Rights as files
 use Rattle.ll_rights.specs.NetRights as network
 

@@ -1,5 +1,5 @@
 use Rattle.std.proofs.Common.{◌∙◌, ap}
-use Rattle.ll_rights.specs.Sets.{bits_without}
+use Rattle.ll_rights.specs.BitSets.{bits_without}
 use Rattle.ll_rights.specs.Rights as rights
 use Rattle.ll_rights.proofs.Supported.{fs_supported-lacking}
 use Rattle.ll_rights.proofs.fs.Fs.supported.Goals as goal
