@@ -82,7 +82,7 @@ pub(crate) fn letters(alloc: Global, answers: &[Answer]) -> Result<String, Alloc
 }
 
 /// The case of a trace against a tree, both as the texts of their files, at version 4.
-pub fn case_of(alloc: Global, tree: &str, trace: &str) -> Result<Case, Fail>
+pub(crate) fn case_of(alloc: Global, tree: &str, trace: &str) -> Result<Case, Fail>
     ensures tree { IfOk result (λ case. IsTreeOf tree.now case.tree) }
     ensures trace { IfOk result (λ case. IsTrace trace.now case.records) }
     ensures abi { IfOk result (λ case. case.abi ≡ V4) }

@@ -68,12 +68,6 @@ module _ {R : Type 0} (row : R → Row) (named : List R) (other : R) (is : IsTab
       let test : ℕ → Bool = λ place. not (has_place count set place) || has_place count whole place in
       is_within_by_places count set whole known ∙ sym (all-map test bit all ∙ ap (list_all test) is.numbered)
 
-  pub is_lacking : (wanted handled granted : ℕ) → granted < 2 ^ 32 → has handled other ≡ false
-      → not (eqb (bit_and (bit_and wanted handled) (bit_not w32 granted)) 0) ≡ list_any (λ right. has wanted right && has handled right && not (has granted right)) all
-  is_lacking wanted handled granted narrow known =
-      let test : ℕ → Bool = λ place. has_place count wanted place && has_place count handled place && not (has_place count granted place) in
-      is_lacking_by_places count wanted handled granted is.fits narrow known ∙ sym (any-map test bit all ∙ ap (list_any test) is.numbered)
-
   -- ---- the bits of some of the named rights
 
   has-bits : (right : R) (rights : List R) → has (bits_of row rights) right ≡ list_any (is_right right) rights
@@ -114,6 +108,13 @@ module _ {R : Type 0} (row : R → Row) (named : List R) (other : R) (is : IsTab
       either : (b : Bool) → (not b || b) ≡ true
       either true = refl
       either false = refl
+
+  -- what is wanted, handled and not granted
+  pub is_lacking : (wanted handled granted : ℕ) → granted < 2 ^ 32 → has handled other ≡ false
+      → not (eqb (bit_and (bit_and wanted handled) (bit_not w32 granted)) 0) ≡ list_any (λ right. has wanted right && has handled right && not (has granted right)) all
+  is_lacking wanted handled granted narrow known =
+      let test : ℕ → Bool = λ place. has_place count wanted place && has_place count handled place && not (has_place count granted place) in
+      is_lacking_by_places count wanted handled granted is.fits narrow known ∙ sym (any-map test bit all ∙ ap (list_any test) is.numbered)
 
   -- ---- rights taken out of a set
 

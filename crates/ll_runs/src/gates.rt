@@ -1,9 +1,8 @@
 //! That two workers judge at once, and that jobs begin where the work is cut.
 
-use crate::ready::{TREE, owned};
-use ll_audit::{Cut, MemorySource, audit, front};
+use crate::ready::{TREE, audited_through, run_through};
+use ll_audit::Cut;
 use ll_pool::Gate;
-use ll_rights::Abi;
 use ll_trace::ProcessId;
 use std::alloc::{AllocError, Global};
 use std::sync::Wait;
@@ -71,16 +70,7 @@ total 3 allowed 3 refused 0 moot 0
 #[test]
 fn two_workers_meet_in_an_audit(rt: HostRuntime) -> Result<(), Fail> {
     let gate = Meeting::from(1);
-    let answer = audit(
-        &rt,
-        rt.alloc(),
-        TREE.as_bytes(),
-        SIBLINGS.as_bytes(),
-        Abi::V4,
-        2,
-        Cut::Grain(0),
-        &gate,
-    );
+    let answer = audited_through(&rt, SIBLINGS.as_bytes(), 2, Cut::Grain(0), &gate);
     let report = answer.ok().ok_or("no report")?;
     assert_eq!(rt; report.bytes.as_slice(), SIBLINGS_REPORT.as_bytes());
     assert_eq!(rt; gate.begun.load(Ordering::SeqCst), 2);
@@ -101,22 +91,11 @@ fn two_workers_meet_in_the_program(rt: HostRuntime) -> Result<(), Fail> {
         "t",
         "r",
     ];
-    let words = owned(rt.alloc(), words.as_slice())?;
     let files = [("t", TREE.as_bytes()), ("r", SIBLINGS.as_bytes())];
-    let mut source = MemorySource::new(files.as_slice());
-    let (mut out, mut err) = (Vec::new(rt.alloc()), Vec::new(rt.alloc()));
     let gate = Meeting::from(1);
-    let status = front(
-        &rt,
-        rt.alloc(),
-        &words,
-        &mut source,
-        &mut out,
-        &mut err,
-        &gate,
-    );
-    assert_eq!(rt; status, 0);
-    assert_eq!(rt; out.as_slice(), SIBLINGS_REPORT.as_bytes());
+    let ended = run_through(&rt, words.as_slice(), files.as_slice(), &gate)?;
+    assert_eq!(rt; ended.status, 0);
+    assert_eq!(rt; ended.out.as_slice(), SIBLINGS_REPORT.as_bytes());
     assert_eq!(rt; gate.begun.load(Ordering::SeqCst), 2);
     assert_eq!(rt; gate.in_vain.load(Ordering::SeqCst), 0);
     Ok(())
@@ -157,16 +136,7 @@ fn jobs_begun<R: Threads + Wait + AllocGlobal + Sync>(
         processes: AtomicU64::new(0),
         jobs: AtomicU64::new(0),
     };
-    let answer = audit(
-        rt,
-        rt.alloc(),
-        TREE.as_bytes(),
-        UNLIKE_SIBLINGS.as_bytes(),
-        Abi::V4,
-        workers,
-        cut,
-        &gate,
-    );
+    let answer = audited_through(rt, UNLIKE_SIBLINGS.as_bytes(), workers, cut, &gate);
     let _report = answer.ok().ok_or("no report")?;
     Ok((
         gate.processes.load(Ordering::SeqCst),

@@ -1,6 +1,7 @@
 //! A worked tree and traces, and running the program on them.
 
 use ll_audit::{Cut, Fault, Idle, MemorySource, Report, audit, front};
+use ll_pool::Gate;
 use ll_rights::Abi;
 use std::alloc::{AllocError, Global};
 use std::sync::Wait;
@@ -118,6 +119,16 @@ pub(crate) fn run<R: Threads + Wait + AllocGlobal + Sync>(
     words: &[&str],
     files: &[(&str, &[u8])],
 ) -> Result<Ended, AllocError> {
+    run_through(rt, words, files, &Idle)
+}
+
+/// Runs the program so, through a gate.
+pub(crate) fn run_through<R: Threads + Wait + AllocGlobal + Sync, G: Gate + Sync>(
+    rt: &R,
+    words: &[&str],
+    files: &[(&str, &[u8])],
+    gate: &G,
+) -> Result<Ended, AllocError> {
     let words = owned(rt.alloc(), words)?;
     let mut source = MemorySource::new(files);
     let mut out = Vec::new(rt.alloc());
@@ -129,7 +140,7 @@ pub(crate) fn run<R: Threads + Wait + AllocGlobal + Sync>(
         &mut source,
         &mut out,
         &mut err,
-        &Idle,
+        gate,
     );
     Ok(Ended { status, out, err })
 }
@@ -141,6 +152,17 @@ pub(crate) fn audited<R: Threads + Wait + AllocGlobal + Sync>(
     workers: u64,
     cut: Cut,
 ) -> Result<Report, Fault> {
+    audited_through(rt, trace, workers, cut, &Idle)
+}
+
+/// Audits so, through a gate.
+pub(crate) fn audited_through<R: Threads + Wait + AllocGlobal + Sync, G: Gate + Sync>(
+    rt: &R,
+    trace: &[u8],
+    workers: u64,
+    cut: Cut,
+    gate: &G,
+) -> Result<Report, Fault> {
     audit(
         rt,
         rt.alloc(),
@@ -149,7 +171,7 @@ pub(crate) fn audited<R: Threads + Wait + AllocGlobal + Sync>(
         Abi::V4,
         workers,
         cut,
-        &Idle,
+        gate,
     )
 }
 

@@ -1,8 +1,11 @@
 //! Sources and writers that fail.
 
+ghost use Rattle.std.specs.Prelude.{◌+◌, ◌^◌, ◌<◌};
+
 use crate::ready::{REPORT, TRACE, TREE, owned};
-use ll_audit::{Ending, Idle, MemorySource, SourceFault, front_ending};
+use ll_audit::{Ending, Idle, MemorySource, Source, SourceFault, front_ending};
 use ll_source::FailingSource;
+use std::alloc::AllocError;
 use std::io;
 use std::io::{ErrorKind, Write};
 use std::sync::Wait;
@@ -46,9 +49,22 @@ impl Write for Stubborn {
 
 const WORDS: [&str; 5] = ["landaudit", "--abi", "4", "t", "r"];
 
+/// How the program ends on these words.
+fn ending_of<R: Threads + Wait + AllocGlobal + Sync, S: Source>(
+    rt: &R,
+    words: &[&str],
+    source: &mut S,
+    out: &mut impl Write,
+    err: &mut impl Write,
+) -> Result<Ending, AllocError>
+    requires { S.failed source.old + 2 < 2 ^ 64 }
+{
+    let words = owned(rt.alloc(), words)?;
+    Ok(front_ending(rt, rt.alloc(), &words, source, out, err, &Idle))
+}
+
 #[test]
 fn sources_that_fail(rt: HostRuntime) -> Result<(), Fail> {
-    let words = owned(rt.alloc(), WORDS.as_slice())?;
     let cases = [
         (0, SourceFault::Unread, 3, "landaudit: cannot read t\n"),
         (1, SourceFault::Unread, 3, "landaudit: cannot read r\n"),
@@ -59,15 +75,7 @@ fn sources_that_fail(rt: HostRuntime) -> Result<(), Fail> {
     for (good_calls, fault, want, line) in cases {
         let mut source = FailingSource::new(files.as_slice(), good_calls, fault);
         let (mut out, mut err) = (Vec::new(rt.alloc()), Vec::new(rt.alloc()));
-        let ending = front_ending(
-            &rt,
-            rt.alloc(),
-            &words,
-            &mut source,
-            &mut out,
-            &mut err,
-            &Idle,
-        );
+        let ending = ending_of(&rt, WORDS.as_slice(), &mut source, &mut out, &mut err)?;
         let told = true;
         assert_eq!(rt; ending, Ending { status: want, told });
         assert_eq!(rt; err.as_slice(), line.as_bytes());
@@ -82,7 +90,6 @@ fn run_into<R: Threads + Wait + AllocGlobal + Sync>(
     good_calls: u64,
     err: &mut impl Write,
 ) -> Result<(Ending, Vec<u8>), Fail> {
-    let words = owned(rt.alloc(), WORDS.as_slice())?;
     let files = [("t", TREE.as_bytes()), ("r", TRACE.as_bytes())];
     let mut source = MemorySource::new(files.as_slice());
     let mut out = Stubborn {
@@ -90,7 +97,7 @@ fn run_into<R: Threads + Wait + AllocGlobal + Sync>(
         good_calls,
         bytes: Vec::new(rt.alloc()),
     };
-    let ending = front_ending(rt, rt.alloc(), &words, &mut source, &mut out, err, &Idle);
+    let ending = ending_of(rt, WORDS.as_slice(), &mut source, &mut out, err)?;
     Ok((ending, out.bytes))
 }
 
@@ -129,19 +136,10 @@ fn a_status_stays_where_nothing_can_be_said(rt: HostRuntime) -> Result<(), Fail>
         (["landaudit", "--abi", "6", "t", "r"].as_slice(), b"", 2),
     ];
     for (words, tree, want) in cases {
-        let words = owned(rt.alloc(), words)?;
         let files = [("t", tree), ("r", TRACE.as_bytes())];
         let mut source = MemorySource::new(files.as_slice());
         let mut out = Vec::new(rt.alloc());
-        let ending = front_ending(
-            &rt,
-            rt.alloc(),
-            &words,
-            &mut source,
-            &mut out,
-            &mut mute,
-            &Idle,
-        );
+        let ending = ending_of(&rt, words, &mut source, &mut out, &mut mute)?;
         let told = false;
         assert_eq!(rt; ending, Ending { status: want, told });
         assert!(rt; out.is_empty());
