@@ -1,7 +1,7 @@
 //! The tables of rights, against the kernel's header.
 
 use bitflags::Flags;
-use ll_rights::{Abi, Fs, Kind, Net, fs_of_name, net_of_name};
+use ll_rights::{Abi, Fs, FsRight, Kind, Net, NetRight, fs_of_name, net_of_name};
 use std::test::Fail;
 
 /// Each right with its bit in `linux/landlock.h` and the version it came with.
@@ -72,6 +72,45 @@ fn other_names_and_numbers(rt: HostRuntime) {
         assert!(rt; Abi::new(number).is_none());
     }
     assert_eq!(rt; Fs::FILE.bits(), 0xc007);
+}
+
+/// Whether a right has this name and this bit alone.
+fn is_named(right: FsRight, name: &str, bit: u32) -> bool {
+    right.name() == name
+        && right.set().bits() == bit
+        && right.set().has(right)
+        && !Fs::NONE.has(right)
+}
+
+/// Whether a right for ports has this name and this bit alone.
+fn is_named_on_ports(right: NetRight, name: &str, bit: u32) -> bool {
+    right.name() == name
+        && right.set().bits() == bit
+        && right.set().has(right)
+        && !Net::NONE.has(right)
+}
+
+#[test]
+fn rights_in_order(rt: HostRuntime) {
+    let rights = FsRight::all();
+    assert_eq!(rt; rights.len(), FILES.len() + 1);
+    for ((name, bit, _), right) in FILES.iter().zip(rights) {
+        assert!(rt; is_named(*right, name, *bit), "{name}");
+    }
+    assert!(rt; is_named(FsRight::Other, "", 0x10000));
+    let ports = [("bind_tcp", 1), ("connect_tcp", 2), ("", 4)];
+    assert_eq!(rt; NetRight::all().len(), ports.len());
+    for ((name, bit), right) in ports.iter().zip(NetRight::all()) {
+        assert!(rt; is_named_on_ports(*right, name, *bit), "{name}");
+    }
+}
+
+#[test]
+fn versions_in_order(rt: HostRuntime) {
+    assert_eq!(rt; Abi::all().len(), VERSIONS.len());
+    for ((number, _), abi) in VERSIONS.iter().zip(Abi::all()) {
+        assert_eq!(rt; abi.number(), *number);
+    }
 }
 
 #[test]
