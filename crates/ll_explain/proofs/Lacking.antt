@@ -12,7 +12,8 @@ use Rattle.ll_rules.proofs.Booleans.{or_false, list_any-agree}
 use Rattle.ll_reasons.proofs.Named.{same_right}
 use Rattle.ll_explain.specs.Lacked.{lacked}
 
-pub below : (right : files.FsRight) → files.bit_of right < 17
+pub below : (right : files.FsRight) → files.bit_of right < length files.all_rights
+unfolding files.all_rights files.named_rights
 below files.other = lit< tt
 below right = lit< tt
 
@@ -93,5 +94,5 @@ none_more test set place one at fails are = record {
   behind = λ right there. are.behind right (omega (arith, there));
 }
 
-pub all_before : (test : files.FsRight → Bool) (set : Fs) (place : ℕ) → 17 ≤ place → AreBefore test set place → (right : files.FsRight) → files.has set right ≡ test right
+pub all_before : (test : files.FsRight → Bool) (set : Fs) (place : ℕ) → length files.all_rights ≤ place → AreBefore test set place → (right : files.FsRight) → files.has set right ≡ test right
 all_before test set place end are right = are.before right (omega (arith, below right, end))

@@ -1,11 +1,10 @@
 //! The rights that an object would gain in a directory.
 
 ghost use Rattle.std.specs.Prelude.{◌≡◌, ◌<◌, ◌&&◌, ◌||◌, All, IsTrue, ◌∷◌, [], is_some, length, not};
-ghost use Rattle.std.proofs.Common.{get_or};
+ghost use Rattle.ll_rights.specs.CodeRights.{fs_right};
 ghost use Rattle.ll_rights.specs.Rights as files;
-ghost use Rattle.ll_rights.specs.Rights.{FsRight};
 ghost use Rattle.ll_tree.specs.Paths.{path_of};
-ghost use Rattle.ll_tree.specs.Trees.{IsNode, is_dir, kind_at, path_at};
+ghost use Rattle.ll_tree.specs.Trees.{IsNode, kind_at, path_at};
 ghost use Rattle.ll_rules.specs.InTree.{AreInTree, in_tree};
 ghost use Rattle.ll_rules.specs.KeptLayers.{layer_at};
 ghost use Rattle.ll_reasons.specs.Objections.{on_gain};
@@ -14,28 +13,17 @@ ghost use Rattle.ll_explain.specs.Lacked.{gainable};
 ghost use Rattle.ll_explain.specs.Parts.{IsSpelt, said_of};
 
 use crate::layers::Confinement;
-use crate::missing::{lacks, right_at};
+use crate::missing::lacks;
 use crate::parts::Part;
-use crate::rights::has_place;
-use bitflags::Flags;
-use ll_rights::{Fs, Kind};
+use ll_rights::{Fs, FsRight};
 use ll_rules::LayerId;
 use ll_tree::{NodeId, Tree};
 
-/// Whether a node is a directory.
-fn is_directory(tree: &Tree, node: NodeId) -> bool
-    requires { IsNode tree.now node }
-    ensures { result ≡ is_dir (kind_at tree.now node) }
+/// Whether a right is one that files have.
+fn is_file_right(right: FsRight) -> bool
+    ensures { result ≡ files.is_file_right (fs_right right) }
 {
-    tree.kind(node) == Kind::Dir
-}
-
-/// Whether the right at a place of the table is one that files have.
-fn is_file_right(place: u32) -> bool
-    requires { place < 17 }
-    ensures { result ≡ files.is_file_right (get_or files.all_rights place files.other) }
-{
-    has_place(16, Fs::FILE.bits(), place)
+    Fs::FILE.has(right)
 }
 
 /// Whether a right is gained that is lacking on an object, counts for a directory or is one that files have, and isn't
@@ -46,21 +34,26 @@ fn is_won(lacking: bool, directory: bool, file_right: bool, lacking_there: bool)
     lacking && (directory || file_right) && !lacking_there
 }
 
-/// Whether an object would gain the right at a place of the table in a directory, under one layer.
-fn is_gained(of: &Confinement, id: LayerId, object: NodeId, directory: NodeId, place: u32) -> bool
+/// Whether an object would gain a right in a directory, under one layer.
+fn is_gained(
+    of: &Confinement,
+    id: LayerId,
+    object: NodeId,
+    directory: NodeId,
+    right: FsRight,
+) -> bool
     requires layer { id.0 < length of.now.layers.now }
     requires rules { All (AreInTree of.now.tree.now) of.now.layers.now }
     requires object { IsNode of.now.tree.now object }
     requires directory { IsNode of.now.tree.now directory }
-    requires place { place < 17 }
     ensures { result ≡ gainable (in_tree of.now.tree.now (layer_at of.now.layers.now id)) (kind_at of.now.tree.now object)
-        (path_at of.now.tree.now object) (path_at of.now.tree.now directory) (get_or files.all_rights place files.other) }
+        (path_at of.now.tree.now object) (path_at of.now.tree.now directory) (fs_right right) }
 {
-    let right = right_at(place);
-    let lacking = lacks(of.tree, of.layers, id, object, right);
-    let lacking_there = lacks(of.tree, of.layers, id, directory, right);
-    let holder = is_directory(of.tree, object);
-    is_won(lacking, holder, is_file_right(place), lacking_there)
+    let set = right.set();
+    let lacking = lacks(of.tree, of.layers, id, object, set);
+    let lacking_there = lacks(of.tree, of.layers, id, directory, set);
+    let holder = of.tree.is_directory(object);
+    is_won(lacking, holder, is_file_right(right), lacking_there)
 }
 
 /// The rights that an object would gain in a directory, under one layer.
@@ -69,13 +62,13 @@ fn gained(of: &Confinement, id: LayerId, object: NodeId, directory: NodeId) -> F
     requires rules { All (AreInTree of.now.tree.now) of.now.layers.now }
     requires object { IsNode of.now.tree.now object }
     requires directory { IsNode of.now.tree.now directory }
-    ensures { (right : FsRight) → files.has result right ≡ gainable (in_tree of.now.tree.now (layer_at of.now.layers.now id)) (kind_at of.now.tree.now object)
+    ensures { (right : files.FsRight) → files.has result right ≡ gainable (in_tree of.now.tree.now (layer_at of.now.layers.now id)) (kind_at of.now.tree.now object)
         (path_at of.now.tree.now object) (path_at of.now.tree.now directory) right }
 {
     let mut gained = Fs::NONE;
-    for place in 0..17 {
-        if is_gained(of, id, object, directory, place) {
-            gained = gained.union(right_at(place));
+    for right in FsRight::all() {
+        if is_gained(of, id, object, directory, *right) {
+            gained = gained.union(right.set());
         }
     }
     gained

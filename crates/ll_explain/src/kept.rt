@@ -3,8 +3,7 @@
 ghost use Rattle.std.specs.Prelude.{◌≡◌, ◌++◌, ◌<◌, OnOk, Some, slice_get};
 ghost use Rattle.std.specs.List.{flat_map};
 ghost use Rattle.json.specs.Print.{escape};
-ghost use Rattle.ll_rights.specs.Rights as files;
-ghost use Rattle.std.proofs.Common.{get_or};
+ghost use Rattle.ll_rights.specs.CodeRights.{fs_right};
 ghost use Rattle.ll_reasons.specs.Explanations.{kept_by};
 ghost use Rattle.ll_trails.specs.Opened.{opened};
 ghost use Rattle.ll_explain.specs.Kept.{kept_entry, kept_text};
@@ -13,6 +12,7 @@ ghost use Rattle.ll_explain.specs.Words.{layer_text, line_of, path_opened};
 use crate::layers::push_head;
 use crate::rights::file_right_word;
 use crate::words::{push_escaped, push_number};
+use ll_rights::FsRight;
 use ll_rules::LayerSet;
 use ll_trace::{Op, Record};
 use ll_trails::Trail;
@@ -59,19 +59,18 @@ fn push_opened(
     Ok(())
 }
 
-/// Adds the line of a layer under which the right at a place of the table was missing when the record at a place of the
+/// Adds the line of a layer under which a right was missing when the record at a place of the
 /// trace opened a file.
 fn push_kept_line(
     text: &mut Vec<u8>,
     records: &[Record],
     restricts: &[u32],
     number: u64,
-    right: u32,
+    right: FsRight,
     place: u32,
 ) -> Result<(), AllocError>
     requires number { 0 < number }
-    requires right { right < 17 }
-    ensures { OnOk result (text.new.items ≡ text.old.items ++ layer_text records.now restricts.now (kept_entry (get_or files.all_rights right files.other) place number)) }
+    ensures { OnOk result (text.new.items ≡ text.old.items ++ layer_text records.now restricts.now (kept_entry (fs_right right) place number)) }
 {
     push_head(text, records, restricts, number)?;
     push_opened(text, records, file_right_word(right), place)?;
@@ -79,18 +78,17 @@ fn push_kept_line(
     Ok(())
 }
 
-/// Adds the lines of some layers under which the right at a place of the table was missing when the record at a place of
+/// Adds the lines of some layers under which a right was missing when the record at a place of
 /// the trace opened a file.
 fn push_kept_lines(
     text: &mut Vec<u8>,
     records: &[Record],
     restricts: &[u32],
-    right: u32,
+    right: FsRight,
     numbers: LayerSet,
     place: u32,
 ) -> Result<(), AllocError>
-    requires right { right < 17 }
-    ensures { OnOk result (text.new.items ≡ text.old.items ++ flat_map (layer_text records.now restricts.now) (kept_by (get_or files.all_rights right files.other) numbers (Some place))) }
+    ensures { OnOk result (text.new.items ≡ text.old.items ++ flat_map (layer_text records.now restricts.now) (kept_by (fs_right right) numbers (Some place))) }
 {
     if numbers.is_empty() {
         return Ok(());
@@ -108,12 +106,11 @@ pub(crate) fn push_kept(
     text: &mut Vec<u8>,
     records: &[Record],
     trail: &Trail,
-    right: u32,
+    right: FsRight,
     numbers: LayerSet,
     fd: u64,
 ) -> Result<(), AllocError>
-    requires right { right < 17 }
-    ensures { OnOk result (text.new.items ≡ text.old.items ++ flat_map (layer_text records.now trail.now.layers.items) (kept_by (get_or files.all_rights right files.other) numbers (opened trail.now.openings fd))) }
+    ensures { OnOk result (text.new.items ≡ text.old.items ++ flat_map (layer_text records.now trail.now.layers.items) (kept_by (fs_right right) numbers (opened trail.now.openings fd))) }
 {
     match trail.openings.get(fd) {
         None => Ok(()),

@@ -15,21 +15,15 @@ use crate::kept::push_kept;
 use crate::layers::Confinement;
 use crate::moved::{push_linked, push_renamed};
 use crate::ports::{push_mount, push_port};
-use ll_rights::{Fs, Net};
+use ll_rights::{Fs, FsRight, Net};
 use ll_rules::{Errno, Layer, LayerId, LayerSet};
 use ll_trace::{Op, Record};
 use ll_trails::Trail;
 use ll_tree::Tree;
 use std::alloc::AllocError;
 
-/// The place of `truncate` in the table of rights.
-const TRUNCATE: u32 = 14;
-
-/// The place of `ioctl_dev` in the table of rights.
-const IOCTL_DEV: u32 = 15;
-
 /// Adds the lines of the layers of a process that refuse a call, which gives these numbers for a call on a descriptor.
-#[tactic(auto, unfolding(ll_reasons::specs::Explanations::objections_to, ll_rights::specs::Rights::all_rights, ll_rights::specs::Rights::named_rights, ll_rights::specs::Rights::only, ll_rights::specs::NetRights::only))]
+#[tactic(auto, unfolding(ll_reasons::specs::Explanations::objections_to, ll_rights::specs::Rights::only, ll_rights::specs::NetRights::only))]
 fn push_call(
     text: &mut Vec<u8>,
     of: &Confinement,
@@ -52,8 +46,8 @@ fn push_call(
             trunc,
             ..
         } => push_open(text, of, path, *mode, *create, *trunc),
-        Op::Ftruncate { fd } => push_kept(text, of.records, trail, TRUNCATE, numbers, *fd),
-        Op::Ioctl { fd, .. } => push_kept(text, of.records, trail, IOCTL_DEV, numbers, *fd),
+        Op::Ftruncate { fd } => push_kept(text, of.records, trail, FsRight::Truncate, numbers, *fd),
+        Op::Ioctl { fd, .. } => push_kept(text, of.records, trail, FsRight::IoctlDev, numbers, *fd),
         Op::Truncate { path } => push_on_file(text, of, path, Fs::TRUNCATE),
         Op::Exec { path } => push_on_file(text, of, path, Fs::EXECUTE),
         Op::Mknod { path, kind } => push_made(text, of, path, kind.make_right()),

@@ -1,75 +1,49 @@
 //! The names of the rights of a set.
 
-ghost use Rattle.std.specs.Prelude.{◌≡◌, ◌<◌, ◌++◌, ◌&&◌, not, OnOk, codes, if◌then◌else◌};
-ghost use Rattle.std.proofs.Common.{get_or};
-ghost use Rattle.ll_rights.specs.Bits.{has_place};
+ghost use Rattle.std.specs.Prelude.{◌≡◌, ◌++◌, ◌&&◌, not, OnOk, codes, if◌then◌else◌};
+ghost use Rattle.ll_rights.specs.CodeRights.{fs_right, net_right};
 ghost use Rattle.ll_rights.specs.Rights as files;
 ghost use Rattle.ll_rights.specs.NetRights as network;
 ghost use Rattle.ll_reasons.specs.Conditions.{port_rights_beyond, rights_beyond};
 ghost use Rattle.ll_explain.specs.Words.{behind, port_rights_text, port_word_of, rights_text, word_of};
 
-use bitflags::Flags;
-use ll_rights::{Fs, Net};
+use ll_rights::{Fs, FsRight, Net, NetRight};
 use std::alloc::AllocError;
 
-/// Whether a set of bits, this many of them named, has the right at a place of its table; all bits without a
-/// name are one right, behind the others.
-pub(crate) fn has_place(named: u32, bits: u32, place: u32) -> bool
-    requires { named < 32 }
-    ensures { result ≡ has_place named bits place }
+/// The word for all rights that have no name.
+const OTHER: &str = "a right of another name";
+
+/// Whether a set has a right, and another hasn't.
+fn is_beyond(rights: Fs, whole: Fs, right: FsRight) -> bool
+    ensures { result ≡ (files.has rights (fs_right right) && not (files.has whole (fs_right right))) }
 {
-    if place < named {
-        bits >> place & 1 == 1
-    } else {
-        bits >= 1 << named
+    rights.has(right) && !whole.has(right)
+}
+
+/// Whether a set has a right for ports, and another hasn't.
+fn is_beyond_on_ports(rights: Net, whole: Net, right: NetRight) -> bool
+    ensures { result ≡ (network.has rights (net_right right) && not (network.has whole (net_right right))) }
+{
+    rights.has(right) && !whole.has(right)
+}
+
+/// The word for a right.
+pub(crate) fn file_right_word(right: FsRight) -> &'static str
+    ensures { result.now ≡ word_of (fs_right right) }
+{
+    match right {
+        FsRight::Other => OTHER,
+        _ => right.name(),
     }
 }
 
-/// Whether a set of bits has the right at a place, and another hasn't.
-fn is_beyond(named: u32, bits: u32, whole: u32, place: u32) -> bool
-    requires { named < 32 }
-    ensures { result ≡ (has_place named bits place && not (has_place named whole place)) }
+/// The word for a right for ports.
+fn port_right_word(right: NetRight) -> &'static str
+    ensures { result.now ≡ port_word_of (net_right right) }
 {
-    has_place(named, bits, place) && !has_place(named, whole, place)
-}
-
-/// The word for the right at a place of the table.
-#[tactic(auto, unfolding(ll_rights::specs::Rights::all_rights, ll_rights::specs::Rights::named_rights))]
-pub(crate) fn file_right_word(place: u32) -> &'static str
-    requires { place < 17 }
-    ensures { result.now ≡ word_of (get_or files.all_rights place files.other) }
-{
-    match place {
-        0 => "execute",
-        1 => "write_file",
-        2 => "read_file",
-        3 => "read_dir",
-        4 => "remove_dir",
-        5 => "remove_file",
-        6 => "make_char",
-        7 => "make_dir",
-        8 => "make_reg",
-        9 => "make_sock",
-        10 => "make_fifo",
-        11 => "make_block",
-        12 => "make_sym",
-        13 => "refer",
-        14 => "truncate",
-        15 => "ioctl_dev",
-        _ => "a right of another name",
-    }
-}
-
-/// The word for the right for ports at a place of the table.
-#[tactic(auto, unfolding(ll_rights::specs::NetRights::all_rights))]
-fn port_right_word(place: u32) -> &'static str
-    requires { place < 3 }
-    ensures { result.now ≡ port_word_of (get_or network.all_rights place network.other) }
-{
-    match place {
-        0 => "bind_tcp",
-        1 => "connect_tcp",
-        _ => "a right of another name",
+    match right {
+        NetRight::Other => OTHER,
+        _ => right.name(),
     }
 }
 
@@ -94,9 +68,9 @@ pub(crate) fn push_rights_beyond(
     ensures { OnOk result (text.new.items ≡ text.old.items ++ rights_text (rights_beyond rights whole)) }
 {
     let mut is_first = true;
-    for place in 0..17 {
-        if is_beyond(16, rights.bits(), whole.bits(), place) {
-            push_name(text, file_right_word(place), is_first)?;
+    for right in FsRight::all() {
+        if is_beyond(rights, whole, *right) {
+            push_name(text, file_right_word(*right), is_first)?;
             is_first = false;
         }
     }
@@ -113,9 +87,9 @@ pub(crate) fn push_port_rights_beyond(
     ensures { OnOk result (text.new.items ≡ text.old.items ++ port_rights_text (port_rights_beyond rights whole)) }
 {
     let mut is_first = true;
-    for place in 0..3 {
-        if is_beyond(2, rights.bits(), whole.bits(), place) {
-            push_name(text, port_right_word(place), is_first)?;
+    for right in NetRight::all() {
+        if is_beyond_on_ports(rights, whole, *right) {
+            push_name(text, port_right_word(*right), is_first)?;
             is_first = false;
         }
     }
@@ -126,8 +100,8 @@ pub(crate) fn push_port_rights_beyond(
 pub(crate) fn is_within(rights: Fs, whole: Fs) -> bool
     ensures { result ≡ files.is_within rights whole }
 {
-    for place in 0..17 {
-        if is_beyond(16, rights.bits(), whole.bits(), place) {
+    for right in FsRight::all() {
+        if is_beyond(rights, whole, *right) {
             return false;
         }
     }
@@ -138,8 +112,8 @@ pub(crate) fn is_within(rights: Fs, whole: Fs) -> bool
 pub(crate) fn is_within_on_ports(rights: Net, whole: Net) -> bool
     ensures { result ≡ network.is_within rights whole }
 {
-    for place in 0..3 {
-        if is_beyond(2, rights.bits(), whole.bits(), place) {
+    for right in NetRight::all() {
+        if is_beyond_on_ports(rights, whole, *right) {
             return false;
         }
     }

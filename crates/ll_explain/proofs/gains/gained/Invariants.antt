@@ -6,6 +6,6 @@ use Rattle.ll_explain.proofs.Lacking.{AreBefore}
 use Rattle.ll_explain.proofs.gains.gained.Given as goal
 
 -- the rights before the place that would be gained are in the set
-abbrev pub invariant-loop-place : goal.invariant-loop-place
-invariant-loop-place l =
-    AreBefore (gainable (in_tree l.of.tree.now (layer_at l.of.layers.now l.id)) (kind_at l.of.tree.now l.object) (path_at l.of.tree.now l.object) (path_at l.of.tree.now l.directory)) l.gained l.place
+abbrev pub invariant-loop-right : goal.invariant-loop-right
+invariant-loop-right l =
+    AreBefore (gainable (in_tree l.of.tree.now (layer_at l.of.layers.now l.id)) (kind_at l.of.tree.now l.object) (path_at l.of.tree.now l.object) (path_at l.of.tree.now l.directory)) l.gained l.right-index

@@ -1,6 +1,6 @@
-use Rattle.std.proofs.Common.{◌∙◌, get_or, ap}
+use Rattle.std.proofs.Common.{◌∙◌, ap}
 use Rattle.ll_rights.specs.declared.fs.Fs.{Fs}
-use Rattle.ll_rights.specs.Rights as files
+use Rattle.ll_rights.specs.CodeRights.{fs_right}
 use Rattle.ll_tree.specs.Trees.{kind_at, path_at}
 use Rattle.ll_rules.specs.Checks.{lacks}
 use Rattle.ll_rules.specs.InTree.{in_tree}
@@ -14,7 +14,7 @@ returns c =
     let layer = in_tree tree (layer_at c.args.of.now.layers.now c.args.id) in
     let object = path_at tree c.args.object in
     let directory = path_at tree c.args.directory in
-    c.is_won.ensures ∙ gainable-by layer (kind_at tree c.args.object) object directory (get_or files.all_rights c.args.place files.other) _ _ _ _
-    (c.lacks-lacking.ensures ∙ ap (λ (set : Fs). lacks layer object set) c.right_at-right.ensures)
+    c.is_won.ensures ∙ gainable-by layer (kind_at tree c.args.object) object directory (fs_right c.args.right) _ _ _ _
+    (c.lacks-lacking.ensures ∙ ap (λ (set : Fs). lacks layer object set) c.set-set.ensures)
     c.is_directory-holder.ensures c.is_file_right.ensures
-    (c.lacks-lacking_there.ensures ∙ ap (λ (set : Fs). lacks layer directory set) c.right_at-right.ensures)
+    (c.lacks-lacking_there.ensures ∙ ap (λ (set : Fs). lacks layer directory set) c.set-set.ensures)

@@ -1,5 +1,5 @@
-use Rattle.std.proofs.Common.{◌∙◌, ◌++◌, get_or, ap, sym}
-use Rattle.ll_rights.specs.Rights as files
+use Rattle.std.proofs.Common.{◌∙◌, ◌++◌, ap, sym}
+use Rattle.ll_rights.specs.CodeRights.{fs_right}
 use Rattle.ll_explain.specs.Kept.{kept_text}
 use Rattle.ll_explain.proofs.Appending.{appended_3}
 use Rattle.ll_explain.proofs.KeptSaid.{kept_line}
@@ -9,4 +9,4 @@ pub returns : goal.returns
 returns c =
     appended_3 c.args.text.now.items _ _ _ _ _ _ c.in_ok-push_head.ensures
     (c.in_ok-push_opened.ensures ∙ ap (λ name. c.push_head.new.text.items ++ kept_text c.args.records.now name c.args.place) c.file_right_word.ensures) c.in_ok-push.ensures.items
-    ∙ ap (λ line. c.args.text.now.items ++ line) (sym (kept_line c.args.records.now c.args.restricts.now (get_or files.all_rights c.args.right files.other) c.args.place c.args.number))
+    ∙ ap (λ line. c.args.text.now.items ++ line) (sym (kept_line c.args.records.now c.args.restricts.now (fs_right c.args.right) c.args.place c.args.number))

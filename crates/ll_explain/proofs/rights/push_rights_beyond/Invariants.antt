@@ -5,7 +5,7 @@ use Rattle.ll_explain.proofs.Listing.{is_none_yet, names_upto}
 use Rattle.ll_explain.proofs.rights.push_rights_beyond.Given as goal
 
 -- the names of the rights before the place are written
-abbrev pub invariant-loop-place : goal.invariant-loop-place
-invariant-loop-place l =
-    (l.text.items ≡ l.fn.text.items ++ joined (codes ", ") (names_upto (λ right. files.has l.rights right && not (files.has l.whole right)) word_of files.all_rights files.other l.place))
-    × (l.is_first ≡ is_none_yet (names_upto (λ right. files.has l.rights right && not (files.has l.whole right)) word_of files.all_rights files.other l.place))
+abbrev pub invariant-loop-right : goal.invariant-loop-right
+invariant-loop-right l =
+    (l.text.items ≡ l.fn.text.items ++ joined (codes ", ") (names_upto (λ r. files.has l.rights r && not (files.has l.whole r)) word_of files.all_rights files.other l.right-index))
+    × (l.is_first ≡ is_none_yet (names_upto (λ r. files.has l.rights r && not (files.has l.whole r)) word_of files.all_rights files.other l.right-index))
