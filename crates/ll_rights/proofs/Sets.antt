@@ -1,35 +1,13 @@
 -- The sets of rights for files and those for the network, from their tables.
-use Rattle.std.proofs.Common.{◌≡◌, ◌^◌, ◌<◌, ◌≤◌, ℕ, true, false, not, ◌||◌, eqb, List, [], ◌∷◌, ◌++◌, get_or, refl, inl, inr, lit≤, bit_and}
-use Rattle.std.specs.Prelude.{bytes_eq}
+use Rattle.std.proofs.Common.{◌≡◌, ◌^◌, ◌<◌, ◌≤◌, false, not, ◌||◌, eqb, [], ◌∷◌, ◌++◌, get_or, refl, lit≤, bit_and}
 use Rattle.std.specs.Int.{w32, bit_not}
 use Rattle.std.specs.List.{list_any}
-use Rattle.std.proofs.lemmas.Bool.{cases_Bool}
-use Rattle.std.proofs.lemmas.Slice.Eq.{bytes_eq-Decides}
 use Rattle.ll_rights.specs.declared.fs.Fs.{Fs}
 use Rattle.ll_rights.specs.declared.net.Net.{Net}
 use Rattle.ll_rights.specs.Rights as files
 use Rattle.ll_rights.specs.NetRights as network
-use Rattle.ll_rights.specs.Sets.{Row, first_named}
 use Rattle.ll_rights.proofs.Places.{has_place-or}
 use Rattle.ll_rights.proofs.Tables.{IsTable, has-only, is_empty, is_within, is_lacking}
-
--- ---- names
-
--- a text that is the name of none of some rights
-abbrev pub Unnamed : {R : Type 0} (row : R → Row) → List ℕ → List R → Type 0
-Unnamed row text [] = Unit
-Unnamed row text (right ∷ rights) = (text ≡ (row right).name → ⊥) × Unnamed row text rights
-
-no_name : (text name : List ℕ) → (text ≡ name → ⊥) → bytes_eq text name ≡ false
-no_name text name differs =
-    elim (cases_Bool (bytes_eq text name)) [
-      | inl same ↦ absurd (differs ((bytes_eq-Decides text name).0 same))
-      | inr not_same ↦ not_same
-    ]
-
-pub first-unnamed : {R : Type 0} (row : R → Row) (other : R) (text : List ℕ) (rights : List R) → Unnamed row text rights → first_named row other rights text ≡ other
-first-unnamed row other text [] none = refl
-first-unnamed row other text (right ∷ rights) none = rw (no_name text (row right).name none.0) (first-unnamed row other text rights none.1)
 
 -- ---- files
 

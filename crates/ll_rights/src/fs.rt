@@ -1,7 +1,6 @@
 //! Sets of access rights for files.
 
-ghost use Rattle.std.specs.Prelude.{⊤, ◌≡◌, ◌-◌, ◌∷◌, [], false, bit_and, codes};
-ghost use Rattle.ll_rights.specs.CodeRights.{fs_right};
+ghost use Rattle.std.specs.Prelude.{⊤, ◌≡◌, ◌-◌, ◌∷◌, [], false, bit_and, bytes_eq, codes, find};
 ghost use Rattle.ll_rights.specs.Rights as rights;
 ghost use Rattle.ll_rights.specs.Supported.{supported_fs};
 
@@ -93,7 +92,7 @@ impl Fs {
 
     /// Whether the set has a right.
     pub fn has(self, right: FsRight) -> bool
-        ensures { result ≡ rights.has self (fs_right right) }
+        ensures { result ≡ rights.has self right }
     {
         has_place(FsRight::Other.bit(), self.0, right.bit())
     }
@@ -139,28 +138,17 @@ impl Fs {
     }
 }
 
+/// The first of some rights that a text names.
+fn named(among: &[FsRight], name: &str) -> Option<FsRight>
+    ensures { result ≡ find (λ right. bytes_eq name.now (rights.name_of right)) among.now }
+{
+    among.iter().copied().find(|right| name == right.name())
+}
+
 /// The set of the one right that a name stands for; any name that is no right's is `OTHER`.
-#[tactic(auto, unfolding(crate::specs::Rights::right_named, crate::specs::Rights::named_rights, crate::specs::Rights::only))]
+#[tactic(auto, unfolding(crate::specs::Rights::right_named))]
 pub fn fs_of_name(name: &str) -> Fs
     ensures { result ≡ rights.only (rights.right_named name.now) }
 {
-    match name {
-        "execute" => Fs::EXECUTE,
-        "write_file" => Fs::WRITE_FILE,
-        "read_file" => Fs::READ_FILE,
-        "read_dir" => Fs::READ_DIR,
-        "remove_dir" => Fs::REMOVE_DIR,
-        "remove_file" => Fs::REMOVE_FILE,
-        "make_char" => Fs::MAKE_CHAR,
-        "make_dir" => Fs::MAKE_DIR,
-        "make_reg" => Fs::MAKE_REG,
-        "make_sock" => Fs::MAKE_SOCK,
-        "make_fifo" => Fs::MAKE_FIFO,
-        "make_block" => Fs::MAKE_BLOCK,
-        "make_sym" => Fs::MAKE_SYM,
-        "refer" => Fs::REFER,
-        "truncate" => Fs::TRUNCATE,
-        "ioctl_dev" => Fs::IOCTL_DEV,
-        _ => Fs::OTHER,
-    }
+    named(FsRight::all(), name).unwrap_or(FsRight::Other).set()
 }

@@ -1,7 +1,6 @@
 //! Sets of access rights for the network.
 
-ghost use Rattle.std.specs.Prelude.{⊤, ◌≡◌, ◌-◌, ◌∷◌, [], false, bit_and, codes};
-ghost use Rattle.ll_rights.specs.CodeRights.{net_right};
+ghost use Rattle.std.specs.Prelude.{⊤, ◌≡◌, ◌-◌, ◌∷◌, [], false, bit_and, bytes_eq, codes, find};
 ghost use Rattle.ll_rights.specs.NetRights as rights;
 ghost use Rattle.ll_rights.specs.Supported.{supported_net};
 
@@ -63,7 +62,7 @@ impl Net {
 
     /// Whether the set has a right.
     pub fn has(self, right: NetRight) -> bool
-        ensures { result ≡ rights.has self (net_right right) }
+        ensures { result ≡ rights.has self right }
     {
         has_place(NetRight::Other.bit(), self.0, right.bit())
     }
@@ -109,14 +108,19 @@ impl Net {
     }
 }
 
+/// The first of some rights that a text names.
+fn named(among: &[NetRight], name: &str) -> Option<NetRight>
+    ensures { result ≡ find (λ right. bytes_eq name.now (rights.name_of right)) among.now }
+{
+    among.iter().copied().find(|right| name == right.name())
+}
+
 /// The set of the one right that a name stands for; any name that is no right's is `OTHER`.
-#[tactic(auto, unfolding(crate::specs::NetRights::right_named, crate::specs::NetRights::only))]
+#[tactic(auto, unfolding(crate::specs::NetRights::right_named))]
 pub fn net_of_name(name: &str) -> Net
     ensures { result ≡ rights.only (rights.right_named name.now) }
 {
-    match name {
-        "bind_tcp" => Net::BIND_TCP,
-        "connect_tcp" => Net::CONNECT_TCP,
-        _ => Net::OTHER,
-    }
+    named(NetRight::all(), name)
+        .unwrap_or(NetRight::Other)
+        .set()
 }
