@@ -1,11 +1,12 @@
 -- The sets of rights for files and those for the network, from their tables.
-use Rattle.std.proofs.Common.{◌≡◌, ◌||◌, eqb, refl, lit≤}
+use Rattle.std.proofs.Common.{◌≡◌, ◌^◌, ◌<◌, false, ◌||◌, eqb, not, refl, lit≤, bit_and}
+use Rattle.std.specs.Int.{w32, bit_not}
 use Rattle.ll_rights.specs.declared.fs.Fs.{Fs}
 use Rattle.ll_rights.specs.declared.net.Net.{Net}
 use Rattle.ll_rights.specs.Rights as files
 use Rattle.ll_rights.specs.NetRights as network
 use Rattle.ll_rights.proofs.Places.{has_place-or}
-use Rattle.ll_rights.proofs.Tables.{IsTable, Stands, has-only, is_empty}
+use Rattle.ll_rights.proofs.Tables.{IsTable, Stands, has-only, is_empty, is_within, is_lacking}
 
 -- ---- both are tables
 
@@ -54,3 +55,23 @@ fs_is_empty set = is_empty fs_table set.0
 pub net_is_empty : (set : Net) → eqb set.0 0 ≡ network.is_empty set
 unfolding network.has network.some_right network.all_rights
 net_is_empty set = is_empty net_table set.0
+
+-- ---- what a set within another and one that lacks something are, bit by bit
+
+pub fs_is_within : (set whole : Fs) → files.has whole files.other ≡ false → eqb (bit_and set.0 whole.0) set.0 ≡ files.is_within set whole
+unfolding files.has files.every_right files.all_rights
+fs_is_within set whole known = is_within fs_table set.0 whole.0 known
+
+pub net_is_within : (set whole : Net) → network.has whole network.other ≡ false → eqb (bit_and set.0 whole.0) set.0 ≡ network.is_within set whole
+unfolding network.has network.every_right network.all_rights
+net_is_within set whole known = is_within net_table set.0 whole.0 known
+
+pub fs_is_lacking : (wanted handled granted : Fs) → granted.0 < 2 ^ 32 → files.has handled files.other ≡ false
+    → not (eqb (bit_and (bit_and wanted.0 handled.0) (bit_not w32 granted.0)) 0) ≡ files.is_lacking (files.has wanted) (files.has handled) (files.has granted)
+unfolding files.has files.some_right files.all_rights
+fs_is_lacking wanted handled granted fits known = is_lacking fs_table wanted.0 handled.0 granted.0 fits known
+
+pub net_is_lacking : (wanted handled granted : Net) → granted.0 < 2 ^ 32 → network.has handled network.other ≡ false
+    → not (eqb (bit_and (bit_and wanted.0 handled.0) (bit_not w32 granted.0)) 0) ≡ network.is_lacking (network.has wanted) (network.has handled) (network.has granted)
+unfolding network.has network.some_right network.all_rights
+net_is_lacking wanted handled granted fits known = is_lacking net_table wanted.0 handled.0 granted.0 fits known

@@ -54,14 +54,14 @@ net_supported-older older newer set le =
 
 -- ---- the code takes out what the known rights lack of all named ones
 
-pub fs_supported-lacking : (abi : Abi) (known set left : Fs) → ((right : files.FsRight) → files.has known right ≡ knows_fs abi right) →
-    left.0 ≡ bits_without set.0 (bits_without (bits_of files.row files.named_rights) known.0) → left ≡ supported_fs abi set
+pub fs_supported_lacking : (abi : Abi) (known set : Fs) (taken left : ℕ) → ((right : files.FsRight) → files.has known right ≡ knows_fs abi right) →
+    taken ≡ bits_without (bits_of files.row files.named_rights) known.0 → left ≡ bits_without set.0 taken → record { 0 = left } ≡ supported_fs abi set
 unfolding files.has supported_fs
-fs_supported-lacking abi known set left same is =
-    ap (λ bits. record { 0 = bits }) (is ∙ supported-lacking fs_table (knows_fs abi) known.0 (same files.other) same set.0)
+fs_supported_lacking abi known set taken left same is_taken is_left =
+    ap (λ bits. record { 0 = bits }) (is_left ∙ ap (bits_without set.0) is_taken ∙ supported-lacking fs_table (knows_fs abi) known.0 (same files.other) same set.0)
 
-pub net_supported-lacking : (abi : Abi) (known set left : Net) → ((right : network.NetRight) → network.has known right ≡ knows_net abi right) →
-    left.0 ≡ bits_without set.0 (bits_without (bits_of network.row network.named_rights) known.0) → left ≡ supported_net abi set
+pub net_supported_lacking : (abi : Abi) (known set : Net) (taken left : ℕ) → ((right : network.NetRight) → network.has known right ≡ knows_net abi right) →
+    taken ≡ bits_without (bits_of network.row network.named_rights) known.0 → left ≡ bits_without set.0 taken → record { 0 = left } ≡ supported_net abi set
 unfolding network.has supported_net
-net_supported-lacking abi known set left same is =
-    ap (λ bits. record { 0 = bits }) (is ∙ supported-lacking net_table (knows_net abi) known.0 (same network.other) same set.0)
+net_supported_lacking abi known set taken left same is_taken is_left =
+    ap (λ bits. record { 0 = bits }) (is_left ∙ ap (bits_without set.0) is_taken ∙ supported-lacking net_table (knows_net abi) known.0 (same network.other) same set.0)

@@ -1,11 +1,11 @@
 //! Sets of access rights for files.
 
-ghost use Rattle.std.specs.Prelude.{⊤, ◌≡◌, ◌-◌, ◌∷◌, [], false, bit_and, bytes_eq, codes, find};
+ghost use Rattle.std.specs.Prelude.{⊤, ◌≡◌, ◌∷◌, [], false, bytes_eq, codes, find};
 ghost use Rattle.ll_rights.specs.Rights as rights;
 ghost use Rattle.ll_rights.specs.Supported.{supported_fs};
 
 use crate::abi::Abi;
-use crate::bits::has_place;
+use crate::bits::{has_place, without};
 use crate::right::FsRight;
 use bitflags::{Flag, Flags, bitflag_items};
 
@@ -84,6 +84,7 @@ impl Fs {
     pub(crate) const SINCE_5: Fs = Fs(Fs::SINCE_3.0 | Fs::IOCTL_DEV.0);
 
     /// Whether the set has no right.
+    #[tactic(auto, using(crate::proofs::Sets::fs_is_empty))]
     pub fn is_empty(self) -> bool
         ensures { result ≡ rights.is_empty self }
     {
@@ -91,6 +92,7 @@ impl Fs {
     }
 
     /// Whether the set has a right.
+    #[tactic(auto, unfolding(crate::specs::Rights::has))]
     pub fn has(self, right: FsRight) -> bool
         ensures { result ≡ rights.has self right }
     {
@@ -105,22 +107,17 @@ impl Fs {
         Fs(self.0 | other.0)
     }
 
-    /// The rights of the set that another lacks.
-    fn without(self, taken: Fs) -> Fs
-        ensures { result.0 ≡ self.0 - bit_and self.0 taken.0 }
-    {
-        Fs(self.0 & !taken.0)
-    }
-
     /// What a program keeps of the set that goes by its kernel's version: the rights that came with
     /// a later version are taken out, and any other right stays.
+    #[tactic(auto, using(crate::proofs::Supported::fs_supported_lacking), unfolding(crate::specs::Rights::named_rights))]
     pub fn supported(self, abi: Abi) -> Fs
         ensures { result ≡ supported_fs abi self }
     {
-        self.without(Fs::NAMED.without(abi.fs()))
+        Fs(without(self.0, without(Fs::NAMED.0, abi.fs().0)))
     }
 
     /// Whether each right of the set is one of `whole`, a set of known rights.
+    #[tactic(auto, using(crate::proofs::Sets::fs_is_within))]
     pub fn is_within(self, whole: Fs) -> bool
         requires known { rights.has whole rights.other ≡ false }
         ensures { result ≡ rights.is_within self whole }
@@ -130,6 +127,7 @@ impl Fs {
 
     /// Whether some right of the set is handled and not granted, where what is handled are known
     /// rights.
+    #[tactic(auto, using(crate::proofs::Sets::fs_is_lacking))]
     pub fn lacks(self, handled: Fs, granted: Fs) -> bool
         requires known { rights.has handled rights.other ≡ false }
         ensures { result ≡ rights.is_lacking (rights.has self) (rights.has handled) (rights.has granted) }
