@@ -1,6 +1,6 @@
 -- The command line: `landaudit --abi N[-M] [--workers N] [--grain N] [--best-effort] [--refused] [--differs] [--explain] TREE TRACE`, and what it asks for.
 -- Source: docs/FORMATS.md, "The command line".
-use Rattle.std.specs.Prelude.{◌≡◌, ◌≢◌, ◌⊎◌, ◌+◌, ◌==◌, ◌&&◌, ◌||◌, ⊤, is_none, nat_le, nat_lt, ℕ, Bool, true, false, List, [], ◌∷◌, Option, Some, None, codes, find, if◌then◌else◌, option_and_then}
+use Rattle.std.specs.Prelude.{◌≡◌, ◌≢◌, ◌⊎◌, ◌+◌, ◌-◌, ◌==◌, ◌&&◌, ◌||◌, ⊤, is_none, nat_le, nat_lt, ℕ, Bool, true, false, List, [], ◌∷◌, Option, Some, None, codes, length, if◌then◌else◌, option_and_then}
 use Rattle.std.specs.Str.{bytes_eq}
 use Rattle.std.specs.Str.Parse.{digits_value, without_leading_plus}
 use Rattle.clap.specs.declared.builder.action.ArgAction.TheVariants.{Set, SetTrue}
@@ -12,7 +12,7 @@ use Rattle.clap.specs.Words.{App, IsAmong, Kinds, Row, Rule, fault_of, first_of,
 use Rattle.clap.specs.Simple.{on_top}
 use Rattle.clap.specs.ValueTests.{is_unsigned_in}
 use Rattle.ll_rights.specs.declared.abi.Abi.{Abi}
-use Rattle.ll_rights.specs.Abis.{all_versions, number_of}
+use Rattle.ll_rights.specs.Abis.{all_versions, number_of, version_of}
 use Rattle.ll_options.specs.declared.shown.Shown.{Shown}
 use Rattle.ll_options.specs.Crews.{IsCrew}
 use Rattle.ll_options.specs.declared.abis.AbiRange.{AbiRange}
@@ -82,12 +82,13 @@ pub record Request : Type 0 where
   pub tree : Text
   pub trace : Text
 
--- the version of a digit
-abbrev pub is_number_of : ℕ → Abi → Bool
-is_number_of digit abi = 48 + number_of abi == digit
+-- the version whose number a digit is
+abbrev pub version_at : ℕ → Option Abi
+version_at digit = if nat_le 48 digit then version_of (digit - 48) else None
 
-abbrev pub version_of : ℕ → Option Abi
-version_of digit = find (is_number_of digit) all_versions
+-- the digit behind that of the newest version
+abbrev pub newer_digit : ℕ
+newer_digit = 49 + length all_versions
 
 -- the range from a version to one that isn't older
 abbrev pub range_between : Option Abi → Option Abi → Option AbiRange
@@ -97,8 +98,8 @@ range_between _ _ = None
 
 -- the range that a text names: a version, or two with a hyphen between them
 abbrev pub range_in : Text → Option AbiRange
-range_in (digit ∷ []) = range_between (version_of digit) (version_of digit)
-range_in (oldest ∷ byte ∷ newest ∷ []) = if byte == 45 then range_between (version_of oldest) (version_of newest) else None
+range_in (digit ∷ []) = range_between (version_at digit) (version_at digit)
+range_in (oldest ∷ byte ∷ newest ∷ []) = if byte == 45 then range_between (version_at oldest) (version_at newest) else None
 range_in _ = None
 
 -- the number of workers, which is 1 to 64

@@ -1,6 +1,6 @@
 //! The command line.
 
-ghost use Rattle.std.specs.Prelude.{◌≡◌, ◌⊎◌, [], IfOk, IfSome, MatchResult, Some, false, find, is_some, map, option_map, string_bytes};
+ghost use Rattle.std.specs.Prelude.{◌≡◌, ◌⊎◌, [], IfOk, IfSome, MatchResult, Some, false, is_some, map, option_map, string_bytes};
 ghost use Rattle.clap.specs.Words.{HasKind, app_of, fault_of, first_of, found_of, kind_of, matches_of, rows_of, rule_of};
 ghost use Rattle.clap.specs.declared.error.kind.ErrorKind.TheVariants.{OutOfMemory};
 ghost use Rattle.ll_options.specs.Crews.{IsCrew};
@@ -12,7 +12,7 @@ use clap::builder::ValueParser;
 use clap::error::ErrorKind;
 use clap::{Arg, ArgAction, ArgMatches, Command, Error};
 use ll_options::{AbiRange, Effort, Options, Shown};
-use ll_rights::Abi;
+use ll_rights::{Abi, with_abi_numbers};
 use std::alloc::{AllocError, Global};
 
 /// What a run is asked to do.
@@ -76,11 +76,16 @@ effect, or - for standard input:
 };
 
 const ABI_HELP: Help = Help {
-    short: "Version of Landlock's interface, 1 to 5, or a range of them: 2-5",
-    whole: "\
-Version of Landlock's interface, 1 to 5, or a range of them, the older
+    short: with_abi_numbers!(
+        "Version of Landlock's interface, ",
+        ", or a range of them: 2-5"
+    ),
+    whole: with_abi_numbers!(
+        "Version of Landlock's interface, ",
+        ", or a range of them, the older
 first: 2-5. Over a range each version answers by itself, and
-neighbouring versions with the same answer are named together.",
+neighbouring versions with the same answer are named together."
+    ),
 };
 
 const WORKERS_HELP: Help = Help {
@@ -221,28 +226,15 @@ fn command<'a>(alloc: Global) -> Result<Command<'a>, AllocError>
         .arg(file_argument(alloc, "TRACE", TRACE_HELP))
 }
 
-/// Whether a digit is a version's number.
-fn is_number_of(digit: u8, abi: Abi) -> bool
-    ensures { result ≡ spec.is_number_of digit abi }
-{
-    b'0' <= digit && u64::from(digit - b'0') == abi.number()
-}
-
-/// The first of some versions whose number a digit is.
-fn numbered(versions: &[Abi], digit: u8) -> Option<Abi>
-    ensures { result ≡ find (spec.is_number_of digit) versions.now }
-{
-    versions
-        .iter()
-        .copied()
-        .find(|abi| is_number_of(digit, *abi))
-}
-
-/// The version of a digit.
+/// The version whose number a digit is.
 fn version(digit: u8) -> Option<Abi>
-    ensures { result ≡ spec.version_of digit }
+    ensures { result ≡ spec.version_at digit }
 {
-    numbered(Abi::all(), digit)
+    if b'0' <= digit {
+        Abi::new(u64::from(digit - b'0'))
+    } else {
+        None
+    }
 }
 
 /// The range from a version to one that isn't older.

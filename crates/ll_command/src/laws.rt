@@ -1,11 +1,11 @@
 //! What holds of command lines by the definitions alone.
 
-ghost use Rattle.std.specs.Prelude.{◌≡◌, ◌∷◌, ◌↔◌, List, [], Some, IsSome, codes, false, option_map, true};
+ghost use Rattle.std.specs.Prelude.{◌≡◌, ◌++◌, ◌∷◌, ◌↔◌, List, [], Some, IsSome, codes, false, option_map, true};
 ghost use Rattle.clap.specs.declared.error.kind.ErrorKind.TheVariants as kind;
 ghost use Rattle.ll_rights.specs.declared.abi.Abi.TheVariants.{V1, V4, V5};
 ghost use Rattle.ll_options.specs.declared.options.Effort.TheVariants.{AsRecorded, Best};
 ghost use Rattle.ll_options.specs.declared.shown.TheConstants.{ALL_LINES};
-ghost use Rattle.ll_command.specs.Command.{Text, faults, request_of};
+ghost use Rattle.ll_command.specs.Command.{Text, faults, newer_digit, request_of};
 
 /// What some command lines ask for, and what is wrong with others.
 #[tactic(auto, unfolding(clap::proofs::OnLiterals::clap_on_literals, crate::specs::Command::command, crate::specs::Command::faults, crate::specs::Command::request_in, crate::specs::Command::request_of, ll_rights::specs::Abis::all_versions))]
@@ -41,7 +41,8 @@ pub fn command_lines()
     // The versions are one, or a range with the older first.
     ensures no_version_zero { faults (codes "landaudit" ∷ codes "--abi" ∷ codes "0-3" ∷ codes "t" ∷ codes "r" ∷ []) ≡ kind.ValueValidation ∷ [] }
     ensures no_falling_range { faults (codes "landaudit" ∷ codes "--abi" ∷ codes "5-1" ∷ codes "t" ∷ codes "r" ∷ []) ≡ kind.ValueValidation ∷ [] }
-    ensures no_newer_version { faults (codes "landaudit" ∷ codes "--abi" ∷ codes "1-6" ∷ codes "t" ∷ codes "r" ∷ []) ≡ kind.ValueValidation ∷ [] }
+    ensures no_newer_version { faults (codes "landaudit" ∷ codes "--abi" ∷ (codes "1-" ++ newer_digit ∷ []) ∷ codes "t"
+        ∷ codes "r" ∷ []) ≡ kind.ValueValidation ∷ [] }
     ensures no_open_range { faults (codes "landaudit" ∷ codes "--abi" ∷ codes "1-" ∷ codes "t" ∷ codes "r" ∷ []) ≡ kind.ValueValidation ∷ [] }
     ensures no_hyphen_alone { faults (codes "landaudit" ∷ codes "--abi" ∷ codes "-" ∷ codes "t" ∷ codes "r" ∷ []) ≡ kind.ValueValidation ∷ [] }
     ensures no_letters { faults (codes "landaudit" ∷ codes "--abi" ∷ codes "a-b" ∷ codes "t" ∷ codes "r" ∷ []) ≡ kind.ValueValidation ∷ [] }
@@ -56,7 +57,7 @@ pub fn command_lines()
         ≡ kind.TooManyValues ∷ [] }
     ensures no_second { faults (codes "landaudit" ∷ codes "--abi" ∷ codes "4" ∷ codes "--refused" ∷ codes "--refused" ∷ codes "t"
         ∷ codes "r" ∷ []) ≡ kind.ArgumentConflict ∷ [] }
-    ensures no_such_version { faults (codes "landaudit" ∷ codes "--abi" ∷ codes "6" ∷ codes "t" ∷ codes "r" ∷ [])
+    ensures no_such_version { faults (codes "landaudit" ∷ codes "--abi" ∷ (newer_digit ∷ []) ∷ codes "t" ∷ codes "r" ∷ [])
         ≡ kind.ValueValidation ∷ [] }
     ensures no_worker { faults (codes "landaudit" ∷ codes "--abi" ∷ codes "4" ∷ codes "--workers" ∷ codes "0"
         ∷ codes "t" ∷ codes "r" ∷ []) ≡ kind.ValueValidation ∷ [] }

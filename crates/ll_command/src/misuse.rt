@@ -1,5 +1,6 @@
 //! Words of the command line that are each as their rule has it, and are still wrong.
 
+use ll_rights::with_abi_numbers;
 use std::fmt;
 
 /// What is wrong with such words. What it prints is a line without its end.
@@ -14,9 +15,10 @@ pub enum Misuse {
 impl fmt::Display for Misuse {
     fn fmt<W: fmt::Write>(&self, f: &mut fmt::Formatter<W>) -> fmt::Result {
         f.write_str(match self {
-            Misuse::Versions => {
-                "--abi takes a version of Landlock's interface, 1 to 5, or a range of them, the older first: 2 or 2-5"
-            }
+            Misuse::Versions => with_abi_numbers!(
+                "--abi takes a version of Landlock's interface, ",
+                ", or a range of them, the older first: 2 or 2-5"
+            ),
             Misuse::StandardInput => "TREE and TRACE can't both be standard input",
         })
     }

@@ -11,21 +11,14 @@ use Rattle.std.proofs.lemmas.List.Folds.{list_any-from_Any}
 use Rattle.ll_rights.specs.Bits.{has_place}
 use Rattle.ll_rights.specs.BitSets.{bits_without}
 
-one_of_max : (x y : ℕ) → x < 2 → y < 2 → eqb (max x y) 1 ≡ (eqb x 1 || eqb y 1)
-one_of_max zero zero p q = refl
-one_of_max zero (suc zero) p q = refl
-one_of_max (suc zero) zero p q = refl
-one_of_max (suc zero) (suc zero) p q = refl
-one_of_max (suc (suc x)) y p q = absurd (omega arith)
-one_of_max x (suc (suc y)) p q = absurd (omega arith)
-
-one_of_min : (x y : ℕ) → x < 2 → y < 2 → eqb (min x y) 1 ≡ (eqb x 1 && eqb y 1)
-one_of_min zero zero p q = refl
-one_of_min zero (suc zero) p q = refl
-one_of_min (suc zero) zero p q = refl
-one_of_min (suc zero) (suc zero) p q = refl
-one_of_min (suc (suc x)) y p q = absurd (omega arith)
-one_of_min x (suc (suc y)) p q = absurd (omega arith)
+-- of two bits, the larger is 1 where either is, and the smaller where both are
+pub one_of_bits : (x y : ℕ) → x < 2 → y < 2 → (eqb (max x y) 1 ≡ (eqb x 1 || eqb y 1)) × (eqb (min x y) 1 ≡ (eqb x 1 && eqb y 1))
+one_of_bits zero zero p q = (refl, refl)
+one_of_bits zero (suc zero) p q = (refl, refl)
+one_of_bits (suc zero) zero p q = (refl, refl)
+one_of_bits (suc zero) (suc zero) p q = (refl, refl)
+one_of_bits (suc (suc x)) y p q = absurd (omega arith)
+one_of_bits x (suc (suc y)) p q = absurd (omega arith)
 
 one_of_not : (x : ℕ) → x < 2 → eqb (1 - x) 1 ≡ not (eqb x 1)
 one_of_not zero p = refl
@@ -72,7 +65,7 @@ or_above named a b =
 pub has_place-or : (named a b place : ℕ) → has_place named (bit_or a b) place ≡ (has_place named a place || has_place named b place)
 has_place-or named a b place =
     elim (cases_lt place named) [
-      | inl lt ↦ rw (has_place-named named (bit_or a b) place lt, has_place-named named a place lt, has_place-named named b place lt, bit_at_or a b place) (one_of_max (bit_at a place) (bit_at b place) (bit_at-lt a place) (bit_at-lt b place))
+      | inl lt ↦ rw (has_place-named named (bit_or a b) place lt, has_place-named named a place lt, has_place-named named b place lt, bit_at_or a b place) ((one_of_bits (bit_at a place) (bit_at b place) (bit_at-lt a place) (bit_at-lt b place)).0)
       | inr le ↦ rw (has_place-other named (bit_or a b) place le, has_place-other named a place le, has_place-other named b place le) (or_above named a b)
     ]
 
@@ -91,8 +84,8 @@ has_place-lacking named wanted handled granted place narrow fits known =
       | inl lt ↦
           let within : place < 32 = omega arith in
           rw (has_place-named named (bit_and (bit_and wanted handled) (bit_not w32 granted)) place lt, has_place-named named wanted place lt, has_place-named named handled place lt, has_place-named named granted place lt, bit_at_and (bit_and wanted handled) (bit_not w32 granted) place, bit_at_and wanted handled place, bit_at_not w32 granted place fits within)
-          (one_of_min (min (bit_at wanted place) (bit_at handled place)) (1 - bit_at granted place) (omega (arith, bit_at-lt wanted place)) (omega arith)
-          ∙ ap (λ (b : Bool). b && eqb (1 - bit_at granted place) 1) (one_of_min (bit_at wanted place) (bit_at handled place) (bit_at-lt wanted place) (bit_at-lt handled place))
+          ((one_of_bits (min (bit_at wanted place) (bit_at handled place)) (1 - bit_at granted place) (omega (arith, bit_at-lt wanted place)) (omega arith)).1
+          ∙ ap (λ (b : Bool). b && eqb (1 - bit_at granted place) 1) ((one_of_bits (bit_at wanted place) (bit_at handled place) (bit_at-lt wanted place) (bit_at-lt handled place)).1)
           ∙ ap (λ (b : Bool). (eqb (bit_at wanted place) 1 && eqb (bit_at handled place) 1) && b) (one_of_not (bit_at granted place) (bit_at-lt granted place)))
       | inr le ↦
           let low : bit_and (bit_and wanted handled) (bit_not w32 granted) < 2 ^ named = omega (arith, and_le_l (bit_and wanted handled) (bit_not w32 granted), and_le_r wanted handled) in
@@ -125,9 +118,9 @@ all_at f n place e lt =
     let at : get_or (range_with_len 0 n) place 0 ≡ place = get_or-range_with_len 0 n place 0 lt ∙ omega arith in
     subst (λ (k : ℕ). f k ≡ true) at (all_true f (range_with_len 0 n) place e (omega (arith, length-range_with_len 0 n)))
 
-pub all_from_each : (f : ℕ → Bool) → ((k : ℕ) → f k ≡ true) → (xs : List ℕ) → list_all f xs ≡ true
-all_from_each f each [] = refl
-all_from_each f each (x ∷ xs) = rw (each x) (all_from_each f each xs)
+pub all_each : {X : Type 0} (test : X → Bool) → ((x : X) → test x ≡ true) → (xs : List X) → list_all test xs ≡ true
+all_each test each [] = refl
+all_each test each (x ∷ xs) = rw (each x) (all_each test each xs)
 
 pub any_same : (f g : ℕ → Bool) → ((k : ℕ) → f k ≡ g k) → (xs : List ℕ) → list_any f xs ≡ list_any g xs
 any_same f g same [] = refl
@@ -155,9 +148,9 @@ zero_place named place =
       | inr le ↦ has_place-other named 0 place le ∙ lt-leb (2 ^ named) 0 (pow_pos named)
     ]
 
-any_none : (f : ℕ → Bool) → ((k : ℕ) → f k ≡ false) → (xs : List ℕ) → list_any f xs ≡ false
-any_none f none [] = refl
-any_none f none (x ∷ xs) = rw (none x) (any_none f none xs)
+pub any_none : {X : Type 0} (test : X → Bool) → ((x : X) → test x ≡ false) → (xs : List X) → list_any test xs ≡ false
+any_none test none [] = refl
+any_none test none (x ∷ xs) = rw (none x) (any_none test none xs)
 
 -- a number is 0 exactly if no place of it is a member
 pub is_zero_by_places : (named bits : ℕ) → eqb bits 0 ≡ not (list_any (has_place named bits) (range_with_len 0 (named + 1)))
@@ -210,7 +203,7 @@ is_within_by_places named set whole known =
       | inl same ↦
           let set_low : set < 2 ^ named = omega (arith, and_le_r set whole) in
           rw (eq-eqb (bit_and set whole) set same)
-          (sym (all_from_each test
+          (sym (all_each test
           (λ place.
           elim (cases_lt place named) [
             | inl lt ↦
@@ -324,7 +317,7 @@ has_place-and named a b place low =
     elim (cases_lt place named) [
       | inl lt ↦
           rw (has_place-named named (bit_and a b) place lt, has_place-named named a place lt, has_place-named named b place lt, bit_at_and a b place)
-          (one_of_min (bit_at a place) (bit_at b place) (bit_at-lt a place) (bit_at-lt b place))
+          ((one_of_bits (bit_at a place) (bit_at b place) (bit_at-lt a place) (bit_at-lt b place)).1)
       | inr le ↦
           let less : bit_and a b < 2 ^ named = omega (arith, and_le_r a b) in
           has_place-other named (bit_and a b) place le ∙ lt-leb (2 ^ named) (bit_and a b) less

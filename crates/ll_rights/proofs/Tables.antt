@@ -8,14 +8,19 @@ use Rattle.std.proofs.lemmas.Nat.{and_comm}
 use Rattle.ll_rights.specs.Bits.{has_place}
 use Rattle.ll_rights.specs.Sets.{Row}
 use Rattle.ll_rights.specs.BitSets.{bits_of, bits_without}
-use Rattle.ll_rights.proofs.Places.{has_place-or, has_place-power, has_place-without, has_place-and, without-twice, zero_place, known_below, is_zero_by_places, is_lacking_by_places, is_within_by_places}
+use Rattle.ll_rights.proofs.Places.{any_none, all_each, has_place-or, has_place-power, has_place-without, has_place-and, without-twice, zero_place, known_below, is_zero_by_places, is_lacking_by_places, is_within_by_places}
+
+-- what holds of each right of a table: its bit finds it, some named right has its bit unless it is `other`, which has the last
+abbrev pub Stands : {R : Type 0} → (R → Row) → List R → R → R → Type 0
+Stands row named other right =
+    (get_or (named ++ other ∷ []) (row right).bit other ≡ right)
+    × (list_any (λ one. eqb (row right).bit (row one).bit) named ≡ not (eqb (row right).bit (row other).bit))
+    × ((row right).bit ≤ (row other).bit)
 
 -- the rights of a table have the places 0, 1, .. in its order, and `other` has the last
 pub record IsTable {R : Type 0} (row : R → Row) (named : List R) (other : R) : Type 0 where
   pub numbered : map (λ right. (row right).bit) (named ++ other ∷ []) ≡ range_with_len 0 ((row other).bit + 1)
-  pub found : (right : R) → get_or (named ++ other ∷ []) (row right).bit other ≡ right
-  pub listed : (right : R) → list_any (λ one. eqb (row right).bit (row one).bit) named ≡ not (eqb (row right).bit (row other).bit)
-  pub narrow : (right : R) → (row right).bit ≤ (row other).bit
+  pub each : (right : R) → Stands row named other right
   pub fits : (row other).bit ≤ 32
 
 any-map : {X Y : Type 0} (test : Y → Bool) (f : X → Y) (xs : List X) → list_any (λ x. test (f x)) xs ≡ list_any test (map f xs)
@@ -26,15 +31,7 @@ all-map : {X Y : Type 0} (test : Y → Bool) (f : X → Y) (xs : List X) → lis
 all-map test f [] = refl
 all-map test f (x ∷ xs) = ap (λ b. test (f x) && b) (all-map test f xs)
 
-any_none : {X : Type 0} (test : X → Bool) → ((x : X) → test x ≡ false) → (xs : List X) → list_any test xs ≡ false
-any_none test none [] = refl
-any_none test none (x ∷ xs) = rw (none x) (any_none test none xs)
-
-all_each : {X : Type 0} (test : X → Bool) → ((x : X) → test x ≡ true) → (xs : List X) → list_all test xs ≡ true
-all_each test each [] = refl
-all_each test each (x ∷ xs) = rw (each x) (all_each test each xs)
-
-module _ {R : Type 0} (row : R → Row) (named : List R) (other : R) (is : IsTable row named other) where
+module _ {R : Type 0} {row : R → Row} {named : List R} {other : R} (is : IsTable row named other) where
   abbrev bit : R → ℕ
   bit right = (row right).bit
 
@@ -52,13 +49,13 @@ module _ {R : Type 0} (row : R → Row) (named : List R) (other : R) (is : IsTab
 
   -- rights with the same bit are the same
   pub same_right : (a b : R) → is_right a b ≡ true → a ≡ b
-  same_right a b e = sym (is.found a) ∙ ap (λ n. get_or all n other) (eqb-true (bit a) (bit b) e) ∙ is.found b
+  same_right a b e = sym (is.each a).0 ∙ ap (λ n. get_or all n other) (eqb-true (bit a) (bit b) e) ∙ (is.each b).0
 
   -- ---- sets as the code has them
 
   -- a set of one right has that right and no other
   pub has-only : (right one : R) → has (2 ^ bit one) right ≡ is_right right one
-  has-only right one = has_place-power count (bit one) (bit right) (is.narrow one) (is.narrow right)
+  has-only right one = has_place-power count (bit one) (bit right) (is.each one).2 (is.each right).2
 
   pub is_empty : (bits : ℕ) → eqb bits 0 ≡ not (list_any (has bits) all)
   is_empty bits = is_zero_by_places count bits ∙ ap not (sym (any-map (has_place count bits) bit all ∙ ap (list_any (has_place count bits)) is.numbered))
@@ -79,7 +76,7 @@ module _ {R : Type 0} (row : R → Row) (named : List R) (other : R) (is : IsTab
   has-chosen test right =
       has-bits right (filter test named)
       ∙ any-filter_same (is_right right) test (test right) (λ one e. ap test (sym (same_right right one e))) named
-      ∙ ap (λ b. test right && b) (is.listed right)
+      ∙ ap (λ b. test right && b) (is.each right).1
 
   itself : is_right other other ≡ true
   itself = eq-eqb count count refl
@@ -167,7 +164,7 @@ module _ {R : Type 0} (row : R → Row) (named : List R) (other : R) (is : IsTab
         has_lacking : (right : R) → has (bits_without (bits_of row named) known) right ≡ (not (knows right) && not (is_right right other))
         has_lacking right =
             has_place-without count (bits_of row named) known (bit right) (known_below count known no_other)
-            ∙ ap (λ b. b && not (has known right)) (has-bits right named ∙ is.listed right)
+            ∙ ap (λ b. b && not (has known right)) (has-bits right named ∙ (is.each right).1)
             ∙ ap (λ b. not (is_right right other) && not b) (same right) ∙ swapped (not (is_right right other)) (not (knows right))
 
   -- what fewer known rights leave of what more left

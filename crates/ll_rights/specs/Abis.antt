@@ -1,6 +1,6 @@
 -- The versions of Landlock's interface, and the rights that each knows.
 -- Source: landlock(7), "VERSIONS"; the kernel's userspace document on Landlock, "Compatibility".
-use Rattle.std.specs.Prelude.{ℕ, Bool, false, nat_le, List, [], ◌∷◌, Option, Some, None}
+use Rattle.std.specs.Prelude.{ℕ, Bool, false, nat_le, List, [], ◌∷◌, Option, Some, None, ◌==◌, find}
 use Rattle.ll_rights.specs.declared.abi.Abi.{Abi}
 use Rattle.ll_rights.specs.declared.abi.Abi.TheVariants.{V1, V2, V3, V4, V5}
 use Rattle.ll_rights.specs.Rights as files
@@ -17,6 +17,10 @@ number_of V5 = 5
 -- all versions, the oldest first
 unfoldable pub all_versions : List Abi
 all_versions = V1 ∷ V2 ∷ V3 ∷ V4 ∷ V5 ∷ []
+
+-- the version of a number
+abbrev pub version_of : ℕ → Option Abi
+version_of number = find (λ abi. number_of abi == number) all_versions
 
 -- whether what came with one version is there at another
 abbrev pub is_since : Option ℕ → Abi → Bool

@@ -3,14 +3,10 @@
 use Rattle.std.specs.Prelude.{ℕ, ◌^◌, bit_or, Bool, not, ◌&&◌, ◌||◌, List, [], ◌∷◌, ◌++◌, codes, ◌==◌}
 use Rattle.std.specs.List.{list_any, list_all}
 use Rattle.ll_rights.specs.declared.net.Net.{Net}
+pub use Rattle.ll_rights.specs.declared.right.NetRight.{NetRight}
+pub use Rattle.ll_rights.specs.declared.right.NetRight.TheVariants.{BindTcp as bind_tcp, ConnectTcp as connect_tcp, Other as other}
 use Rattle.ll_rights.specs.Bits.{has_place}
 use Rattle.ll_rights.specs.Sets.{Row, not_for_files, unnamed, first_named}
-
--- An access right for TCP ports. `other` stands for every name that is none of the rest.
-pub data NetRight : Type 0 where
-  bind_tcp : NetRight
-  connect_tcp : NetRight
-  other : NetRight
 
 -- The table: each right's name, which is the constant of the kernel's header without its prefix, in lower case, the number of
 -- its bit, and the ABI that it comes with.
@@ -30,19 +26,20 @@ name_of right = (row right).name
 abbrev pub bit_of : NetRight → ℕ
 bit_of right = (row right).bit
 
--- the right that a text names
+-- all rights
+unfoldable pub all_rights : List NetRight
+all_rights = named_rights ++ other ∷ []
+
+-- the right that a text names, which is `other` where it is no right's name
 unfoldable pub right_named : List ℕ → NetRight
-right_named text = first_named row other named_rights text
+unfolding all_rights
+right_named text = first_named row other all_rights text
 
 -- ---- sets of rights
 
 -- whether a set has a right
 unfoldable pub has : Net → NetRight → Bool
 has set right = has_place (bit_of other) set.0 (bit_of right)
-
--- all rights
-unfoldable pub all_rights : List NetRight
-all_rights = named_rights ++ other ∷ []
 
 -- whether some right passes a test
 unfoldable pub some_right : (NetRight → Bool) → Bool

@@ -3,28 +3,10 @@
 use Rattle.std.specs.Prelude.{ℕ, ◌^◌, bit_or, Bool, not, ◌&&◌, ◌||◌, List, [], ◌∷◌, ◌++◌, codes, ◌==◌}
 use Rattle.std.specs.List.{list_any, list_all}
 use Rattle.ll_rights.specs.declared.fs.Fs.{Fs}
+pub use Rattle.ll_rights.specs.declared.right.FsRight.{FsRight}
+pub use Rattle.ll_rights.specs.declared.right.FsRight.TheVariants.{Execute as execute, WriteFile as write_file, ReadFile as read_file, ReadDir as read_dir, RemoveDir as remove_dir, RemoveFile as remove_file, MakeChar as make_char, MakeDir as make_dir, MakeReg as make_reg, MakeSock as make_sock, MakeFifo as make_fifo, MakeBlock as make_block, MakeSym as make_sym, Refer as refer, Truncate as truncate, IoctlDev as ioctl_dev, Other as other}
 use Rattle.ll_rights.specs.Bits.{has_place}
 use Rattle.ll_rights.specs.Sets.{Row, for_files, not_for_files, unnamed, first_named}
-
--- An access right for files. `other` stands for every name that is none of the rest.
-pub data FsRight : Type 0 where
-  execute : FsRight
-  write_file : FsRight
-  read_file : FsRight
-  read_dir : FsRight
-  remove_dir : FsRight
-  remove_file : FsRight
-  make_char : FsRight
-  make_dir : FsRight
-  make_reg : FsRight
-  make_sock : FsRight
-  make_fifo : FsRight
-  make_block : FsRight
-  make_sym : FsRight
-  refer : FsRight
-  truncate : FsRight
-  ioctl_dev : FsRight
-  other : FsRight
 
 -- The table: each right's name, which is the constant of the kernel's header without its prefix, in lower case, the number of
 -- its bit, and the ABI that it comes with.
@@ -63,21 +45,21 @@ bit_of right = (row right).bit
 abbrev pub is_file_right : FsRight → Bool
 is_file_right right = (row right).of_files
 
--- the right that a text names
-unfoldable pub right_named : List ℕ → FsRight
+-- all rights
+unfoldable pub all_rights : List FsRight
 unfolding named_rights
-right_named text = first_named row other named_rights text
+all_rights = named_rights ++ other ∷ []
+
+-- the right that a text names, which is `other` where it is no right's name
+unfoldable pub right_named : List ℕ → FsRight
+unfolding all_rights
+right_named text = first_named row other all_rights text
 
 -- ---- sets of rights
 
 -- whether a set has a right
 unfoldable pub has : Fs → FsRight → Bool
 has set right = has_place (bit_of other) set.0 (bit_of right)
-
--- all rights
-unfoldable pub all_rights : List FsRight
-unfolding named_rights
-all_rights = named_rights ++ other ∷ []
 
 -- whether some right passes a test
 unfoldable pub some_right : (FsRight → Bool) → Bool

@@ -1,6 +1,6 @@
 -- Tables of rights: what the table of the rights for files and that of the rights for the network have in common.
 -- Source: landlock_create_ruleset(2), whose access rights are bits of a mask.
-use Rattle.std.specs.Prelude.{ℕ, Bool, true, false, List, [], ◌∷◌, Option, Some, None, bytes_eq, if◌then◌else◌}
+use Rattle.std.specs.Prelude.{ℕ, Bool, true, false, List, [], Option, Some, None, bytes_eq, find, unwrap_or}
 
 -- What a table says of a right: its name, the number of its bit, the ABI that it comes with, and whether it applies to what
 -- isn't a directory.
@@ -21,8 +21,6 @@ not_for_files name bit abi = record { name = name; bit = bit; since = Some abi; 
 abbrev pub unnamed : ℕ → Row
 unnamed bit = record { name = []; bit = bit; since = None; of_files = false }
 
-module _ {R : Type 0} (row : R → Row) where
-  -- the first of some rights that a text names, else `other`
-  abbrev pub first_named : R → List R → List ℕ → R
-  first_named other [] text = other
-  first_named other (right ∷ rights) text = if bytes_eq text (row right).name then right else first_named other rights text
+-- the first of some rights that a text names, else `other`
+abbrev pub first_named : {R : Type 0} → (R → Row) → R → List R → List ℕ → R
+first_named row other rights text = unwrap_or (find (λ right. bytes_eq text (row right).name) rights) other

@@ -3,6 +3,14 @@
 use crate::fs::Fs;
 use crate::net::Net;
 
+/// A text with the numbers of all versions between two others.
+#[macro_export]
+macro_rules! with_abi_numbers {
+    ($before:literal, $after:literal) => {
+        concat!($before, "1 to 5", $after)
+    };
+}
+
 /// A version of Landlock's interface, as landlock_create_ruleset(2) reports it.
 #[derive(Clone, Copy, Debug, PartialEq, Eq, PartialOrd, Ord)]
 pub enum Abi {
@@ -19,10 +27,10 @@ pub enum Abi {
 }
 
 impl Abi {
-    ghost use Rattle.std.specs.Prelude.{◌≡◌, ◌≤◌, ◌↔◌, IsSome, IfSome};
+    ghost use Rattle.std.specs.Prelude.{◌≡◌};
     ghost use Rattle.ll_rights.specs.Rights as files;
     ghost use Rattle.ll_rights.specs.NetRights as network;
-    ghost use Rattle.ll_rights.specs.Abis.{all_versions, number_of, knows_fs, knows_net};
+    ghost use Rattle.ll_rights.specs.Abis.{all_versions, number_of, version_of, knows_fs, knows_net};
 
     /// All versions, the oldest first.
     #[tactic(auto, unfolding(crate::specs::Abis::all_versions))]
@@ -32,22 +40,18 @@ impl Abi {
         &[Abi::V1, Abi::V2, Abi::V3, Abi::V4, Abi::V5]
     }
 
-    /// The version of a number: there for 1 to 5.
+    /// The version of a number, where it is one of theirs.
+    #[tactic(auto, unfolding(crate::specs::Abis::all_versions))]
     pub fn new(number: u64) -> Option<Abi>
-        ensures supported { IsSome result ↔ (1 ≤ number × number ≤ 5) }
-        ensures same { IfSome result (λ abi. number_of abi ≡ number) }
+        ensures { result ≡ version_of number }
     {
-        match number {
-            1 => Some(Abi::V1),
-            2 => Some(Abi::V2),
-            3 => Some(Abi::V3),
-            4 => Some(Abi::V4),
-            5 => Some(Abi::V5),
-            _ => None,
-        }
+        Abi::all()
+            .iter()
+            .copied()
+            .find(|abi| abi.number() == number)
     }
 
-    /// The version's number, 1 to 5.
+    /// The version's number.
     pub fn number(self) -> u64
         ensures { result ≡ number_of self }
     {

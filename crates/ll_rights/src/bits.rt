@@ -2,6 +2,7 @@
 
 ghost use Rattle.std.specs.Prelude.{◌≡◌, ◌<◌};
 ghost use Rattle.ll_rights.specs.Bits.{has_place};
+ghost use Rattle.ll_rights.specs.BitSets.{bits_without};
 
 /// Whether a set of bits, this many of them named, has the one at a place; all bits without a name are one member, which has
 /// the place behind the named ones.
@@ -14,4 +15,12 @@ pub(crate) fn has_place(named: u32, bits: u32, place: u32) -> bool
     } else {
         bits >= 1 << named
     }
+}
+
+/// The bits of a set that another lacks.
+#[tactic(auto, using(crate::proofs::Places::lacks_taken))]
+pub(crate) fn without(bits: u32, taken: u32) -> u32
+    ensures { result ≡ bits_without bits taken }
+{
+    bits & !taken
 }

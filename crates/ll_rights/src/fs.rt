@@ -1,12 +1,11 @@
 //! Sets of access rights for files.
 
-ghost use Rattle.std.specs.Prelude.{⊤, ◌≡◌, ◌-◌, ◌∷◌, [], false, bit_and, codes};
-ghost use Rattle.ll_rights.specs.CodeRights.{fs_right};
+ghost use Rattle.std.specs.Prelude.{⊤, ◌≡◌, ◌∷◌, [], false, bytes_eq, codes, find};
 ghost use Rattle.ll_rights.specs.Rights as rights;
 ghost use Rattle.ll_rights.specs.Supported.{supported_fs};
 
 use crate::abi::Abi;
-use crate::bits::has_place;
+use crate::bits::{has_place, without};
 use crate::right::FsRight;
 use bitflags::{Flag, Flags, bitflag_items};
 
@@ -85,6 +84,7 @@ impl Fs {
     pub(crate) const SINCE_5: Fs = Fs(Fs::SINCE_3.0 | Fs::IOCTL_DEV.0);
 
     /// Whether the set has no right.
+    #[tactic(auto, using(crate::proofs::Sets::fs_is_empty))]
     pub fn is_empty(self) -> bool
         ensures { result ≡ rights.is_empty self }
     {
@@ -92,8 +92,9 @@ impl Fs {
     }
 
     /// Whether the set has a right.
+    #[tactic(auto, unfolding(crate::specs::Rights::has))]
     pub fn has(self, right: FsRight) -> bool
-        ensures { result ≡ rights.has self (fs_right right) }
+        ensures { result ≡ rights.has self right }
     {
         has_place(FsRight::Other.bit(), self.0, right.bit())
     }
@@ -106,22 +107,17 @@ impl Fs {
         Fs(self.0 | other.0)
     }
 
-    /// The rights of the set that another lacks.
-    fn without(self, taken: Fs) -> Fs
-        ensures { result.0 ≡ self.0 - bit_and self.0 taken.0 }
-    {
-        Fs(self.0 & !taken.0)
-    }
-
     /// What a program keeps of the set that goes by its kernel's version: the rights that came with
     /// a later version are taken out, and any other right stays.
+    #[tactic(auto, using(crate::proofs::Supported::fs_supported_lacking), unfolding(crate::specs::Rights::named_rights))]
     pub fn supported(self, abi: Abi) -> Fs
         ensures { result ≡ supported_fs abi self }
     {
-        self.without(Fs::NAMED.without(abi.fs()))
+        Fs(without(self.0, without(Fs::NAMED.0, abi.fs().0)))
     }
 
     /// Whether each right of the set is one of `whole`, a set of known rights.
+    #[tactic(auto, using(crate::proofs::Sets::fs_is_within))]
     pub fn is_within(self, whole: Fs) -> bool
         requires known { rights.has whole rights.other ≡ false }
         ensures { result ≡ rights.is_within self whole }
@@ -131,6 +127,7 @@ impl Fs {
 
     /// Whether some right of the set is handled and not granted, where what is handled are known
     /// rights.
+    #[tactic(auto, using(crate::proofs::Sets::fs_is_lacking))]
     pub fn lacks(self, handled: Fs, granted: Fs) -> bool
         requires known { rights.has handled rights.other ≡ false }
         ensures { result ≡ rights.is_lacking (rights.has self) (rights.has handled) (rights.has granted) }
@@ -139,28 +136,17 @@ impl Fs {
     }
 }
 
+/// The first of some rights that a text names.
+fn named(among: &[FsRight], name: &str) -> Option<FsRight>
+    ensures { result ≡ find (λ right. bytes_eq name.now (rights.name_of right)) among.now }
+{
+    among.iter().copied().find(|right| name == right.name())
+}
+
 /// The set of the one right that a name stands for; any name that is no right's is `OTHER`.
-#[tactic(auto, unfolding(crate::specs::Rights::right_named, crate::specs::Rights::named_rights, crate::specs::Rights::only))]
+#[tactic(auto, unfolding(crate::specs::Rights::right_named))]
 pub fn fs_of_name(name: &str) -> Fs
     ensures { result ≡ rights.only (rights.right_named name.now) }
 {
-    match name {
-        "execute" => Fs::EXECUTE,
-        "write_file" => Fs::WRITE_FILE,
-        "read_file" => Fs::READ_FILE,
-        "read_dir" => Fs::READ_DIR,
-        "remove_dir" => Fs::REMOVE_DIR,
-        "remove_file" => Fs::REMOVE_FILE,
-        "make_char" => Fs::MAKE_CHAR,
-        "make_dir" => Fs::MAKE_DIR,
-        "make_reg" => Fs::MAKE_REG,
-        "make_sock" => Fs::MAKE_SOCK,
-        "make_fifo" => Fs::MAKE_FIFO,
-        "make_block" => Fs::MAKE_BLOCK,
-        "make_sym" => Fs::MAKE_SYM,
-        "refer" => Fs::REFER,
-        "truncate" => Fs::TRUNCATE,
-        "ioctl_dev" => Fs::IOCTL_DEV,
-        _ => Fs::OTHER,
-    }
+    named(FsRight::all(), name).unwrap_or(FsRight::Other).set()
 }

@@ -1,15 +1,22 @@
 //! What holds of the sets of rights by their definitions.
 
-ghost use Rattle.std.specs.Prelude.{◌≡◌, ◌≤◌, ◌&&◌, ◌||◌, false, not};
+ghost use Rattle.std.specs.Prelude.{◌≡◌, ◌≤◌, ◌&&◌, ◌||◌, Some, false, length, map, not};
+ghost use Rattle.std.specs.List.{range_with_len};
 ghost use Rattle.ll_rights.specs.declared.abi.Abi.{Abi as Version};
 ghost use Rattle.ll_rights.specs.declared.fs.Fs.{Fs as FsSet};
 ghost use Rattle.ll_rights.specs.declared.net.Net.{Net as NetSet};
 ghost use Rattle.ll_rights.specs.Rights as files;
 ghost use Rattle.ll_rights.specs.NetRights as network;
-ghost use Rattle.ll_rights.specs.Abis.{number_of, knows_fs, knows_net};
+ghost use Rattle.ll_rights.specs.Abis.{all_versions, number_of, version_of, knows_fs, knows_net};
 ghost use Rattle.ll_rights.specs.Supported.{supported_fs, supported_net};
 
 use crate::fs::Fs;
+
+/// The versions have the numbers 1, 2 and so on, and each is that of its number.
+pub fn numbered_versions()
+    ensures numbers { map number_of all_versions ≡ range_with_len 1 (length all_versions) }
+    ensures found { (abi : Version) → version_of (number_of abi) ≡ Some abi }
+{}
 
 /// The rights of [`Fs::FILE`] are those that apply to what isn't a directory (landlock(7),
 /// "Filesystem actions").

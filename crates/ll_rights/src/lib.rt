@@ -13,6 +13,6 @@ mod right;
 pub use abi::Abi;
 pub use fs::{Fs, fs_of_name};
 pub use kind::Kind;
-pub use laws::{file_rights, sets_by_rights, supported_sets};
+pub use laws::{file_rights, numbered_versions, sets_by_rights, supported_sets};
 pub use net::{Net, net_of_name};
 pub use right::{FsRight, NetRight};

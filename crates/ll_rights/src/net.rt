@@ -1,12 +1,11 @@
 //! Sets of access rights for the network.
 
-ghost use Rattle.std.specs.Prelude.{⊤, ◌≡◌, ◌-◌, ◌∷◌, [], false, bit_and, codes};
-ghost use Rattle.ll_rights.specs.CodeRights.{net_right};
+ghost use Rattle.std.specs.Prelude.{⊤, ◌≡◌, ◌∷◌, [], false, bytes_eq, codes, find};
 ghost use Rattle.ll_rights.specs.NetRights as rights;
 ghost use Rattle.ll_rights.specs.Supported.{supported_net};
 
 use crate::abi::Abi;
-use crate::bits::has_place;
+use crate::bits::{has_place, without};
 use crate::right::NetRight;
 use bitflags::{Flag, Flags, bitflag_items};
 
@@ -55,6 +54,7 @@ impl Net {
     pub(crate) const SINCE_4: Net = Net(Net::BIND_TCP.0 | Net::CONNECT_TCP.0);
 
     /// Whether the set has no right.
+    #[tactic(auto, using(crate::proofs::Sets::net_is_empty))]
     pub fn is_empty(self) -> bool
         ensures { result ≡ rights.is_empty self }
     {
@@ -62,8 +62,9 @@ impl Net {
     }
 
     /// Whether the set has a right.
+    #[tactic(auto, unfolding(crate::specs::NetRights::has))]
     pub fn has(self, right: NetRight) -> bool
-        ensures { result ≡ rights.has self (net_right right) }
+        ensures { result ≡ rights.has self right }
     {
         has_place(NetRight::Other.bit(), self.0, right.bit())
     }
@@ -76,22 +77,17 @@ impl Net {
         Net(self.0 | other.0)
     }
 
-    /// The rights of the set that another lacks.
-    fn without(self, taken: Net) -> Net
-        ensures { result.0 ≡ self.0 - bit_and self.0 taken.0 }
-    {
-        Net(self.0 & !taken.0)
-    }
-
     /// What a program keeps of the set that goes by its kernel's version: the rights that came with
     /// a later version are taken out, and any other right stays.
+    #[tactic(auto, using(crate::proofs::Supported::net_supported_lacking))]
     pub fn supported(self, abi: Abi) -> Net
         ensures { result ≡ supported_net abi self }
     {
-        self.without(Net::NAMED.without(abi.net()))
+        Net(without(self.0, without(Net::NAMED.0, abi.net().0)))
     }
 
     /// Whether each right of the set is one of `whole`, a set of known rights.
+    #[tactic(auto, using(crate::proofs::Sets::net_is_within))]
     pub fn is_within(self, whole: Net) -> bool
         requires known { rights.has whole rights.other ≡ false }
         ensures { result ≡ rights.is_within self whole }
@@ -101,6 +97,7 @@ impl Net {
 
     /// Whether some right of the set is handled and not granted, where what is handled are known
     /// rights.
+    #[tactic(auto, using(crate::proofs::Sets::net_is_lacking))]
     pub fn lacks(self, handled: Net, granted: Net) -> bool
         requires known { rights.has handled rights.other ≡ false }
         ensures { result ≡ rights.is_lacking (rights.has self) (rights.has handled) (rights.has granted) }
@@ -109,14 +106,19 @@ impl Net {
     }
 }
 
+/// The first of some rights that a text names.
+fn named(among: &[NetRight], name: &str) -> Option<NetRight>
+    ensures { result ≡ find (λ right. bytes_eq name.now (rights.name_of right)) among.now }
+{
+    among.iter().copied().find(|right| name == right.name())
+}
+
 /// The set of the one right that a name stands for; any name that is no right's is `OTHER`.
-#[tactic(auto, unfolding(crate::specs::NetRights::right_named, crate::specs::NetRights::only))]
+#[tactic(auto, unfolding(crate::specs::NetRights::right_named))]
 pub fn net_of_name(name: &str) -> Net
     ensures { result ≡ rights.only (rights.right_named name.now) }
 {
-    match name {
-        "bind_tcp" => Net::BIND_TCP,
-        "connect_tcp" => Net::CONNECT_TCP,
-        _ => Net::OTHER,
-    }
+    named(NetRight::all(), name)
+        .unwrap_or(NetRight::Other)
+        .set()
 }

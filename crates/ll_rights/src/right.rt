@@ -5,6 +5,7 @@ ghost use Rattle.ll_rights.specs.CodeRights.{fs_right, net_right};
 
 use crate::fs::Fs;
 use crate::net::Net;
+use bitflags::Flags;
 
 /// An access right for files (landlock(7), "Filesystem actions").
 #[derive(Clone, Copy, Debug, PartialEq, Eq)]
@@ -76,14 +77,14 @@ impl FsRight {
 
     /// The number of the right's bit.
     pub(crate) fn bit(self) -> u32
-        ensures { result ≡ rights.bit_of (fs_right self) }
+        ensures { result ≡ rights.bit_of self }
     {
         self as u32
     }
 
     /// The right's name, which is empty for `Other`.
     pub fn name(self) -> &'static str
-        ensures { result.now ≡ rights.name_of (fs_right self) }
+        ensures { result.now ≡ rights.name_of self }
     {
         match self {
             FsRight::Execute => "execute",
@@ -109,27 +110,9 @@ impl FsRight {
     /// The set of this right alone.
     #[tactic(auto, unfolding(crate::specs::Rights::only))]
     pub fn set(self) -> Fs
-        ensures { result ≡ rights.only (fs_right self) }
+        ensures { result ≡ rights.only self }
     {
-        match self {
-            FsRight::Execute => Fs::EXECUTE,
-            FsRight::WriteFile => Fs::WRITE_FILE,
-            FsRight::ReadFile => Fs::READ_FILE,
-            FsRight::ReadDir => Fs::READ_DIR,
-            FsRight::RemoveDir => Fs::REMOVE_DIR,
-            FsRight::RemoveFile => Fs::REMOVE_FILE,
-            FsRight::MakeChar => Fs::MAKE_CHAR,
-            FsRight::MakeDir => Fs::MAKE_DIR,
-            FsRight::MakeReg => Fs::MAKE_REG,
-            FsRight::MakeSock => Fs::MAKE_SOCK,
-            FsRight::MakeFifo => Fs::MAKE_FIFO,
-            FsRight::MakeBlock => Fs::MAKE_BLOCK,
-            FsRight::MakeSym => Fs::MAKE_SYM,
-            FsRight::Refer => Fs::REFER,
-            FsRight::Truncate => Fs::TRUNCATE,
-            FsRight::IoctlDev => Fs::IOCTL_DEV,
-            FsRight::Other => Fs::OTHER,
-        }
+        Fs::from_bits_retain(1 << self.bit())
     }
 }
 
@@ -157,14 +140,14 @@ impl NetRight {
 
     /// The number of the right's bit.
     pub(crate) fn bit(self) -> u32
-        ensures { result ≡ rights.bit_of (net_right self) }
+        ensures { result ≡ rights.bit_of self }
     {
         self as u32
     }
 
     /// The right's name, which is empty for `Other`.
     pub fn name(self) -> &'static str
-        ensures { result.now ≡ rights.name_of (net_right self) }
+        ensures { result.now ≡ rights.name_of self }
     {
         match self {
             NetRight::BindTcp => "bind_tcp",
@@ -176,12 +159,8 @@ impl NetRight {
     /// The set of this right alone.
     #[tactic(auto, unfolding(crate::specs::NetRights::only))]
     pub fn set(self) -> Net
-        ensures { result ≡ rights.only (net_right self) }
+        ensures { result ≡ rights.only self }
     {
-        match self {
-            NetRight::BindTcp => Net::BIND_TCP,
-            NetRight::ConnectTcp => Net::CONNECT_TCP,
-            NetRight::Other => Net::OTHER,
-        }
+        Net::from_bits_retain(1 << self.bit())
     }
 }

@@ -2,11 +2,4 @@ use Rattle.ll_rights.proofs.Supported.{fs_has-supported, fs_supported-known, fs_
 use Rattle.ll_rights.proofs.laws.supported_sets.Goals as goal
 
 pub returns : goal.returns
-returns c = record {
-  fs = fs_has-supported;
-  known_fs = fs_supported-known;
-  older_fs = fs_supported-older;
-  net = net_has-supported;
-  known_net = net_supported-known;
-  older_net = net_supported-older;
-}
+returns c = search (fs_has-supported, fs_supported-known, fs_supported-older, net_has-supported, net_supported-known, net_supported-older)
