@@ -2,19 +2,17 @@
 use Rattle.std.proofs.Common.{◌≡◌, ℕ, zero, suc, ◌-◌, ◌%◌, ◌^◌, ◌<◌, ◌≤◌, lit<, lit≤, subst, Bool, true, false, not, ◌&&◌, ◌||◌, cond, eqb, List, [], ◌∷◌, map, length, get_or, replicate, refl, sym, ap, ◌∙◌, arith, inl, inr, bit_and, bit_or, w32, Fits}
 use Rattle.std.specs.Int.{bit_at, bit_not}
 use Rattle.std.specs.Int.Bits.{and_self}
-use Rattle.std.proofs.Math.Nat.{mod-eq_of_lt}
 use Rattle.std.proofs.lemmas.Bool.{cases_lt, lt-leb}
-use Rattle.std.proofs.lemmas.Nat.{and_le_r, and_mask}
-use Rattle.std.proofs.lemmas.Nat.Bits.{bit_at_and, bit_at-lt, bit_at-zero, bit_at_ones}
+use Rattle.std.proofs.lemmas.Nat.{and_le_r}
+use Rattle.std.proofs.lemmas.Nat.Bits.{bit_at_and, bit_at-lt, bit_at_ones}
 use Rattle.std.proofs.lemmas.List.{get_or-map, get_or_past, length-map}
 use Rattle.std.proofs.lemmas.Simd.{length-zip2, length-replicate, get_or-zip2, get_or-replicate, map-map, zip2_splat, bitmask_splat, bit_mask_l, mask_l-lt}
 use lib.Lanes.{zip2, Each1, mask_l, top}
 use Rattle.ll_rights.specs.declared.fs.Fs.{Fs}
 use Rattle.ll_rights.specs.Bits.{has_place}
 use Rattle.ll_rights.specs.Rights.{FsRight, has, other, is_empty, bit_of}
-use Rattle.ll_rights.proofs.Places.{has_place-named, has_place-other, has_place-or, has_place-lacking}
+use Rattle.ll_rights.proofs.Places.{has_place-named, has_place-other, has_place-or, has_place-and, has_place-lacking}
 use Rattle.ll_rights.proofs.Sets.{fs_narrow, fs_is_empty}
-use Rattle.ll_rules.proofs.Booleans.{and_true}
 use Rattle.ll_rules.proofs.RightSets.{has_nothing}
 use Rattle.ll_rules.proofs.LayerNumbers.{passing_upto-agree}
 use Rattle.ll_rules.specs.LayerNumbers.{is_at_place, numbers_passing}
@@ -63,13 +61,6 @@ nothing_in x right none = ap (λ (bits : ℕ). has (set_of bits) right) none ∙
 pub nothing_left : (x : ℕ) (right : FsRight) (a : Bool) → x ≡ 0 → has (set_of 0) right ≡ (has (set_of x) right && a)
 nothing_left x right a none = nothing_in 0 right refl ∙ sym (ap (λ (w : Bool). w && a) (nothing_in x right none))
 
--- what code takes out of 32 bits, bit by bit
-taken_bit : (x y g place : ℕ) → y < 2 ^ 32 → g < 2 ^ 32 → place < 32
-    → eqb (bit_at (bit_and (bit_and x y) (bit_not w32 g)) place) 1 ≡ (eqb (bit_at x place) 1 && eqb (bit_at y place) 1 && not (eqb (bit_at g place) 1))
-taken_bit x y g place fits taken_fits inside =
-    rw (← has_place-named 32 (bit_and (bit_and x y) (bit_not w32 g)) place inside, ← has_place-named 32 x place inside, ← has_place-named 32 y place inside, ← has_place-named 32 g place inside)
-    (has_place-lacking 32 x y g place (lit≤ tt) taken_fits fits)
-
 and_same : (b c : Bool) → (b && b && c) ≡ (b && c)
 and_same true c = refl
 and_same false c = refl
@@ -79,22 +70,23 @@ without_bits x g right fits taken_fits =
     let place = bit_of right in
     by_named (bit_and x (bit_not w32 g)) right (has (set_of x) right && not (has (set_of g) right))
     (λ named.
-    let twice : eqb (bit_at (bit_and (bit_and x x) (bit_not w32 g)) place) 1 ≡ (eqb (bit_at x place) 1 && not (eqb (bit_at g place) 1)) = taken_bit x x g place fits taken_fits (omega arith) ∙ and_same (eqb (bit_at x place) 1) (not (eqb (bit_at g place) 1)) in
-    rw (named_bit x right named, named_bit g right named) (rw (and_self x) at twice))
-    (λ unnamed. ap (λ (b : Bool). b && not (has (set_of g) right)) (unnamed_none x right unnamed))
+    let inside : place < 32 = omega arith in
+    let taken : has_place 32 (bit_and x (bit_not w32 g)) place ≡ (has_place 32 x place && not (has_place 32 g place)) =
+    ap (λ (bits : ℕ). has_place 32 (bit_and bits (bit_not w32 g)) place) (sym (and_self x))
+    ∙ has_place-lacking 32 x x g place (lit≤ tt) taken_fits fits
+    ∙ and_same (has_place 32 x place) (not (has_place 32 g place)) in
+    rw (named_bit x right named, named_bit g right named, ← has_place-named 32 (bit_and x (bit_not w32 g)) place inside, ← has_place-named 32 x place inside, ← has_place-named 32 g place inside) taken)
+    (λ unnamed. rw (unnamed_none x right unnamed) refl)
 
 pub both_bits : (x w : ℕ) (right : FsRight) → w < 2 ^ 32 → has (set_of (bit_and x w)) right ≡ (has (set_of x) right && has (set_of w) right)
 both_bits x w right fits =
     let place = bit_of right in
     by_named (bit_and x w) right (has (set_of x) right && has (set_of w) right)
     (λ named.
-    let all : bit_and (bit_and x w) (bit_not w32 0) ≡ bit_and x w = and_mask (bit_and x w) 32 ∙ mod-eq_of_lt (omega (arith, and_le_r x w)) in
-    rw (named_bit x right named, named_bit w right named)
-    (ap (λ (bits : ℕ). eqb (bit_at bits place) 1) (sym all)
-    ∙ taken_bit x w 0 place fits (lit< tt) (omega arith)
-    ∙ ap (λ (bit : ℕ). eqb (bit_at x place) 1 && eqb (bit_at w place) 1 && not (eqb bit 1)) (bit_at-zero place)
-    ∙ and_true (eqb (bit_at x place) 1 && eqb (bit_at w place) 1)))
-    (λ unnamed. ap (λ (b : Bool). b && has (set_of w) right) (unnamed_none x right unnamed))
+    let inside : place < 32 = omega arith in
+    rw (named_bit x right named, named_bit w right named, ← has_place-named 32 (bit_and x w) place inside, ← has_place-named 32 x place inside, ← has_place-named 32 w place inside)
+    (has_place-and 32 x w place fits))
+    (λ unnamed. rw (unnamed_none x right unnamed) refl)
 
 pub either_bits : (x y : ℕ) (right : FsRight) → has (set_of (bit_or x y)) right ≡ (has (set_of x) right || has (set_of y) right)
 either_bits x y right =
