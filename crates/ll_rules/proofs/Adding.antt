@@ -25,30 +25,29 @@ use Rattle.ll_rules.proofs.Lookups.{any_at-get, any-insert}
 use Rattle.ll_rules.proofs.Booleans.{list_any-agree, list_any-map, and_true}
 
 -- the rule of a node grants more
-pub rule_put : (old new : RulesOn ℕ) (before after : FinMap nat_cmp Fs) (here : NodeId) (set had now : Fs) → new.handled_files ≡ old.handled_files → new.handled_network ≡ old.handled_network → new.port_rules ≡ old.port_rules
-    → entries before ≡ old.file_rules → entries after ≡ new.file_rules → after ≡ insert before here.0 now → ((right : FsRight) → has had right ≡ granted_on_node old here right) → now ≡ united had set
-    → GrantsOn old new here set
+pub rule_put : (old new : RulesOn ℕ) (kept : FinMap nat_cmp Fs) (here : NodeId) (set had now : Fs) → entries kept ≡ old.file_rules → new ≡ record old { file_rules = entries (insert kept here.0 now) }
+    → ((right : FsRight) → has had right ≡ granted_on_node old here right) → now ≡ united had set → GrantsOn old new here set
 unfolding granted_on_node
-rule_put old new before after here set had now files network ports kept_old kept_new puts was joined = record {
-  kept_files = files;
-  kept_network = network;
-  kept_ports = ports;
+rule_put old new kept here set had now kept_old is was joined = record {
+  kept_files = ap (λ (rules : RulesOn ℕ). rules.handled_files) is;
+  kept_network = ap (λ (rules : RulesOn ℕ). rules.handled_network) is;
+  kept_ports = ap (λ (rules : RulesOn ℕ). rules.port_rules) is;
   grants = λ picks right.
       more picks (λ rule. has rule right) (has set right)
       (ap (λ (rule : Fs). has rule right) joined ∙ fs_has-united had set right ∙ ap (λ (b : Bool). b || has set right)
-      (was right ∙ ap (λ (es : List (ℕ × Fs)). list_any (λ rule. eqb here.0 rule.0 && has rule.1 right) es) (sym kept_old) ∙ any_at-get before here.0 (λ rule. has rule right)));
+      (was right ∙ ap (λ (es : List (ℕ × Fs)). list_any (λ rule. eqb here.0 rule.0 && has rule.1 right) es) (sym kept_old) ∙ any_at-get kept here.0 (λ rule. has rule right)));
   places = λ picks.
       list_any-agree (λ rule. picks rule.0) (λ rule. picks rule.0 && true) (λ rule. sym (and_true (picks rule.0))) new.file_rules
-      ∙ more picks (λ _. true) true (sym (or_right (option_map_or (λ _. true) (get before here.0) false) true refl))
+      ∙ more picks (λ _. true) true (sym (or_right (option_map_or (λ _. true) (get kept here.0) false) true refl))
       ∙ ap (λ (b : Bool). b || list_any (λ rule. picks rule.0 && true) old.file_rules) (and_true (picks here.0))
       ∙ ap (λ (b : Bool). picks here.0 || b) (list_any-agree (λ rule. picks rule.0 && true) (λ rule. picks rule.0) (λ rule. and_true (picks rule.0)) old.file_rules);
 }
   where
-    more : (picks : ℕ → Bool) (p : Fs → Bool) (q : Bool) → p now ≡ (option_map_or p (get before here.0) false || q)
+    more : (picks : ℕ → Bool) (p : Fs → Bool) (q : Bool) → p now ≡ (option_map_or p (get kept here.0) false || q)
         → list_any (λ rule. picks rule.0 && p rule.1) new.file_rules ≡ ((picks here.0 && q) || list_any (λ rule. picks rule.0 && p rule.1) old.file_rules)
     more picks p q passes =
-        ap (λ (es : List (ℕ × Fs)). list_any (λ rule. picks rule.0 && p rule.1) es) (sym kept_new ∙ ap (λ (kept : FinMap nat_cmp Fs). entries kept) puts)
-        ∙ any-insert here.0 now picks p q before passes
+        ap (λ (rules : RulesOn ℕ). list_any (λ rule. picks rule.0 && p rule.1) rules.file_rules) is
+        ∙ any-insert here.0 now picks p q kept passes
         ∙ ap (λ (es : List (ℕ × Fs)). (picks here.0 && q) || list_any (λ rule. picks rule.0 && p rule.1) es) kept_old
 
 -- ---- in a tree

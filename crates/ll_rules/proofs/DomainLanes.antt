@@ -323,12 +323,11 @@ refusing_lanes tree layers ids path wanted lanes few same =
 -- a domain of one layer refuses where its lane holds anything
 pub refusing_alone : (tree : List Entry) (layer : RulesOn ℕ) (path : Path) (wanted : Fs) (left : ℕ)
     → ((right : FsRight) → has (set_of left) right ≡ ((handles layer right && has wanted right) && not (granted (in_tree tree layer) path right)))
-    → cond (not (eqb left 0)) (1 ∷ []) [] ≡ refusing (all_in_tree tree (layer ∷ [])) path wanted
+    → cond (not (files.is_empty (set_of left))) (1 ∷ []) [] ≡ refusing (all_in_tree tree (layer ∷ [])) path wanted
 unfolding numbers_from
 refusing_alone tree layer path wanted left same =
-    let lacking : not (eqb left 0) ≡ lacks (in_tree tree layer) path wanted =
-    ap not (fs_is_empty (set_of left))
-    ∙ not_not (some_right (has (set_of left)))
+    let lacking : not (files.is_empty (set_of left)) ≡ lacks (in_tree tree layer) path wanted =
+    not_not (some_right (has (set_of left)))
     ∙ some_agree (has (set_of left)) (λ right. has wanted right && handles layer right && not (granted (in_tree tree layer) path right))
     (λ right. same right ∙ ap (λ (b : Bool). b && not (granted (in_tree tree layer) path right)) (and_comm (handles layer right) (has wanted right))) in
     rw lacking (sym (append-nil _))

@@ -1,27 +1,17 @@
 -- Which numbers are in a set of layers, and how a set changes with its bits.
-use Rattle.std.proofs.Common.{◌≡◌, ◌≢◌, ℕ, zero, suc, ◌-◌, ◌*◌, ◌/◌, ◌%◌, ◌^◌, ◌<◌, ◌≤◌, max, Bool, true, false, ◌&&◌, ◌||◌, eqb, cond, List, [], ◌∷◌, ◌++◌, length, refl, sym, ap, ◌∙◌, arith, inl, inr, bit_and, bit_or, append-nil, ◌⊎◌}
+use Rattle.std.proofs.Common.{◌≡◌, ◌≢◌, ℕ, zero, suc, ◌-◌, ◌*◌, ◌/◌, ◌%◌, ◌^◌, ◌<◌, ◌≤◌, Bool, true, false, ◌&&◌, ◌||◌, eqb, cond, List, [], ◌∷◌, ◌++◌, length, refl, sym, ap, ◌∙◌, arith, inl, inr, bit_and, bit_or, append-nil, ◌⊎◌}
 use Rattle.std.specs.Prelude.{All}
 use Rattle.std.specs.Int.{bit_at}
 use Rattle.std.proofs.lemmas.Bool.{cases_eq, eq-eqb, ne_eqb, eqb-true, false≢true, or_cases, or_right, false_from_ne_true}
-use Rattle.std.proofs.lemmas.Nat.Bits.{bit_at_or, bit_at-lt, bit_at-pow_same, bit_at-pow_other, shr_and_one}
+use Rattle.std.proofs.lemmas.Nat.Bits.{bit_at-pow_same, bit_at-pow_other, shr_and_one}
 use Rattle.std.proofs.lemmas.List.Folds.{list_any-append}
 use Rattle.std.proofs.lemmas.List.Elements.{All-head, All-tail}
 use Rattle.std.proofs.Math.Nat.{mod-eq_of_lt}
 use Rattle.std.proofs.lemmas.Nat.{one_shl}
+use Rattle.ll_rights.proofs.Places.{has_place-named, has_place-or}
+use Rattle.ll_rules.proofs.Booleans.{or_false, and_none, and_true}
 use Rattle.ll_rules.specs.declared.layer_set.LayerSet.TheInside.{Inside}
 use Rattle.ll_rules.specs.LayerNumbers.{is_among, passing_upto, numbers_passing, united_numbers, is_at_place, numbers_of, places_of, places_of-passing_upto}
-
-or_false : (b : Bool) → (b || false) ≡ b
-or_false true = refl
-or_false false = refl
-
-and_false : (b : Bool) → (b && false) ≡ false
-and_false true = refl
-and_false false = refl
-
-and_true : (b : Bool) → (b && true) ≡ b
-and_true true = refl
-and_true false = refl
 
 is_among-one : (b : Bool) (m n : ℕ) → is_among n (cond b (m ∷ []) []) ≡ (b && eqb m n)
 is_among-one true m n = or_false (eqb m n)
@@ -38,7 +28,7 @@ unfolding passing_upto
 is_among-above test zero number lt = refl
 is_among-above test (suc bound) number lt =
     step_of test bound number
-    ∙ rw (is_among-above test bound number (omega arith), ne_eqb (suc bound) number (omega arith)) (and_false (test (suc bound)))
+    ∙ rw (is_among-above test bound number (omega arith), ne_eqb (suc bound) number (omega arith)) (and_none (test (suc bound)))
 
 pub is_among-zero : (test : ℕ → Bool) (bound : ℕ) → is_among 0 (passing_upto test bound) ≡ false
 unfolding passing_upto
@@ -46,7 +36,7 @@ is_among-zero test zero = refl
 is_among-zero test (suc bound) =
     step_of test bound 0 ∙ ap (λ (b : Bool). b || (test (suc bound) && eqb (suc bound) 0)) (is_among-zero test bound)
     ∙ ap (λ (b : Bool). test (suc bound) && b) (ne_eqb (suc bound) 0 (λ same. absurd (omega arith)))
-    ∙ and_false (test (suc bound))
+    ∙ and_none (test (suc bound))
 
 -- a number from 1 to the bound is there if it passes
 pub is_among-passing_upto : (test : ℕ → Bool) (bound number : ℕ) → 0 < number → number ≤ bound → is_among number (passing_upto test bound) ≡ test number
@@ -58,7 +48,7 @@ is_among-passing_upto test (suc bound) number pos le =
           ∙ rw (is_among-above test bound number (omega arith), eq-eqb (suc bound) number same, same) (and_true (test number))
       | inr differs ↦
           step_of test bound number
-          ∙ rw (is_among-passing_upto test bound number pos (omega arith), ne_eqb (suc bound) number differs, and_false (test (suc bound))) (or_false (test number))
+          ∙ rw (is_among-passing_upto test bound number pos (omega arith), ne_eqb (suc bound) number differs, and_none (test (suc bound))) (or_false (test number))
     ]
 
 -- two tests that agree from 1 to the bound pass the same numbers
@@ -117,18 +107,12 @@ empty_kept set fits =
     no_numbers [] places again some = absurd (some (sym again))
     no_numbers (x ∷ xs) places again some = sym (ne_eqb (length (x ∷ xs)) 0 (λ same. absurd (omega arith)))
 
-pub either_bit : (x y : ℕ) → x < 2 → y < 2 → eqb (max x y) 1 ≡ (eqb x 1 || eqb y 1)
-either_bit zero zero p q = refl
-either_bit zero (suc zero) p q = refl
-either_bit (suc zero) zero p q = refl
-either_bit (suc zero) (suc zero) p q = refl
-either_bit (suc (suc x)) y p q = absurd (omega arith)
-either_bit x (suc (suc y)) p q = absurd (omega arith)
-
 is_at_place-or : (a b number : ℕ) → is_at_place (bit_or a b) number ≡ (is_at_place a number || is_at_place b number)
 unfolding is_at_place
 is_at_place-or a b zero = refl
-is_at_place-or a b (suc place) = rw (bit_at_or a b place) (either_bit (bit_at a place) (bit_at b place) (bit_at-lt a place) (bit_at-lt b place))
+is_at_place-or a b (suc place) =
+    let last : place < suc place = omega arith in
+    rw (← has_place-named (suc place) (bit_or a b) place last, ← has_place-named (suc place) a place last, ← has_place-named (suc place) b place last) (has_place-or (suc place) a b place)
 
 -- the bits of two sets together
 pub union_kept : (a b : Inside) → numbers_passing (is_at_place (bit_or a.places b.places)) ≡ united_numbers (numbers_of a) (numbers_of b)

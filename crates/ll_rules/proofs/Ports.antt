@@ -8,7 +8,7 @@ use Rattle.std.specs.FinMap.{FinMap, entries, get, insert}
 use Rattle.ll_rights.specs.declared.net.Net.{Net}
 use Rattle.ll_rights.specs.NetRights.{NetRight, bind_tcp, has, united, no_right}
 use Rattle.ll_rights.proofs.Sets.{net_has-united}
-use Rattle.ll_rules.specs.Layers.{RulesOn, granted_on_port, with_port_rule}
+use Rattle.ll_rules.specs.Layers.{RulesOn, granted_on_port}
 use Rattle.ll_rules.specs.KeptLayers.{GrantsOnPort}
 use Rattle.ll_rules.proofs.Lookups.{any_at-get, any-insert}
 
@@ -37,22 +37,18 @@ port_rule_found rules kept port found same is right =
     ∙ sym (granted_by_get rules kept port right same)
 
 -- the rule of a port grants more
-pub port_rule_put : {P : Type 0} (old new : RulesOn P) (before after : FinMap nat_cmp Net) (port : ℕ) (set had now : Net) → new.handled_files ≡ old.handled_files → new.handled_network ≡ old.handled_network → new.file_rules ≡ old.file_rules
-    → entries before ≡ old.port_rules → entries after ≡ new.port_rules → after ≡ insert before port now → ((right : NetRight) → has had right ≡ granted_on_port old port right) → now ≡ united had set
-    → GrantsOnPort old new port set
+pub port_rule_put : {P : Type 0} (old new : RulesOn P) (kept : FinMap nat_cmp Net) (port : ℕ) (set had now : Net) → entries kept ≡ old.port_rules → new ≡ record old { port_rules = entries (insert kept port now) }
+    → ((right : NetRight) → has had right ≡ granted_on_port old port right) → now ≡ united had set → GrantsOnPort old new port set
 unfolding granted_on_port
-port_rule_put old new before after port set had now files network rules kept_old kept_new puts was joined = record {
-  kept_files = files;
-  kept_network = network;
-  kept_rules = rules;
-  grants = grants;
+port_rule_put {P} old new kept port set had now kept_old is was joined = record {
+  kept_files = ap (λ (rules : RulesOn P). rules.handled_files) is;
+  kept_network = ap (λ (rules : RulesOn P). rules.handled_network) is;
+  kept_rules = ap (λ (rules : RulesOn P). rules.file_rules) is;
+  grants = λ other right.
+      ap (λ (rules : RulesOn P). list_any (λ rule. eqb other rule.0 && has rule.1 right) rules.port_rules) is
+      ∙ any-insert port now (λ number. eqb other number) (λ rule. has rule right) (has set right) kept (passes right)
+      ∙ ap (λ (es : List (ℕ × Net)). (eqb other port && has set right) || list_any (λ rule. eqb other rule.0 && has rule.1 right) es) kept_old;
 }
   where
-    passes : (right : NetRight) → has now right ≡ (option_map_or (λ rule. has rule right) (get before port) false || has set right)
-    passes right = ap (λ (rule : Net). has rule right) joined ∙ net_has-united had set right ∙ ap (λ (b : Bool). b || has set right) (was right ∙ granted_by_get old before port right kept_old)
-
-    grants : (other : ℕ) (right : NetRight) → granted_on_port new other right ≡ granted_on_port (with_port_rule old port set) other right
-    grants other right =
-        ap (λ (es : List (ℕ × Net)). list_any (λ rule. eqb other rule.0 && has rule.1 right) es) (sym kept_new ∙ ap (λ (kept : FinMap nat_cmp Net). entries kept) puts)
-        ∙ any-insert port now (λ number. eqb other number) (λ rule. has rule right) (has set right) before (passes right)
-        ∙ ap (λ (es : List (ℕ × Net)). (eqb other port && has set right) || list_any (λ rule. eqb other rule.0 && has rule.1 right) es) kept_old
+    passes : (right : NetRight) → has now right ≡ (option_map_or (λ rule. has rule right) (get kept port) false || has set right)
+    passes right = ap (λ (rule : Net). has rule right) joined ∙ net_has-united had set right ∙ ap (λ (b : Bool). b || has set right) (was right ∙ granted_by_get old kept port right kept_old)

@@ -1,9 +1,10 @@
 -- Sets of rights that are within known ones.
-use Rattle.std.proofs.Common.{◌≡◌, ℕ, zero, suc, ◌<◌, min, eqb, lit<, Bool, true, false, not, ◌&&◌, ◌||◌, [], ◌∷◌, refl, sym, ap, ◌∙◌, arith}
+use Rattle.std.proofs.Common.{◌≡◌, ℕ, lit<, Bool, true, false, not, ◌||◌, [], ◌∷◌, refl, sym, ap, ◌∙◌}
 use Rattle.std.specs.List.{list_any, list_all}
 use Rattle.std.proofs.lemmas.Bool.{and_parts, or_right, false_from_ne_true, false≢true, not-true}
 use Rattle.std.proofs.lemmas.List.Folds.{list_all-append, list_any_at}
 use Rattle.ll_rights.specs.declared.fs.Fs.{Fs}
+use Rattle.ll_rights.specs.declared.fs.TheConstants.Fs.{FILE}
 use Rattle.ll_rights.specs.declared.net.Net.{Net}
 use Rattle.ll_rights.specs.Rights as files
 use Rattle.ll_rights.specs.NetRights as network
@@ -39,7 +40,7 @@ empty_refer : (set : Fs) → files.is_empty set ≡ true → files.has set files
 unfolding files.some_right files.all_rights files.named_rights
 empty_refer set empty =
     false_from_ne_true (files.has set files.refer)
-    (λ there. false≢true (sym (not-true (list_any (files.has set) files.all_rights) empty) ∙ list_any_at (files.has set) files.all_rights 13 files.other (lit< tt) there))
+    (λ there. false≢true (sym (not-true (list_any (files.has set) files.all_rights) empty) ∙ list_any_at (files.has set) files.all_rights (files.bit_of files.refer) files.other (lit< tt) there))
 
 -- a layer without any right for files handles none
 pub handled_none : (rules : RulesOn ℕ) (set : Fs) → set ≡ rules.handled_files → files.is_empty set ≡ true → (right : files.FsRight) → files.has set right ≡ handles rules right
@@ -78,11 +79,11 @@ has_nothing right = refl
 
 -- ---- the rights that apply to what isn't a directory
 
-pub file_known : files.has (record { 0 = 49159 }) files.other ≡ false
+pub file_known : files.has FILE files.other ≡ false
 unfolding files.has
 file_known = refl
 
-pub has_file : (right : files.FsRight) → files.has (record { 0 = 49159 }) right ≡ files.is_file_right right
+pub has_file : (right : files.FsRight) → files.has FILE right ≡ files.is_file_right right
 unfolding files.has
 has_file files.other = refl
 has_file right = refl
@@ -91,17 +92,7 @@ every_agree : (f g : files.FsRight → Bool) → ((right : files.FsRight) → f 
 unfolding files.every_right
 every_agree f g same = list_all-agree f g same files.all_rights
 
-pub file_rights_by_test : (set : Fs) → files.is_within set (record { 0 = 49159 }) ≡ are_file_rights set
+pub file_rights_by_test : (set : Fs) → files.is_within set FILE ≡ are_file_rights set
 file_rights_by_test set =
-    every_agree (λ right. not (files.has set right) || files.has (record { 0 = 49159 }) right) (λ right. not (files.has set right) || files.is_file_right right)
+    every_agree (λ right. not (files.has set right) || files.has FILE right) (λ right. not (files.has set right) || files.is_file_right right)
     (λ right. ap (λ (b : Bool). not (files.has set right) || b) (has_file right))
-
--- ---- those of known rights that apply to what isn't a directory
-
-pub both_bits : (x y : ℕ) → x < 2 → y < 2 → eqb (min x y) 1 ≡ (eqb x 1 && eqb y 1)
-both_bits zero zero p q = refl
-both_bits zero (suc zero) p q = refl
-both_bits (suc zero) zero p q = refl
-both_bits (suc zero) (suc zero) p q = refl
-both_bits (suc (suc x)) y p q = absurd (omega arith)
-both_bits x (suc (suc y)) p q = absurd (omega arith)

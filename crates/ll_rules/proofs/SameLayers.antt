@@ -177,3 +177,8 @@ refusing_port-in_tree tree domain port wanted = numbers_from-map (λ layer. lack
 
 pub refusing_mount-in_tree : (tree : List Entry) (domain : List (RulesOn ℕ)) → refusing_mount (all_in_tree tree domain) ≡ refusing_mount domain
 refusing_mount-in_tree tree domain = numbers_from-map (λ layer. not (files.is_empty layer.handled_files)) (in_tree tree) 1 domain
+
+-- what is said of rules that are the same, and of domains whose layers are
+pub ruleset rules_alike = (SameRules-refl, SameRules-sym, SameRules-trans)
+
+pub ruleset answers_alike = (refusing-same, refusing_port-same, refusing_mount-same, move_verdict-same, refusing_port-in_tree, refusing_mount-in_tree)

@@ -1,18 +1,22 @@
 -- Lanes: a set of rights for each layer of a domain, in the place of its layer.
 -- Source: docs/DECISIONS.md, the checks by lanes.
-use Rattle.std.specs.Prelude.{◌≡◌, ℕ, zero, suc, Bool, false, not, ◌&&◌, List, slice_index, slice_index_or}
+use Rattle.std.specs.Prelude.{◌≡◌, ℕ, zero, suc, ◌-◌, ◌^◌, bit_and, Bool, false, not, ◌&&◌, List, slice_index, slice_index_or}
 use Rattle.ll_rights.specs.declared.fs.Fs.{Fs}
 use Rattle.ll_rights.specs.Rights as files
-use Rattle.ll_rights.specs.Rights.{FsRight, has}
+use Rattle.ll_rights.specs.Rights.{FsRight, has, other, bit_of}
 use Rattle.ll_rights.specs.NetRights as network
 use Rattle.ll_tree.specs.Paths.{Path}
 use Rattle.ll_tree.specs.Trees.{Entry}
 use Rattle.ll_rules.specs.Layers.{RulesOn, without_rules, handles, granted}
 use Rattle.ll_rules.specs.InTree.{in_tree}
 
--- the set of rights that a lane's bits stand for
+-- the bits of the rights that have a name, which are those before the bit of `other`
+abbrev pub named_bits : ℕ
+named_bits = 2 ^ bit_of other - 1
+
+-- the set of rights that a lane's bits stand for: those that have a name
 abbrev pub set_of : ℕ → Fs
-set_of bits = record { 0 = bits }
+set_of bits = record { 0 = bit_and bits named_bits }
 
 -- the set in a lane
 abbrev pub lane : List ℕ → ℕ → Fs

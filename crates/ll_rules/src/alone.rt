@@ -12,6 +12,7 @@ ghost use Rattle.ll_rules.specs.Lanes.{set_of};
 ghost use Rattle.ll_rules.specs.WaysUp.{nodes_up, granted_above};
 
 use crate::climb::{asked_of, left_of};
+use crate::lanes::is_any_in;
 use crate::{Layer, LayerSet};
 use ll_rights::Fs;
 use ll_tree::{NodeId, Tree};
@@ -48,7 +49,7 @@ impl<'a> Alone<'a> {
 
     /// What is left in the layer's lane once it was asked for its rules from a node up to the root, and how many
     /// look-ups that took. It isn't asked for nothing.
-    fn climb(&self, node: NodeId, lane: u16) -> (u16, u64)
+    fn climb(&self, node: NodeId, lane: u32) -> (u32, u64)
         requires { IsNode self.now.tree.now node }
         ensures left { (right : FsRight) → has (set_of result.0) right ≡ (has (set_of lane) right && not (granted (in_tree self.now.tree.now self.now.layer.now) (path_at self.now.tree.now node) right)) }
         ensures count { result.1 ≤ depth_at self.now.tree.now node + 1 }
@@ -78,6 +79,6 @@ impl<'a> Alone<'a> {
         ensures look_ups { result.1 ≤ depth_at self.now.tree.now node + 1 }
     {
         let (left, look_ups) = self.climb(node, asked_of(self.layer, wanted));
-        (LayerSet::new().noted(1, left != 0), look_ups)
+        (LayerSet::new().noted(1, is_any_in(left)), look_ups)
     }
 }

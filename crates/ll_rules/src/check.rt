@@ -65,7 +65,7 @@ pub fn check_path_counted(
     let stack = Stack { tree, layers, ids };
     let mut lacking = stack.asked_in(wanted);
     let look_ups = stack.climb(node, &mut lacking);
-    (filled(u16x16::from_array(lacking)), look_ups)
+    (filled(u32x16::from_array(lacking)), look_ups)
 }
 
 /// The layers of a domain that refuse something of what is wanted on a TCP port: each that handles a

@@ -21,21 +21,21 @@ use ll_rights::Fs;
 use ll_tree::NodeId;
 
 /// What one layer handles, as the bits of a lane.
-fn handled_bits(layer: &Layer) -> u16
+fn handled_bits(layer: &Layer) -> u32
     ensures { (right : FsRight) → has (set_of result) right ≡ handles layer.now right }
 {
     bits_of(layer.handled())
 }
 
 /// What one layer handles of some rights, as the bits of a lane.
-pub(crate) fn asked_of(layer: &Layer, wanted: Fs) -> u16
+pub(crate) fn asked_of(layer: &Layer, wanted: Fs) -> u32
     ensures { (right : FsRight) → has (set_of result) right ≡ (handles layer.now right && has wanted right) }
 {
     handled_bits(layer) & bits_of(wanted)
 }
 
 /// What is left in a lane once its layer was asked for its rule on a node. It isn't asked for nothing.
-pub(crate) fn left_of(layer: &Layer, node: NodeId, lane: u16, look_ups: &mut u64) -> u16
+pub(crate) fn left_of(layer: &Layer, node: NodeId, lane: u32, look_ups: &mut u64) -> u32
     requires room { look_ups.old + 1 < 2 ^ 64 }
     ensures left { (right : FsRight) → has (set_of result) right ≡ (has (set_of lane) right && not (granted_on_node layer.now node right)) }
     ensures count { look_ups.new ≤ look_ups.old + 1 }
@@ -48,7 +48,7 @@ pub(crate) fn left_of(layer: &Layer, node: NodeId, lane: u16, look_ups: &mut u64
 
 impl<'a> Stack<'a> {
     /// What each layer handles, in its lane.
-    pub(crate) fn handled_in(&self) -> [u16; MOST_LAYERS]
+    pub(crate) fn handled_in(&self) -> [u32; MOST_LAYERS]
         ensures { (place : ℕ) (right : FsRight) → has (lane result place) right ≡ handles (stacked self.now place) right }
     {
         let mut row = [0; MOST_LAYERS];
@@ -59,7 +59,7 @@ impl<'a> Stack<'a> {
     }
 
     /// What each layer handles of some rights, in its lane.
-    pub(crate) fn asked_in(&self, wanted: Fs) -> [u16; MOST_LAYERS]
+    pub(crate) fn asked_in(&self, wanted: Fs) -> [u32; MOST_LAYERS]
         ensures { (place : ℕ) (right : FsRight) → has (lane result place) right ≡ (handles (stacked self.now place) right && has wanted right) }
     {
         let mut row = [0; MOST_LAYERS];
@@ -71,7 +71,7 @@ impl<'a> Stack<'a> {
 
     /// Asks each layer for its rule on a node, where its lane isn't empty, and takes from the lane what the rule
     /// grants. Answers whether anything is left in the lanes of these layers, and how many look-ups that took.
-    pub(crate) fn ask_on(&self, node: NodeId, lanes: &mut [u16; MOST_LAYERS]) -> (bool, u64)
+    pub(crate) fn ask_on(&self, node: NodeId, lanes: &mut [u32; MOST_LAYERS]) -> (bool, u64)
         ensures left { (place : ℕ) (right : FsRight) → has (lane lanes.new place) right ≡ (has (lane lanes.old place) right && not (granted_on_node (stacked self.now place) node right)) }
         ensures none { result.0 ≡ false → (place : ℕ) → place < length self.now.ids.now → (right : FsRight) → has (lane lanes.new place) right ≡ false }
         ensures count { result.1 ≤ length self.now.ids.now }
@@ -115,7 +115,7 @@ impl<'a> Stack<'a> {
     fn next_marked(
         &self,
         from: Option<NodeId>,
-        lanes: &[u16; MOST_LAYERS],
+        lanes: &[u32; MOST_LAYERS],
         look_ups: &mut u64,
     ) -> Option<NodeId>
         requires from { IfSome from (IsNode self.now.tree.now) }
@@ -146,7 +146,7 @@ impl<'a> Stack<'a> {
     }
 
     /// Whether the lane of some layer holds anything.
-    fn is_any_filled(&self, lanes: &[u16; MOST_LAYERS]) -> bool
+    fn is_any_filled(&self, lanes: &[u32; MOST_LAYERS]) -> bool
         ensures exact { result ≡ list_any (λ bits. not (bits == 0)) (take (length self.now.ids.now) lanes.now) }
         ensures none { result ≡ false → (place : ℕ) → place < length self.now.ids.now → (right : FsRight) → has (lane lanes.now place) right ≡ false }
     {
@@ -159,7 +159,7 @@ impl<'a> Stack<'a> {
     }
 
     /// Of how many layers the lanes hold anything.
-    fn count_filled(&self, lanes: &[u16; MOST_LAYERS]) -> u64
+    fn count_filled(&self, lanes: &[u32; MOST_LAYERS]) -> u64
         ensures exact { result ≡ count_by (λ bits. not (bits == 0)) (take (length self.now.ids.now) lanes.now) }
         ensures few { result ≤ length self.now.ids.now }
     {
@@ -172,7 +172,7 @@ impl<'a> Stack<'a> {
 
     /// Takes from each lane what its layer grants by its rules from a node up to the root, and answers how many
     /// look-ups that took. A layer whose lane is empty isn't asked any more.
-    pub(crate) fn climb(&self, node: NodeId, lanes: &mut [u16; MOST_LAYERS]) -> u64
+    pub(crate) fn climb(&self, node: NodeId, lanes: &mut [u32; MOST_LAYERS]) -> u64
         requires { IsNode self.now.tree.now node }
         ensures left { (place : ℕ) (right : FsRight) → has (lane lanes.new place) right ≡ (has (lane lanes.old place) right && not (granted (in_tree self.now.tree.now (stacked self.now place)) (path_at self.now.tree.now node) right)) }
         ensures count { result ≤ length self.now.ids.now * (depth_at self.now.tree.now node + 1) }

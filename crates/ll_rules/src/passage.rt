@@ -24,24 +24,24 @@ use std::simd::prelude::*;
 /// What the layers of a domain lack on the two directories of a move, in lanes.
 #[derive(Clone, Copy)]
 pub(crate) struct Lacking {
-    source: [u16; MOST_LAYERS],
-    destination: [u16; MOST_LAYERS],
+    source: [u32; MOST_LAYERS],
+    destination: [u32; MOST_LAYERS],
 }
 
 impl Lacking {
     /// What each layer denies of what a move asks of the two directories.
-    pub(crate) fn denied(&self, from: Asked, to: Asked) -> u16x16
+    pub(crate) fn denied(&self, from: Asked, to: Asked) -> u32x16
         ensures { (place : ℕ) (right : FsRight) → has (lane result place) right
             ≡ ((has (lane self.now.source place) right && has from.rights right) || (has (lane self.now.destination place) right && has to.rights right)) }
     {
-        let at_source = within(u16x16::from_array(self.source), from.rights);
-        let at_destination = within(u16x16::from_array(self.destination), to.rights);
+        let at_source = within(u32x16::from_array(self.source), from.rights);
+        let at_destination = within(u32x16::from_array(self.destination), to.rights);
         either(at_source, at_destination)
     }
 }
 
 /// Of some lanes the rights that count for an object of a kind.
-fn counting_for(kind: Kind, lanes: u16x16) -> u16x16
+fn counting_for(kind: Kind, lanes: u32x16) -> u32x16
     ensures { (place : ℕ) (right : FsRight) → has (lane result place) right ≡ (has (lane lanes place) right && (is_dir kind || is_file_right right)) }
 {
     if is_directory(kind) {
@@ -53,7 +53,7 @@ fn counting_for(kind: Kind, lanes: u16x16) -> u16x16
 
 impl<'a> Stack<'a> {
     /// What the layers handle and don't grant on a directory, in lanes, and how many look-ups it took to tell.
-    fn lacking_on(&self, directory: NodeId) -> ([u16; MOST_LAYERS], u64)
+    fn lacking_on(&self, directory: NodeId) -> ([u32; MOST_LAYERS], u64)
         requires { IsNode self.now.tree.now directory }
         ensures lacking { AreLacking self.now.tree.now (layers_of self.now) (path_at self.now.tree.now directory) result.0 }
         ensures count { result.1 ≤ length self.now.ids.now * (depth_at self.now.tree.now directory + 1) }
@@ -90,7 +90,7 @@ impl<'a> Stack<'a> {
     /// What an object gains under each layer by going from its directory to another, where the layers lack `here` on
     /// its directory and `there` on the other, and how many look-ups it took to tell. A layer is asked for its rule on
     /// the object itself where there is something to gain.
-    fn gained(&self, object: NodeId, here: u16x16, there: u16x16) -> (u16x16, u64)
+    fn gained(&self, object: NodeId, here: u32x16, there: u32x16) -> (u32x16, u64)
         requires { IsNode self.now.tree.now object }
         ensures gained { (place : ℕ) (right : FsRight) → has (lane result.0 place) right
             ≡ (((has (lane here place) right && not (has (lane there place) right)) && (is_dir (kind_at self.now.tree.now object) || is_file_right right))
@@ -101,7 +101,7 @@ impl<'a> Stack<'a> {
         let counted = counting_for(self.tree.kind(object), granted_there);
         let mut left = counted.to_array();
         let (_, look_ups) = self.ask_on(object, &mut left);
-        (u16x16::from_array(left), look_ups)
+        (u32x16::from_array(left), look_ups)
     }
 }
 
@@ -121,13 +121,13 @@ pub(crate) struct Passage<'a> {
 impl<'a> Passage<'a> {
     /// What the object that is there already gains in an exchange, under each layer; nothing in other moves. And how
     /// many look-ups it took to tell.
-    fn other_gained(&self) -> (u16x16, u64)
+    fn other_gained(&self) -> (u32x16, u64)
         ensures gained { (place : ℕ) → some_right (has (lane result.0 place))
             ≡ other_gains self.now.stack.tree.now self.now.attempt (in_tree self.now.stack.tree.now (stacked self.now.stack place)) self.now.attempt.how self.now.attempt.target }
         ensures count { result.1 ≤ length self.now.stack.ids.now }
     {
-        let source = u16x16::from_array(self.lacking.source);
-        let destination = u16x16::from_array(self.lacking.destination);
+        let source = u32x16::from_array(self.lacking.source);
+        let destination = u32x16::from_array(self.lacking.destination);
         match self.attempt.how {
             How::Exchange => match self.attempt.target {
                 Target::Over(there) => self.stack.gained(there, destination, source),
@@ -143,8 +143,8 @@ impl<'a> Passage<'a> {
         ensures held { result.0 ≡ numbers_where (holds_back self.now.stack.tree.now self.now.attempt) (all_in_tree self.now.stack.tree.now (layers_of self.now.stack)) }
         ensures count { result.1 ≤ length self.now.stack.ids.now * 2 }
     {
-        let source = u16x16::from_array(self.lacking.source);
-        let destination = u16x16::from_array(self.lacking.destination);
+        let source = u32x16::from_array(self.lacking.source);
+        let destination = u32x16::from_array(self.lacking.destination);
         let kept = within(either(source, destination), Fs::REFER);
         let (own, first) = self.stack.gained(self.attempt.moved, source, destination);
         let (other, second) = self.other_gained();

@@ -15,6 +15,7 @@ ghost use Rattle.ll_rules.specs.InTree.{all_in_tree};
 ghost use Rattle.ll_rules.specs.Moves.{move_verdict};
 
 /// To be the same is an equivalence, and rules that are the same stay so with one rule more.
+#[tactic(auto, using(crate::proofs::SameLayers::rules_alike))]
 pub fn same_rules()
     ensures reflexive { (a : RulesOn Path) → SameRules a a }
     ensures symmetric { (a b : RulesOn Path) → SameRules a b → SameRules b a }
@@ -25,6 +26,7 @@ pub fn same_rules()
 {}
 
 /// Domains whose layers are the same, one by one, refuse the same; and no path counts for ports and mounts.
+#[tactic(auto, using(crate::proofs::SameLayers::answers_alike))]
 pub fn same_answers()
     ensures path { (a b : List (RulesOn Path)) → AllZip SameRules a b → (path : Path) (wanted : FsSet) → refusing a path wanted ≡ refusing b path wanted }
     ensures port { (a b : List (RulesOn Path)) → AllZip SameRules a b → (port : ℕ) (wanted : NetSet) → refusing_port a port wanted ≡ refusing_port b port wanted }

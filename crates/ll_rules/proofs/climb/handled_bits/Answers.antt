@@ -3,4 +3,4 @@ use Rattle.ll_rules.proofs.LaneSets.{known_bits}
 use Rattle.ll_rules.proofs.climb.handled_bits.Goals as goal
 
 pub returns : goal.returns
-returns c = λ right. known_bits c.handled.result c.bits_of.result right c.bits_of.type_inv c.bits_of.ensures c.handled.ensures.known ∙ c.handled.ensures.handled right
+returns c = λ right. known_bits c.handled.result c.bits_of.result right c.bits_of.ensures c.handled.ensures.known ∙ c.handled.ensures.handled right
