@@ -200,8 +200,8 @@ macro_rules! wants_at_a_path {
 #[macro_export]
 macro_rules! changes_nothing {
     () => {
-        $crate::wants_at_a_path!()
-            | $crate::Op::Exit
+        $crate::Op::Exit
+            | $crate::wants_at_a_path!()
             | $crate::Op::Ftruncate { .. }
             | $crate::Op::Ioctl { .. }
             | $crate::Op::Rename { .. }
