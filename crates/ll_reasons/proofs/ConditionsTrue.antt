@@ -29,6 +29,7 @@ use Rattle.ll_rules.specs.Moves.{move_verdict, refused_by, denies, holds_back, s
 use Rattle.ll_rules.specs.Checks.{numbers_where}
 use Rattle.ll_tree.specs.Paths.{path_eq}
 use Rattle.ll_semantics.specs.declared.request.Request.{Request}
+use Rattle.ll_semantics.specs.Requests.{request, wanted}
 use Rattle.ll_semantics.specs.declared.descriptor.Descriptor.{Descriptor}
 use Rattle.ll_semantics.specs.Worlds.{World, answer_in}
 use Rattle.ll_semantics.specs.Situations.{world_at}
@@ -229,20 +230,15 @@ alone-move tree domain (Some move) =
     alone-verdict Acces (numbers_where (denies tree move) domain) (if path_eq (source_of tree move) (destination_of tree move.target) then verdicts.Passed else crossing)
     (alone-either (path_eq (source_of tree move) (destination_of tree move.target)) crossing (alone-verdict XDev (numbers_where (holds_back tree move) domain) verdicts.Passed refl))
 
-alone-open : (held : Option Descriptor) (asked : Answer) → fails_alone asked ≡ false → fails_alone (answers.open_answer held asked) ≡ false
-unfolding answers.open_answer fails_alone
-alone-open None asked decides = decides
-alone-open (Some held) asked decides = refl
+alone-free : {A : Type 0} (o : Option A) (asked : Answer) → fails_alone asked ≡ false → fails_alone (answers.if_free o asked) ≡ false
+unfolding fails_alone
+alone-free None asked decides = decides
+alone-free (Some held) asked decides = refl
 
 alone-there : {A : Type 0} (o : Option A) → fails_alone (answers.if_there o) ≡ false
 unfolding fails_alone
 alone-there None = refl
 alone-there (Some it) = refl
-
-alone-free : {A : Type 0} (o : Option A) → fails_alone (answers.if_free o) ≡ false
-unfolding fails_alone
-alone-free None = refl
-alone-free (Some it) = refl
 
 alone-truncate : (sort : Sort) (numbers : List ℕ) → fails_alone (answers.truncate_kept sort numbers) ≡ false
 unfolding fails_alone
@@ -280,27 +276,24 @@ call_condition tree abi records rulesets (calls.AddPort rs port net) s o error h
     port_condition abi rulesets s rs port net (handled_on_ports records o rs) (answers.named rulesets (s.held rs)) error refl (λ layer named. (handles rs layer named).1) is
 call_condition tree abi records rulesets (calls.CloseRs rs) s o error handles is = never _ error (alone-there (s.held rs)) is
 call_condition tree abi records rulesets (calls.Restrict rs) s o error handles is = restrict_condition abi rulesets s rs (answers.named rulesets (s.held rs)) error refl is
-call_condition tree abi records rulesets (calls.OpenFile path fd mode create trunc) s o error handles is = never _ error (alone-open (s.descriptors fd) _ (alone-request tree s.domain _)) is
-call_condition tree abi records rulesets (calls.Adopt fd kind) s o error handles is = never _ error (alone-free (s.descriptors fd)) is
+call_condition tree abi records rulesets (calls.OpenFile path fd mode create trunc) s o error handles is = never _ error (alone-free (s.descriptors fd) _ (alone-request tree s.domain _)) is
+call_condition tree abi records rulesets (calls.Adopt fd kind) s o error handles is = never _ error (alone-free (s.descriptors fd) Allowed allowed_decided) is
 call_condition tree abi records rulesets (calls.Dup fd to) s o error handles is = never _ error (alone-there (s.descriptors fd)) is
 call_condition tree abi records rulesets (calls.Close fd) s o error handles is = never _ error (alone-there (s.descriptors fd)) is
 call_condition tree abi records rulesets (calls.Ftruncate fd) s o error handles is = never _ error (alone-ftruncate (s.descriptors fd)) is
 call_condition tree abi records rulesets (calls.Ioctl fd driver) s o error handles is = never _ error (alone-ioctl (s.descriptors fd) driver) is
-call_condition tree abi records rulesets (calls.Truncate path) s o error handles is = never _ error (alone-request tree s.domain _) is
-call_condition tree abi records rulesets (calls.Exec path) s o error handles is = never _ error (alone-request tree s.domain _) is
-call_condition tree abi records rulesets (calls.Mknod path kind) s o error handles is = never _ error (alone-request tree s.domain _) is
-call_condition tree abi records rulesets (calls.Mkdir path) s o error handles is = never _ error (alone-request tree s.domain _) is
-call_condition tree abi records rulesets (calls.Symlink path) s o error handles is = never _ error (alone-request tree s.domain _) is
-call_condition tree abi records rulesets (calls.Unlink path) s o error handles is = never _ error (alone-request tree s.domain _) is
-call_condition tree abi records rulesets (calls.Rmdir path) s o error handles is = never _ error (alone-request tree s.domain _) is
 call_condition tree abi records rulesets (calls.Rename from to exchange) s o error handles is = never _ error (alone-move tree s.domain _) is
 call_condition tree abi records rulesets (calls.Link from to) s o error handles is = never _ error (alone-move tree s.domain _) is
 call_condition tree abi records rulesets calls.Mount s o error handles is = never _ error (alone-refused_by Perm _) is
 call_condition tree abi records rulesets (calls.Bind port) s o error handles is = never _ error (alone-refused_by Acces _) is
 call_condition tree abi records rulesets (calls.Connect port) s o error handles is = never _ error (alone-refused_by Acces _) is
-call_condition tree abi records rulesets (calls.CreateEmpty rs) s o error handles is = never _ error (alone-free (s.held rs)) is
+call_condition tree abi records rulesets (calls.CreateEmpty rs) s o error handles is = never _ error (alone-free (s.held rs) Allowed allowed_decided) is
 call_condition tree abi records rulesets (calls.LeaveOut rule) s o error handles is = never Moot error moot_decided is
-call_condition tree abi records rulesets op s o error handles is = never Allowed error allowed_decided is
+call_condition tree abi records rulesets (calls.Start nnp admin) s o error handles is = never Allowed error allowed_decided is
+call_condition tree abi records rulesets (calls.Fork child) s o error handles is = never Allowed error allowed_decided is
+call_condition tree abi records rulesets calls.Exit s o error handles is = never Allowed error allowed_decided is
+call_condition tree abi records rulesets calls.Nnp s o error handles is = never Allowed error allowed_decided is
+call_condition tree abi records rulesets op s o error handles is = never _ error (alone-request tree s.domain (request tree (wanted op))) is
 
 pub condition_at : (tree : List Entry) (abi : Abi) (records : List Record) (place process : ℕ) (op : Op) (error : Errno) → answer_in tree abi (world_at tree abi records place) process op ≡ Refused error []
     → IsCondition abi (world_at tree abi records place).rulesets ((world_at tree abi records place).processes process) op (condition abi records (origins_at tree abi records place process) op error)

@@ -28,6 +28,7 @@ use Rattle.ll_rules.proofs.Booleans.{or_assoc, or_and, list_any-agree, list_any-
 use Rattle.ll_semantics.specs.declared.answer.Answer.{Answer}
 use Rattle.ll_semantics.specs.declared.answer.Answer.TheVariants.{Allowed, Moot, Refused}
 use Rattle.ll_semantics.specs.declared.request.Request.{Request}
+use Rattle.ll_semantics.specs.Requests.{request, wanted}
 use Rattle.ll_semantics.specs.States.{Layer}
 use Rattle.ll_semantics.specs.Answers as answers
 use Rattle.ll_rules.specs.Rulesets.{RuleRefusal, with_error, without_object}
@@ -255,8 +256,7 @@ unfolding answers.ioctl_answer
 ioctl_open None driver error number numbers is = cc
 ioctl_open (Some held) driver error number numbers is = refl
 
-opened_request : (held : Option Descriptor) (asked : Answer) (error : Errno) (number : ℕ) (numbers : List ℕ) → answers.open_answer held asked ≡ Refused error (number ∷ numbers) → asked ≡ Refused error (number ∷ numbers)
-unfolding answers.open_answer
+opened_request : (held : Option Descriptor) (asked : Answer) (error : Errno) (number : ℕ) (numbers : List ℕ) → answers.if_free held asked ≡ Refused error (number ∷ numbers) → asked ≡ Refused error (number ∷ numbers)
 opened_request None asked error number numbers is = is
 opened_request (Some held) asked error number numbers is = absurd (cc)
 
@@ -312,7 +312,7 @@ unfolding by_no_layer
 there_by_none None = refl
 there_by_none (Some it) = refl
 
-free_by_none : {A : Type 0} (o : Option A) → by_no_layer (answers.if_free o) ≡ true
+free_by_none : {A : Type 0} (o : Option A) → by_no_layer (answers.if_free o Allowed) ≡ true
 unfolding by_no_layer
 free_by_none None = refl
 free_by_none (Some it) = refl
@@ -333,20 +333,18 @@ call_numbers tree abi rulesets (calls.Dup fd to) s o error number numbers same i
 call_numbers tree abi rulesets (calls.Close fd) s o error number numbers same is = absurd (contradicts _ error number numbers (there_by_none (s.descriptors fd)) is)
 call_numbers tree abi rulesets (calls.Ftruncate fd) s o error number numbers same is = kept_numbers truncate (number ∷ numbers) (o.openings fd) (same fd ∙ ftruncate_open (s.descriptors fd) error number numbers is)
 call_numbers tree abi rulesets (calls.Ioctl fd driver) s o error number numbers same is = kept_numbers ioctl_dev (number ∷ numbers) (o.openings fd) (same fd ∙ ioctl_open (s.descriptors fd) driver error number numbers is)
-call_numbers tree abi rulesets (calls.Truncate path) s o error number numbers same is = request_numbers tree s.domain _ error number numbers is
-call_numbers tree abi rulesets (calls.Exec path) s o error number numbers same is = request_numbers tree s.domain _ error number numbers is
-call_numbers tree abi rulesets (calls.Mknod path kind) s o error number numbers same is = request_numbers tree s.domain _ error number numbers is
-call_numbers tree abi rulesets (calls.Mkdir path) s o error number numbers same is = request_numbers tree s.domain _ error number numbers is
-call_numbers tree abi rulesets (calls.Symlink path) s o error number numbers same is = request_numbers tree s.domain _ error number numbers is
-call_numbers tree abi rulesets (calls.Unlink path) s o error number numbers same is = request_numbers tree s.domain _ error number numbers is
-call_numbers tree abi rulesets (calls.Rmdir path) s o error number numbers same is = request_numbers tree s.domain _ error number numbers is
 call_numbers tree abi rulesets (calls.Rename from to exchange) s o error number numbers same is = move_numbers tree s.domain _ error number numbers is
 call_numbers tree abi rulesets (calls.Link from to) s o error number numbers same is = move_numbers tree s.domain _ error number numbers is
 call_numbers tree abi rulesets calls.Mount s o error number numbers same is = mount_numbers s.domain error number numbers is
 call_numbers tree abi rulesets (calls.Bind port) s o error number numbers same is = port_numbers s.domain port (network.only network.bind_tcp) error number numbers is
 call_numbers tree abi rulesets (calls.Connect port) s o error number numbers same is = port_numbers s.domain port (network.only network.connect_tcp) error number numbers is
 call_numbers tree abi rulesets (calls.CreateEmpty rs) s o error number numbers same is = absurd (contradicts _ error number numbers (free_by_none (s.held rs)) is)
-call_numbers tree abi rulesets op s o error number numbers same is = cc
+call_numbers tree abi rulesets (calls.Start nnp admin) s o error number numbers same is = cc
+call_numbers tree abi rulesets (calls.Fork child) s o error number numbers same is = cc
+call_numbers tree abi rulesets calls.Exit s o error number numbers same is = cc
+call_numbers tree abi rulesets calls.Nnp s o error number numbers same is = cc
+call_numbers tree abi rulesets (calls.LeaveOut rule) s o error number numbers same is = cc
+call_numbers tree abi rulesets op s o error number numbers same is = request_numbers tree s.domain (request tree (wanted op)) error number numbers is
 
 -- ---- a process at a place, and the record there
 

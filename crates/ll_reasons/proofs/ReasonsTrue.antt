@@ -1,6 +1,6 @@
 -- What the reason for a moot call says is so.
 use Rattle.std.proofs.Common.{◌≡◌, ℕ, zero, suc, ◌≤◌, ◌==◌, Bool, true, false, not, List, [], ◌∷◌, length, Option, Some, None, is_some, refl, sym, ap, ◌∙◌, subst, subst₂, inl, inr, arith, IsSomeAnd, nat_le, nat_lt, if◌then◌else◌}
-use Rattle.std.specs.List.{list_any}
+use Rattle.std.specs.List.{list_any, list_all}
 use Rattle.std.specs.Option.{option_map}
 use Rattle.std.proofs.lemmas.Bool.{cases_Bool}
 use Rattle.std.proofs.lemmas.Option.{none-some, same_Some}
@@ -29,6 +29,9 @@ use Rattle.ll_trace.specs.declared.op.Sort.TheVariants.{Regular, Device, Other}
 use Rattle.ll_semantics.specs.declared.answer.Answer.{Answer}
 use Rattle.ll_semantics.specs.declared.answer.Answer.TheVariants.{Allowed, Moot, Refused}
 use Rattle.ll_semantics.specs.declared.descriptor.Descriptor.{Descriptor}
+use Rattle.ll_semantics.specs.declared.request.Wanted.{Wanted}
+use Rattle.ll_semantics.specs.declared.request.Wanted.TheVariants.{Open, OnFile, Make, Unlink, Rmdir}
+use Rattle.ll_semantics.specs.Requests.{wanted}
 use Rattle.ll_semantics.specs.Moves.{is_above, is_root, is_mixed, rename_move, rename_to, rename_into, rename_onto}
 use Rattle.ll_semantics.specs.States.{State, Layer}
 use Rattle.ll_semantics.specs.Answers as answers
@@ -38,7 +41,7 @@ use Rattle.ll_semantics.specs.Situations.{world_at}
 use Rattle.ll_reasons.specs.Origins.{Origins}
 use Rattle.ll_reasons.specs.Explanations.{origins_at}
 use Rattle.ll_reasons.proofs.DescriptorsMade.{descriptor_open}
-use Rattle.ll_reasons.specs.Reasons.{Reason, absent, of_kind, root, unmoved, beneath_itself, over_itself, mixed, open_already, unopened, not_for_writing, held_already, unheld, unsupported, spelt, beside, or_above, ends_at, nowhere, no_object, not_removed, no_gap, onto, moved_to, unrenamed, linked_to, unlinked, reason}
+use Rattle.ll_reasons.specs.Reasons.{Reason, absent, of_kind, root, unmoved, beneath_itself, over_itself, mixed, open_already, unopened, not_for_writing, held_already, unheld, unsupported, spelt, beside, or_above, ends_at, nowhere, no_object, not_removed, no_gap, unmet, onto, moved_to, unrenamed, linked_to, unlinked, reason}
 use Rattle.ll_reasons.specs.ReasonsHold.{paths_of, are_spelt, is_left_out, is_at_root, is_at_one, names_one_twice, is_regular, Holds}
 use Rattle.ll_reasons.proofs.Enough.{and_both, or_left, or_right}
 use Rattle.ll_reasons.proofs.Gains.{prefix-trans, prefix-front}
@@ -265,7 +268,7 @@ if_there-none : {A : Type 0} (o : Option A) → answers.if_there o ≡ Moot → 
 if_there-none None moot = refl
 if_there-none (Some it) moot = not_moot Allowed decided moot
 
-if_free-some : {A : Type 0} (o : Option A) → answers.if_free o ≡ Moot → is_some o ≡ true
+if_free-some : {A : Type 0} (o : Option A) → answers.if_free o Allowed ≡ Moot → is_some o ≡ true
 if_free-some None moot = not_moot Allowed decided moot
 if_free-some (Some it) moot = refl
 
@@ -331,11 +334,36 @@ holds_unmoved : (tree : List Entry) (s : State) (from to : List ℕ) (exchange :
 unfolding Holds names_one_twice
 holds_unmoved tree s from to exchange is = is
 
+-- ---- what a call wants at a path
+
+paths_wanted : (op : Op) (want : List ℕ × Wanted) → wanted op ≡ Some want → paths_of op ≡ want.0 ∷ []
+unfolding wanted paths_of
+paths_wanted (calls.AddPath rs path fs) want is = cc
+paths_wanted op want is = cc
+
+unmet_holds : (tree : List Entry) (s : State) (op : Op) → is_some (node_at tree []) ≡ true → (path : Path) (at : Place) (want : Wanted) → Placed tree path at → (is_at_root at ≡ true → Holds tree s op root) → Holds tree s op (unmet tree path at want)
+unfolding unmet
+unmet_holds tree s op there path at (Open mode create trunc) is of_root = no_object_holds tree s op there path at is
+unmet_holds tree s op there path at (OnFile rights) is of_root = no_object_holds tree s op there path at is
+unmet_holds tree s op there path at (Make rights) is of_root = no_gap_holds tree s op there path at is
+unmet_holds tree s op there path at Unlink is of_root = not_removed_holds tree s op there path at is of_root
+unmet_holds tree s op there path at Rmdir is of_root = not_removed_holds tree s op there path at is of_root
+
+wanted_holds : (tree : List Entry) (s : State) (op : Op) → is_some (node_at tree []) ≡ true → are_spelt op ≡ true → (want : Option (List ℕ × Wanted)) → wanted op ≡ want → is_some want ≡ true
+    → IsSomeAnd (option_map (λ w. unmet tree (spelt w.0) (place tree w.0) w.1) want) (Holds tree s op)
+unfolding are_spelt
+wanted_holds tree s op there are None is some = cc
+wanted_holds tree s op there are (Some want) is some =
+    let paths : paths_of op ≡ want.0 ∷ [] = paths_wanted op want is in
+    let spells = subst (λ (texts : List (List ℕ)). list_all (λ text. is_some (path_of text)) texts ≡ true) paths are in
+    unmet_holds tree s op there (spelt want.0) (place tree want.0) want.1 (text_placed tree want.0 (path_of want.0) refl (and_both (is_some (path_of want.0)) true spells).0)
+    (λ here. holds_root tree s op (subst (λ (texts : List (List ℕ)). list_any (λ text. is_at_root (place tree text)) texts ≡ true) (sym paths) (or_left (is_at_root (place tree want.0)) false here)))
+
 -- ---- every call
 
 pub call_reason : (tree : List Entry) (abi : Abi) (rulesets : List Layer) (op : Op) (s : State) (o : Origins) → is_some (node_at tree []) ≡ true → are_spelt op ≡ true → ((fd : ℕ) → is_some (o.openings fd) ≡ is_some (s.descriptors fd))
     → answers.answer tree abi rulesets op s ≡ Moot → IsSomeAnd (reason tree o op) (Holds tree s op)
-unfolding answers.answer reason are_spelt paths_of
+unfolding answers.answer reason are_spelt paths_of wanted
 call_reason tree abi rulesets (calls.Create rs fs net) s o there are same moot = holds_held tree s (calls.Create rs fs net) rs (create_taken abi fs net (s.held rs) moot)
 call_reason tree abi rulesets (calls.AddPath rs path fs) s o there are same moot = no_object_holds tree s (calls.AddPath rs path fs) there (spelt path) (place tree path) (text_placed tree path (path_of path) refl (and_both (is_some (path_of path)) true are).0)
 call_reason tree abi rulesets (calls.AddPort rs port net) s o there are same moot = not_moot _ (moot-add_port abi port net (answers.named rulesets (s.held rs))) moot
@@ -349,17 +377,6 @@ call_reason tree abi rulesets (calls.Dup fd to) s o there are same moot = holds_
 call_reason tree abi rulesets (calls.Close fd) s o there are same moot = holds_unopened tree s (calls.Close fd) fd (if_there-none (s.descriptors fd) moot)
 call_reason tree abi rulesets (calls.Ftruncate fd) s o there are same moot = ftruncate_holds tree s (calls.Ftruncate fd) fd (is_some (o.openings fd)) (s.descriptors fd) (same fd) refl moot
 call_reason tree abi rulesets (calls.Ioctl fd driver) s o there are same moot = holds_unopened tree s (calls.Ioctl fd driver) fd (ioctl_closed (s.descriptors fd) driver moot)
-call_reason tree abi rulesets (calls.Truncate path) s o there are same moot = no_object_holds tree s (calls.Truncate path) there (spelt path) (place tree path) (text_placed tree path (path_of path) refl (and_both (is_some (path_of path)) true are).0)
-call_reason tree abi rulesets (calls.Exec path) s o there are same moot = no_object_holds tree s (calls.Exec path) there (spelt path) (place tree path) (text_placed tree path (path_of path) refl (and_both (is_some (path_of path)) true are).0)
-call_reason tree abi rulesets (calls.Mknod path kind) s o there are same moot = no_gap_holds tree s (calls.Mknod path kind) there (spelt path) (place tree path) (text_placed tree path (path_of path) refl (and_both (is_some (path_of path)) true are).0)
-call_reason tree abi rulesets (calls.Mkdir path) s o there are same moot = no_gap_holds tree s (calls.Mkdir path) there (spelt path) (place tree path) (text_placed tree path (path_of path) refl (and_both (is_some (path_of path)) true are).0)
-call_reason tree abi rulesets (calls.Symlink path) s o there are same moot = no_gap_holds tree s (calls.Symlink path) there (spelt path) (place tree path) (text_placed tree path (path_of path) refl (and_both (is_some (path_of path)) true are).0)
-call_reason tree abi rulesets (calls.Unlink path) s o there are same moot =
-    not_removed_holds tree s (calls.Unlink path) there (spelt path) (place tree path) (text_placed tree path (path_of path) refl (and_both (is_some (path_of path)) true are).0)
-    (λ here. holds_root tree s (calls.Unlink path) (or_left (is_at_root (place tree path)) false here))
-call_reason tree abi rulesets (calls.Rmdir path) s o there are same moot =
-    not_removed_holds tree s (calls.Rmdir path) there (spelt path) (place tree path) (text_placed tree path (path_of path) refl (and_both (is_some (path_of path)) true are).0)
-    (λ here. holds_root tree s (calls.Rmdir path) (or_left (is_at_root (place tree path)) false here))
 call_reason tree abi rulesets (calls.Rename from to exchange) s o there are same moot =
     let op : Op = calls.Rename from to exchange in
     let parts = and_both (is_some (path_of from)) _ are in
@@ -380,7 +397,11 @@ call_reason tree abi rulesets (calls.Bind port) s o there are same moot = not_mo
 call_reason tree abi rulesets (calls.Connect port) s o there are same moot = not_moot _ (moot-refused_by Acces _) moot
 call_reason tree abi rulesets (calls.CreateEmpty rs) s o there are same moot = holds_held tree s (calls.CreateEmpty rs) rs (if_free-some (s.held rs) moot)
 call_reason tree abi rulesets (calls.LeaveOut rule) s o there are same moot = holds_left_out tree s rule
-call_reason tree abi rulesets op s o there are same moot = not_moot Allowed decided moot
+call_reason tree abi rulesets (calls.Start nnp admin) s o there are same moot = not_moot Allowed decided moot
+call_reason tree abi rulesets (calls.Fork child) s o there are same moot = not_moot Allowed decided moot
+call_reason tree abi rulesets calls.Exit s o there are same moot = not_moot Allowed decided moot
+call_reason tree abi rulesets calls.Nnp s o there are same moot = not_moot Allowed decided moot
+call_reason tree abi rulesets op s o there are same moot = wanted_holds tree s op there are (wanted op) refl refl
 
 -- ---- a process at a place
 

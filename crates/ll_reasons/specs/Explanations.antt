@@ -2,8 +2,7 @@
 -- Source: docs/FORMATS.md, "Explanations".
 use Rattle.std.specs.Prelude.{ℕ, List, [], ◌∷◌, map, Option, Some, None}
 use Rattle.ll_rights.specs.declared.abi.Abi.{Abi}
-use Rattle.ll_rights.specs.Kinds.{make_right_of}
-use Rattle.ll_rights.specs.Rights.{FsRight, execute, make_dir, make_sym, truncate, ioctl_dev, only}
+use Rattle.ll_rights.specs.Rights.{FsRight, truncate, ioctl_dev}
 use Rattle.ll_rights.specs.NetRights as network
 use Rattle.ll_tree.specs.Trees.{Entry, place}
 use Rattle.ll_rules.specs.declared.errno.Errno.{Errno}
@@ -12,7 +11,7 @@ use Rattle.ll_trace.specs.declared.op.Op.{Op}
 use Rattle.ll_trace.specs.declared.op.Op.TheVariants as calls
 use Rattle.ll_semantics.specs.declared.answer.Answer.{Answer}
 use Rattle.ll_semantics.specs.declared.answer.Answer.TheVariants.{Allowed, Moot, Refused}
-use Rattle.ll_semantics.specs.Requests.{open_asks, regular_asks, make_asks, unlink_asks, rmdir_asks}
+use Rattle.ll_semantics.specs.Requests.{wanted, request}
 use Rattle.ll_semantics.specs.Moves.{rename_move, link_move}
 use Rattle.ll_semantics.specs.States.{Layer}
 use Rattle.ll_semantics.specs.Situations.{world_at}
@@ -32,37 +31,16 @@ abbrev pub kept_by : FsRight → List ℕ → Option ℕ → List (ℕ × List O
 kept_by right numbers None = []
 kept_by right numbers (Some place) = map (λ number. (number, kept right place ∷ [])) numbers
 
--- what each layer that refuses a call objects to
+-- what each layer that refuses a call objects to; to a call that asks nothing, nothing
 unfoldable pub objections_to : List Entry → List Layer → Origins → Op → Errno → List ℕ → List (ℕ × List Objection)
-objections_to tree domain o (calls.Start nnp admin) error numbers = []
-objections_to tree domain o (calls.Fork child) error numbers = []
-objections_to tree domain o calls.Exit error numbers = []
-objections_to tree domain o calls.Nnp error numbers = []
-objections_to tree domain o (calls.Create rs fs net) error numbers = []
-objections_to tree domain o (calls.AddPath rs path fs) error numbers = []
-objections_to tree domain o (calls.AddPort rs port net) error numbers = []
-objections_to tree domain o (calls.CloseRs rs) error numbers = []
-objections_to tree domain o (calls.Restrict rs) error numbers = []
-objections_to tree domain o (calls.OpenFile path fd mode create trunc) error numbers = to_request tree domain (open_asks tree (place tree path) mode create trunc)
-objections_to tree domain o (calls.Adopt fd kind) error numbers = []
-objections_to tree domain o (calls.Dup fd to) error numbers = []
-objections_to tree domain o (calls.Close fd) error numbers = []
 objections_to tree domain o (calls.Ftruncate fd) error numbers = kept_by truncate numbers (o.openings fd)
 objections_to tree domain o (calls.Ioctl fd driver) error numbers = kept_by ioctl_dev numbers (o.openings fd)
-objections_to tree domain o (calls.Truncate path) error numbers = to_request tree domain (regular_asks tree (place tree path) (only truncate))
-objections_to tree domain o (calls.Exec path) error numbers = to_request tree domain (regular_asks tree (place tree path) (only execute))
-objections_to tree domain o (calls.Mknod path kind) error numbers = to_request tree domain (make_asks (place tree path) (only (make_right_of kind)))
-objections_to tree domain o (calls.Mkdir path) error numbers = to_request tree domain (make_asks (place tree path) (only make_dir))
-objections_to tree domain o (calls.Symlink path) error numbers = to_request tree domain (make_asks (place tree path) (only make_sym))
-objections_to tree domain o (calls.Unlink path) error numbers = to_request tree domain (unlink_asks tree (place tree path))
-objections_to tree domain o (calls.Rmdir path) error numbers = to_request tree domain (rmdir_asks tree (place tree path))
 objections_to tree domain o (calls.Rename from to exchange) error numbers = to_move tree domain error (rename_move tree (place tree from) (place tree to) exchange)
 objections_to tree domain o (calls.Link from to) error numbers = to_move tree domain error (link_move tree (place tree from) (place tree to))
 objections_to tree domain o calls.Mount error numbers = objecting on_mount domain
 objections_to tree domain o (calls.Bind port) error numbers = objecting (on_port port (network.only network.bind_tcp)) domain
 objections_to tree domain o (calls.Connect port) error numbers = objecting (on_port port (network.only network.connect_tcp)) domain
-objections_to tree domain o (calls.CreateEmpty rs) error numbers = []
-objections_to tree domain o (calls.LeaveOut rule) error numbers = []
+objections_to tree domain o op error numbers = to_request tree domain (request tree (wanted op))
 
 -- the explanation of an answer to a call, by the domain and the origins of its process
 unfoldable pub explained : List Entry → Abi → List Record → List Layer → Origins → Op → Answer → Explanation

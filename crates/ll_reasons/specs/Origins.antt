@@ -28,35 +28,15 @@ with_ruleset o rs created = record o { rulesets = update nat_eq o.rulesets rs cr
 
 -- what an allowed call, the record at a place of the trace, makes of the origins of its own process
 unfoldable pub traced : ℕ → Op → Origins → Origins
-traced place (calls.Start nnp admin) o = o
-traced place (calls.Fork child) o = o
-traced place calls.Exit o = o
-traced place calls.Nnp o = o
 traced place (calls.Create rs fs net) o = with_ruleset o rs (Some place)
-traced place (calls.AddPath rs path fs) o = o
-traced place (calls.AddPort rs port net) o = o
 traced place (calls.CloseRs rs) o = with_ruleset o rs None
 traced place (calls.Restrict rs) o = record o { layers = o.layers ++ place ∷ [] }
 traced place (calls.OpenFile path fd mode create trunc) o = with_opening o fd (Some place)
 traced place (calls.Adopt fd kind) o = with_opening o fd (Some place)
 traced place (calls.Dup fd to) o = with_opening o to (o.openings fd)
 traced place (calls.Close fd) o = with_opening o fd None
-traced place (calls.Ftruncate fd) o = o
-traced place (calls.Ioctl fd driver) o = o
-traced place (calls.Truncate path) o = o
-traced place (calls.Exec path) o = o
-traced place (calls.Mknod path kind) o = o
-traced place (calls.Mkdir path) o = o
-traced place (calls.Symlink path) o = o
-traced place (calls.Unlink path) o = o
-traced place (calls.Rmdir path) o = o
-traced place (calls.Rename from to exchange) o = o
-traced place (calls.Link from to) o = o
-traced place calls.Mount o = o
-traced place (calls.Bind port) o = o
-traced place (calls.Connect port) o = o
 traced place (calls.CreateEmpty rs) o = with_ruleset o rs (Some place)
-traced place (calls.LeaveOut rule) o = o
+traced place op o = o
 
 -- the origins of all processes by their numbers, and how many processes were started
 pub record Sources : Type 0 where

@@ -1,6 +1,6 @@
 -- Why the policy isn't asked about a call: what of the tree or of the process's own tables decides it.
 -- Source: docs/SEMANTICS.md, "Three answers", "What each call asks" and "Moving and linking"; path_resolution(7).
-use Rattle.std.specs.Prelude.{ℕ, zero, suc, Bool, List, [], Option, Some, None, length, ◌==◌, is_some, if◌then◌else◌}
+use Rattle.std.specs.Prelude.{ℕ, zero, suc, Bool, List, [], Option, Some, None, option_map, length, ◌==◌, is_some, if◌then◌else◌}
 use Rattle.ll_rights.specs.declared.kind.Kind.{Kind}
 use Rattle.ll_tree.specs.declared.place.NodeId.{NodeId}
 use Rattle.ll_tree.specs.declared.place.Place.{Place}
@@ -9,6 +9,9 @@ use Rattle.ll_tree.specs.Paths.{Path, front, path_of}
 use Rattle.ll_tree.specs.Trees.{Entry, kind_at, is_dir, node_at, place}
 use Rattle.ll_trace.specs.declared.op.Op.{Op}
 use Rattle.ll_trace.specs.declared.op.Op.TheVariants as calls
+use Rattle.ll_semantics.specs.declared.request.Wanted.{Wanted}
+use Rattle.ll_semantics.specs.declared.request.Wanted.TheVariants.{Open, OnFile, Make, Unlink, Rmdir}
+use Rattle.ll_semantics.specs.Requests.{wanted}
 use Rattle.ll_semantics.specs.Moves.{is_above, is_root}
 use Rattle.ll_reasons.specs.Origins.{Origins}
 
@@ -87,6 +90,14 @@ no_gap tree path (Node node) = present path
 no_gap tree path (Gap directory) = absent path
 no_gap tree path Nowhere = nowhere tree path
 
+-- why a place isn't what a call wants there
+unfoldable pub unmet : List Entry → Path → Place → Wanted → Reason
+unmet tree path there (Open mode create trunc) = no_object tree path there
+unmet tree path there (OnFile rights) = no_object tree path there
+unmet tree path there (Make rights) = no_gap tree path there
+unmet tree path there Unlink = not_removed tree path there
+unmet tree path there Rmdir = not_removed tree path there
+
 -- ---- moves
 
 unfoldable pub onto : List Entry → Path → NodeId → Path → NodeId → Reason
@@ -122,32 +133,17 @@ unlinked tree from Nowhere to there = nowhere tree from
 -- ---- every call that can be moot
 
 unfoldable pub reason : List Entry → Origins → Op → Option Reason
-reason tree o (calls.Start nnp admin) = None
-reason tree o (calls.Fork child) = None
-reason tree o calls.Exit = None
-reason tree o calls.Nnp = None
 reason tree o (calls.Create rs fs net) = Some (held_already rs)
 reason tree o (calls.AddPath rs path fs) = Some (no_object tree (spelt path) (place tree path))
-reason tree o (calls.AddPort rs port net) = None
 reason tree o (calls.CloseRs rs) = Some (unheld rs)
-reason tree o (calls.Restrict rs) = None
 reason tree o (calls.OpenFile path fd mode create trunc) = Some (if is_some (o.openings fd) then open_already fd else no_object tree (spelt path) (place tree path))
 reason tree o (calls.Adopt fd kind) = Some (open_already fd)
 reason tree o (calls.Dup fd to) = Some (unopened fd)
 reason tree o (calls.Close fd) = Some (unopened fd)
 reason tree o (calls.Ftruncate fd) = Some (if is_some (o.openings fd) then not_for_writing fd else unopened fd)
 reason tree o (calls.Ioctl fd driver) = Some (unopened fd)
-reason tree o (calls.Truncate path) = Some (no_object tree (spelt path) (place tree path))
-reason tree o (calls.Exec path) = Some (no_object tree (spelt path) (place tree path))
-reason tree o (calls.Mknod path kind) = Some (no_gap tree (spelt path) (place tree path))
-reason tree o (calls.Mkdir path) = Some (no_gap tree (spelt path) (place tree path))
-reason tree o (calls.Symlink path) = Some (no_gap tree (spelt path) (place tree path))
-reason tree o (calls.Unlink path) = Some (not_removed tree (spelt path) (place tree path))
-reason tree o (calls.Rmdir path) = Some (not_removed tree (spelt path) (place tree path))
 reason tree o (calls.Rename from to exchange) = Some (unrenamed tree (spelt from) (place tree from) (spelt to) (place tree to) exchange)
 reason tree o (calls.Link from to) = Some (unlinked tree (spelt from) (place tree from) (spelt to) (place tree to))
-reason tree o calls.Mount = None
-reason tree o (calls.Bind port) = None
-reason tree o (calls.Connect port) = None
 reason tree o (calls.CreateEmpty rs) = Some (held_already rs)
 reason tree o (calls.LeaveOut rule) = Some unsupported
+reason tree o op = option_map (λ want. unmet tree (spelt want.0) (place tree want.0) want.1) (wanted op)

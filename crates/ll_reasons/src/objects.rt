@@ -1,12 +1,13 @@
-//! Why there is no object, or no gap, at a path that a call names.
+//! Why what is at a path isn't what a call wants there.
 
 ghost use Rattle.std.specs.Prelude.{◌≡◌};
 ghost use Rattle.ll_tree.specs.Trees.{place};
 ghost use Rattle.ll_reasons.specs.Meant.{meant};
-ghost use Rattle.ll_reasons.specs.Reasons.{no_gap, no_object, not_removed, nowhere, spelt};
+ghost use Rattle.ll_reasons.specs.Reasons.{no_gap, no_object, not_removed, nowhere, spelt, unmet};
 
 use crate::spelt_path::SpeltPath;
 use crate::why::Why;
+use ll_semantics::Wanted;
 use ll_trace::PathText;
 use ll_tree::{Place, Tree};
 
@@ -62,5 +63,17 @@ pub fn no_gap<'t>(tree: &Tree, path: &'t PathText) -> Why<'t>
         Place::Node(_) => Why::Present(SpeltPath::of(path)),
         Place::Gap(_) => Why::Absent(SpeltPath::of(path)),
         Place::Nowhere => nowhere(tree, path),
+    }
+}
+
+/// Why what is at a path isn't what a call wants there.
+#[tactic(auto, unfolding(crate::specs::Reasons::unmet))]
+pub fn unmet<'t>(tree: &Tree, path: &'t PathText, wanted: Wanted) -> Why<'t>
+    ensures { meant result ≡ unmet tree.now (spelt path.now) (place tree.now path.now) wanted }
+{
+    match wanted {
+        Wanted::Open { .. } | Wanted::OnFile(_) => no_object(tree, path),
+        Wanted::Make(_) => no_gap(tree, path),
+        Wanted::Unlink | Wanted::Rmdir => not_removed(tree, path),
     }
 }

@@ -1,11 +1,9 @@
 -- What Landlock answers to a call: a function of the call, the state of its own process and the rulesets.
 -- Source: landlock_create_ruleset(2), landlock_add_rule(2), landlock_restrict_self(2), "ERRORS"; landlock(7); the kernel's userspace document on Landlock.
-use Rattle.std.specs.Prelude.{ℕ, List, [], ◌∷◌, length, Bool, ◌||◌, nat_le, if◌then◌else◌, Option, Some, None, slice_get}
+use Rattle.std.specs.Prelude.{ℕ, List, [], ◌∷◌, length, Bool, ◌||◌, nat_le, if◌then◌else◌, Option, Some, None, is_some, slice_get}
 use Rattle.ll_rights.specs.declared.abi.Abi.{Abi}
 use Rattle.ll_rights.specs.declared.fs.Fs.{Fs}
 use Rattle.ll_rights.specs.declared.net.Net.{Net}
-use Rattle.ll_rights.specs.Kinds.{make_right_of}
-use Rattle.ll_rights.specs.Rights.{execute, make_dir, make_sym, truncate, only}
 use Rattle.ll_rights.specs.NetRights as network
 use Rattle.ll_tree.specs.Trees.{Entry, path_at, place}
 use Rattle.ll_rules.specs.declared.errno.Errno.{Errno}
@@ -23,7 +21,7 @@ use Rattle.ll_trace.specs.declared.op.Sort.TheVariants.{Regular, Device}
 use Rattle.ll_semantics.specs.declared.answer.Answer.{Answer}
 use Rattle.ll_semantics.specs.declared.answer.Answer.TheVariants.{Allowed, Moot, Refused}
 use Rattle.ll_semantics.specs.declared.request.Request.{Request}
-use Rattle.ll_semantics.specs.Requests.{open_asks, regular_asks, make_asks, unlink_asks, rmdir_asks}
+use Rattle.ll_semantics.specs.Requests.{wanted, request}
 use Rattle.ll_semantics.specs.Moves.{rename_move, link_move}
 use Rattle.ll_semantics.specs.declared.descriptor.Descriptor.{Descriptor}
 use Rattle.ll_semantics.specs.States.{State, Layer}
@@ -82,13 +80,12 @@ add_port_answer abi port net (Some rules) = of_rule_refusal (add_port_refusal ab
 
 -- what is there may be given up
 abbrev pub if_there : {A : Type 0} → Option A → Answer
-if_there None = Moot
-if_there (Some it) = Allowed
+if_there it = if is_some it then Allowed else Moot
 
--- what isn't there may be put there
-abbrev pub if_free : {A : Type 0} → Option A → Answer
-if_free None = Allowed
-if_free (Some it) = Moot
+-- what isn't there may be put there, where what is asked of it allows that
+abbrev pub if_free : {A : Type 0} → Option A → Answer → Answer
+if_free None asked = asked
+if_free (Some it) asked = Moot
 
 -- a process may restrict itself if it can't gain privileges or is privileged
 abbrev pub may_restrict : State → Bool
@@ -100,11 +97,6 @@ restrict_answer s None = if may_restrict s then fails BadFd else fails Perm
 restrict_answer s (Some rules) = if may_restrict s then (if nat_le 16 (length s.domain) then fails TooBig else Allowed) else fails Perm
 
 -- ---- descriptors
-
--- opening is asked only where the number isn't open yet
-unfoldable pub open_answer : Option Descriptor → Answer → Answer
-open_answer None asked = asked
-open_answer (Some held) asked = Moot
 
 -- a descriptor of a file keeps the layers that refused truncate when it was opened
 abbrev pub truncate_kept : Sort → List ℕ → Answer
@@ -136,23 +128,23 @@ answer tree abi rulesets (calls.AddPath rs path fs) s = add_path_answer tree pat
 answer tree abi rulesets (calls.AddPort rs port net) s = add_port_answer abi port net (named rulesets (s.held rs))
 answer tree abi rulesets (calls.CloseRs rs) s = if_there (s.held rs)
 answer tree abi rulesets (calls.Restrict rs) s = restrict_answer s (named rulesets (s.held rs))
-answer tree abi rulesets (calls.OpenFile path fd mode create trunc) s = open_answer (s.descriptors fd) (of_request tree s.domain (open_asks tree (place tree path) mode create trunc))
-answer tree abi rulesets (calls.Adopt fd kind) s = if_free (s.descriptors fd)
+answer tree abi rulesets (calls.OpenFile path fd mode create trunc) s = if_free (s.descriptors fd) (of_request tree s.domain (request tree (wanted (calls.OpenFile path fd mode create trunc))))
+answer tree abi rulesets (calls.Adopt fd kind) s = if_free (s.descriptors fd) Allowed
 answer tree abi rulesets (calls.Dup fd to) s = if_there (s.descriptors fd)
 answer tree abi rulesets (calls.Close fd) s = if_there (s.descriptors fd)
 answer tree abi rulesets (calls.Ftruncate fd) s = ftruncate_answer (s.descriptors fd)
 answer tree abi rulesets (calls.Ioctl fd driver) s = ioctl_answer (s.descriptors fd) driver
-answer tree abi rulesets (calls.Truncate path) s = of_request tree s.domain (regular_asks tree (place tree path) (only truncate))
-answer tree abi rulesets (calls.Exec path) s = of_request tree s.domain (regular_asks tree (place tree path) (only execute))
-answer tree abi rulesets (calls.Mknod path kind) s = of_request tree s.domain (make_asks (place tree path) (only (make_right_of kind)))
-answer tree abi rulesets (calls.Mkdir path) s = of_request tree s.domain (make_asks (place tree path) (only make_dir))
-answer tree abi rulesets (calls.Symlink path) s = of_request tree s.domain (make_asks (place tree path) (only make_sym))
-answer tree abi rulesets (calls.Unlink path) s = of_request tree s.domain (unlink_asks tree (place tree path))
-answer tree abi rulesets (calls.Rmdir path) s = of_request tree s.domain (rmdir_asks tree (place tree path))
+answer tree abi rulesets (calls.Truncate path) s = of_request tree s.domain (request tree (wanted (calls.Truncate path)))
+answer tree abi rulesets (calls.Exec path) s = of_request tree s.domain (request tree (wanted (calls.Exec path)))
+answer tree abi rulesets (calls.Mknod path kind) s = of_request tree s.domain (request tree (wanted (calls.Mknod path kind)))
+answer tree abi rulesets (calls.Mkdir path) s = of_request tree s.domain (request tree (wanted (calls.Mkdir path)))
+answer tree abi rulesets (calls.Symlink path) s = of_request tree s.domain (request tree (wanted (calls.Symlink path)))
+answer tree abi rulesets (calls.Unlink path) s = of_request tree s.domain (request tree (wanted (calls.Unlink path)))
+answer tree abi rulesets (calls.Rmdir path) s = of_request tree s.domain (request tree (wanted (calls.Rmdir path)))
 answer tree abi rulesets (calls.Rename from to exchange) s = of_move tree s.domain (rename_move tree (place tree from) (place tree to) exchange)
 answer tree abi rulesets (calls.Link from to) s = of_move tree s.domain (link_move tree (place tree from) (place tree to))
 answer tree abi rulesets calls.Mount s = refused_by Perm (refusing_mount s.domain)
 answer tree abi rulesets (calls.Bind port) s = refused_by Acces (refusing_port s.domain port (network.only network.bind_tcp))
 answer tree abi rulesets (calls.Connect port) s = refused_by Acces (refusing_port s.domain port (network.only network.connect_tcp))
-answer tree abi rulesets (calls.CreateEmpty rs) s = if_free (s.held rs)
+answer tree abi rulesets (calls.CreateEmpty rs) s = if_free (s.held rs) Allowed
 answer tree abi rulesets (calls.LeaveOut rule) s = Moot

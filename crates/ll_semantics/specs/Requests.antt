@@ -1,18 +1,34 @@
--- What each call asks of the file tree: a set of rights on one node, or nothing where the tree decides the call.
+-- What each call wants at a path, and what that asks of the file tree: a set of rights on one node, or nothing where the tree decides the call.
 -- Source: landlock(7), "Filesystem actions"; the kernel's userspace document on Landlock, "Filesystem flags".
-use Rattle.std.specs.Prelude.{List, Bool, if◌then◌else◌, Option, Some, None}
+use Rattle.std.specs.Prelude.{ℕ, List, Bool, if◌then◌else◌, Option, Some, None, option_and_then}
 use Rattle.ll_rights.specs.declared.fs.Fs.{Fs}
 use Rattle.ll_rights.specs.declared.kind.Kind.{Kind}
 use Rattle.ll_rights.specs.declared.kind.Kind.TheVariants.{Dir, Reg, Char, Block, Fifo}
-use Rattle.ll_rights.specs.Rights.{write_file, read_file, read_dir, make_reg, truncate, only, united}
-use Rattle.ll_rights.specs.Kinds.{remove_right_of}
+use Rattle.ll_rights.specs.Rights.{execute, write_file, read_file, read_dir, make_dir, make_reg, make_sym, truncate, only, united}
+use Rattle.ll_rights.specs.Kinds.{make_right_of, remove_right_of}
 use Rattle.ll_tree.specs.declared.place.NodeId.{NodeId}
 use Rattle.ll_tree.specs.declared.place.Place.{Place}
-use Rattle.ll_tree.specs.declared.place.Place.TheVariants.{Node, Gap, Nowhere}
-use Rattle.ll_tree.specs.Trees.{Entry, kind_at, parent_at, is_dir}
+use Rattle.ll_tree.specs.declared.place.Place.TheVariants.{Node, Gap}
+use Rattle.ll_tree.specs.Trees.{Entry, kind_at, parent_at, is_dir, place}
+use Rattle.ll_trace.specs.declared.op.Op.{Op}
+use Rattle.ll_trace.specs.declared.op.Op.TheVariants as calls
 use Rattle.ll_trace.specs.declared.op.Mode.{Mode}
 use Rattle.ll_trace.specs.declared.op.Mode.TheVariants.{Read, Write, Both}
 use Rattle.ll_semantics.specs.declared.request.Request.{Request}
+use Rattle.ll_semantics.specs.declared.request.Wanted.{Wanted}
+use Rattle.ll_semantics.specs.declared.request.Wanted.TheVariants.{Open, OnFile, Make, Unlink, Rmdir}
+
+-- what a call wants at the place of its path
+unfoldable pub wanted : Op → Option (List ℕ × Wanted)
+wanted (calls.OpenFile path fd mode create trunc) = Some (path, Open mode create trunc)
+wanted (calls.Truncate path) = Some (path, OnFile (only truncate))
+wanted (calls.Exec path) = Some (path, OnFile (only execute))
+wanted (calls.Mknod path kind) = Some (path, Make (only (make_right_of kind)))
+wanted (calls.Mkdir path) = Some (path, Make (only make_dir))
+wanted (calls.Symlink path) = Some (path, Make (only make_sym))
+wanted (calls.Unlink path) = Some (path, Unlink)
+wanted (calls.Rmdir path) = Some (path, Rmdir)
+wanted op = None
 
 abbrev pub ask : NodeId → Fs → Option Request
 ask node rights = Some (record { node = node; rights = rights })
@@ -40,37 +56,26 @@ open_kind Block node mode create trunc = ask node (rights_of_mode mode)
 open_kind Fifo node mode create trunc = ask node (rights_of_mode mode)
 open_kind kind node mode create trunc = None
 
--- opening a place, which may make a file in a gap
-unfoldable pub open_asks : List Entry → Place → Mode → Bool → Bool → Option Request
-open_asks tree (Node node) mode create trunc = open_kind (kind_at tree node) node mode create trunc
-open_asks tree (Gap directory) mode create trunc = if create then ask directory (new_file_rights mode) else None
-open_asks tree Nowhere mode create trunc = None
-
 -- rights that are asked on a regular file itself
 unfoldable pub regular_kind : Kind → NodeId → Fs → Option Request
 regular_kind Reg node rights = ask node rights
 regular_kind kind node rights = None
-
-unfoldable pub regular_asks : List Entry → Place → Fs → Option Request
-regular_asks tree (Node node) rights = regular_kind (kind_at tree node) node rights
-regular_asks tree place rights = None
-
--- making an object in a gap
-unfoldable pub make_asks : Place → Fs → Option Request
-make_asks (Gap directory) rights = ask directory rights
-make_asks place rights = None
 
 -- removing an object of a kind from the directory that it is in, which the root hasn't
 unfoldable pub remove_from : Kind → Option NodeId → Option Request
 remove_from kind None = None
 remove_from kind (Some directory) = ask directory (only (remove_right_of kind))
 
--- unlink removes what isn't a directory
-unfoldable pub unlink_asks : List Entry → Place → Option Request
-unlink_asks tree (Node node) = if is_dir (kind_at tree node) then None else remove_from (kind_at tree node) (parent_at tree node)
-unlink_asks tree place = None
+-- What is wanted at a place asks rights on the object there, or on the directory of an object that is made or removed.
+unfoldable pub asks : List Entry → Place → Wanted → Option Request
+asks tree (Node node) (Open mode create trunc) = open_kind (kind_at tree node) node mode create trunc
+asks tree (Node node) (OnFile rights) = regular_kind (kind_at tree node) node rights
+asks tree (Node node) Unlink = if is_dir (kind_at tree node) then None else remove_from (kind_at tree node) (parent_at tree node)
+asks tree (Node node) Rmdir = if is_dir (kind_at tree node) then remove_from (kind_at tree node) (parent_at tree node) else None
+asks tree (Gap directory) (Open mode create trunc) = if create then ask directory (new_file_rights mode) else None
+asks tree (Gap directory) (Make rights) = ask directory rights
+asks tree place wanted = None
 
--- rmdir removes a directory
-unfoldable pub rmdir_asks : List Entry → Place → Option Request
-rmdir_asks tree (Node node) = if is_dir (kind_at tree node) then remove_from (kind_at tree node) (parent_at tree node) else None
-rmdir_asks tree place = None
+-- what a call asks that wants something at a path
+abbrev pub request : List Entry → Option (List ℕ × Wanted) → Option Request
+request tree want = option_and_then (λ wanted. asks tree (place tree wanted.0) wanted.1) want

@@ -8,6 +8,7 @@ mod laws;
 mod note;
 mod request;
 mod unchanging;
+mod wants;
 
 pub use answer::Answer;
 pub use descriptor::Descriptor;
@@ -16,5 +17,6 @@ pub use laws::{
     worked_requests, worked_rulesets,
 };
 pub use note::Note;
-pub use request::Request;
+pub use request::{Request, Wanted};
 pub use unchanging::only_allowed_records_change_the_world;
+pub use wants::wanted;

@@ -7,4 +7,4 @@ mod requests;
 
 pub use moves::{link_move, rename_move};
 pub use own_state::OwnState;
-pub use requests::{make_asks, open_asks, place_of, regular_asks, rmdir_asks, unlink_asks};
+pub use requests::{asks, place_of};

@@ -13,12 +13,12 @@ ghost use Rattle.ll_semantics.specs.Situations.{Situation, answered, left};
 ghost use Rattle.ll_state.specs.Agreement.{IsMet, Agrees, is_still};
 ghost use Rattle.ll_semantics.specs.Notes.{NoteFits};
 
-use crate::requests::{make_asks, place_of, regular_asks, rmdir_asks, unlink_asks};
-use ll_rights::{Fs, Net};
+use crate::requests::{place_of, request};
+use ll_rights::Net;
 use ll_rules::{Domain, Layer, NoMemory};
 use ll_semantics::{Answer, Descriptor, Note};
 use ll_shared::SharedMap;
-use ll_trace::{Op, changes_nothing};
+use ll_trace::{Op, changes_nothing, wants_at_a_path};
 use ll_tree::{Place, Tree};
 use std::alloc::Global;
 
@@ -155,41 +155,7 @@ impl OwnState {
             Op::Start { .. } | Op::Fork { .. } | Op::Exit => Answer::Allowed,
             Op::Ftruncate { fd } => self.ftruncate(*fd),
             Op::Ioctl { fd, driver } => self.ioctl(*fd, *driver),
-            Op::Truncate { path } => self.ask(
-                tree,
-                layers,
-                regular_asks(tree, place_of(tree, path, known), Fs::TRUNCATE),
-            ),
-            Op::Exec { path } => self.ask(
-                tree,
-                layers,
-                regular_asks(tree, place_of(tree, path, known), Fs::EXECUTE),
-            ),
-            Op::Mknod { path, kind } => self.ask(
-                tree,
-                layers,
-                make_asks(tree, place_of(tree, path, known), kind.make_right()),
-            ),
-            Op::Mkdir { path } => self.ask(
-                tree,
-                layers,
-                make_asks(tree, place_of(tree, path, known), Fs::MAKE_DIR),
-            ),
-            Op::Symlink { path } => self.ask(
-                tree,
-                layers,
-                make_asks(tree, place_of(tree, path, known), Fs::MAKE_SYM),
-            ),
-            Op::Unlink { path } => self.ask(
-                tree,
-                layers,
-                unlink_asks(tree, place_of(tree, path, known)),
-            ),
-            Op::Rmdir { path } => self.ask(
-                tree,
-                layers,
-                rmdir_asks(tree, place_of(tree, path, known)),
-            ),
+            wants_at_a_path!() => self.ask(tree, layers, request(tree, op, known)),
             Op::Rename { from, to, exchange } => self.rename(
                 tree,
                 layers,

@@ -4,11 +4,12 @@ ghost use Rattle.std.specs.Prelude.{◌≡◌, IfSome};
 ghost use Rattle.ll_tree.specs.Trees.{IsNode, parent_at, place};
 ghost use Rattle.ll_tree.specs.TreeFacts.{IsPlace};
 ghost use Rattle.ll_semantics.specs.Fits.{IsFit};
-ghost use Rattle.ll_semantics.specs.Requests.{rights_of_mode, file_rights, new_file_rights, open_kind, open_asks, regular_asks, make_asks, remove_from, unlink_asks, rmdir_asks};
+ghost use Rattle.ll_trace.specs.FirstPlaces.{first_place};
+ghost use Rattle.ll_semantics.specs.Requests.{rights_of_mode, file_rights, new_file_rights, open_kind, remove_from, asks, request, wanted};
 
 use ll_rights::{Fs, Kind};
-use ll_semantics::Request;
-use ll_trace::{Mode, PathText};
+use ll_semantics::{Request, Wanted, wanted};
+use ll_trace::{Mode, Op, PathText};
 use ll_tree::{NodeId, Place, Tree};
 
 /// The place that a path leads to, which may be known.
@@ -74,58 +75,6 @@ fn open_kind(kind: Kind, node: NodeId, mode: Mode, create: bool, trunc: bool) ->
     Some(Request { node, rights })
 }
 
-/// What open(2) asks at a place: rights on the object there, or the making of a file in a gap.
-#[tactic(auto, unfolding(ll_semantics::specs::Requests::open_asks))]
-pub fn open_asks(
-    tree: &Tree,
-    place: Place,
-    mode: Mode,
-    create: bool,
-    trunc: bool,
-) -> Option<Request>
-    requires { IsPlace tree.now place }
-    ensures exact { result ≡ open_asks tree.now place mode create trunc }
-    ensures fit { IfSome result (IsFit tree.now) }
-{
-    match place {
-        Place::Node(node) => open_kind(tree.kind(node), node, mode, create, trunc),
-        Place::Gap(node) if create => Some(Request {
-            node,
-            rights: new_file_rights(mode),
-        }),
-        _ => None,
-    }
-}
-
-/// What a call asks that wants rights on a regular file itself.
-#[tactic(auto, unfolding(ll_semantics::specs::Requests::regular_asks, ll_semantics::specs::Requests::regular_kind))]
-pub fn regular_asks(tree: &Tree, place: Place, rights: Fs) -> Option<Request>
-    requires { IsPlace tree.now place }
-    ensures exact { result ≡ regular_asks tree.now place rights }
-    ensures fit { IfSome result (IsFit tree.now) }
-{
-    match place {
-        Place::Node(node) => match tree.kind(node) {
-            Kind::Reg => Some(Request { node, rights }),
-            _ => None,
-        },
-        _ => None,
-    }
-}
-
-/// What a call asks that makes an object: rights on the directory of a gap.
-#[tactic(auto, unfolding(ll_semantics::specs::Requests::make_asks))]
-pub fn make_asks(tree: &Tree, place: Place, rights: Fs) -> Option<Request>
-    requires { IsPlace tree.now place }
-    ensures exact { result ≡ make_asks place rights }
-    ensures fit { IfSome result (IsFit tree.now) }
-{
-    match place {
-        Place::Gap(node) => Some(Request { node, rights }),
-        _ => None,
-    }
-}
-
 /// What removing an object of a kind asks of the directory that it is in, which the root hasn't.
 #[tactic(auto, unfolding(ll_semantics::specs::Requests::remove_from))]
 fn remove_from(tree: &Tree, kind: Kind, node: NodeId) -> Option<Request>
@@ -139,34 +88,66 @@ fn remove_from(tree: &Tree, kind: Kind, node: NodeId) -> Option<Request>
     })
 }
 
-/// What unlink(2) asks, which removes all but directories.
-#[tactic(auto, unfolding(ll_semantics::specs::Requests::unlink_asks))]
-pub fn unlink_asks(tree: &Tree, place: Place) -> Option<Request>
-    requires { IsPlace tree.now place }
-    ensures exact { result ≡ unlink_asks tree.now place }
+/// What a call asks that wants this of an object.
+#[tactic(auto, unfolding(ll_semantics::specs::Requests::asks, ll_semantics::specs::Requests::regular_kind))]
+fn asks_of_object(tree: &Tree, node: NodeId, wanted: Wanted) -> Option<Request>
+    requires { IsNode tree.now node }
+    ensures exact { result ≡ asks tree.now (Place.Node node) wanted }
     ensures fit { IfSome result (IsFit tree.now) }
 {
-    match place {
-        Place::Node(node) => match tree.kind(node) {
-            Kind::Dir => None,
-            kind => remove_from(tree, kind, node),
-        },
+    let kind = tree.kind(node);
+    match wanted {
+        Wanted::Open {
+            mode,
+            create,
+            trunc,
+        } => open_kind(kind, node, mode, create, trunc),
+        Wanted::OnFile(rights) if kind == Kind::Reg => Some(Request { node, rights }),
+        Wanted::Unlink if kind != Kind::Dir => remove_from(tree, kind, node),
+        Wanted::Rmdir if kind == Kind::Dir => remove_from(tree, kind, node),
         _ => None,
     }
 }
 
-/// What rmdir(2) asks, which removes directories, but not the root.
-#[tactic(auto, unfolding(ll_semantics::specs::Requests::rmdir_asks))]
-pub fn rmdir_asks(tree: &Tree, place: Place) -> Option<Request>
+/// What a call asks that wants this of a gap: rights on its directory.
+#[tactic(auto, unfolding(ll_semantics::specs::Requests::asks))]
+fn asks_of_gap(tree: &Tree, node: NodeId, wanted: Wanted) -> Option<Request>
+    requires { IsNode tree.now node }
+    ensures exact { result ≡ asks tree.now (Place.Gap node) wanted }
+    ensures fit { IfSome result (IsFit tree.now) }
+{
+    let rights = match wanted {
+        Wanted::Open {
+            mode,
+            create: true,
+            ..
+        } => new_file_rights(mode),
+        Wanted::Make(rights) => rights,
+        _ => return None,
+    };
+    Some(Request { node, rights })
+}
+
+/// What a call asks that wants this at a place.
+#[tactic(auto, unfolding(ll_semantics::specs::Requests::asks))]
+pub fn asks(tree: &Tree, place: Place, wanted: Wanted) -> Option<Request>
     requires { IsPlace tree.now place }
-    ensures exact { result ≡ rmdir_asks tree.now place }
+    ensures exact { result ≡ asks tree.now place wanted }
     ensures fit { IfSome result (IsFit tree.now) }
 {
     match place {
-        Place::Node(node) => match tree.kind(node) {
-            Kind::Dir => remove_from(tree, Kind::Dir, node),
-            _ => None,
-        },
-        _ => None,
+        Place::Node(node) => asks_of_object(tree, node, wanted),
+        Place::Gap(node) => asks_of_gap(tree, node, wanted),
+        Place::Nowhere => None,
     }
+}
+
+/// What a call asks that wants something at a path, whose place may be known.
+pub(crate) fn request(tree: &Tree, op: &Op, known: Option<Place>) -> Option<Request>
+    requires { IfSome known (λ one. one ≡ first_place tree.now op.now) }
+    ensures exact { result ≡ request tree.now (wanted op.now) }
+    ensures fit { IfSome result (IsFit tree.now) }
+{
+    let (path, wanted) = wanted(op)?;
+    asks(tree, place_of(tree, path, known), wanted)
 }

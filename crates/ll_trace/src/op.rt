@@ -178,21 +178,32 @@ pub enum Op {
     },
 }
 
+/// The calls that want something at the place of one path and change nothing, as a pattern, which may bind the path.
+#[macro_export]
+macro_rules! wants_at_a_path {
+    () => {
+        $crate::wants_at_a_path!(_)
+    };
+    ($path:pat) => {
+        $crate::Op::Truncate { path: $path }
+            | $crate::Op::Exec { path: $path }
+            | $crate::Op::Mknod { path: $path, .. }
+            | $crate::Op::Mkdir { path: $path }
+            | $crate::Op::Symlink { path: $path }
+            | $crate::Op::Unlink { path: $path }
+            | $crate::Op::Rmdir { path: $path }
+    };
+}
+
 /// The calls that change nothing, not even where they are allowed, as a pattern. Each `match` that takes
 /// operations together names the others one by one, so that a new operation has to be decided on.
 #[macro_export]
 macro_rules! changes_nothing {
     () => {
         $crate::Op::Exit
+            | $crate::wants_at_a_path!()
             | $crate::Op::Ftruncate { .. }
             | $crate::Op::Ioctl { .. }
-            | $crate::Op::Truncate { .. }
-            | $crate::Op::Exec { .. }
-            | $crate::Op::Mknod { .. }
-            | $crate::Op::Mkdir { .. }
-            | $crate::Op::Symlink { .. }
-            | $crate::Op::Unlink { .. }
-            | $crate::Op::Rmdir { .. }
             | $crate::Op::Rename { .. }
             | $crate::Op::Link { .. }
             | $crate::Op::Mount
@@ -223,14 +234,8 @@ macro_rules! on_a_descriptor {
 /// The calls that name a path of the tree.
 macro_rules! on_a_path {
     () => {
-        $crate::Op::OpenFile { .. }
-            | $crate::Op::Truncate { .. }
-            | $crate::Op::Exec { .. }
-            | $crate::Op::Mknod { .. }
-            | $crate::Op::Mkdir { .. }
-            | $crate::Op::Symlink { .. }
-            | $crate::Op::Unlink { .. }
-            | $crate::Op::Rmdir { .. }
+        $crate::wants_at_a_path!()
+            | $crate::Op::OpenFile { .. }
             | $crate::Op::Rename { .. }
             | $crate::Op::Link { .. }
     };
@@ -289,14 +294,8 @@ impl Op {
         ensures { result ≡ first_place tree.now self.now }
     {
         match self {
-            Op::OpenFile { path, .. }
-            | Op::Truncate { path }
-            | Op::Exec { path }
-            | Op::Mknod { path, .. }
-            | Op::Mkdir { path }
-            | Op::Symlink { path }
-            | Op::Unlink { path }
-            | Op::Rmdir { path }
+            wants_at_a_path!(path)
+            | Op::OpenFile { path, .. }
             | Op::Rename { from: path, .. }
             | Op::Link { from: path, .. } => tree.place_of(path.as_str()),
             on_a_process!()

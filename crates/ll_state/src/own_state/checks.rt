@@ -17,13 +17,13 @@ ghost use Rattle.ll_state.specs.Agreement.{IsMet, Agrees};
 use crate::moves::{link_move, rename_move};
 use crate::own_state::OwnState;
 use crate::own_state::descriptors::{refused_by, unrestricted};
-use crate::requests::{open_asks, place_of};
+use crate::requests::{asks, place_of};
 use ll_rights::{Fs, Kind, Net};
 use ll_rules::{
     Errno, Layer, LayerSet, Move, NoMemory, Verdict, check_mount, check_move, check_path,
     check_port,
 };
-use ll_semantics::{Answer, Descriptor, Request};
+use ll_semantics::{Answer, Descriptor, Request, Wanted};
 use ll_trace::{Mode, PathText, Sort};
 use ll_tree::{NodeId, Place, Tree};
 
@@ -142,7 +142,7 @@ impl OwnState {
     }
 
     /// open(2), whose number must be free.
-    #[tactic(auto, unfolding(ll_semantics::specs::Situations::answered, ll_semantics::specs::Situations::left, ll_semantics::specs::Situations::state_after, ll_semantics::specs::Situations::change, ll_semantics::specs::Situations::state_by, ll_semantics::specs::Effects::effect, ll_semantics::specs::Answers::answer, ll_semantics::specs::Answers::open_answer))]
+    #[tactic(auto, unfolding(ll_semantics::specs::Situations::answered, ll_semantics::specs::Situations::left, ll_semantics::specs::Situations::state_after, ll_semantics::specs::Situations::change, ll_semantics::specs::Situations::state_by, ll_semantics::specs::Effects::effect, ll_semantics::specs::Answers::answer, ll_semantics::specs::Requests::wanted))]
     pub(crate) fn open(
         &mut self,
         tree: &Tree,
@@ -166,7 +166,12 @@ impl OwnState {
             return Ok(Answer::Moot);
         }
         let place = place_of(tree, path, known);
-        let request = open_asks(tree, place, mode, create, trunc);
+        let wanted = Wanted::Open {
+            mode,
+            create,
+            trunc,
+        };
+        let request = asks(tree, place, wanted);
         self.open_place(tree, layers, fd, mode, place, request)
     }
 
