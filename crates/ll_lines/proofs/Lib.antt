@@ -4,3 +4,4 @@ pub mod PartsLemmas
 pub mod ValueLemmas
 pub mod MembersLemmas
 pub mod ReadingLemmas
+pub mod OneWay

@@ -6,3 +6,4 @@ pub mod Members
 pub mod Values
 pub mod Reading
 pub mod LineByLine
+pub mod OneWay

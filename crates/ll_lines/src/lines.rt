@@ -4,6 +4,7 @@ ghost use Rattle.std.specs.Prelude.{◌≡◌, ◌<◌, ◌≤◌, ◌+◌, ◌^
 ghost use Rattle.std.specs.Iterator.{YieldsFirstBy, item_count};
 ghost use Rattle.ll_lines.specs.Lines.{lines, is_blank, filled_from, filled_lines, line_feeds};
 
+use crate::fault::{Cause, ReadFault};
 use memchr::memchr;
 use std::alloc::{AllocError, Global};
 use std::marker::Model;
@@ -15,6 +16,18 @@ const LINE_FEED: u8 = b'\n';
 pub struct FileLine<'a> {
     pub number: u64,
     pub bytes: &'a [u8],
+}
+
+impl<'a> FileLine<'a> {
+    /// This line's fault.
+    pub fn fault(&self, cause: Cause) -> ReadFault
+        ensures { result ≡ record { line = self.now.number; cause = cause } }
+    {
+        ReadFault {
+            line: self.number,
+            cause,
+        }
+    }
 }
 
 /// The lines of a file that aren't blank, in their order; contracts see the list of those that are

@@ -4,18 +4,13 @@ use Rattle.std.specs.Prelude.{slice_get}
 use Rattle.std.proofs.lemmas.Option.{none-some, same_Some}
 use Rattle.std.proofs.lemmas.List.{append-nil, drop_all, length-map, take-map, take_all}
 use Rattle.ll_rights.specs.declared.abi.Abi.{Abi}
-use Rattle.ll_rights.specs.declared.fs.Fs.{Fs}
-use Rattle.ll_rights.specs.declared.net.Net.{Net}
 use Rattle.ll_rights.specs.Supported.{supported_fs, supported_net}
 use Rattle.ll_rights.specs.Rights as files
 use Rattle.ll_rights.specs.NetRights as network
 use Rattle.ll_tree.specs.declared.place.Place.{Place}
-use Rattle.ll_tree.specs.declared.place.Place.TheVariants.{Nowhere}
 use Rattle.ll_tree.specs.Trees as trees
 use Rattle.ll_trace.specs.declared.op.Op.{Op}
 use Rattle.ll_trace.specs.declared.op.Op.TheVariants as calls
-use Rattle.ll_trace.specs.declared.op.RuleType.{RuleType}
-use Rattle.ll_trace.specs.declared.op.RuleType.TheVariants.{PathBeneath, NetPort}
 use Rattle.ll_trace.specs.declared.record.ProcessId.{ProcessId}
 use Rattle.ll_trace.specs.declared.record.Record.{Record}
 use Rattle.ll_trace.specs.declared.tables.Tables.{Tables}
@@ -37,43 +32,46 @@ of_both : {X : Type 0} (says : Op → X) (b : Bool) (x y : Op) (what : X) → sa
 of_both says true x y what first second = first
 of_both says false x y what first second = second
 
+-- what a call is to the processes of a trace, and which place it names first
+record Role : Type 0 where
+  start : Bool
+  exit : Bool
+  started : ℕ → Option ℕ
+  starting : Bool
+  forked : ProcessId → Option ProcessId
+  place : List trees.Entry → Place
+
+role : Op → Role
+role op = record {
+  start = is_start op;
+  exit = is_exit op;
+  started = pid_started op;
+  starting = is_starting op;
+  forked = forked_by op;
+  place = λ tree. first_place tree op;
+}
+
 module _ (abi : Abi) where
-  -- What is the same of all calls whose rights best effort takes out, and of what it makes of them, is so of each call at best effort.
-  kept : {X : Type 0} (says : Op → X) (what : X) → ((rs : ℕ) (fs : Fs) (net : Net) → says (calls.Create rs fs net) ≡ what) → ((rs : ℕ) → says (calls.CreateEmpty rs) ≡ what)
-      → ((rs : ℕ) (path : List ℕ) (fs : Fs) → says (calls.AddPath rs path fs) ≡ what) → ((rs port : ℕ) (net : Net) → says (calls.AddPort rs port net) ≡ what)
-      → ((rule : RuleType) → says (calls.LeaveOut rule) ≡ what) → (op : Op) → says (at_best_effort abi op) ≡ says op
-  unfolding at_best_effort
-  kept says what create empty path port left (calls.Create rs fs net) =
-      of_both says (files.is_empty (supported_fs abi fs) && network.is_empty (supported_net abi net) && not (files.is_empty fs && network.is_empty net)) _ _ what (empty rs) (create rs _ _) ∙ sym (create rs fs net)
-  kept says what create empty path port left (calls.AddPath rs text fs) =
-      of_both says (files.is_empty (supported_fs abi fs) && not (files.is_empty fs)) _ _ what (left PathBeneath) (path rs text _) ∙ sym (path rs text fs)
-  kept says what create empty path port left (calls.AddPort rs number net) =
-      of_both says (network.is_empty (supported_net abi net) && not (network.is_empty net)) _ _ what (left NetPort) (port rs number _) ∙ sym (port rs number net)
-  kept says what create empty path port left op = refl
+  -- All calls whose rights best effort takes out, and what it makes of them, have one role.
+  role-kept : (op : Op) → role (at_best_effort abi op) ≡ role op
+  unfolding at_best_effort role is_start is_exit pid_started is_starting forked_by first_place paths_of
+  role-kept (calls.Create rs fs net) =
+      of_both role (files.is_empty (supported_fs abi fs) && network.is_empty (supported_net abi net) && not (files.is_empty fs && network.is_empty net)) _ _ _ refl refl
+  role-kept (calls.AddPath rs path fs) = of_both role (files.is_empty (supported_fs abi fs) && not (files.is_empty fs)) _ _ _ refl refl
+  role-kept (calls.AddPort rs port net) = of_both role (network.is_empty (supported_net abi net) && not (network.is_empty net)) _ _ _ refl refl
+  role-kept op = refl
 
   is_start-kept : (op : Op) → is_start (at_best_effort abi op) ≡ is_start op
-  unfolding is_start
-  is_start-kept = kept is_start false (λ _ _ _. refl) (λ _. refl) (λ _ _ _. refl) (λ _ _ _. refl) (λ _. refl)
-
-  is_exit-kept : (op : Op) → is_exit (at_best_effort abi op) ≡ is_exit op
-  unfolding is_exit
-  is_exit-kept = kept is_exit false (λ _ _ _. refl) (λ _. refl) (λ _ _ _. refl) (λ _ _ _. refl) (λ _. refl)
+  unfolding role
+  is_start-kept op = ap (λ of. of.start) (role-kept op)
 
   pid_started-kept : (op : Op) (pid : ℕ) → pid_started (at_best_effort abi op) pid ≡ pid_started op pid
-  unfolding pid_started
-  pid_started-kept op pid = kept (λ op. pid_started op pid) None (λ _ _ _. refl) (λ _. refl) (λ _ _ _. refl) (λ _ _ _. refl) (λ _. refl) op
+  unfolding role
+  pid_started-kept op pid = ap (λ of. of.started pid) (role-kept op)
 
   is_starting-kept : (op : Op) → is_starting (at_best_effort abi op) ≡ is_starting op
-  unfolding is_starting
-  is_starting-kept = kept is_starting false (λ _ _ _. refl) (λ _. refl) (λ _ _ _. refl) (λ _ _ _. refl) (λ _. refl)
-
-  forked_by-kept : (op : Op) (own : ProcessId) → forked_by (at_best_effort abi op) own ≡ forked_by op own
-  unfolding forked_by
-  forked_by-kept op own = kept (λ op. forked_by op own) None (λ _ _ _. refl) (λ _. refl) (λ _ _ _. refl) (λ _ _ _. refl) (λ _. refl) op
-
-  first_place-kept : (tree : List trees.Entry) (op : Op) → first_place tree (at_best_effort abi op) ≡ first_place tree op
-  unfolding first_place paths_of
-  first_place-kept tree = kept (first_place tree) Nowhere (λ _ _ _. refl) (λ _. refl) (λ _ _ _. refl) (λ _ _ _. refl) (λ _. refl)
+  unfolding role
+  is_starting-kept op = ap (λ of. of.starting) (role-kept op)
 
   -- ---- entries
 
@@ -81,9 +79,9 @@ module _ (abi : Abi) where
   entry_kept entry = record entry { op = at_best_effort abi entry.op }
 
   is_live-kept : (past : List Entry) (pid : ℕ) → is_live (map entry_kept past) pid ≡ is_live past pid
-  unfolding entry_kept
+  unfolding entry_kept role
   is_live-kept [] pid = refl
-  is_live-kept (entry ∷ past) pid = rw (pid_started-kept entry.op entry.pid, is_exit-kept entry.op, is_live-kept past pid) refl
+  is_live-kept (entry ∷ past) pid = rw (pid_started-kept entry.op entry.pid, ap (λ of. of.exit) (role-kept entry.op), is_live-kept past pid) refl
 
   count-kept : (past : List Entry) → entries.process_count (map entry_kept past) ≡ entries.process_count past
   unfolding entry_kept
@@ -127,9 +125,10 @@ module _ (abi : Abi) where
 
   -- the places that records name first are those that they name at best effort
   pub first_places-kept : (tree : List trees.Entry) (records : List Record) (places : List Place) → AreFirstPlaces tree records places → AreFirstPlaces tree (records_at_best_effort abi records) places
+  unfolding role
   first_places-kept tree [] places are k one r at_place at_record = absurd (none-some r at_record)
   first_places-kept tree (first ∷ rest) [] are k one r at_place at_record = absurd (none-some one at_place)
-  first_places-kept tree (first ∷ rest) (p ∷ ps) are zero one r at_place at_record = are 0 one first at_place refl ∙ sym (first_place-kept tree first.op) ∙ ap (λ (s : Record). first_place tree s.op) (same_Some _ _ at_record)
+  first_places-kept tree (first ∷ rest) (p ∷ ps) are zero one r at_place at_record = are 0 one first at_place refl ∙ sym (ap (λ of. of.place tree) (role-kept first.op)) ∙ ap (λ (s : Record). first_place tree s.op) (same_Some _ _ at_record)
   first_places-kept tree (first ∷ rest) (p ∷ ps) are (suc k) one r at_place at_record = first_places-kept tree rest ps (λ j other s here there. are (suc j) other s here there) k one r at_place at_record
 
   entries-kept : (records : List Record) → map entry_of (records_at_best_effort abi records) ≡ map entry_kept (map entry_of records)
@@ -147,9 +146,9 @@ module _ (abi : Abi) where
   -- ---- tables
 
   parents-kept : (records : List Record) → parents (records_at_best_effort abi records) ≡ parents records
-  unfolding parents
+  unfolding parents role
   parents-kept [] = refl
-  parents-kept (r ∷ rs) = rw (is_starting-kept r.op, forked_by-kept r.op r.process, parents-kept rs) refl
+  parents-kept (r ∷ rs) = rw (is_starting-kept r.op, ap (λ of. of.forked r.process) (role-kept r.op), parents-kept rs) refl
 
   starting-kept : (records : List Record) → process_count (records_at_best_effort abi records) ≡ process_count records
   starting-kept [] = refl

@@ -1,10 +1,10 @@
 -- Laws of reading traces.
-use Rattle.std.proofs.Common.{◌≡◌, ℕ, ◌||◌, Bool, true, false, List, [], ◌∷◌, map, reverse, Option, Some, None, Result, Ok, Err, ◌⊎◌, inl, inr, cond, refl, sym, ap, ◌∙◌}
+use Rattle.std.proofs.Common.{◌≡◌, ℕ, ◌||◌, Bool, true, false, List, [], ◌∷◌, map, reverse, Option, Some, None, Result, Ok, Err, cond, refl, sym, ap}
 use Rattle.ll_lines.specs.declared.fault.Cause.{Cause}
 use Rattle.ll_lines.specs.declared.fault.Cause.TheVariants.{Twice, TooMany, UnknownProcess}
-use Rattle.ll_lines.specs.declared.fault.ReadFault.{ReadFault}
-use Rattle.ll_lines.specs.Reading.{first_fault, entries_of, IsGood, IsBad}
-use Rattle.ll_lines.proofs.ReadingLemmas.{good_or_bad, good_or_else_bad, one_fault, reading-good}
+use Rattle.ll_lines.specs.Reading.{first_fault, entries_of, IsGood}
+use Rattle.ll_lines.specs.OneWay.{ReadsInOneWay}
+use Rattle.ll_lines.proofs.OneWay.{in_one_way as format_in_one_way}
 use Rattle.ll_trace.specs.declared.record.Record.{Record}
 use Rattle.ll_trace.specs.Entries.{Entry, entry_at, is_start_of, is_end_of, is_live, is_live_pid, is_unknown, is_twice, is_too_many, misplacement, started_pid, trace_file}
 use Rattle.ll_trace.specs.Records.{entry_of, records_after, IsTrace}
@@ -53,15 +53,6 @@ strict_is_good bytes entries good = record {
 pub trace_by_strict : (bytes : List ℕ) (records : List Record) → IsStrictTrace bytes records → IsTrace bytes records
 trace_by_strict bytes records strict = record { reads = strict_is_good bytes (map entry_of records) strict.reads; processes = strict.processes }
 
--- a trace file is not at fault, and reads as one trace alone
-pub trace_or_bad : (bytes : List ℕ) (records : List Record) (fault : ReadFault) → IsTrace bytes records → IsBad trace_file bytes fault → ⊥
-trace_or_bad bytes records fault trace bad = good_or_bad trace_file bytes (map entry_of records) fault trace.reads bad
-
-pub one_trace : (bytes : List ℕ) (a b : List Record) → IsTrace bytes a → IsTrace bytes b → a ≡ b
-one_trace bytes a b first second =
-    let same : map entry_of a ≡ map entry_of b = (let e : ◌≡◌ {A = Result (List Entry) ReadFault} (Ok (map entry_of a)) (Ok (map entry_of b)) = sym (reading-good trace_file bytes (map entry_of a) first.reads) ∙ reading-good trace_file bytes (map entry_of b) second.reads in cc) in
-    first.processes ∙ (ap (records_after []) same ∙ sym second.processes)
-
 -- the records of entries were read from just these
 entries_kept : (past entries : List Entry) → map entry_of (records_after past entries) ≡ entries
 entries_kept past [] = refl
@@ -72,8 +63,9 @@ trace_of_entries bytes entries good =
     let kept : map entry_of (records_after [] entries) ≡ entries = entries_kept [] entries in
     record { reads = rw kept good; processes = ap (records_after []) (sym kept) }
 
-pub trace_or_else_bad : (bytes : List ℕ) → ((records : List Record) × IsTrace bytes records) ⊎ ((fault : ReadFault) × IsBad trace_file bytes fault)
-trace_or_else_bad bytes = elim (good_or_else_bad trace_file bytes) [ inl good ↦ inl (records_after [] good.0, trace_of_entries bytes good.0 good.1) | inr bad ↦ inr bad ]
+-- a trace file is read in one way
+pub in_one_way : ReadsInOneWay trace_file IsTrace
+in_one_way = format_in_one_way trace_file IsTrace (records_after []) trace_of_entries (λ bytes records trace. record { entries = map entry_of records; good = trace.reads; is = trace.processes })
 
-pub one_first_fault : (bytes : List ℕ) (fault other : ReadFault) → IsBad trace_file bytes fault → IsBad trace_file bytes other → fault ≡ other
-one_first_fault bytes fault other first second = one_fault trace_file bytes fault other first second
+pub one_trace : (bytes : List ℕ) (a b : List Record) → IsTrace bytes a → IsTrace bytes b → a ≡ b
+one_trace = in_one_way.one

@@ -1,6 +1,6 @@
 //! What holds of traces by their definitions.
 
-ghost use Rattle.std.specs.Prelude.{◌≡◌, ◌⊎◌, ◌<◌, ◌≤◌, ℕ, All, List, [], map, Some, Ok};
+ghost use Rattle.std.specs.Prelude.{◌≡◌, ◌<◌, ◌≤◌, ℕ, All, List, [], map, Some, Ok};
 ghost use Rattle.std.specs.List.{list_any, slice_get};
 ghost use Rattle.serde_json.specs.Data.{Items};
 ghost use Rattle.ll_rights.specs.declared.abi.Abi.{Abi};
@@ -9,10 +9,9 @@ ghost use Rattle.ll_rights.specs.declared.net.Net.{Net};
 ghost use Rattle.ll_rights.specs.Abis.{number_of};
 ghost use Rattle.ll_rights.specs.Rights as files;
 ghost use Rattle.ll_rights.specs.NetRights as network;
-ghost use Rattle.ll_lines.specs.declared.fault.ReadFault.{ReadFault};
 ghost use Rattle.ll_lines.specs.Lines.{Line};
 ghost use Rattle.ll_lines.specs.Members.{fold_texts};
-ghost use Rattle.ll_lines.specs.Reading.{IsBad};
+ghost use Rattle.ll_lines.specs.OneWay.{ReadsInOneWay};
 ghost use Rattle.ll_trace.specs.Members.{with_fs, with_net};
 ghost use Rattle.ll_trace.specs.NameTexts.{texts_of};
 ghost use Rattle.ll_trace.specs.declared.record.ProcessId.{ProcessId};
@@ -28,16 +27,8 @@ ghost use Rattle.ll_trace.specs.SingleUse.{IsStrictTrace};
 
 /// A file reads as one trace and has no fault, or has one first fault, with its line and its cause, and reads
 /// as none.
-#[tactic(auto, using(crate::proofs::LawLemmas::trace_or_bad, crate::proofs::LawLemmas::one_trace))]
 pub fn files_read_as_one_trace()
-    ensures either { (bytes : List ℕ) → ((records : List Record) × IsTrace bytes records)
-        ⊎ ((fault : ReadFault) × IsBad trace_file bytes fault) }
-    ensures not_both { (bytes : List ℕ) (records : List Record) (fault : ReadFault)
-        → IsTrace bytes records → IsBad trace_file bytes fault → ⊥ }
-    ensures one_trace { (bytes : List ℕ) (a b : List Record)
-        → IsTrace bytes a → IsTrace bytes b → a ≡ b }
-    ensures one_fault { (bytes : List ℕ) (a b : ReadFault)
-        → IsBad trace_file bytes a → IsBad trace_file bytes b → a ≡ b }
+    ensures { ReadsInOneWay trace_file IsTrace }
 {}
 
 /// A file that reads as a trace under the rule that a pid is never used again reads as the same

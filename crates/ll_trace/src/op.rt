@@ -195,17 +195,13 @@ macro_rules! wants_at_a_path {
     };
 }
 
-/// The calls that change nothing, not even where they are allowed, as a pattern. Each `match` that takes
-/// operations together names the others one by one, so that a new operation has to be decided on.
+/// The calls that name no path and change nothing, as a pattern.
 #[macro_export]
-macro_rules! changes_nothing {
+macro_rules! still_without_a_path {
     () => {
         $crate::Op::Exit
-            | $crate::wants_at_a_path!()
             | $crate::Op::Ftruncate { .. }
             | $crate::Op::Ioctl { .. }
-            | $crate::Op::Rename { .. }
-            | $crate::Op::Link { .. }
             | $crate::Op::Mount
             | $crate::Op::Bind { .. }
             | $crate::Op::Connect { .. }
@@ -213,38 +209,30 @@ macro_rules! changes_nothing {
     };
 }
 
-/// The calls that start, end or change a process, as a pattern.
-macro_rules! on_a_process {
+/// The calls that change nothing, not even where they are allowed, as a pattern. Each `match` that takes
+/// operations together names the others one by one, so that a new operation has to be decided on.
+#[macro_export]
+macro_rules! changes_nothing {
     () => {
-        $crate::Op::Start { .. } | $crate::Op::Fork { .. } | $crate::Op::Exit | $crate::Op::Nnp
-    };
-}
-
-/// The calls on a descriptor, without the one that opens a path.
-macro_rules! on_a_descriptor {
-    () => {
-        $crate::Op::Adopt { .. }
-            | $crate::Op::Dup { .. }
-            | $crate::Op::Close { .. }
-            | $crate::Op::Ftruncate { .. }
-            | $crate::Op::Ioctl { .. }
-    };
-}
-
-/// The calls that name a path of the tree.
-macro_rules! on_a_path {
-    () => {
-        $crate::wants_at_a_path!()
-            | $crate::Op::OpenFile { .. }
+        $crate::still_without_a_path!()
+            | $crate::wants_at_a_path!()
             | $crate::Op::Rename { .. }
             | $crate::Op::Link { .. }
     };
 }
 
-/// The calls on a port, and those that change where file systems are mounted.
-macro_rules! on_the_system {
+/// The calls that change something, and name neither a path nor rights, as a pattern.
+macro_rules! changes_without_names {
     () => {
-        $crate::Op::Mount | $crate::Op::Bind { .. } | $crate::Op::Connect { .. }
+        $crate::Op::Start { .. }
+            | $crate::Op::Fork { .. }
+            | $crate::Op::Nnp
+            | $crate::Op::CloseRs { .. }
+            | $crate::Op::Restrict { .. }
+            | $crate::Op::CreateEmpty { .. }
+            | $crate::Op::Adopt { .. }
+            | $crate::Op::Dup { .. }
+            | $crate::Op::Close { .. }
     };
 }
 
@@ -298,16 +286,11 @@ impl Op {
             | Op::OpenFile { path, .. }
             | Op::Rename { from: path, .. }
             | Op::Link { from: path, .. } => tree.place_of(path.as_str()),
-            on_a_process!()
-            | on_a_descriptor!()
-            | on_the_system!()
+            still_without_a_path!()
+            | changes_without_names!()
             | Op::Create { .. }
             | Op::AddPath { .. }
-            | Op::AddPort { .. }
-            | Op::CloseRs { .. }
-            | Op::Restrict { .. }
-            | Op::CreateEmpty { .. }
-            | Op::LeaveOut { .. } => Place::Nowhere,
+            | Op::AddPort { .. } => Place::Nowhere,
         }
     }
 
@@ -341,14 +324,7 @@ impl Op {
                 }
             }
             Op::AddPort { rs, port, net } => *self = port_added(*rs, *port, *net, abi),
-            on_a_process!()
-            | on_a_descriptor!()
-            | on_a_path!()
-            | on_the_system!()
-            | Op::CloseRs { .. }
-            | Op::Restrict { .. }
-            | Op::CreateEmpty { .. }
-            | Op::LeaveOut { .. } => {}
+            changes_nothing!() | changes_without_names!() | Op::OpenFile { .. } => {}
         }
     }
 }

@@ -1,7 +1,7 @@
 //! The names of operations, and the operation of a record's line by its name.
 
 ghost use Rattle.std.specs.Prelude.{◌≡◌, codes};
-ghost use Rattle.ll_lines.specs.Readers.{Gives, Reads};
+ghost use Rattle.ll_lines.specs.Readers.{Gives};
 ghost use Rattle.ll_lines.specs.Values.{value_data};
 ghost use Rattle.ll_trace.specs.Operations.{op_name, operation_named, operation_at};
 
@@ -27,15 +27,26 @@ fn operation_by_name(alloc: Global, name: &str, value: &Value<'_>) -> Result<Op,
     ensures { Gives (λ op. op) result (operation_named name.now (value_data value.now)) }
 {
     match name {
-        "start" => start_of(value),
+        "start" => Ok(Op::Start {
+            nnp: flag_of(value, "nnp")?,
+            admin: flag_of(value, "admin")?,
+        }),
         "fork" => Ok(Op::Fork {
             child: number_of(value, "child")?,
         }),
         "exit" => Ok(Op::Exit),
         "nnp" => Ok(Op::Nnp),
-        "create" => create_of(value),
+        "create" => Ok(Op::Create {
+            rs: number_of(value, "rs")?,
+            fs: fs_of(value)?,
+            net: net_of(value)?,
+        }),
         "add_path" => add_path_of(alloc, value),
-        "add_port" => add_port_of(value),
+        "add_port" => Ok(Op::AddPort {
+            rs: number_of(value, "rs")?,
+            port: number_of(value, "port")?,
+            net: net_of(value)?,
+        }),
         "close_rs" => Ok(Op::CloseRs {
             rs: number_of(value, "rs")?,
         }),
@@ -43,8 +54,14 @@ fn operation_by_name(alloc: Global, name: &str, value: &Value<'_>) -> Result<Op,
             rs: number_of(value, "rs")?,
         }),
         "open" => open_of(alloc, value),
-        "adopt" => adopt_of(value),
-        "dup" => dup_of(value),
+        "adopt" => Ok(Op::Adopt {
+            fd: number_of(value, "fd")?,
+            kind: sort_of(value)?,
+        }),
+        "dup" => Ok(Op::Dup {
+            fd: number_of(value, "fd")?,
+            to: number_of(value, "to")?,
+        }),
         "close" => Ok(Op::Close {
             fd: number_of(value, "fd")?,
         }),
@@ -79,28 +96,12 @@ fn operation_by_name(alloc: Global, name: &str, value: &Value<'_>) -> Result<Op,
         "connect" => Ok(Op::Connect {
             port: port_of(value)?,
         }),
-        "ioctl" => ioctl_of(value),
+        "ioctl" => Ok(Op::Ioctl {
+            fd: number_of(value, "fd")?,
+            driver: truth_of(value, "driver")?,
+        }),
         _ => Err(Cause::Field),
     }
-}
-
-#[tactic(auto, unfolding(crate::specs::Operations::operations, crate::specs::Operations::operation_named))]
-fn start_of(value: &Value<'_>) -> Result<Op, Cause>
-    ensures { Reads (λ op. op) result (operation_named (codes "start") (value_data value.now)) }
-{
-    let nnp = flag_of(value, "nnp")?;
-    let admin = flag_of(value, "admin")?;
-    Ok(Op::Start { nnp, admin })
-}
-
-#[tactic(auto, unfolding(crate::specs::Operations::operations, crate::specs::Operations::operation_named))]
-fn create_of(value: &Value<'_>) -> Result<Op, Cause>
-    ensures { Reads (λ op. op) result (operation_named (codes "create") (value_data value.now)) }
-{
-    let rs = number_of(value, "rs")?;
-    let fs = fs_of(value)?;
-    let net = net_of(value)?;
-    Ok(Op::Create { rs, fs, net })
 }
 
 #[tactic(auto, unfolding(crate::specs::Operations::operations, crate::specs::Operations::operation_named, crate::specs::Operations::paths_of, crate::specs::Operations::are_spelt, crate::specs::Members::path_in))]
@@ -112,16 +113,6 @@ fn add_path_of(alloc: Global, value: &Value<'_>) -> Result<Op, Cause>
     let fs = fs_of(value)?;
     let path = PathText::read(alloc, path)?;
     Ok(Op::AddPath { rs, path, fs })
-}
-
-#[tactic(auto, unfolding(crate::specs::Operations::operations, crate::specs::Operations::operation_named))]
-fn add_port_of(value: &Value<'_>) -> Result<Op, Cause>
-    ensures { Reads (λ op. op) result (operation_named (codes "add_port") (value_data value.now)) }
-{
-    let rs = number_of(value, "rs")?;
-    let port = number_of(value, "port")?;
-    let net = net_of(value)?;
-    Ok(Op::AddPort { rs, port, net })
 }
 
 #[tactic(auto, unfolding(crate::specs::Operations::operations, crate::specs::Operations::operation_named, crate::specs::Operations::paths_of, crate::specs::Operations::are_spelt, crate::specs::Members::path_in))]
@@ -141,24 +132,6 @@ fn open_of(alloc: Global, value: &Value<'_>) -> Result<Op, Cause>
         create,
         trunc,
     })
-}
-
-#[tactic(auto, unfolding(crate::specs::Operations::operations, crate::specs::Operations::operation_named))]
-fn adopt_of(value: &Value<'_>) -> Result<Op, Cause>
-    ensures { Reads (λ op. op) result (operation_named (codes "adopt") (value_data value.now)) }
-{
-    let fd = number_of(value, "fd")?;
-    let kind = sort_of(value)?;
-    Ok(Op::Adopt { fd, kind })
-}
-
-#[tactic(auto, unfolding(crate::specs::Operations::operations, crate::specs::Operations::operation_named))]
-fn dup_of(value: &Value<'_>) -> Result<Op, Cause>
-    ensures { Reads (λ op. op) result (operation_named (codes "dup") (value_data value.now)) }
-{
-    let fd = number_of(value, "fd")?;
-    let to = number_of(value, "to")?;
-    Ok(Op::Dup { fd, to })
 }
 
 #[tactic(auto, unfolding(crate::specs::Operations::operations, crate::specs::Operations::operation_named, crate::specs::Operations::paths_of, crate::specs::Operations::are_spelt, crate::specs::Members::path_in))]
@@ -192,15 +165,6 @@ fn link_of(alloc: Global, value: &Value<'_>) -> Result<Op, Cause>
     let from = PathText::read(alloc, from)?;
     let to = SecondPath::read(alloc, to)?;
     Ok(Op::Link { from, to })
-}
-
-#[tactic(auto, unfolding(crate::specs::Operations::operations, crate::specs::Operations::operation_named))]
-fn ioctl_of(value: &Value<'_>) -> Result<Op, Cause>
-    ensures { Reads (λ op. op) result (operation_named (codes "ioctl") (value_data value.now)) }
-{
-    let fd = number_of(value, "fd")?;
-    let driver = truth_of(value, "driver")?;
-    Ok(Op::Ioctl { fd, driver })
 }
 
 impl Op {

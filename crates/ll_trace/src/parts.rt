@@ -1,22 +1,17 @@
 //! The reading of a trace file by several threads: each reads parts of the lines as entries, and one
 //! thread admits them in the order of the file.
 
-ghost use Rattle.std.specs.Prelude.{◌≡◌, ◌≢◌, ◌++◌, ◌∷◌, [], ℕ, List, flat_map, OnOk, OnErr, IfOk, IfErr};
+ghost use Rattle.std.specs.Prelude.{◌≡◌, ◌++◌, ◌∷◌, [], ℕ, List, flat_map, OnOk, OnErr, IfOk, IfErr};
 ghost use Rattle.std.specs.List.{AllZip};
-ghost use Rattle.ll_lines.specs.declared.fault.Cause.TheVariants.{Memory};
 ghost use Rattle.ll_lines.specs.Lines.{Line, filled_lines};
 ghost use Rattle.ll_lines.specs.LineView.{line_view};
-ghost use Rattle.ll_lines.specs.LineByLine.{read_lines, GivesReading, MeetsFault};
+ghost use Rattle.ll_lines.specs.LineByLine.{read_lines, reading, GivesReading, MeetsFault};
 ghost use Rattle.ll_lines.specs.Readers.{Fails};
-ghost use Rattle.ll_lines.specs.Reading.{IsBad};
 ghost use Rattle.ll_trace.specs.Entries.{entry_at, trace_file};
 ghost use Rattle.ll_trace.specs.Kept.{IsKept, entries};
 ghost use Rattle.ll_trace.specs.Parts.{Covers, IsReadOf};
-ghost use Rattle.ll_trace.specs.RecordFacts.{AreRecords};
-ghost use Rattle.ll_trace.specs.Records.{IsTrace};
 
 use crate::reader::{Entry, Reader, entry_of};
-use crate::record::Record;
 use json::Scratch;
 use ll_lines::lines::{FileLine, FilledLines};
 use ll_lines::{Cause, ReadFault};
@@ -58,10 +53,7 @@ fn read_part(alloc: Global, lines: FilledLines) -> PartRead
     let mut scratch = Scratch::new(alloc);
     for line in lines {
         if let Err(cause) = take_line(alloc, &line, &mut scratch, &mut entries) {
-            let fault = Some(ReadFault {
-                line: line.number,
-                cause,
-            });
+            let fault = Some(line.fault(cause));
             return PartRead { entries, fault };
         }
     }
@@ -132,23 +124,18 @@ fn read_parts<R: Threads + Sync>(
         .collect(rt, alloc)
 }
 
-/// The records of a trace file, or the first fault of its first faulty line.
-#[tactic(auto, using(ll_lines::proofs::ReadingLemmas::good_from_reading, ll_lines::proofs::ReadingLemmas::bad_from_fault))]
-pub fn read_records_by<R: Threads + Sync>(
+/// Reads a file by parts, of which there are at most this many: its records, or the first fault of its first faulty line.
+pub(crate) fn read_all_by<R: Threads + Sync>(
     rt: &R,
     alloc: Global,
     bytes: &[u8],
     most: usize,
-) -> Result<Vec<Record>, ReadFault>
-    ensures good { IfOk result (λ records. IsTrace bytes.now records.items) }
-    ensures records { IfOk result (λ records. AreRecords records.items) }
-    ensures bad { IfErr result (λ fault. fault.cause ≢ Memory → IsBad trace_file bytes.now fault) }
+) -> Result<Reader, ReadFault>
+    ensures gives { GivesReading entries result (reading trace_file bytes.now) }
+    ensures kept { IfOk result IsKept }
 {
     match read_parts(rt, alloc, bytes, most) {
-        Ok(parts) => match admit_all(alloc, parts) {
-            Ok(reader) => Ok(reader.into_records()),
-            Err(fault) => Err(fault),
-        },
+        Ok(parts) => admit_all(alloc, parts),
         Err(_) => Err(ReadFault {
             line: 1,
             cause: Cause::Memory,

@@ -1,14 +1,12 @@
 //! The reading of a trace file, record after record.
 
-ghost use Rattle.std.specs.Prelude.{◌≡◌, ◌≢◌, ◌+◌, ◌<◌, ◌∷◌, [], List, OnOk, IfOk, IfErr, None, Ok, unwrap_or};
+ghost use Rattle.std.specs.Prelude.{◌≡◌, ◌+◌, ◌<◌, ◌∷◌, [], List, OnOk, IfOk, IfErr, None, Ok, unwrap_or};
 ghost use Rattle.ll_lines.specs.declared.fault.Cause.TheVariants.{Memory};
 ghost use Rattle.ll_lines.specs.Readers.{Gives};
 ghost use Rattle.ll_lines.specs.LineView.{line_view};
 ghost use Rattle.ll_lines.specs.LineByLine.{with_entry, with_line, reading, GivesReading};
-ghost use Rattle.ll_lines.specs.Reading.{IsBad};
 ghost use Rattle.ll_trace.specs.Entries.{Entry as Seen, entry_at, is_live as is_live_in, is_unknown as is_unknown_in, is_twice as is_twice_in, is_too_many, is_end_of, misplacement, process_count, started_pid, trace_file};
-ghost use Rattle.ll_trace.specs.Records.{process_of, IsTrace};
-ghost use Rattle.ll_trace.specs.RecordFacts.{AreRecords};
+ghost use Rattle.ll_trace.specs.Records.{process_of};
 ghost use Rattle.ll_trace.specs.Kept.{IsKept, IsNoted, Begins, Stops, entries, entry_view, number, owner_of, past, runs};
 
 use crate::op::Op;
@@ -261,8 +259,9 @@ fn process_or_first(owner: Option<Owner>) -> ProcessId
     }
 }
 
+/// Reads a file line after line: its records, or the first fault of its first faulty line.
 #[tactic(auto, using(ll_lines::proofs::ReadingLemmas::read_lines_next, ll_lines::proofs::ReadingLemmas::read_lines_fault, ll_lines::proofs::ReadingLemmas::read_lines_end))]
-fn read_all(alloc: Global, bytes: &[u8]) -> Result<Reader, ReadFault>
+pub(crate) fn read_all(alloc: Global, bytes: &[u8]) -> Result<Reader, ReadFault>
     ensures gives { GivesReading entries result (reading trace_file bytes.now) }
     ensures kept { IfOk result IsKept }
 {
@@ -270,24 +269,8 @@ fn read_all(alloc: Global, bytes: &[u8]) -> Result<Reader, ReadFault>
     let mut scratch = Scratch::new(alloc);
     for line in FilledLines::new(bytes) {
         if let Err(cause) = reader.read_line(alloc, &line, &mut scratch) {
-            return Err(ReadFault {
-                line: line.number,
-                cause,
-            });
+            return Err(line.fault(cause));
         }
     }
     Ok(reader)
-}
-
-/// The records of a trace file, or the first fault of its first faulty line.
-#[tactic(auto, using(ll_lines::proofs::ReadingLemmas::good_from_reading, ll_lines::proofs::ReadingLemmas::bad_from_fault))]
-pub fn read_records(alloc: Global, bytes: &[u8]) -> Result<Vec<Record>, ReadFault>
-    ensures good { IfOk result (λ records. IsTrace bytes.now records.items) }
-    ensures records { IfOk result (λ records. AreRecords records.items) }
-    ensures bad { IfErr result (λ fault. fault.cause ≢ Memory → IsBad trace_file bytes.now fault) }
-{
-    match read_all(alloc, bytes) {
-        Ok(reader) => Ok(reader.into_records()),
-        Err(fault) => Err(fault),
-    }
 }

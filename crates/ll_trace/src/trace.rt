@@ -4,13 +4,14 @@ ghost use Rattle.std.specs.Prelude.{◌≡◌, ◌≢◌, ◌<◌, ◌≤◌, le
 ghost use Rattle.ll_lines.specs.declared.fault.Cause.TheVariants.{Memory};
 ghost use Rattle.ll_lines.specs.Reading.{IsBad};
 ghost use Rattle.ll_trace.specs.Entries.{trace_file};
+ghost use Rattle.ll_trace.specs.Kept.{IsKept};
 ghost use Rattle.ll_trace.specs.RecordFacts.{AreRecords};
 ghost use Rattle.ll_trace.specs.Records.{IsTrace};
 ghost use Rattle.ll_trace.specs.BestEffort.{records_at_best_effort};
 ghost use Rattle.ll_trace.specs.Processes.{process_count, parent_of, own_records, started_at};
 
-use crate::parts::read_records_by;
-use crate::reader::read_records;
+use crate::parts::read_all_by;
+use crate::reader::{Reader, read_all};
 use crate::record::{ProcessId, Record};
 use crate::tables::{Tables, index};
 use ll_lines::{Cause, ReadFault};
@@ -42,20 +43,19 @@ impl Model for Trace {
 impl Trace {
     /// Reads a trace file: its records if no line has a fault, else the first fault of the first
     /// faulty line. Where memory runs out, the fault is `Memory` at the line that was being read.
+    #[tactic(auto, using(ll_lines::proofs::ReadingLemmas::good_from_reading, ll_lines::proofs::ReadingLemmas::bad_from_fault))]
     pub fn read(alloc: Global, bytes: &[u8]) -> Result<Trace, ReadFault>
         ensures good { IfOk result (λ trace. IsTrace bytes.now trace) }
         ensures bad { IfErr result
             (λ fault. fault.cause ≢ Memory → IsBad trace_file bytes.now fault) }
     {
-        match read_records(alloc, bytes) {
-            Ok(records) => Trace::of(alloc, records),
-            Err(fault) => Err(fault),
-        }
+        Trace::of(alloc, read_all(alloc, bytes)?)
     }
 
     /// Reads a trace file as [`Trace::read`] does, by at most this many threads, which read parts of its
     /// lines side by side; 0 counts as one. One starts no thread. Where memory runs out, the fault is
     /// `Memory` at a line that was being read, or at the first line.
+    #[tactic(auto, using(ll_lines::proofs::ReadingLemmas::good_from_reading, ll_lines::proofs::ReadingLemmas::bad_from_fault))]
     pub fn read_by<R: Threads + Sync>(
         rt: &R,
         alloc: Global,
@@ -69,16 +69,16 @@ impl Trace {
         if workers <= 1 {
             return Trace::read(alloc, bytes);
         }
-        let records = read_records_by(rt, alloc, bytes, workers)?;
-        Trace::of(alloc, records)
+        Trace::of(alloc, read_all_by(rt, alloc, bytes, workers)?)
     }
 
-    /// The trace that has these records.
-    fn of(alloc: Global, records: Vec<Record>) -> Result<Trace, ReadFault>
-        requires { AreRecords records.items }
-        ensures ok { IfOk result (λ trace. trace ≡ records.items) }
+    /// The trace that has the records that were read.
+    fn of(alloc: Global, reader: Reader) -> Result<Trace, ReadFault>
+        requires { IsKept reader }
+        ensures ok { IfOk result (λ trace. trace ≡ reader.records.items) }
         ensures err { IfErr result (λ fault. fault.cause ≡ Memory) }
     {
+        let records = reader.into_records();
         match index(alloc, &records) {
             Ok(tables) => Ok(Trace { records, tables }),
             Err(_) => Err(ReadFault {

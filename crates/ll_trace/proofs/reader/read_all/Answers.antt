@@ -8,5 +8,5 @@ use Rattle.ll_trace.proofs.reader.read_all.Goals as goal
 
 pub returns-in-Err-clause-gives : goal.returns-in-Err-clause-gives
 returns-in-Err-clause-gives c =
-    meets_fault trace_file (entries c.loop-line.reader) c.loop-line.line-iterator (line_view c.in-Some.line) c.next.new.self c.in-Err.cause (reading trace_file c.args.bytes.now)
-    c.in-Some.ensures.steps c.loop-line.invariant.read c.in-Err.ensures.gives
+    rw c.fault.ensures (meets_fault trace_file (entries c.loop-line.reader) c.loop-line.line-iterator (line_view c.in-Some.line) c.next.new.self c.in-Err.cause
+    (reading trace_file c.args.bytes.now) c.in-Some.ensures.steps c.loop-line.invariant.read c.in-Err.ensures.gives)
