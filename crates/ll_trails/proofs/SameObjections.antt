@@ -25,6 +25,7 @@ use Rattle.ll_rules.proofs.SameLayers.{granted-same, handles-same}
 use Rattle.ll_trace.specs.declared.op.Op.{Op}
 use Rattle.ll_trace.specs.declared.op.Op.TheVariants as calls
 use Rattle.ll_semantics.specs.declared.request.Request.{Request}
+use Rattle.ll_semantics.specs.Requests.{request, wanted}
 use Rattle.ll_semantics.specs.States.{Layer}
 use Rattle.ll_reasons.specs.Origins.{Origins}
 use Rattle.ll_reasons.specs.Objections.{Objection, missing, closed, gained, mounting, missing_rights, closed_rights, gained_rights, one_of, if_any, on_path, on_port, on_mount, on_gain, on_directories, on_other_gain, on_crossing, objecting_from, to_request, on_move, to_move}
@@ -119,17 +120,11 @@ module _ (xs ys : List Layer) (both : AllZip SameRules xs ys) where
 
 pub same_layers_object_to_the_same : (tree : List Entry) (xs ys : List Layer) → AllZip SameRules xs ys → (o : Origins) (op : Op) (error : Errno) (numbers : List ℕ) → objections_to tree xs o op error numbers ≡ objections_to tree ys o op error numbers
 unfolding objections_to
-same_layers_object_to_the_same tree xs ys both o (calls.OpenFile path fd mode create trunc) error numbers = request-same xs ys both tree _
-same_layers_object_to_the_same tree xs ys both o (calls.Truncate path) error numbers = request-same xs ys both tree _
-same_layers_object_to_the_same tree xs ys both o (calls.Exec path) error numbers = request-same xs ys both tree _
-same_layers_object_to_the_same tree xs ys both o (calls.Mknod path kind) error numbers = request-same xs ys both tree _
-same_layers_object_to_the_same tree xs ys both o (calls.Mkdir path) error numbers = request-same xs ys both tree _
-same_layers_object_to_the_same tree xs ys both o (calls.Symlink path) error numbers = request-same xs ys both tree _
-same_layers_object_to_the_same tree xs ys both o (calls.Unlink path) error numbers = request-same xs ys both tree _
-same_layers_object_to_the_same tree xs ys both o (calls.Rmdir path) error numbers = request-same xs ys both tree _
+same_layers_object_to_the_same tree xs ys both o (calls.Ftruncate fd) error numbers = refl
+same_layers_object_to_the_same tree xs ys both o (calls.Ioctl fd driver) error numbers = refl
 same_layers_object_to_the_same tree xs ys both o (calls.Rename from to exchange) error numbers = move-same xs ys both tree error _
 same_layers_object_to_the_same tree xs ys both o (calls.Link from to) error numbers = move-same xs ys both tree error _
 same_layers_object_to_the_same tree xs ys both o calls.Mount error numbers = objecting-same on_mount (λ a b same. on_mount-same a b same) 1 xs ys both
 same_layers_object_to_the_same tree xs ys both o (calls.Bind port) error numbers = port-same xs ys both port (network.only network.bind_tcp)
 same_layers_object_to_the_same tree xs ys both o (calls.Connect port) error numbers = port-same xs ys both port (network.only network.connect_tcp)
-same_layers_object_to_the_same tree xs ys both o op error numbers = refl
+same_layers_object_to_the_same tree xs ys both o op error numbers = request-same xs ys both tree (request tree (wanted op))
