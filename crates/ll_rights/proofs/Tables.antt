@@ -1,12 +1,13 @@
 -- Sets of rights by any table of rights, from the places of their bits.
-use Rattle.std.proofs.Common.{◌≡◌, ℕ, ◌+◌, ◌^◌, ◌<◌, ◌≤◌, Bool, true, false, not, ◌&&◌, ◌||◌, eqb, List, [], ◌∷◌, ◌++◌, map, filter, get_or, refl, sym, ap, ◌∙◌, arith, bit_and}
+use Rattle.std.proofs.Common.{◌≡◌, ℕ, ◌+◌, ◌^◌, ◌<◌, ◌≤◌, Bool, true, false, not, ◌&&◌, ◌||◌, eqb, List, [], ◌∷◌, ◌++◌, map, filter, get_or, find, refl, sym, ap, ◌∙◌, arith, bit_and, inl, inr}
+use Rattle.std.specs.Prelude.{bytes_eq, unwrap_or}
 use Rattle.std.specs.Int.{w32, bit_not}
 use Rattle.std.specs.List.{list_any, list_all, range_with_len}
-use Rattle.std.proofs.lemmas.Bool.{eqb-true, eq-eqb}
+use Rattle.std.proofs.lemmas.Bool.{cases_Bool, eqb-true, eq-eqb}
 use Rattle.std.proofs.lemmas.Map.Views.{any-filter_same}
 use Rattle.std.proofs.lemmas.Nat.{and_comm}
 use Rattle.ll_rights.specs.Bits.{has_place}
-use Rattle.ll_rights.specs.Sets.{Row}
+use Rattle.ll_rights.specs.Sets.{Row, first_named}
 use Rattle.ll_rights.specs.BitSets.{bits_of, bits_without}
 use Rattle.ll_rights.proofs.Places.{any_none, all_each, has_place-or, has_place-power, has_place-without, has_place-and, without-twice, zero_place, known_below, is_zero_by_places, is_lacking_by_places, is_within_by_places}
 
@@ -22,6 +23,15 @@ pub record IsTable {R : Type 0} (row : R → Row) (named : List R) (other : R) :
   pub numbered : map (λ right. (row right).bit) (named ++ other ∷ []) ≡ range_with_len 0 ((row other).bit + 1)
   pub each : (right : R) → Stands row named other right
   pub fits : (row other).bit ≤ 32
+
+-- the first that is named among what the code has is the first of what stands for these
+pub first_named_by : {C R : Type 0} (row : R → Row) (right_of : C → R) (other : C) (text : List ℕ) (among : List C)
+    → right_of (unwrap_or (find (λ code. bytes_eq text (row (right_of code)).name) among) other) ≡ first_named row (right_of other) (map right_of among) text
+first_named_by row right_of other text [] = refl
+first_named_by row right_of other text (code ∷ others) = elim (cases_Bool (bytes_eq text (row (right_of code)).name)) [
+  | inl same ↦ rw same refl
+  | inr differs ↦ rw differs (first_named_by row right_of other text others)
+]
 
 any-map : {X Y : Type 0} (test : Y → Bool) (f : X → Y) (xs : List X) → list_any (λ x. test (f x)) xs ≡ list_any test (map f xs)
 any-map test f [] = refl

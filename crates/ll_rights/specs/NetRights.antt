@@ -3,10 +3,12 @@
 use Rattle.std.specs.Prelude.{ℕ, ◌^◌, bit_or, Bool, not, ◌&&◌, ◌||◌, List, [], ◌∷◌, ◌++◌, codes, ◌==◌}
 use Rattle.std.specs.List.{list_any, list_all}
 use Rattle.ll_rights.specs.declared.net.Net.{Net}
-pub use Rattle.ll_rights.specs.declared.right.NetRight.{NetRight}
-pub use Rattle.ll_rights.specs.declared.right.NetRight.TheVariants.{BindTcp as bind_tcp, ConnectTcp as connect_tcp, Other as other}
 use Rattle.ll_rights.specs.Bits.{has_place}
 use Rattle.ll_rights.specs.Sets.{Row, not_for_files, unnamed, first_named}
+
+-- An access right for TCP ports. `other` stands for every name that is none of the rest.
+pub data NetRight : Type 0 where
+  bind_tcp connect_tcp other : NetRight
 
 -- The table: each right's name, which is the constant of the kernel's header without its prefix, in lower case, the number of
 -- its bit, and the ABI that it comes with.

@@ -3,10 +3,13 @@
 use Rattle.std.specs.Prelude.{ℕ, ◌^◌, bit_or, Bool, not, ◌&&◌, ◌||◌, List, [], ◌∷◌, ◌++◌, codes, ◌==◌}
 use Rattle.std.specs.List.{list_any, list_all}
 use Rattle.ll_rights.specs.declared.fs.Fs.{Fs}
-pub use Rattle.ll_rights.specs.declared.right.FsRight.{FsRight}
-pub use Rattle.ll_rights.specs.declared.right.FsRight.TheVariants.{Execute as execute, WriteFile as write_file, ReadFile as read_file, ReadDir as read_dir, RemoveDir as remove_dir, RemoveFile as remove_file, MakeChar as make_char, MakeDir as make_dir, MakeReg as make_reg, MakeSock as make_sock, MakeFifo as make_fifo, MakeBlock as make_block, MakeSym as make_sym, Refer as refer, Truncate as truncate, IoctlDev as ioctl_dev, Other as other}
 use Rattle.ll_rights.specs.Bits.{has_place}
 use Rattle.ll_rights.specs.Sets.{Row, for_files, not_for_files, unnamed, first_named}
+
+-- An access right for files. `other` stands for every name that is none of the rest.
+pub data FsRight : Type 0 where
+  execute write_file read_file read_dir remove_dir remove_file make_char make_dir make_reg make_sock make_fifo : FsRight
+  make_block make_sym refer truncate ioctl_dev other : FsRight
 
 -- The table: each right's name, which is the constant of the kernel's header without its prefix, in lower case, the number of
 -- its bit, and the ABI that it comes with.

@@ -1,13 +1,120 @@
 //! Sets of access rights for files.
 
-ghost use Rattle.std.specs.Prelude.{⊤, ◌≡◌, ◌∷◌, [], false, bytes_eq, codes, find};
+ghost use Rattle.std.specs.Prelude.{⊤, ◌≡◌, ◌∷◌, [], false, bytes_eq, codes, find, map};
+ghost use Rattle.ll_rights.specs.CodeRights.{fs_right};
 ghost use Rattle.ll_rights.specs.Rights as rights;
 ghost use Rattle.ll_rights.specs.Supported.{supported_fs};
 
 use crate::abi::Abi;
 use crate::bits::{has_place, without};
-use crate::right::FsRight;
 use bitflags::{Flag, Flags, bitflag_items};
+
+/// An access right for files (landlock(7), "Filesystem actions").
+#[derive(Clone, Copy, Debug, PartialEq, Eq)]
+pub enum FsRight {
+    /// Execute a file.
+    Execute,
+    /// Open a file for writing.
+    WriteFile,
+    /// Open a file for reading.
+    ReadFile,
+    /// Open a directory or list it.
+    ReadDir,
+    /// Remove or rename a directory.
+    RemoveDir,
+    /// Remove or rename what is no directory.
+    RemoveFile,
+    /// Make a character device.
+    MakeChar,
+    /// Make a directory.
+    MakeDir,
+    /// Make a regular file.
+    MakeReg,
+    /// Make a UNIX domain socket.
+    MakeSock,
+    /// Make a named pipe.
+    MakeFifo,
+    /// Make a block device.
+    MakeBlock,
+    /// Make a symbolic link.
+    MakeSym,
+    /// Link or rename a file from or to another directory.
+    Refer,
+    /// Truncate a file.
+    Truncate,
+    /// Use ioctl(2) on a device.
+    IoctlDev,
+    /// Any right of another name.
+    Other,
+}
+
+impl FsRight {
+    /// All rights, in the order of the table.
+    #[tactic(auto, unfolding(crate::specs::Rights::all_rights, crate::specs::Rights::named_rights))]
+    pub fn all() -> &'static [FsRight]
+        ensures { map fs_right result.now ≡ rights.all_rights }
+    {
+        &[
+            FsRight::Execute,
+            FsRight::WriteFile,
+            FsRight::ReadFile,
+            FsRight::ReadDir,
+            FsRight::RemoveDir,
+            FsRight::RemoveFile,
+            FsRight::MakeChar,
+            FsRight::MakeDir,
+            FsRight::MakeReg,
+            FsRight::MakeSock,
+            FsRight::MakeFifo,
+            FsRight::MakeBlock,
+            FsRight::MakeSym,
+            FsRight::Refer,
+            FsRight::Truncate,
+            FsRight::IoctlDev,
+            FsRight::Other,
+        ]
+    }
+
+    /// The number of the right's bit.
+    fn bit(self) -> u32
+        ensures { result ≡ rights.bit_of (fs_right self) }
+    {
+        self as u32
+    }
+
+    /// The right's name, which is empty for `Other`.
+    pub fn name(self) -> &'static str
+        ensures { result.now ≡ rights.name_of (fs_right self) }
+    {
+        match self {
+            FsRight::Execute => "execute",
+            FsRight::WriteFile => "write_file",
+            FsRight::ReadFile => "read_file",
+            FsRight::ReadDir => "read_dir",
+            FsRight::RemoveDir => "remove_dir",
+            FsRight::RemoveFile => "remove_file",
+            FsRight::MakeChar => "make_char",
+            FsRight::MakeDir => "make_dir",
+            FsRight::MakeReg => "make_reg",
+            FsRight::MakeSock => "make_sock",
+            FsRight::MakeFifo => "make_fifo",
+            FsRight::MakeBlock => "make_block",
+            FsRight::MakeSym => "make_sym",
+            FsRight::Refer => "refer",
+            FsRight::Truncate => "truncate",
+            FsRight::IoctlDev => "ioctl_dev",
+            FsRight::Other => "",
+        }
+    }
+
+    /// The set of this right alone.
+    #[tactic(auto, unfolding(crate::specs::Rights::only))]
+    pub fn set(self) -> Fs
+        ensures { result ≡ rights.only (fs_right self) }
+    {
+        Fs(1 << self.bit())
+    }
+}
 
 /// A set of access rights for files (landlock(7), "Filesystem actions"; the kernel's userspace
 /// document on Landlock, "Filesystem flags").
@@ -94,7 +201,7 @@ impl Fs {
     /// Whether the set has a right.
     #[tactic(auto, unfolding(crate::specs::Rights::has))]
     pub fn has(self, right: FsRight) -> bool
-        ensures { result ≡ rights.has self right }
+        ensures { result ≡ rights.has self (fs_right right) }
     {
         has_place(FsRight::Other.bit(), self.0, right.bit())
     }
@@ -138,13 +245,13 @@ impl Fs {
 
 /// The first of some rights that a text names.
 fn named(among: &[FsRight], name: &str) -> Option<FsRight>
-    ensures { result ≡ find (λ right. bytes_eq name.now (rights.name_of right)) among.now }
+    ensures { result ≡ find (λ right. bytes_eq name.now (rights.name_of (fs_right right))) among.now }
 {
     among.iter().copied().find(|right| name == right.name())
 }
 
 /// The set of the one right that a name stands for; any name that is no right's is `OTHER`.
-#[tactic(auto, unfolding(crate::specs::Rights::right_named))]
+#[tactic(auto, using(crate::proofs::Sets::fs_named))]
 pub fn fs_of_name(name: &str) -> Fs
     ensures { result ≡ rights.only (rights.right_named name.now) }
 {

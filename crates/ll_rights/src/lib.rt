@@ -8,11 +8,9 @@ mod fs;
 mod kind;
 mod laws;
 mod net;
-mod right;
 
 pub use abi::Abi;
-pub use fs::{Fs, fs_of_name};
+pub use fs::{Fs, FsRight, fs_of_name};
 pub use kind::Kind;
 pub use laws::{file_rights, numbered_versions, sets_by_rights, supported_sets};
-pub use net::{Net, net_of_name};
-pub use right::{FsRight, NetRight};
+pub use net::{Net, NetRight, net_of_name};

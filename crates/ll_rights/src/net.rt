@@ -1,13 +1,60 @@
 //! Sets of access rights for the network.
 
-ghost use Rattle.std.specs.Prelude.{⊤, ◌≡◌, ◌∷◌, [], false, bytes_eq, codes, find};
+ghost use Rattle.std.specs.Prelude.{⊤, ◌≡◌, ◌∷◌, [], false, bytes_eq, codes, find, map};
+ghost use Rattle.ll_rights.specs.CodeRights.{net_right};
 ghost use Rattle.ll_rights.specs.NetRights as rights;
 ghost use Rattle.ll_rights.specs.Supported.{supported_net};
 
 use crate::abi::Abi;
 use crate::bits::{has_place, without};
-use crate::right::NetRight;
 use bitflags::{Flag, Flags, bitflag_items};
+
+/// An access right for TCP ports (the kernel's userspace document on Landlock, "Network flags").
+#[derive(Clone, Copy, Debug, PartialEq, Eq)]
+pub enum NetRight {
+    /// Bind a socket to a TCP port.
+    BindTcp,
+    /// Connect a socket to a TCP port.
+    ConnectTcp,
+    /// Any right of another name.
+    Other,
+}
+
+impl NetRight {
+    /// All rights, in the order of the table.
+    #[tactic(auto, unfolding(crate::specs::NetRights::all_rights))]
+    pub fn all() -> &'static [NetRight]
+        ensures { map net_right result.now ≡ rights.all_rights }
+    {
+        &[NetRight::BindTcp, NetRight::ConnectTcp, NetRight::Other]
+    }
+
+    /// The number of the right's bit.
+    fn bit(self) -> u32
+        ensures { result ≡ rights.bit_of (net_right self) }
+    {
+        self as u32
+    }
+
+    /// The right's name, which is empty for `Other`.
+    pub fn name(self) -> &'static str
+        ensures { result.now ≡ rights.name_of (net_right self) }
+    {
+        match self {
+            NetRight::BindTcp => "bind_tcp",
+            NetRight::ConnectTcp => "connect_tcp",
+            NetRight::Other => "",
+        }
+    }
+
+    /// The set of this right alone.
+    #[tactic(auto, unfolding(crate::specs::NetRights::only))]
+    pub fn set(self) -> Net
+        ensures { result ≡ rights.only (net_right self) }
+    {
+        Net(1 << self.bit())
+    }
+}
 
 /// A set of access rights for TCP ports (the kernel's userspace document on Landlock, "Network
 /// flags").
@@ -64,7 +111,7 @@ impl Net {
     /// Whether the set has a right.
     #[tactic(auto, unfolding(crate::specs::NetRights::has))]
     pub fn has(self, right: NetRight) -> bool
-        ensures { result ≡ rights.has self right }
+        ensures { result ≡ rights.has self (net_right right) }
     {
         has_place(NetRight::Other.bit(), self.0, right.bit())
     }
@@ -108,13 +155,13 @@ impl Net {
 
 /// The first of some rights that a text names.
 fn named(among: &[NetRight], name: &str) -> Option<NetRight>
-    ensures { result ≡ find (λ right. bytes_eq name.now (rights.name_of right)) among.now }
+    ensures { result ≡ find (λ right. bytes_eq name.now (rights.name_of (net_right right))) among.now }
 {
     among.iter().copied().find(|right| name == right.name())
 }
 
 /// The set of the one right that a name stands for; any name that is no right's is `OTHER`.
-#[tactic(auto, unfolding(crate::specs::NetRights::right_named))]
+#[tactic(auto, using(crate::proofs::Sets::net_named))]
 pub fn net_of_name(name: &str) -> Net
     ensures { result ≡ rights.only (rights.right_named name.now) }
 {
