@@ -1,11 +1,8 @@
 //! A climb for each layer by itself, with what makes the checks by lanes quick: a filter in front of the rules, and
 //! an end where nothing is lacking.
 
-ghost use Rattle.std.specs.Prelude.{◌≤◌, length};
-ghost use Rattle.ll_tree.specs.Trees.{IsNode};
-
 use bitflags::Flags;
-use ll_plain::Refusing;
+use ll_plain::Refuses;
 use ll_rights::Fs;
 use ll_tree::{NodeId, Tree};
 use std::alloc::{AllocError, Global};
@@ -53,11 +50,10 @@ impl FilteredLayer {
             .copied()
             .unwrap_or(Fs::NONE)
     }
+}
 
-    /// Whether the layer refuses something of what is wanted on a node.
-    fn refuses(&self, tree: &Tree, node: NodeId, wanted: Fs) -> bool
-        requires { IsNode tree.now node }
-    {
+impl Refuses for FilteredLayer {
+    fn refuses(&self, tree: &Tree, node: NodeId, wanted: Fs) -> bool {
         let mut lacking = wanted.intersection(self.files);
         let mut at = Some(node);
         while let Some(here) = at {
@@ -69,21 +65,4 @@ impl FilteredLayer {
         }
         !lacking.is_empty()
     }
-}
-
-/// Which of at most sixteen layers refuse something of what is wanted on a node.
-pub(crate) fn refusing_filtered(
-    tree: &Tree,
-    layers: &[FilteredLayer],
-    node: NodeId,
-    wanted: Fs,
-) -> Refusing
-    requires node { IsNode tree.now node }
-    requires few { length layers.now ≤ 16 }
-{
-    let mut refusing = [false; 16];
-    for (place, layer) in layers.iter().enumerate() {
-        refusing[place] = layer.refuses(tree, node, wanted);
-    }
-    refusing
 }

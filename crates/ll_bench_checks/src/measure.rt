@@ -1,11 +1,10 @@
 //! The measuring: the least time of several runs, for each number of layers and each depth.
 
-ghost use Rattle.std.specs.Prelude.{All, length, ◌≤◌};
+ghost use Rattle.std.specs.Prelude.{All};
 ghost use Rattle.ll_tree.specs.Trees.{IsNode};
 ghost use Rattle.ll_rules.specs.InTree.{AreInTree};
 ghost use Rattle.ll_rules.specs.KeptLayers.{IsDomainOf};
 
-use crate::filtered::refusing_filtered;
 use crate::setting::{Layers, deep_tree, layers_of, objects_at};
 use anyhow::{Context, Result};
 use ll_plain::refusing;
@@ -21,6 +20,17 @@ const ROUNDS: u32 = 500;
 /// How many runs there are, of which the quickest counts.
 const RUNS: u32 = 60;
 
+/// How layers are asked.
+#[derive(Clone, Copy)]
+enum Form {
+    /// One after another, by a plain climb for each.
+    Plain,
+    /// One after another, with a filter and an early end.
+    Filtered,
+    /// By lanes where there are several.
+    Lanes,
+}
+
 /// What is measured: how many layers refuse or grant in how many checks, and how long these took.
 #[derive(Clone, Copy)]
 struct Taken {
@@ -28,44 +38,28 @@ struct Taken {
     time: Duration,
 }
 
-/// Checks all objects again and again, one layer after another.
-fn by_plain<R: Clock>(rt: &R, tree: &Tree, layers: &Layers, nodes: &[NodeId]) -> Result<Taken>
-    requires nodes { All (IsNode tree.now) nodes.now }
-    requires few { length layers.now.plain.items ≤ 16 }
+/// Whether some layer refuses to read an object.
+fn is_refused(form: Form, tree: &Tree, layers: &Layers, node: NodeId) -> bool
+    requires node { IsNode tree.now node }
+    requires rules { All (AreInTree tree.now) layers.now.lanes.items }
+    requires domain { IsDomainOf layers.now.lanes.items layers.now.domain }
 {
-    let start = Instant::now(rt)?;
-    let mut refused = 0u64;
-    for _ in 0..ROUNDS {
-        for node in nodes {
-            if refusing(tree, &layers.plain, *node, Fs::READ_FILE).contains(&true) {
-                refused = refused.wrapping_add(1);
-            }
-        }
+    let wanted = Fs::READ_FILE;
+    match form {
+        Form::Plain => refusing(tree, &layers.plain, node, wanted).contains(&true),
+        Form::Filtered => refusing(tree, &layers.filtered, node, wanted).contains(&true),
+        Form::Lanes => { !check_path(tree, &layers.lanes, &layers.domain, node, wanted).is_empty() }
     }
-    let time = start.elapsed(rt)?;
-    Ok(Taken { refused, time })
 }
 
-/// Checks all objects again and again, one layer after another, with a filter and an early end.
-fn by_filtered<R: Clock>(rt: &R, tree: &Tree, layers: &Layers, nodes: &[NodeId]) -> Result<Taken>
-    requires nodes { All (IsNode tree.now) nodes.now }
-    requires few { length layers.now.filtered.items ≤ 16 }
-{
-    let start = Instant::now(rt)?;
-    let mut refused = 0u64;
-    for _ in 0..ROUNDS {
-        for node in nodes {
-            if refusing_filtered(tree, &layers.filtered, *node, Fs::READ_FILE).contains(&true) {
-                refused = refused.wrapping_add(1);
-            }
-        }
-    }
-    let time = start.elapsed(rt)?;
-    Ok(Taken { refused, time })
-}
-
-/// Checks all objects again and again, by lanes.
-fn by_lanes<R: Clock>(rt: &R, tree: &Tree, layers: &Layers, nodes: &[NodeId]) -> Result<Taken>
+/// Checks all objects again and again.
+fn checked<R: Clock>(
+    rt: &R,
+    form: Form,
+    tree: &Tree,
+    layers: &Layers,
+    nodes: &[NodeId],
+) -> Result<Taken>
     requires nodes { All (IsNode tree.now) nodes.now }
     requires rules { All (AreInTree tree.now) layers.now.lanes.items }
     requires domain { IsDomainOf layers.now.lanes.items layers.now.domain }
@@ -74,8 +68,7 @@ fn by_lanes<R: Clock>(rt: &R, tree: &Tree, layers: &Layers, nodes: &[NodeId]) ->
     let mut refused = 0u64;
     for _ in 0..ROUNDS {
         for node in nodes {
-            let set = check_path(tree, &layers.lanes, &layers.domain, *node, Fs::READ_FILE);
-            if !set.is_empty() {
+            if is_refused(form, tree, layers, *node) {
                 refused = refused.wrapping_add(1);
             }
         }
@@ -105,12 +98,10 @@ fn line<R: Clock + Print + AllocGlobal>(
     requires nodes { All (IsNode tree.now) nodes.now }
     requires rules { All (AreInTree tree.now) layers.now.lanes.items }
     requires domain { IsDomainOf layers.now.lanes.items layers.now.domain }
-    requires few { length layers.now.plain.items ≤ 16 }
-    requires few_filtered { length layers.now.filtered.items ≤ 16 }
 {
-    let first = by_plain(rt, tree, layers, nodes)?;
-    let second = by_filtered(rt, tree, layers, nodes)?;
-    let third = by_lanes(rt, tree, layers, nodes)?;
+    let first = checked(rt, Form::Plain, tree, layers, nodes)?;
+    let second = checked(rt, Form::Filtered, tree, layers, nodes)?;
+    let third = checked(rt, Form::Lanes, tree, layers, nodes)?;
     if first.refused != third.refused || second.refused != third.refused {
         return None.context("the answers are the same");
     }
@@ -118,9 +109,12 @@ fn line<R: Clock + Print + AllocGlobal>(
     let mut filtered = second.time;
     let mut lanes = third.time;
     for _ in 0..RUNS {
-        plain = quicker(plain, by_plain(rt, tree, layers, nodes)?.time);
-        filtered = quicker(filtered, by_filtered(rt, tree, layers, nodes)?.time);
-        lanes = quicker(lanes, by_lanes(rt, tree, layers, nodes)?.time);
+        plain = quicker(plain, checked(rt, Form::Plain, tree, layers, nodes)?.time);
+        filtered = quicker(
+            filtered,
+            checked(rt, Form::Filtered, tree, layers, nodes)?.time,
+        );
+        lanes = quicker(lanes, checked(rt, Form::Lanes, tree, layers, nodes)?.time);
     }
     let checks = ROUNDS * 8;
     let (plain, filtered, lanes) = (

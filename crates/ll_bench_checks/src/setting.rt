@@ -1,6 +1,6 @@
 //! A deep tree, objects at several depths of it, and layers in each form.
 
-ghost use Rattle.std.specs.Prelude.{All, IfOk, length, ◌≡◌, ◌≤◌};
+ghost use Rattle.std.specs.Prelude.{All, IfOk};
 ghost use Rattle.ll_tree.specs.Trees.{IsNode};
 ghost use Rattle.ll_rules.specs.InTree.{AreInTree};
 ghost use Rattle.ll_rules.specs.KeptLayers.{IsDomainOf};
@@ -8,9 +8,9 @@ ghost use Rattle.ll_rules.specs.KeptLayers.{IsDomainOf};
 use crate::filtered::FilteredLayer;
 use anyhow::{Context, Result};
 use bitflags::Flags;
-use ll_plain::PlainLayer;
+use ll_plain::{PlainLayer, stacked};
 use ll_rights::{Abi, Fs, Net};
-use ll_rules::{Domain, Layer, LayerId, Ruleset};
+use ll_rules::{Domain, Layer, Ruleset};
 use ll_tree::{NodeId, Place, Tree};
 use std::alloc::Global;
 
@@ -127,28 +127,10 @@ fn layer_of(
     Ok((layer, plain, filtered))
 }
 
-/// The domain that stacks all layers, in their order.
-fn stacked(layers: &[Layer]) -> Result<Domain>
-    ensures { IfOk result (IsDomainOf layers.now) }
-{
-    let mut domain = Domain::new();
-    for number in 0..16u32 {
-        if (number as usize) < layers.len() {
-            domain
-                .push(LayerId(number))
-                .ok()
-                .context("the domain has room")?;
-        }
-    }
-    Ok(domain)
-}
-
 /// This many layers, at most sixteen.
 pub(crate) fn layers_of(alloc: Global, tree: &Tree, count: u32, granting: bool) -> Result<Layers>
     ensures rules { IfOk result (λ layers. All (AreInTree tree.now) layers.lanes.items) }
     ensures domain { IfOk result (λ layers. IsDomainOf layers.lanes.items layers.domain) }
-    ensures few { IfOk result (λ layers. length layers.plain.items ≤ 16) }
-    ensures few_filtered { IfOk result (λ layers. length layers.filtered.items ≤ 16) }
 {
     let mut lanes = Vec::new(alloc);
     let mut plain = Vec::new(alloc);
@@ -159,7 +141,7 @@ pub(crate) fn layers_of(alloc: Global, tree: &Tree, count: u32, granting: bool) 
         plain.push(plain_layer)?;
         filtered.push(filtered_layer)?;
     }
-    let domain = stacked(&lanes)?;
+    let domain = stacked(&lanes).ok().context("the domain has room")?;
     Ok(Layers {
         lanes,
         plain,

@@ -1,16 +1,25 @@
-//! Plain layers, and which of them refuse what is wanted on a path.
+//! Plain layers, which of some layers refuse what is wanted on a path, and the domain that stacks them.
 
-ghost use Rattle.std.specs.Prelude.{◌≡◌, ◌≤◌, [], length};
+ghost use Rattle.std.specs.Prelude.{◌≡◌, [], IfOk};
 ghost use Rattle.ll_tree.specs.Trees.{IsNode};
+ghost use Rattle.ll_rules.specs.KeptLayers.{IsDomainOf};
 
 use bitflags::Flags;
 use ll_rights::{Fs, Kind};
+use ll_rules::{Domain, Full, Layer, LayerId};
 use ll_tree::{NodeId, Tree};
 use std::alloc::{AllocError, Global};
 use std::collections::HashMap;
 
 /// Which of at most sixteen layers refuse, the oldest first.
 pub type Refusing = [bool; 16];
+
+/// A layer in a form that is asked by itself.
+pub trait Refuses {
+    /// Whether the layer refuses something of what is wanted on a node.
+    fn refuses(&self, tree: &Tree, node: NodeId, wanted: Fs) -> bool
+        requires { IsNode tree.now node };
+}
 
 /// The rights for files that a layer handles, and its rules.
 #[derive(Drop)]
@@ -64,17 +73,6 @@ impl PlainLayer {
         self.files.union(Fs::REFER)
     }
 
-    /// Whether the layer refuses something of what is wanted on a node.
-    pub(crate) fn refuses(&self, tree: &Tree, node: NodeId, wanted: Fs) -> bool
-        requires { IsNode tree.now node }
-    {
-        let granted = self.granted(tree, node);
-        !wanted
-            .intersection(self.handled())
-            .difference(granted)
-            .is_empty()
-    }
-
     /// Whether an object gains a right by going to a directory.
     pub(crate) fn gains(&self, tree: &Tree, object: NodeId, directory: NodeId) -> bool
         requires object { IsNode tree.now object }
@@ -93,14 +91,36 @@ impl PlainLayer {
     }
 }
 
-/// Which of at most sixteen layers refuse something of what is wanted on a node.
-pub fn refusing(tree: &Tree, layers: &[PlainLayer], node: NodeId, wanted: Fs) -> Refusing
-    requires node { IsNode tree.now node }
-    requires few { length layers.now ≤ 16 }
+impl Refuses for PlainLayer {
+    fn refuses(&self, tree: &Tree, node: NodeId, wanted: Fs) -> bool {
+        let granted = self.granted(tree, node);
+        !wanted
+            .intersection(self.handled())
+            .difference(granted)
+            .is_empty()
+    }
+}
+
+/// Which of the first sixteen layers refuse something of what is wanted on a node.
+pub fn refusing<L: Refuses>(tree: &Tree, layers: &[L], node: NodeId, wanted: Fs) -> Refusing
+    requires { IsNode tree.now node }
 {
     let mut refusing = [false; 16];
-    for (place, layer) in layers.iter().enumerate() {
-        refusing[place] = layer.refuses(tree, node, wanted);
+    for (place, layer) in refusing.iter_mut().zip(layers) {
+        *place = layer.refuses(tree, node, wanted);
     }
     refusing
+}
+
+/// The domain that stacks the first sixteen layers, in their order.
+pub fn stacked(layers: &[Layer]) -> Result<Domain, Full>
+    ensures { IfOk result (IsDomainOf layers.now) }
+{
+    let mut domain = Domain::new();
+    for number in 0..16u32 {
+        if (number as usize) < layers.len() {
+            domain.push(LayerId(number))?;
+        }
+    }
+    Ok(domain)
 }

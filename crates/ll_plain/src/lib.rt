@@ -5,5 +5,5 @@
 mod layer;
 mod moves;
 
-pub use layer::{PlainLayer, Refusing, refusing};
+pub use layer::{PlainLayer, Refuses, Refusing, refusing, stacked};
 pub use moves::{Attempt, Call, answer};

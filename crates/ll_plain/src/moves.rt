@@ -1,9 +1,8 @@
 //! What plain layers answer to moves, by a table of what each call asks.
 
-ghost use Rattle.std.specs.Prelude.{◌≤◌, length};
 ghost use Rattle.ll_tree.specs.Trees.{IsNode};
 
-use crate::layer::{PlainLayer, Refusing};
+use crate::layer::{PlainLayer, Refuses, Refusing};
 use ll_rights::{Fs, Kind};
 use ll_rules::Errno;
 use ll_tree::{NodeId, Tree};
@@ -166,15 +165,14 @@ fn holds_back(tree: &Tree, layer: &PlainLayer, attempt: &Attempt) -> bool
     false
 }
 
-/// Which of at most sixteen layers refuse a rename or a link, and with which error; nothing where it passes.
+/// Which of the first sixteen layers refuse a rename or a link, and with which error; nothing where it passes.
 pub fn answer(tree: &Tree, layers: &[PlainLayer], attempt: &Attempt) -> Option<(Errno, Refusing)>
     requires moved { IsNode tree.now attempt.now.moved }
     requires at { IsNode tree.now attempt.now.at }
-    requires few { length layers.now ≤ 16 }
 {
     let mut denied = [false; 16];
-    for (place, layer) in layers.iter().enumerate() {
-        denied[place] = denies(tree, layer, attempt);
+    for (place, layer) in denied.iter_mut().zip(layers) {
+        *place = denies(tree, layer, attempt);
     }
     if denied.contains(&true) {
         return Some((Errno::Acces, denied));
@@ -183,8 +181,8 @@ pub fn answer(tree: &Tree, layers: &[PlainLayer], attempt: &Attempt) -> Option<(
         return None;
     }
     let mut held_back = [false; 16];
-    for (place, layer) in layers.iter().enumerate() {
-        held_back[place] = holds_back(tree, layer, attempt);
+    for (place, layer) in held_back.iter_mut().zip(layers) {
+        *place = holds_back(tree, layer, attempt);
     }
     if held_back.contains(&true) {
         return Some((Errno::XDev, held_back));

@@ -3,14 +3,4 @@
 #![tactic(auto)]
 
 #[cfg(test)]
-mod checks;
-#[cfg(test)]
-mod comparison;
-#[cfg(test)]
-mod maps;
-#[cfg(test)]
-mod numbers;
-#[cfg(test)]
-mod ready;
-#[cfg(test)]
-mod refusals;
+mod tests;

@@ -1,13 +1,8 @@
-use Rattle.std.proofs.Common.{arith}
 use Rattle.std.proofs.lemmas.List.Elements.{All-push, All-same}
 use Rattle.ll_rules.specs.InTree.{AreInTree}
 use Rattle.ll_bench_checks.proofs.setting.layers_of.Goals as goal
 
 pub loop-number-preserved : goal.loop-number-preserved
-loop-number-preserved c = record {
-  rules =
-      All-same (AreInTree c.args.tree.now) c.push.new.self.items _ c.in_ok-push.ensures.items
-      (All-push (AreInTree c.args.tree.now) c.loop-number.lanes.items c.in_ok-layer.layer c.loop-number.invariant.rules c.in_ok-layer.ensures);
-  few = omega (arith, c.in_ok-push-2.ensures.len);
-  few_filtered = omega (arith, c.in_ok-push-3.ensures.len);
-}
+loop-number-preserved c =
+    All-same (AreInTree c.args.tree.now) c.push.new.self.items _ c.in_ok-push.ensures.items
+    (All-push (AreInTree c.args.tree.now) c.loop-number.lanes.items c.in_ok-layer.layer c.loop-number.invariant c.in_ok-layer.ensures)

@@ -1,14 +1,14 @@
 //! The checks by lanes against the plain ones, over a table of domains, nodes and sets.
 
-ghost use Rattle.std.specs.Prelude.{◌≤◌, All, IfOk, length};
+ghost use Rattle.std.specs.Prelude.{All, IfOk};
 ghost use Rattle.ll_tree.specs.Trees.{IsNode};
 ghost use Rattle.ll_rules.specs.InTree.{AreInTree, IsTargetIn};
 ghost use Rattle.ll_rules.specs.KeptLayers.{IsDomainOf};
 
-use crate::numbers::Numbers;
-use crate::ready::{about_reading, grant_reading, node_named, stacked};
+use crate::tests::numbers::Numbers;
+use crate::tests::ready::{about_reading, grant_reading, node_named};
 use bitflags::Flags;
-use ll_plain::{Attempt, Call, PlainLayer, Refusing, answer, refusing};
+use ll_plain::{Attempt, Call, PlainLayer, Refusing, answer, refusing, stacked};
 use ll_rights::{Abi, Fs, Kind, Net};
 use ll_rules::{
     Domain, Errno, How, Layer, LayerSet, Move, Ruleset, Target, Verdict, check_move,
@@ -118,8 +118,7 @@ fn layers_of(
     count: u32,
     numbers: &mut Numbers,
 ) -> Result<Both, Fail>
-    ensures rules { IfOk result (λ both. All (AreInTree tree.now) both.lanes.items) }
-    ensures few { IfOk result (λ both. length both.plain.items ≤ 16) }
+    ensures { IfOk result (λ both. All (AreInTree tree.now) both.lanes.items) }
 {
     let mut lanes = Vec::new(alloc);
     let mut plain = Vec::new(alloc);
@@ -156,7 +155,6 @@ fn count_of(set: LayerSet) -> u64 {
 fn paths_agree(tree: &Tree, both: &Both, domain: &Domain, node: NodeId, wanted: Fs) -> bool
     requires rules { All (AreInTree tree.now) both.now.lanes.items }
     requires domain { IsDomainOf both.now.lanes.items domain.now }
-    requires few { length both.now.plain.items ≤ 16 }
     requires node { IsNode tree.now node }
 {
     let set = check_path(tree, &both.lanes, domain, node, wanted);
@@ -208,7 +206,6 @@ fn plainly(verdict: Verdict) -> (Option<(Errno, Refusing)>, u64) {
 fn moves_agree(tree: &Tree, both: &Both, domain: &Domain, attempt: &Attempt) -> bool
     requires rules { All (AreInTree tree.now) both.now.lanes.items }
     requires domain { IsDomainOf both.now.lanes.items domain.now }
-    requires few { length both.now.plain.items ≤ 16 }
     requires moved { IsNode tree.now attempt.now.moved }
     requires at { IsNode tree.now attempt.now.at }
 {

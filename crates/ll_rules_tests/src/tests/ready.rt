@@ -1,12 +1,11 @@
-//! Nodes, domains and rulesets for the tests.
+//! Nodes and rulesets for the tests.
 
 ghost use Rattle.std.specs.Prelude.{IfOk};
 ghost use Rattle.ll_tree.specs.Trees.{IsNode};
 ghost use Rattle.ll_rules.specs.InTree.{AreInTree};
-ghost use Rattle.ll_rules.specs.KeptLayers.{IsDomainOf};
 
 use ll_rights::{Abi, Fs, Net};
-use ll_rules::{Domain, Layer, LayerId, RuleFault, Ruleset};
+use ll_rules::{RuleFault, Ruleset};
 use ll_tree::{NodeId, Place, Tree};
 use std::alloc::Global;
 use std::test::Fail;
@@ -18,19 +17,6 @@ pub(crate) fn node_named(tree: &Tree, path: &str) -> Result<NodeId, Fail>
         Place::Node(node) => Ok(node),
         _ => Err(Fail::from("the path has no node")),
     }
-}
-
-/// The domain that stacks all layers, in their order.
-pub(crate) fn stacked(layers: &[Layer]) -> Result<Domain, Fail>
-    ensures { IfOk result (IsDomainOf layers.now) }
-{
-    let mut domain = Domain::new();
-    for number in 0..16u32 {
-        if (number as usize) < layers.len() {
-            domain.push(LayerId(number))?;
-        }
-    }
-    Ok(domain)
 }
 
 /// A ruleset that handles reading alone.

@@ -1,5 +1,5 @@
 use Rattle.ll_rules.specs.KeptLayers.{IsDomainOf}
-use Rattle.ll_bench_checks.proofs.setting.stacked.Given as goal
+use Rattle.ll_plain.proofs.layer.stacked.Given as goal
 
 abbrev pub invariant-loop-number : goal.invariant-loop-number
 invariant-loop-number l = IsDomainOf l.layers l.domain

@@ -4,7 +4,8 @@
 ghost use Rattle.std.specs.Prelude.{IfOk};
 ghost use Rattle.ll_rules.specs.InTree.{AreInTree};
 
-use crate::ready::{about_reading, grant_reading, node_named, stacked};
+use crate::tests::ready::{about_reading, grant_reading, node_named};
+use ll_plain::stacked;
 use ll_rights::{Abi, Fs, Net};
 use ll_rules::{Layer, RuleFault, Ruleset, check_path, check_port};
 use ll_tree::Tree;

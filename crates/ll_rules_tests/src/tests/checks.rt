@@ -4,25 +4,17 @@ ghost use Rattle.std.specs.Prelude.{All, IfOk};
 ghost use Rattle.ll_tree.specs.Trees.{IsNode};
 ghost use Rattle.ll_rules.specs.InTree.{AreInTree, IsTargetIn};
 
-use crate::ready::{about_reading, grant_reading, node_named, stacked};
+use crate::tests::ready::{about_reading, grant_reading, node_named};
+use ll_plain::stacked;
 use ll_rights::Fs;
 use ll_rules::{
     Errno, How, Layer, LayerSet, Move, Target, Verdict, check_move_counted, check_path_counted,
     entering, leaving,
 };
 use ll_tree::Tree;
+use ll_worked::TREE;
 use std::alloc::Global;
 use std::test::Fail;
-
-/// The worked tree.
-const LISTED: &str = "{\"path\":\"/a\",\"kind\":\"dir\"}
-{\"path\":\"/b\",\"kind\":\"dir\"}
-{\"path\":\"/a/s\",\"kind\":\"dir\"}
-{\"path\":\"/dev\",\"kind\":\"dir\"}
-{\"path\":\"/a/f\",\"kind\":\"reg\"}
-{\"path\":\"/b/g\",\"kind\":\"reg\"}
-{\"path\":\"/dev/tty\",\"kind\":\"char\"}
-";
 
 /// The layer that handles reading, and grants it on one directory.
 fn layer_with(alloc: Global, tree: &Tree, granted: &str) -> Result<Layer, Fail>
@@ -44,7 +36,7 @@ fn look_ups_to_read(tree: &Tree, layers: &[Layer], path: &str) -> Result<u64, Fa
 
 #[test]
 fn look_ups_on_paths(rt: HostRuntime) -> Result<(), Fail> {
-    let tree = Tree::read(rt.alloc(), LISTED.as_bytes())?;
+    let tree = Tree::read(rt.alloc(), TREE.as_bytes())?;
     let layers = [
         layer_with(rt.alloc(), &tree, "/a")?,
         layer_with(rt.alloc(), &tree, "/b")?,
@@ -70,7 +62,7 @@ fn rename_onto(tree: &Tree) -> Result<Move, Fail>
 
 #[test]
 fn look_ups_of_a_move(rt: HostRuntime) -> Result<(), Fail> {
-    let tree = Tree::read(rt.alloc(), LISTED.as_bytes())?;
+    let tree = Tree::read(rt.alloc(), TREE.as_bytes())?;
     let layers = [about_reading(rt.alloc(), &tree)?.freeze(rt.alloc())?];
     let domain = stacked(&layers)?;
     let attempt = rename_onto(&tree)?;
@@ -89,7 +81,7 @@ fn look_ups_of_a_move(rt: HostRuntime) -> Result<(), Fail> {
 /// the right to make one of the directory that it goes to.
 #[test]
 fn asked_of_both_directories(rt: HostRuntime) -> Result<(), Fail> {
-    let tree = Tree::read(rt.alloc(), LISTED.as_bytes())?;
+    let tree = Tree::read(rt.alloc(), TREE.as_bytes())?;
     let attempt = rename_onto(&tree)?;
     let from = leaving(&tree, &attempt);
     let to = entering(&tree, &attempt);
