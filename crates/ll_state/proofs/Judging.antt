@@ -20,7 +20,7 @@ use Rattle.ll_semantics.specs.Notes.{NoteFits, IsFrozen, is_on_rulesets, enforce
 -- ---- calls that change nothing of their process's state
 
 left-still : (at : Situation) (op : Op) → is_still op ≡ true → left at op ≡ at.state
-unfolding left state_after change state_by effect is_still
+unfolding left state_after change state_by effect is_still is_on_rulesets
 left-still at calls.Nnp still = absurd (false≢true still)
 left-still at (calls.Create rs fs net) still = absurd (false≢true still)
 left-still at (calls.AddPath rs path fs) still = absurd (false≢true still)

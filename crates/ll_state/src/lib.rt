@@ -1,6 +1,9 @@
 //! What one process has by itself, and how its calls are judged.
 #![tactic(auto)]
 
+mod checks;
+mod confinement;
+mod descriptors;
 mod moves;
 mod own_state;
 mod requests;

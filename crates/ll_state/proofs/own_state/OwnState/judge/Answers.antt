@@ -16,9 +16,11 @@ returns-in-Answered-clause-ok g c = Agrees-on_rulesets g.at c.args.self.now c.ar
 pub returns-in-Frozen-clause-answer : goal.returns-in-Frozen-clause-answer
 unfolding NoteFits
 returns-in-Frozen-clause-answer g c =
-    frozen_answered g.at c.args.op.now c.in-Frozen.layer c.restrict.result (subst (λ (note : Note). NoteFits g.at c.args.op.now note) c.in-Frozen.is c.requires.1.1.0) c.restrict.ensures.answer
+    frozen_answered g.at c.args.op.now c.in-Frozen.layer c.restrict.result (subst (λ (note : Note). NoteFits g.at c.args.op.now note) c.in-Frozen.is c.requires.1.1.0)
+    (c.restrict.ensures.answer g.at c.requires.1.0)
 
 pub returns-in-Frozen-clause-ok : goal.returns-in-Frozen-clause-ok
 unfolding NoteFits
 returns-in-Frozen-clause-ok g c =
-    frozen_left g.at c.restrict.new.self c.args.op.now c.in-Frozen.layer c.restrict.result (subst (λ (note : Note). NoteFits g.at c.args.op.now note) c.in-Frozen.is c.requires.1.1.0) c.restrict.ensures.answer c.restrict.ensures.after
+    frozen_left g.at c.restrict.new.self c.args.op.now c.in-Frozen.layer c.restrict.result (subst (λ (note : Note). NoteFits g.at c.args.op.now note) c.in-Frozen.is c.requires.1.1.0)
+    (c.restrict.ensures.answer g.at c.requires.1.0) (c.restrict.ensures.after g.at c.requires.1.0)
