@@ -8,4 +8,4 @@ use Rattle.ll_state.specs.declared.confinement.Confinement.{Confinement}
 
 -- the domain of a confinement, with rules on paths of the tree
 abbrev pub stacked : Confinement → List Layer
-stacked confinement = all_in_tree confinement.tree.now (domain_of confinement.layers.now confinement.domain.now)
+stacked confinement = all_in_tree confinement.call.tree.now (domain_of confinement.call.layers.now confinement.domain.now)

@@ -21,16 +21,16 @@ use ll_tree::{NodeId, Place};
 impl<'a> Confinement<'a> {
     /// The layers of the domain that lack something of what is wanted on a node.
     fn refusing(&self, node: NodeId, wanted: Fs) -> LayerSet
-        requires { IsNode self.now.tree.now node }
-        ensures { result ≡ refusing (stacked self.now) (path_at self.now.tree.now node) wanted }
+        requires { IsNode self.now.call.tree.now node }
+        ensures { result ≡ refusing (stacked self.now) (path_at self.now.call.tree.now node) wanted }
     {
-        check_path(self.tree, self.layers, self.domain, node, wanted)
+        check_path(self.call.tree, self.call.layers, self.domain, node, wanted)
     }
 
     /// The answer to a request; without one the tree decides the call.
     pub(crate) fn ask(&self, request: Option<Request>) -> Answer
-        requires { IfSome request (IsFit self.now.tree.now) }
-        ensures { result ≡ of_request self.now.tree.now (stacked self.now) request }
+        requires { IfSome request (IsFit self.now.call.tree.now) }
+        ensures { result ≡ of_request self.now.call.tree.now (stacked self.now) request }
     {
         let Some(request) = request else {
             return Answer::Moot;
@@ -41,8 +41,8 @@ impl<'a> Confinement<'a> {
     /// What opening a file makes: one that is open for writing keeps the layers that lack `truncate`.
     #[tactic(auto, unfolding(ll_rights::specs::Rights::only))]
     fn opened_file(&self, node: NodeId, mode: Mode) -> Descriptor
-        requires { IsNode self.now.tree.now node }
-        ensures { result ≡ opened_file (refusing (stacked self.now) (path_at self.now.tree.now node) (only truncate)) mode }
+        requires { IsNode self.now.call.tree.now node }
+        ensures { result ≡ opened_file (refusing (stacked self.now) (path_at self.now.call.tree.now node) (only truncate)) mode }
     {
         match mode {
             Mode::Read => unrestricted(Sort::Other),
@@ -56,10 +56,10 @@ impl<'a> Confinement<'a> {
     /// What opening an object makes: a device keeps the layers that lack `ioctl_dev`.
     #[tactic(auto, unfolding(ll_semantics::specs::Effects::opened_kind, ll_rights::specs::Rights::only))]
     fn opened_node(&self, node: NodeId, mode: Mode) -> Descriptor
-        requires { IsNode self.now.tree.now node }
-        ensures { result ≡ opened_kind self.now.tree.now (stacked self.now) (kind_at self.now.tree.now node) node mode }
+        requires { IsNode self.now.call.tree.now node }
+        ensures { result ≡ opened_kind self.now.call.tree.now (stacked self.now) (kind_at self.now.call.tree.now node) node mode }
     {
-        match self.tree.kind(node) {
+        match self.call.tree.kind(node) {
             Kind::Reg => self.opened_file(node, mode),
             Kind::Char | Kind::Block => Descriptor {
                 sort: Sort::Device,
@@ -72,8 +72,8 @@ impl<'a> Confinement<'a> {
     /// What opening a place makes.
     #[tactic(auto, unfolding(ll_semantics::specs::Effects::opened))]
     pub(crate) fn opened(&self, place: Place, mode: Mode) -> Descriptor
-        requires { IsPlace self.now.tree.now place }
-        ensures { result ≡ opened self.now.tree.now (stacked self.now) place mode }
+        requires { IsPlace self.now.call.tree.now place }
+        ensures { result ≡ opened self.now.call.tree.now (stacked self.now) place mode }
     {
         match place {
             Place::Node(node) => self.opened_node(node, mode),
@@ -89,7 +89,7 @@ impl<'a> Confinement<'a> {
     {
         refused_by(
             Errno::Acces,
-            check_port(self.layers, self.domain, port, wanted),
+            check_port(self.call.layers, self.domain, port, wanted),
         )
     }
 
@@ -98,18 +98,18 @@ impl<'a> Confinement<'a> {
     pub(crate) fn ask_mount(&self) -> Answer
         ensures { result ≡ refused_by Errno.Perm (refusing_mount (stacked self.now)) }
     {
-        refused_by(Errno::Perm, check_mount(self.layers, self.domain))
+        refused_by(Errno::Perm, check_mount(self.call.layers, self.domain))
     }
 
     /// The answer to a move; without one the tree decides the call.
     pub(crate) fn ask_move(&self, asked: Option<Move>) -> Answer
-        requires { IfSome asked (IsFitMove self.now.tree.now) }
-        ensures { result ≡ of_move self.now.tree.now (stacked self.now) asked }
+        requires { IfSome asked (IsFitMove self.now.call.tree.now) }
+        ensures { result ≡ of_move self.now.call.tree.now (stacked self.now) asked }
     {
         let Some(asked) = asked else {
             return Answer::Moot;
         };
-        match check_move(self.tree, self.layers, self.domain, &asked) {
+        match check_move(self.call.tree, self.call.layers, self.domain, &asked) {
             Verdict::Passed => Answer::Allowed,
             Verdict::Refused(error, layers) => Answer::Refused(error, layers),
         }

@@ -1,6 +1,7 @@
 //! What one process has by itself, and how its calls are judged.
 #![tactic(auto)]
 
+mod call;
 mod checks;
 mod confinement;
 mod descriptors;

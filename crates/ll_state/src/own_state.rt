@@ -12,10 +12,11 @@ ghost use Rattle.ll_semantics.specs.Situations.{Situation, answered, left};
 ghost use Rattle.ll_state.specs.Agreement.{IsMet, Agrees, IsJudged, is_still};
 ghost use Rattle.ll_semantics.specs.Notes.{NoteFits};
 
+use crate::call::Call;
 use crate::confinement::Confinement;
 use crate::descriptors::{ftruncate, ioctl};
 use crate::moves::{link_move, rename_move};
-use crate::requests::{place_of, request};
+use crate::requests::place_of;
 use ll_rights::Net;
 use ll_rules::{Domain, Layer, NoMemory};
 use ll_semantics::{Answer, Descriptor, Note};
@@ -97,27 +98,25 @@ impl OwnState {
         match note {
             Note::Answered(answer) => Ok(*answer),
             Note::Frozen(layer) => Ok(self.restrict(Some(*layer))),
-            Note::Open => self.judge_alone(tree, layers, op, known),
+            Note::Open => self.judge_alone(&Call {
+                op,
+                known,
+                tree,
+                layers,
+            }),
         }
     }
 
     /// Judges a call whose answer rests on the state of its process alone.
     #[tactic(auto, unfolding(crate::specs::Agreement::is_still, ll_semantics::specs::Situations::answered, ll_semantics::specs::Situations::left, ll_semantics::specs::Situations::state_after, ll_semantics::specs::Answers::answer, ll_semantics::specs::Situations::change, ll_semantics::specs::Situations::state_by, ll_semantics::specs::Effects::effect, ll_semantics::specs::Notes::NoteFits, ll_semantics::specs::Notes::is_on_rulesets, ll_trace::specs::FirstPlaces::first_place, ll_trace::specs::Operations::paths_of))]
-    fn judge_alone(
-        &mut self,
-        tree: &Tree,
-        layers: &[Layer],
-        op: &Op,
-        known: Option<Place>,
-    ) -> Result<Answer, NoMemory>
+    fn judge_alone(&mut self, call: &Call<'_>) -> Result<Answer, NoMemory>
         ghost at: { Situation }
-        requires met { IsMet at tree.now layers.now }
+        requires met { IsMet at call.now.tree.now call.now.layers.now }
         requires agrees { Agrees at.tree at.layers self.old at.state }
-        requires fits { NoteFits at op.now Note.Open }
-        requires known { IfSome known (λ one. one ≡ first_place tree.now op.now) }
-        ensures { IsJudged at op.now self.new result }
+        requires fits { NoteFits at call.now.op.now Note.Open }
+        ensures { IsJudged at call.now.op.now self.new result }
     {
-        match op {
+        match call.op {
             Op::Nnp => {
                 self.no_new_privs = true;
                 Ok(Answer::Allowed)
@@ -129,13 +128,11 @@ impl OwnState {
                 mode,
                 create,
                 trunc,
-            } => self.open(tree, layers, path, known, *fd, *mode, *create, *trunc),
+            } => self.open(call, path, *fd, *mode, *create, *trunc),
             Op::Adopt { fd, kind } => self.adopt(*fd, *kind),
             Op::Dup { fd, to } => self.dup(*fd, *to),
             Op::Close { fd } => self.close(*fd),
-            Op::Start { .. } | Op::Fork { .. } | changes_nothing!() => Ok(self.answer(
-                tree, layers, op, known,
-            )),
+            Op::Start { .. } | Op::Fork { .. } | changes_nothing!() => Ok(self.answer(call)),
             Op::Create { .. }
             | Op::AddPath { .. }
             | Op::AddPort { .. }
@@ -146,31 +143,30 @@ impl OwnState {
 
     /// The answer to a call that changes nothing of its process's state.
     #[tactic(auto, using(crate::proofs::SameLayers::request_same, crate::proofs::SameLayers::move_same, crate::proofs::SameLayers::port_same, crate::proofs::SameLayers::mount_same), unfolding(crate::specs::Agreement::is_still, ll_semantics::specs::Notes::is_on_rulesets, ll_trace::specs::FirstPlaces::first_place, ll_trace::specs::Operations::paths_of, ll_semantics::specs::Situations::answered, ll_semantics::specs::Answers::answer, ll_rights::specs::Rights::only, ll_rights::specs::NetRights::has, ll_rights::specs::NetRights::only))]
-    fn answer(&self, tree: &Tree, layers: &[Layer], op: &Op, known: Option<Place>) -> Answer
+    fn answer(&self, call: &Call<'_>) -> Answer
         ghost at: { Situation }
-        requires met { IsMet at tree.now layers.now }
+        requires met { IsMet at call.now.tree.now call.now.layers.now }
         requires agrees { Agrees at.tree at.layers self.now at.state }
-        requires still { is_still op.now ≡ true }
-        requires known { IfSome known (λ one. one ≡ first_place tree.now op.now) }
-        ensures { result ≡ answered at op.now }
+        requires still { is_still call.now.op.now ≡ true }
+        ensures { result ≡ answered at call.now.op.now }
     {
+        let tree = call.tree;
         let confinement = Confinement {
-            tree,
-            layers,
+            call: *call,
             domain: &self.domain,
         };
-        match op {
+        match call.op {
             Op::Start { .. } | Op::Fork { .. } | Op::Exit => Answer::Allowed,
             Op::Ftruncate { fd } => ftruncate(self.descriptor(*fd)),
             Op::Ioctl { fd, driver } => ioctl(self.descriptor(*fd), *driver),
-            wants_at_a_path!() => confinement.ask(request(tree, op, known)),
+            wants_at_a_path!() => confinement.ask(call.request()),
             Op::Rename { from, to, exchange } => {
-                let from = place_of(tree, from, known);
+                let from = place_of(tree, from, call.known);
                 let to = place_of(tree, to.path(), None);
                 confinement.ask_move(rename_move(tree, from, to, *exchange))
             }
             Op::Link { from, to } => {
-                let from = place_of(tree, from, known);
+                let from = place_of(tree, from, call.known);
                 let to = place_of(tree, to.path(), None);
                 confinement.ask_move(link_move(tree, from, to))
             }

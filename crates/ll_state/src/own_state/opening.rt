@@ -1,20 +1,19 @@
 //! Calls by which numbers get open, and are closed.
 
-ghost use Rattle.std.specs.Prelude.{◌≡◌, IfSome};
+ghost use Rattle.std.specs.Prelude.{◌≡◌};
 ghost use Rattle.std.specs.FinMap.{get};
-ghost use Rattle.ll_tree.specs.Trees.{place};
 ghost use Rattle.ll_trace.specs.declared.op.Op.{Op};
 ghost use Rattle.ll_semantics.specs.Situations.{Situation};
 ghost use Rattle.ll_state.specs.Agreement.{IsMet, Agrees, IsJudged};
 
+use crate::call::Call;
 use crate::confinement::Confinement;
 use crate::descriptors::unrestricted;
 use crate::own_state::OwnState;
 use crate::requests::{asks, place_of};
-use ll_rules::{Layer, NoMemory};
+use ll_rules::NoMemory;
 use ll_semantics::{Answer, Descriptor, Wanted};
 use ll_trace::{Mode, PathText, Sort};
-use ll_tree::{Place, Tree};
 
 impl OwnState {
     /// What a number is open on.
@@ -25,39 +24,36 @@ impl OwnState {
     }
 
     /// open(2), whose number must be free.
-    #[tactic(auto, using(crate::proofs::SameLayers::request_same, crate::proofs::SameLayers::opened_same), unfolding(ll_semantics::specs::Situations::answered, ll_semantics::specs::Situations::left, ll_semantics::specs::Situations::state_after, ll_semantics::specs::Situations::change, ll_semantics::specs::Situations::state_by, ll_semantics::specs::Effects::effect, ll_semantics::specs::Answers::answer, ll_semantics::specs::Requests::wanted))]
+    #[tactic(auto, using(crate::proofs::SameLayers::request_same, crate::proofs::SameLayers::opened_same), unfolding(ll_semantics::specs::Situations::answered, ll_semantics::specs::Situations::left, ll_semantics::specs::Situations::state_after, ll_semantics::specs::Situations::change, ll_semantics::specs::Situations::state_by, ll_semantics::specs::Effects::effect, ll_semantics::specs::Answers::answer, ll_semantics::specs::Requests::wanted, ll_trace::specs::FirstPlaces::first_place, ll_trace::specs::Operations::paths_of))]
     pub(crate) fn open(
         &mut self,
-        tree: &Tree,
-        layers: &[Layer],
+        call: &Call<'_>,
         path: &PathText,
-        known: Option<Place>,
         fd: u64,
         mode: Mode,
         create: bool,
         trunc: bool,
     ) -> Result<Answer, NoMemory>
         ghost at: { Situation }
-        requires met { IsMet at tree.now layers.now }
+        requires met { IsMet at call.now.tree.now call.now.layers.now }
         requires agrees { Agrees at.tree at.layers self.old at.state }
-        requires known { IfSome known (λ one. one ≡ place tree.now path.now) }
+        requires opens { call.now.op.now ≡ Op.OpenFile path.now fd mode create trunc }
         ensures { IsJudged at (Op.OpenFile path.now fd mode create trunc) self.new result }
     {
         if self.descriptor(fd).is_some() {
             return Ok(Answer::Moot);
         }
-        let place = place_of(tree, path, known);
+        let place = place_of(call.tree, path, call.known);
         let wanted = Wanted::Open {
             mode,
             create,
             trunc,
         };
         let confinement = Confinement {
-            tree,
-            layers,
+            call: *call,
             domain: &self.domain,
         };
-        let answer = confinement.ask(asks(tree, place, wanted));
+        let answer = confinement.ask(asks(call.tree, place, wanted));
         if answer == Answer::Allowed {
             let opened = confinement.opened(place, mode);
             self.descriptors.insert(fd, opened)?;

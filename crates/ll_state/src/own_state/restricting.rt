@@ -1,13 +1,8 @@
 //! Calls that a process makes on itself.
 
-ghost use Rattle.std.specs.Prelude.{◌≡◌, ◌||◌, Option};
-ghost use Rattle.ll_semantics.specs.States.{Layer as Rules};
-ghost use Rattle.ll_semantics.specs.Answers.{fails, restrict_answer};
-ghost use Rattle.ll_semantics.specs.Effects.{with_layer};
-ghost use Rattle.ll_semantics.specs.Worlds.{if_allowed};
-ghost use Rattle.ll_semantics.specs.Situations.{Situation};
-ghost use Rattle.ll_state.specs.Agreement.{Agrees};
-ghost use Rattle.ll_semantics.specs.Notes.{IsFrozen};
+ghost use Rattle.std.specs.Prelude.{◌≡◌, ◌||◌};
+ghost use Rattle.ll_semantics.specs.Answers.{fails};
+ghost use Rattle.ll_state.specs.Agreement.{Restricts};
 
 use crate::own_state::OwnState;
 use ll_rules::{Errno, Full, LayerId, LayerSet};
@@ -30,10 +25,7 @@ impl OwnState {
 
     /// landlock_restrict_self(2): stacks the layer that a ruleset was frozen to, where one is held.
     pub(crate) fn restrict(&mut self, layer: Option<LayerId>) -> Answer
-        ensures answer { (at : Situation) → Agrees at.tree at.layers self.old at.state → (rules : Option Rules) → IsFrozen at layer rules
-            → result ≡ restrict_answer at.state rules }
-        ensures after { (at : Situation) → Agrees at.tree at.layers self.old at.state → (rules : Option Rules) → IsFrozen at layer rules
-            → Agrees at.tree at.layers self.new (if_allowed result (with_layer at.state rules) at.state) }
+        ensures { Restricts layer self.old self.new result }
     {
         if !self.may_restrict() {
             return fails(Errno::Perm);
