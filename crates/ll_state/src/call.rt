@@ -9,11 +9,12 @@ use ll_rules::Layer;
 use ll_trace::Op;
 use ll_tree::{Place, Tree};
 
-/// A call with what it meets, the tree and all layers; and the place of its first path, where that is known.
+/// A call with what it meets: the tree, and all layers.
 #[derive(Clone, Copy)]
 pub(crate) struct Call<'a> {
-    pub(crate) op: &'a Op,
+    /// The place of its first path, where that is known.
     pub(crate) known: Option<Place>,
+    pub(crate) op: &'a Op,
     pub(crate) tree: &'a Tree,
     pub(crate) layers: &'a [Layer],
     ghost first: { IfSome known (λ one. one ≡ first_place tree.now op.now) } by { Prim.hlevel props },

@@ -99,8 +99,8 @@ impl OwnState {
             Note::Answered(answer) => Ok(*answer),
             Note::Frozen(layer) => Ok(self.restrict(Some(*layer))),
             Note::Open => self.judge_alone(&Call {
-                op,
                 known,
+                op,
                 tree,
                 layers,
             }),
