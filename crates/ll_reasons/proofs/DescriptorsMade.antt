@@ -1,5 +1,5 @@
 -- What a number is open on is what an allowed open or adopt opened, through duplicates and forks.
-use Rattle.std.proofs.Common.{◌≡◌, ℕ, suc, List, [], Option, Some, None, refl, sym, ap, ◌∙◌, arith, option_and_then, IfSome}
+use Rattle.std.proofs.Common.{◌≡◌, ℕ, suc, List, [], Option, Some, None, refl, sym, ap, arith, option_and_then, IfSome}
 use Rattle.std.specs.Prelude.{slice_get, is_some}
 use Rattle.ll_rights.specs.declared.abi.Abi.{Abi}
 use Rattle.ll_tree.specs.Trees.{Entry, place}
@@ -10,18 +10,17 @@ use Rattle.ll_semantics.specs.declared.answer.Answer.TheVariants.{Allowed}
 use Rattle.ll_semantics.specs.declared.descriptor.Descriptor.{Descriptor}
 use Rattle.ll_semantics.specs.States.{State, Layer, fresh}
 use Rattle.ll_semantics.specs.Effects.{effect, opened, descriptor}
-use Rattle.ll_semantics.specs.Worlds.{World, judged}
+use Rattle.ll_semantics.specs.Worlds.{judged}
 use Rattle.ll_semantics.specs.Situations.{change, state_by, world_at}
-use Rattle.ll_semantics.proofs.Worlds.{judged-at}
 use Rattle.ll_reasons.specs.Origins.{Origins, no_origins, traced}
-use Rattle.ll_reasons.specs.Made.{is_opening, opened_in, opened_by, opened_at, IsEarlierOpening}
+use Rattle.ll_reasons.specs.Made.{is_opening, opened_in, opened_by, opened_at, IsEarlier}
 use Rattle.ll_reasons.specs.Explanations.{origins_at}
 use Rattle.ll_reasons.proofs.Lockstep.{Keeps, holds_at}
 use Rattle.ll_reasons.proofs.Alike.{Alike, alike-some, alike-update, alike-weaker}
 
 -- a descriptor is what the record at an earlier place opened
 abbrev Opens : List Entry → Abi → List Record → ℕ → Descriptor → ℕ → Type 0
-Opens tree abi records at d k = IsEarlierOpening tree abi records at k × (opened_at tree abi records k ≡ Some d)
+Opens tree abi records at d k = IsEarlier is_opening tree abi records at k × (opened_at tree abi records k ≡ Some d)
 
 -- so is all that is open
 abbrev AllOpen : List Entry → Abi → List Record → ℕ → State → Origins → Type 0
@@ -37,11 +36,11 @@ changed : (tree : List Entry) (abi : Abi) (records : List Record) (k : ℕ) (r :
 unfolding change state_by effect traced opened_in is_opening Alike
 changed tree abi records k r (OpenFile path fd mode create trunc) rulesets s o is at allowed opens all q =
     alike-update (Opens tree abi records (suc k)) s.descriptors o.openings fd q (Some (opened tree s.domain (place tree path) mode)) (Some k)
-    ((omega arith, record { of = r; at = at; opens = ap (λ (op : Op). is_opening op) is; allowed = allowed }), opens)
+    ((omega arith, record { of = r; at = at; such = ap (λ (op : Op). is_opening op) is; allowed = allowed }), opens)
     (later tree abi records k (s.descriptors q) (o.openings q) (all q))
 changed tree abi records k r (Adopt fd kind) rulesets s o is at allowed opens all q =
     alike-update (Opens tree abi records (suc k)) s.descriptors o.openings fd q (Some (descriptor kind [])) (Some k)
-    ((omega arith, record { of = r; at = at; opens = ap (λ (op : Op). is_opening op) is; allowed = allowed }), opens)
+    ((omega arith, record { of = r; at = at; such = ap (λ (op : Op). is_opening op) is; allowed = allowed }), opens)
     (later tree abi records k (s.descriptors q) (o.openings q) (all q))
 changed tree abi records k r (Dup fd to) rulesets s o is at allowed opens all q =
     alike-update (Opens tree abi records (suc k)) s.descriptors o.openings to q (s.descriptors fd) (o.openings fd)
@@ -57,10 +56,7 @@ unfolding fresh no_origins opened_at opened_by Alike
 keeps tree abi records = record {
   begins = λ k nnp admin fd. tt;
   stays = λ k s o all fd. later tree abi records k (s.descriptors fd) (o.openings fd) (all fd);
-  changes = λ k r o at allowed all.
-      (let w : World = world_at tree abi records k in
-      let s : State = w.processes r.process.0 in
-      changed tree abi records k r r.op w.rulesets s o refl at (judged-at tree abi records k r at ∙ ap Some allowed) (ap (λ (x : Option Record). opened_by tree w x) at) all);
+  changes = λ k r o at allowed judged all. changed tree abi records k r r.op _ _ o refl at judged (ap (λ (x : Option Record). opened_by tree (world_at tree abi records k) x) at) all;
 }
 
 all_open : (tree : List Entry) (abi : Abi) (records : List Record) (at process : ℕ) → AllOpen tree abi records at ((world_at tree abi records at).processes process) (origins_at tree abi records at process)
@@ -75,7 +71,7 @@ described tree abi records at (Some d) (Some k) fits = sym fits.1
 described tree abi records at None (Some k) fits = absurd fits
 described tree abi records at (Some d) None fits = absurd fits
 
-earlier : (tree : List Entry) (abi : Abi) (records : List Record) (at : ℕ) (x : Option Descriptor) (y : Option ℕ) → Alike (Opens tree abi records at) x y → IfSome y (IsEarlierOpening tree abi records at)
+earlier : (tree : List Entry) (abi : Abi) (records : List Record) (at : ℕ) (x : Option Descriptor) (y : Option ℕ) → Alike (Opens tree abi records at) x y → IfSome y (IsEarlier is_opening tree abi records at)
 unfolding Alike
 earlier tree abi records at None None fits = tt
 earlier tree abi records at (Some d) (Some k) fits = fits.0
@@ -97,6 +93,6 @@ module _ (tree : List Entry) (abi : Abi) (records : List Record) (at process fd 
   unfolding d opening
   descriptor_open = alike-some (Opens tree abi records at) d opening (all_open tree abi records at process fd)
 
-  pub descriptor_earlier : IfSome ((origins_at tree abi records at process).openings fd) (IsEarlierOpening tree abi records at)
+  pub descriptor_earlier : IfSome ((origins_at tree abi records at process).openings fd) (IsEarlier is_opening tree abi records at)
   unfolding d opening
   descriptor_earlier = earlier tree abi records at d opening (all_open tree abi records at process fd)

@@ -59,7 +59,7 @@ module _ (tree : List Entry) (abi : Abi) (records : List Record) where
   keeps = record {
     begins = λ k nnp admin fd. tt;
     stays = λ k s o all. all;
-    changes = λ k r o at allowed all.
+    changes = λ k r o at allowed judged all.
         (let w : World = world_at tree abi records k in
         let s : State = w.processes r.process.0 in
         changed k r.op w.rulesets s o (ap (λ (x : Option Record). domain_by w x) at) all);

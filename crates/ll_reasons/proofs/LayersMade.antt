@@ -19,7 +19,7 @@ use Rattle.ll_semantics.specs.Worlds.{World, answer_in, judged}
 use Rattle.ll_semantics.specs.Situations.{change, state_by, world_at}
 use Rattle.ll_semantics.proofs.Worlds.{judged-at}
 use Rattle.ll_reasons.specs.Origins.{Origins, no_origins, traced}
-use Rattle.ll_reasons.specs.Made.{enforced_by, enforced_at, IsRestrict, IsEarlierRestrict}
+use Rattle.ll_reasons.specs.Made.{enforced_by, enforced_at, is_restrict, IsAllowed, IsEarlier}
 use Rattle.ll_reasons.specs.Explanations.{domain_at, origins_at}
 use Rattle.ll_reasons.proofs.Lockstep.{Keeps, holds_at}
 
@@ -40,33 +40,32 @@ domain_changed tree rulesets op s k o made makes same = same
 
 -- ---- and these are earlier restricts
 
-earlier : (tree : List Entry) (abi : Abi) (records : List Record) (k : ℕ) (layers : List ℕ) → All (IsEarlierRestrict tree abi records k) layers → All (IsEarlierRestrict tree abi records (suc k)) layers
-earlier tree abi records k layers all = All-weaker (IsEarlierRestrict tree abi records k) (IsEarlierRestrict tree abi records (suc k)) (λ j is. (omega (arith, is.0), is.1)) layers all
+earlier : (tree : List Entry) (abi : Abi) (records : List Record) (k : ℕ) (layers : List ℕ) → All (IsEarlier is_restrict tree abi records k) layers → All (IsEarlier is_restrict tree abi records (suc k)) layers
+earlier tree abi records k layers all = All-weaker (IsEarlier is_restrict tree abi records k) (IsEarlier is_restrict tree abi records (suc k)) (λ j is. (omega (arith, is.0), is.1)) layers all
 
 origins_changed : (tree : List Entry) (abi : Abi) (records : List Record) (k : ℕ) (r : Record) (op : Op) (o : Origins) → r.op ≡ op → slice_get records k ≡ Some r → slice_get (judged tree abi records) k ≡ Some Allowed
-    → All (IsEarlierRestrict tree abi records k) o.layers → All (IsEarlierRestrict tree abi records (suc k)) (traced k op o).layers
-unfolding traced
+    → All (IsEarlier is_restrict tree abi records k) o.layers → All (IsEarlier is_restrict tree abi records (suc k)) (traced k op o).layers
+unfolding traced is_restrict
 origins_changed tree abi records k r (Restrict rs) o is at allowed all =
-    All-push (IsEarlierRestrict tree abi records (suc k)) o.layers k (earlier tree abi records k o.layers all)
-    (omega arith, record { of = r; rs = rs; at = at; restricts = is; allowed = allowed })
+    All-push (IsEarlier is_restrict tree abi records (suc k)) o.layers k (earlier tree abi records k o.layers all)
+    (omega arith, record { of = r; at = at; such = ap (λ (op : Op). is_restrict op) is; allowed = allowed })
 origins_changed tree abi records k r op o is at allowed all = earlier tree abi records k o.layers all
 
 -- ---- of every process at every place
 
 pub record Made (tree : List Entry) (abi : Abi) (records : List Record) (place : ℕ) (s : State) (o : Origins) : Type 0 where
   pub layers : s.domain ≡ filter_map (enforced_at tree abi records) o.layers
-  pub restricts : All (IsEarlierRestrict tree abi records place) o.layers
+  pub restricts : All (IsEarlier is_restrict tree abi records place) o.layers
 
 keeps : (tree : List Entry) (abi : Abi) (records : List Record) → Keeps tree abi records (Made tree abi records)
 unfolding fresh no_origins enforced_at enforced_by
 keeps tree abi records = record {
-  begins = λ k nnp admin. record { layers = refl; restricts = All-nil (IsEarlierRestrict tree abi records k) };
+  begins = λ k nnp admin. record { layers = refl; restricts = All-nil (IsEarlier is_restrict tree abi records k) };
   stays = λ k s o made. record { layers = made.layers; restricts = earlier tree abi records k o.layers made.restricts };
-  changes = λ k r o at allowed made.
+  changes = λ k r o at allowed judged made.
       (let w : World = world_at tree abi records k in
       let s : State = w.processes r.process.0 in
       let makes : enforced_at tree abi records k ≡ enforced w.rulesets r.op s = ap (λ (x : Option Record). enforced_by w x) at in
-      let judged : slice_get (judged tree abi records) k ≡ Some Allowed = judged-at tree abi records k r at ∙ ap Some allowed in
       record {
         layers = domain_changed tree w.rulesets r.op s k o (enforced_at tree abi records) makes made.layers;
         restricts = origins_changed tree abi records k r r.op o refl at judged made.restricts;
@@ -87,18 +86,18 @@ restricts_by s None allowed = by_right (may_restrict s) allowed
     by_right false allowed = cc
 restricts_by s (Some rules) allowed = refl
 
-enforces : (tree : List Entry) (abi : Abi) (w : World) (op : Op) (p rs : ℕ) → op ≡ Restrict rs → answer_in tree abi w p op ≡ Allowed → is_some (enforced w.rulesets op (w.processes p)) ≡ true
-unfolding answer_in answer enforced
-enforces tree abi w (Restrict rs) p rs2 is allowed = restricts_by (w.processes p) (named w.rulesets ((w.processes p).held rs)) allowed
-enforces tree abi w op p rs2 is allowed = absurd (cc)
+enforces : (tree : List Entry) (abi : Abi) (w : World) (op : Op) (p : ℕ) → is_restrict op ≡ true → answer_in tree abi w p op ≡ Allowed → is_some (enforced w.rulesets op (w.processes p)) ≡ true
+unfolding answer_in answer enforced is_restrict
+enforces tree abi w (Restrict rs) p is allowed = restricts_by (w.processes p) (named w.rulesets ((w.processes p).held rs)) allowed
+enforces tree abi w op p is allowed = absurd (cc)
 
-makes_layer : (tree : List Entry) (abi : Abi) (records : List Record) (k : ℕ) → IsRestrict tree abi records k → is_some (enforced_at tree abi records k) ≡ true
+makes_layer : (tree : List Entry) (abi : Abi) (records : List Record) (k : ℕ) → IsAllowed is_restrict tree abi records k → is_some (enforced_at tree abi records k) ≡ true
 unfolding enforced_at enforced_by
 makes_layer tree abi records k is =
     let w : World = world_at tree abi records k in
     let p : ℕ = is.of.process.0 in
     let allowed : answer_in tree abi w p is.of.op ≡ Allowed = same_Some (answer_in tree abi w p is.of.op) Allowed (sym (judged-at tree abi records k is.of is.at) ∙ is.allowed) in
-    rw (is.at) (enforces tree abi w is.of.op p is.rs is.restricts allowed)
+    rw (is.at) (enforces tree abi w is.of.op p is.such allowed)
 
 -- ---- so they are at the same places
 
@@ -125,7 +124,7 @@ as_long h (x ∷ xs) all = ap suc (as_long h xs (All-tail (λ x. is_some (h x) �
 
 all_make : (tree : List Entry) (abi : Abi) (records : List Record) (place process : ℕ) → All (λ k. is_some (enforced_at tree abi records k) ≡ true) (origins_at tree abi records place process).layers
 all_make tree abi records place process =
-    All-weaker (IsEarlierRestrict tree abi records place) (λ k. is_some (enforced_at tree abi records k) ≡ true) (λ k is. makes_layer tree abi records k is.1) (origins_at tree abi records place process).layers (made_at tree abi records place process).restricts
+    All-weaker (IsEarlier is_restrict tree abi records place) (λ k. is_some (enforced_at tree abi records k) ≡ true) (λ k is. makes_layer tree abi records k is.1) (origins_at tree abi records place process).layers (made_at tree abi records place process).restricts
 
 pub layers_made : (tree : List Entry) (abi : Abi) (records : List Record) (place process : ℕ) → domain_at tree abi records place process ≡ filter_map (enforced_at tree abi records) (origins_at tree abi records place process).layers
 unfolding domain_at

@@ -84,7 +84,7 @@ pub record Keeps (tree : List Entry) (abi : Abi) (records : List Record) (Fits :
   pub stays : (k : ℕ) (s : State) (o : Origins) → Fits k s o → Fits (suc k) s o
   -- and by what an allowed record changes
   pub changes : (k : ℕ) (r : Record) (o : Origins) → slice_get records k ≡ Some r → answer_in tree abi (world_at tree abi records k) r.process.0 r.op ≡ Allowed
-      → Fits k ((world_at tree abi records k).processes r.process.0) o
+      → slice_get (judged tree abi records) k ≡ Some Allowed → Fits k ((world_at tree abi records k).processes r.process.0) o
       → Fits (suc k) (change tree (world_at tree abi records k).rulesets r.op ((world_at tree abi records k).processes r.process.0)) (traced k r.op o)
 
 module _ (tree : List Entry) (abi : Abi) (records : List Record) (Fits : ℕ → State → Origins → Type 0) (keeps : Keeps tree abi records Fits) where
@@ -128,7 +128,7 @@ module _ (tree : List Entry) (abi : Abi) (records : List Record) (Fits : ℕ →
       let sources : Sources = sources_at tree abi records k in
       rw (world_at-more tree abi records k r at, sources_at-more tree abi records k r at) (
         count-step tree abi w r.process.0 r.op ∙ ap (λ (n : ℕ). n + cond (is_starting r.op) 1 0) before.0 ∙ sym (count-sources_by k r.op r.process.0 (answer_in tree abi w r.process.0 r.op) sources),
-        λ q. by_record k r.op r.process.0 q w sources before.0 before.1 (λ allowed. keeps.changes k r (sources.processes r.process.0) at allowed (before.1 r.process.0)),
+        λ q. by_record k r.op r.process.0 q w sources before.0 before.1 (λ allowed. keeps.changes k r (sources.processes r.process.0) at allowed (judged-at tree abi records k r at ∙ ap Some allowed) (before.1 r.process.0)),
       )
 
   all_fit : (k : ℕ) → AllFit k

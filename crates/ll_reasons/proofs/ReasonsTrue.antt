@@ -30,7 +30,7 @@ use Rattle.ll_semantics.specs.declared.answer.Answer.{Answer}
 use Rattle.ll_semantics.specs.declared.answer.Answer.TheVariants.{Allowed, Moot, Refused}
 use Rattle.ll_semantics.specs.declared.descriptor.Descriptor.{Descriptor}
 use Rattle.ll_semantics.specs.declared.request.Wanted.{Wanted}
-use Rattle.ll_semantics.specs.declared.request.Wanted.TheVariants.{Open, OnFile, Make, Unlink, Rmdir}
+use Rattle.ll_semantics.specs.declared.request.Wanted.TheVariants.{Make, Unlink, Rmdir}
 use Rattle.ll_semantics.specs.Requests.{wanted}
 use Rattle.ll_semantics.specs.Moves.{is_above, is_root, is_mixed, rename_move, rename_to, rename_into, rename_onto}
 use Rattle.ll_semantics.specs.States.{State, Layer}
@@ -41,7 +41,7 @@ use Rattle.ll_semantics.specs.Situations.{world_at}
 use Rattle.ll_reasons.specs.Origins.{Origins}
 use Rattle.ll_reasons.specs.Explanations.{origins_at}
 use Rattle.ll_reasons.proofs.DescriptorsMade.{descriptor_open}
-use Rattle.ll_reasons.specs.Reasons.{Reason, absent, of_kind, root, unmoved, beneath_itself, over_itself, mixed, open_already, unopened, not_for_writing, held_already, unheld, unsupported, spelt, beside, or_above, ends_at, nowhere, no_object, not_removed, no_gap, unmet, onto, moved_to, unrenamed, linked_to, unlinked, reason}
+use Rattle.ll_reasons.specs.Reasons.{Reason, absent, of_kind, root, unmoved, beneath_itself, over_itself, mixed, open_already, unopened, not_for_writing, held_already, unheld, unsupported, spelt, beside, or_above, ends_at, nowhere, no_object, unsuited, unmet, onto, moved_to, unrenamed, linked_to, unlinked, reason}
 use Rattle.ll_reasons.specs.ReasonsHold.{paths_of, are_spelt, is_left_out, is_at_root, is_at_one, names_one_twice, is_regular, Holds}
 use Rattle.ll_reasons.proofs.Enough.{and_both, or_left, or_right}
 use Rattle.ll_reasons.proofs.Gains.{prefix-trans, prefix-front}
@@ -119,12 +119,6 @@ module _ (tree : List Entry) (s : State) (op : Op) (there : is_some (node_at tre
   no_object_holds path (Gap directory) is = gap_holds path directory is
   no_object_holds path Nowhere is = nowhere_holds path is
 
-  no_gap_holds : (path : Path) (at : Place) → Placed tree path at → Holds tree s op (no_gap tree path at)
-  unfolding Placed Holds no_gap
-  no_gap_holds path (Node node) is = ap (λ (o : Option NodeId). is_some o) is
-  no_gap_holds path (Gap directory) is = gap_holds path directory is
-  no_gap_holds path Nowhere is = nowhere_holds path is
-
   kind_holds : (path : Path) (node : NodeId) → node_at tree path ≡ Some node → Holds tree s op (of_kind path (kind_at tree node))
   unfolding Holds
   kind_holds path node is = (node, is, refl)
@@ -133,11 +127,18 @@ module _ (tree : List Entry) (s : State) (op : Op) (there : is_some (node_at tre
   by_root true other of_root rest = of_root refl
   by_root false other of_root rest = rest
 
-  not_removed_holds : (path : Path) (at : Place) → Placed tree path at → (is_at_root at ≡ true → Holds tree s op root) → Holds tree s op (not_removed tree path at)
-  unfolding Placed not_removed
-  not_removed_holds path (Node node) is of_root = by_root (is_root node) (of_kind path (kind_at tree node)) of_root (kind_holds path node is)
-  not_removed_holds path (Gap directory) is of_root = gap_holds path directory is
-  not_removed_holds path Nowhere is of_root = nowhere_holds path is
+  unsuited_holds : (path : Path) (node : NodeId) (want : Wanted) → node_at tree path ≡ Some node → (is_root node ≡ true → Holds tree s op root) → Holds tree s op (unsuited tree path node want)
+  unfolding unsuited Holds
+  unsuited_holds path node (Make rights) is of_root = ap (λ (o : Option NodeId). is_some o) is
+  unsuited_holds path node Unlink is of_root = by_root (is_root node) (of_kind path (kind_at tree node)) of_root (kind_holds path node is)
+  unsuited_holds path node Rmdir is of_root = by_root (is_root node) (of_kind path (kind_at tree node)) of_root (kind_holds path node is)
+  unsuited_holds path node want is of_root = kind_holds path node is
+
+  unmet_holds : (path : Path) (at : Place) (want : Wanted) → Placed tree path at → (is_at_root at ≡ true → Holds tree s op root) → Holds tree s op (unmet tree path at want)
+  unfolding Placed unmet
+  unmet_holds path (Node node) want is of_root = unsuited_holds path node want is of_root
+  unmet_holds path (Gap directory) want is of_root = gap_holds path directory is
+  unmet_holds path Nowhere want is of_root = nowhere_holds path is
 
   -- ---- moves
 
@@ -340,14 +341,6 @@ paths_wanted : (op : Op) (want : List ℕ × Wanted) → wanted op ≡ Some want
 unfolding wanted paths_of
 paths_wanted (calls.AddPath rs path fs) want is = cc
 paths_wanted op want is = cc
-
-unmet_holds : (tree : List Entry) (s : State) (op : Op) → is_some (node_at tree []) ≡ true → (path : Path) (at : Place) (want : Wanted) → Placed tree path at → (is_at_root at ≡ true → Holds tree s op root) → Holds tree s op (unmet tree path at want)
-unfolding unmet
-unmet_holds tree s op there path at (Open mode create trunc) is of_root = no_object_holds tree s op there path at is
-unmet_holds tree s op there path at (OnFile rights) is of_root = no_object_holds tree s op there path at is
-unmet_holds tree s op there path at (Make rights) is of_root = no_gap_holds tree s op there path at is
-unmet_holds tree s op there path at Unlink is of_root = not_removed_holds tree s op there path at is of_root
-unmet_holds tree s op there path at Rmdir is of_root = not_removed_holds tree s op there path at is of_root
 
 wanted_holds : (tree : List Entry) (s : State) (op : Op) → is_some (node_at tree []) ≡ true → are_spelt op ≡ true → (want : Option (List ℕ × Wanted)) → wanted op ≡ want → is_some want ≡ true
     → IsSomeAnd (option_map (λ w. unmet tree (spelt w.0) (place tree w.0) w.1) want) (Holds tree s op)

@@ -23,9 +23,8 @@ use Rattle.ll_semantics.specs.Effects.{effect, changed_at}
 use Rattle.ll_semantics.specs.Worlds.{World, if_allowed, answer_in, judged}
 use Rattle.ll_semantics.specs.Situations.{change, state_by, rules, rulesets_by, rulesets_after, world_at}
 use Rattle.ll_semantics.proofs.Steps.{step-rulesets}
-use Rattle.ll_semantics.proofs.Worlds.{judged-at}
 use Rattle.ll_reasons.specs.Origins.{Origins, no_origins, traced}
-use Rattle.ll_reasons.specs.Made.{is_create, IsCreate, IsEarlierCreate}
+use Rattle.ll_reasons.specs.Made.{is_create, IsAllowed, IsEarlier}
 use Rattle.ll_reasons.specs.Conditions.{handled_by, handled_on_ports_by, call_of, handled, handled_on_ports}
 use Rattle.ll_reasons.specs.Explanations.{origins_at}
 use Rattle.ll_reasons.proofs.Lockstep.{Keeps, holds_at, world_at-more, world_at-past}
@@ -131,7 +130,7 @@ created_last tree abi rulesets s op allowed creates =
 -- a ruleset of the world handles what the record at an earlier place named when it created one
 record Holds (tree : List Entry) (abi : Abi) (records : List Record) (at j k : ℕ) : Type 0 where
   before : k < at
-  created : IsCreate tree abi records k
+  created : IsAllowed is_create tree abi records k
   just : HandlesJust (handled_by created.of.op) (handled_on_ports_by created.of.op) (slice_get (world_at tree abi records at).rulesets j)
 
 -- so do all that are held
@@ -146,7 +145,7 @@ later tree abi records k x y fits =
 -- the ruleset that a record at a place creates
 created_here : (tree : List Entry) (abi : Abi) (records : List Record) (k j : ℕ) (r : Record) → slice_get records k ≡ Some r → slice_get (judged tree abi records) k ≡ Some Allowed → is_create r.op ≡ true
     → HandlesJust (handled_by r.op) (handled_on_ports_by r.op) (slice_get (world_at tree abi records (suc k)).rulesets j) → Holds tree abi records (suc k) j k
-created_here tree abi records k j r at allowed creates just = record { before = omega arith; created = record { of = r; at = at; creates = creates; allowed = allowed }; just = just }
+created_here tree abi records k j r at allowed creates just = record { before = omega arith; created = record { of = r; at = at; such = creates; allowed = allowed }; just = just }
 
 changed : (tree : List Entry) (abi : Abi) (records : List Record) (k : ℕ) (op : Op) (rulesets : List Layer) (s : State) (o : Origins)
     → (is_create op ≡ true → Holds tree abi records (suc k) (length rulesets) k) → AllHeld tree abi records k s o
@@ -166,12 +165,11 @@ unfolding fresh no_origins answer_in Alike
 keeps tree abi records = record {
   begins = λ k nnp admin rs. tt;
   stays = λ k s o all rs. later tree abi records k (s.held rs) (o.rulesets rs) (all rs);
-  changes = λ k r o at allowed all.
+  changes = λ k r o at allowed judged all.
       (let w : World = world_at tree abi records k in
-      let s : State = w.processes r.process.0 in
-      changed tree abi records k r.op w.rulesets s o
-      (λ creates. created_here tree abi records k (length w.rulesets) r at (judged-at tree abi records k r at ∙ ap Some allowed) creates
-      (subst (λ (rulesets : List Layer). HandlesJust (handled_by r.op) (handled_on_ports_by r.op) (slice_get rulesets (length w.rulesets))) (sym (next_rulesets tree abi records k r at)) (created_last tree abi w.rulesets s r.op allowed creates)))
+      changed tree abi records k r.op w.rulesets (w.processes r.process.0) o
+      (λ creates. created_here tree abi records k (length w.rulesets) r at judged creates
+      (subst (λ (rulesets : List Layer). HandlesJust (handled_by r.op) (handled_on_ports_by r.op) (slice_get rulesets (length w.rulesets))) (sym (next_rulesets tree abi records k r at)) (created_last tree abi w.rulesets (w.processes r.process.0) r.op allowed creates)))
       all);
 }
 
@@ -217,7 +215,7 @@ as_created tree abi records at (Some j) (Some k) rules fits is =
 as_created tree abi records at None (Some k) rules fits is = absurd fits
 as_created tree abi records at (Some j) None rules fits is = absurd fits
 
-earlier : (tree : List Entry) (abi : Abi) (records : List Record) (at : ℕ) (x y : Option ℕ) → Alike (Holds tree abi records at) x y → IfSome y (IsEarlierCreate tree abi records at)
+earlier : (tree : List Entry) (abi : Abi) (records : List Record) (at : ℕ) (x y : Option ℕ) → Alike (Holds tree abi records at) x y → IfSome y (IsEarlier is_create tree abi records at)
 unfolding Alike
 earlier tree abi records at None None fits = tt
 earlier tree abi records at (Some j) (Some k) fits = (fits.before, fits.created)
@@ -239,6 +237,6 @@ module _ (tree : List Entry) (abi : Abi) (records : List Record) (at process rs 
   ruleset_handles rules is =
       as_created tree abi records at (((world_at tree abi records at).processes process).held rs) ((origins_at tree abi records at process).rulesets rs) rules (all_held tree abi records at process rs) is
 
-  pub ruleset_earlier : IfSome ((origins_at tree abi records at process).rulesets rs) (IsEarlierCreate tree abi records at)
+  pub ruleset_earlier : IfSome ((origins_at tree abi records at process).rulesets rs) (IsEarlier is_create tree abi records at)
   ruleset_earlier =
       earlier tree abi records at (((world_at tree abi records at).processes process).held rs) ((origins_at tree abi records at process).rulesets rs) (all_held tree abi records at process rs)

@@ -25,17 +25,10 @@ enforced_by world (Some r) = enforced world.rulesets r.op (world.processes r.pro
 unfoldable pub enforced_at : List Entry → Abi → List Record → ℕ → Option Layer
 enforced_at tree abi records k = enforced_by (world_at tree abi records k) (slice_get records k)
 
--- the record at a place of the trace restricts its process, and is allowed
-pub record IsRestrict (tree : List Entry) (abi : Abi) (records : List Record) (k : ℕ) : Type 0 where
-  pub of : Record
-  pub rs : ℕ
-  pub at : slice_get records k ≡ Some of
-  pub restricts : of.op ≡ calls.Restrict rs
-  pub allowed : slice_get (judged tree abi records) k ≡ Some Allowed
-
--- and it is before another place
-abbrev pub IsEarlierRestrict : List Entry → Abi → List Record → ℕ → ℕ → Type 0
-IsEarlierRestrict tree abi records place k = (k < place) × IsRestrict tree abi records k
+-- the call restricts its process
+unfoldable pub is_restrict : Op → Bool
+is_restrict (calls.Restrict rs) = true
+is_restrict op = false
 
 -- ---- descriptors
 
@@ -59,16 +52,6 @@ opened_by tree world (Some r) = opened_in tree (world.processes r.process.0) r.o
 unfoldable pub opened_at : List Entry → Abi → List Record → ℕ → Option Descriptor
 opened_at tree abi records k = opened_by tree (world_at tree abi records k) (slice_get records k)
 
--- the record at a place of the trace opens a descriptor, and is allowed
-pub record IsOpening (tree : List Entry) (abi : Abi) (records : List Record) (k : ℕ) : Type 0 where
-  pub of : Record
-  pub at : slice_get records k ≡ Some of
-  pub opens : is_opening of.op ≡ true
-  pub allowed : slice_get (judged tree abi records) k ≡ Some Allowed
-
-abbrev pub IsEarlierOpening : List Entry → Abi → List Record → ℕ → ℕ → Type 0
-IsEarlierOpening tree abi records place k = (k < place) × IsOpening tree abi records k
-
 -- ---- rulesets
 
 -- the call creates a ruleset, even one that handles nothing
@@ -77,15 +60,18 @@ is_create (calls.Create rs fs net) = true
 is_create (calls.CreateEmpty rs) = true
 is_create op = false
 
--- the record at a place of the trace creates a ruleset, and is allowed
-pub record IsCreate (tree : List Entry) (abi : Abi) (records : List Record) (k : ℕ) : Type 0 where
+-- ---- calls of these kinds
+
+-- the record at a place of the trace is a call of a kind, and is allowed
+pub record IsAllowed (is_such : Op → Bool) (tree : List Entry) (abi : Abi) (records : List Record) (k : ℕ) : Type 0 where
   pub of : Record
   pub at : slice_get records k ≡ Some of
-  pub creates : is_create of.op ≡ true
+  pub such : is_such of.op ≡ true
   pub allowed : slice_get (judged tree abi records) k ≡ Some Allowed
 
-abbrev pub IsEarlierCreate : List Entry → Abi → List Record → ℕ → ℕ → Type 0
-IsEarlierCreate tree abi records place k = (k < place) × IsCreate tree abi records k
+-- and it is before another place
+abbrev pub IsEarlier : (Op → Bool) → List Entry → Abi → List Record → ℕ → ℕ → Type 0
+IsEarlier is_such tree abi records place k = (k < place) × IsAllowed is_such tree abi records k
 
 -- ---- domains
 

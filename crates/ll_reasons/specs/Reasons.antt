@@ -10,7 +10,7 @@ use Rattle.ll_tree.specs.Trees.{Entry, kind_at, is_dir, node_at, place}
 use Rattle.ll_trace.specs.declared.op.Op.{Op}
 use Rattle.ll_trace.specs.declared.op.Op.TheVariants as calls
 use Rattle.ll_semantics.specs.declared.request.Wanted.{Wanted}
-use Rattle.ll_semantics.specs.declared.request.Wanted.TheVariants.{Open, OnFile, Make, Unlink, Rmdir}
+use Rattle.ll_semantics.specs.declared.request.Wanted.TheVariants.{Make, Unlink, Rmdir}
 use Rattle.ll_semantics.specs.Requests.{wanted}
 use Rattle.ll_semantics.specs.Moves.{is_above, is_root}
 use Rattle.ll_reasons.specs.Origins.{Origins}
@@ -78,25 +78,18 @@ no_object tree path (Node node) = of_kind path (kind_at tree node)
 no_object tree path (Gap directory) = absent path
 no_object tree path Nowhere = nowhere tree path
 
--- a place where an object should be that may be removed
-unfoldable pub not_removed : List Entry → Path → Place → Reason
-not_removed tree path (Node node) = if is_root node then root else of_kind path (kind_at tree node)
-not_removed tree path (Gap directory) = absent path
-not_removed tree path Nowhere = nowhere tree path
+-- an object that isn't what a call wants
+unfoldable pub unsuited : List Entry → Path → NodeId → Wanted → Reason
+unsuited tree path node (Make rights) = present path
+unsuited tree path node Unlink = if is_root node then root else of_kind path (kind_at tree node)
+unsuited tree path node Rmdir = if is_root node then root else of_kind path (kind_at tree node)
+unsuited tree path node wanted = of_kind path (kind_at tree node)
 
--- a place where a new object should be
-unfoldable pub no_gap : List Entry → Path → Place → Reason
-no_gap tree path (Node node) = present path
-no_gap tree path (Gap directory) = absent path
-no_gap tree path Nowhere = nowhere tree path
-
--- why a place isn't what a call wants there
+-- a place that isn't what a call wants there
 unfoldable pub unmet : List Entry → Path → Place → Wanted → Reason
-unmet tree path there (Open mode create trunc) = no_object tree path there
-unmet tree path there (OnFile rights) = no_object tree path there
-unmet tree path there (Make rights) = no_gap tree path there
-unmet tree path there Unlink = not_removed tree path there
-unmet tree path there Rmdir = not_removed tree path there
+unmet tree path (Node node) wanted = unsuited tree path node wanted
+unmet tree path (Gap directory) wanted = absent path
+unmet tree path Nowhere wanted = nowhere tree path
 
 -- ---- moves
 

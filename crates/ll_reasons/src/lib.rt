@@ -16,7 +16,7 @@ mod worked;
 pub use laws::allowed_records_need_no_explanation;
 pub use layers::refusing_layers_are_explained;
 pub use moves::{unlinked, unrenamed};
-pub use objects::{no_gap, no_object, not_removed, unmet};
+pub use objects::{no_object, unmet};
 pub use origins::{
     descriptors_come_from_their_openings, layers_come_from_their_restricts,
     layers_keep_their_numbers, rulesets_come_from_their_creations,

@@ -3,7 +3,7 @@
 ghost use Rattle.std.specs.Prelude.{◌≡◌};
 ghost use Rattle.ll_tree.specs.Trees.{place};
 ghost use Rattle.ll_reasons.specs.Meant.{meant};
-ghost use Rattle.ll_reasons.specs.Reasons.{no_gap, no_object, not_removed, nowhere, spelt, unmet};
+ghost use Rattle.ll_reasons.specs.Reasons.{no_object, nowhere, spelt, unmet};
 
 use crate::spelt_path::SpeltPath;
 use crate::why::Why;
@@ -41,39 +41,19 @@ pub fn no_object<'t>(tree: &Tree, path: &'t PathText) -> Why<'t>
     }
 }
 
-/// Why a path isn't that of an object which may be removed.
-#[tactic(auto, unfolding(crate::specs::Meant::meant, crate::specs::Reasons::not_removed))]
-pub fn not_removed<'t>(tree: &Tree, path: &'t PathText) -> Why<'t>
-    ensures { meant result ≡ not_removed tree.now (spelt path.now) (place tree.now path.now) }
-{
-    match tree.place_of(path.as_str()) {
-        Place::Node(removed) if removed.is_root() => Why::Root,
-        Place::Node(removed) => Why::OfKind(SpeltPath::of(path), tree.kind(removed)),
-        Place::Gap(_) => Why::Absent(SpeltPath::of(path)),
-        Place::Nowhere => nowhere(tree, path),
-    }
-}
-
-/// Why there is no gap where a new object should be.
-#[tactic(auto, unfolding(crate::specs::Meant::meant, crate::specs::Reasons::no_gap))]
-pub fn no_gap<'t>(tree: &Tree, path: &'t PathText) -> Why<'t>
-    ensures { meant result ≡ no_gap tree.now (spelt path.now) (place tree.now path.now) }
-{
-    match tree.place_of(path.as_str()) {
-        Place::Node(_) => Why::Present(SpeltPath::of(path)),
-        Place::Gap(_) => Why::Absent(SpeltPath::of(path)),
-        Place::Nowhere => nowhere(tree, path),
-    }
-}
-
 /// Why what is at a path isn't what a call wants there.
-#[tactic(auto, unfolding(crate::specs::Reasons::unmet))]
+#[tactic(auto, unfolding(crate::specs::Meant::meant, crate::specs::Reasons::unmet, crate::specs::Reasons::unsuited))]
 pub fn unmet<'t>(tree: &Tree, path: &'t PathText, wanted: Wanted) -> Why<'t>
     ensures { meant result ≡ unmet tree.now (spelt path.now) (place tree.now path.now) wanted }
 {
+    let node = match tree.place_of(path.as_str()) {
+        Place::Node(node) => node,
+        Place::Gap(_) => return Why::Absent(SpeltPath::of(path)),
+        Place::Nowhere => return nowhere(tree, path),
+    };
     match wanted {
-        Wanted::Open { .. } | Wanted::OnFile(_) => no_object(tree, path),
-        Wanted::Make(_) => no_gap(tree, path),
-        Wanted::Unlink | Wanted::Rmdir => not_removed(tree, path),
+        Wanted::Make(_) => Why::Present(SpeltPath::of(path)),
+        Wanted::Unlink | Wanted::Rmdir if node.is_root() => Why::Root,
+        _ => Why::OfKind(SpeltPath::of(path), tree.kind(node)),
     }
 }

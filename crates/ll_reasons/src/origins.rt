@@ -7,7 +7,7 @@ ghost use Rattle.ll_trace.specs.declared.record.Record.{Record};
 ghost use Rattle.ll_semantics.specs.States.{Layer};
 ghost use Rattle.ll_semantics.specs.Answers.{named};
 ghost use Rattle.ll_semantics.specs.Situations.{world_at};
-ghost use Rattle.ll_reasons.specs.Made.{enforced_at, IsEarlierRestrict, opened_at, IsEarlierOpening, IsEarlierCreate, domain_there, BeganAs};
+ghost use Rattle.ll_reasons.specs.Made.{enforced_at, is_restrict, opened_at, is_opening, is_create, IsEarlier, domain_there, BeganAs};
 ghost use Rattle.ll_reasons.specs.Conditions.{handled, handled_on_ports};
 ghost use Rattle.ll_reasons.specs.Explanations.{domain_at, origins_at};
 
@@ -18,7 +18,7 @@ pub fn layers_come_from_their_restricts()
         → domain_at tree abi records place process
         ≡ filter_map (enforced_at tree abi records) (origins_at tree abi records place process).layers }
     ensures restricts { (tree : List Entry) (abi : Abi) (records : List Record) (place process : ℕ)
-        → All (IsEarlierRestrict tree abi records place) (origins_at tree abi records place process).layers }
+        → All (IsEarlier is_restrict tree abi records place) (origins_at tree abi records place process).layers }
     ensures count { (tree : List Entry) (abi : Abi) (records : List Record) (place process : ℕ)
         → length (origins_at tree abi records place process).layers
         ≡ length (domain_at tree abi records place process) }
@@ -40,7 +40,7 @@ pub fn descriptors_come_from_their_openings()
         ≡ is_some (((world_at tree abi records place).processes process).descriptors fd) }
     ensures openings { (tree : List Entry) (abi : Abi) (records : List Record) (place process fd : ℕ)
         → IfSome ((origins_at tree abi records place process).openings fd)
-        (IsEarlierOpening tree abi records place) }
+        (IsEarlier is_opening tree abi records place) }
 {}
 
 /// A number is that of a ruleset just where its origins name a creation; this is an earlier `create` that was
@@ -63,7 +63,7 @@ pub fn rulesets_come_from_their_creations()
         → handled_on_ports records (origins_at tree abi records place process) rs ≡ rules.handled_network }
     ensures creations { (tree : List Entry) (abi : Abi) (records : List Record) (place process rs : ℕ)
         → IfSome ((origins_at tree abi records place process).rulesets rs)
-        (IsEarlierCreate tree abi records place) }
+        (IsEarlier is_create tree abi records place) }
 {}
 
 /// A descriptor's process has in front the layers that it was opened with: layer k then is layer k now.

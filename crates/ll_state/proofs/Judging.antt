@@ -9,18 +9,18 @@ use Rattle.ll_semantics.specs.declared.answer.Answer.TheVariants.{Allowed, Moot,
 use Rattle.ll_semantics.specs.declared.note.Note.TheVariants.{Open}
 use Rattle.ll_state.specs.declared.own_state.OwnState.{OwnState}
 use Rattle.ll_semantics.specs.States.{State, Layer}
-use Rattle.ll_semantics.specs.Answers.{answer, restrict_answer, named}
+use Rattle.ll_semantics.specs.Answers.{answer, named}
 use Rattle.ll_semantics.specs.Effects.{effect, with_held, with_layer}
 use Rattle.ll_semantics.specs.Worlds.{if_allowed}
 use Rattle.ll_semantics.specs.Situations.{Situation, answered, left, change, state_by, state_after}
 use Rattle.ll_semantics.proofs.Steps.{if_allowed-same}
-use Rattle.ll_state.specs.Agreement.{Agrees, is_still}
+use Rattle.ll_state.specs.Agreement.{Agrees, Restricts, is_still}
 use Rattle.ll_semantics.specs.Notes.{NoteFits, IsFrozen, is_on_rulesets, enforced}
 
 -- ---- calls that change nothing of their process's state
 
 left-still : (at : Situation) (op : Op) → is_still op ≡ true → left at op ≡ at.state
-unfolding left state_after change state_by effect is_still
+unfolding left state_after change state_by effect is_still is_on_rulesets
 left-still at calls.Nnp still = absurd (false≢true still)
 left-still at (calls.Create rs fs net) still = absurd (false≢true still)
 left-still at (calls.AddPath rs path fs) still = absurd (false≢true still)
@@ -63,38 +63,29 @@ Agrees-on_rulesets at own op agrees on =
 
 -- ---- a process that restricts itself
 
--- by a ruleset that it holds
-pub frozen_answered : (at : Situation) (op : Op) (id : LayerId) (a : Answer) → IsFrozen at (Some id) (enforced at.rulesets op at.state)
-    → ((rules : Option Layer) → IsFrozen at (Some id) rules → a ≡ restrict_answer at.state rules) → a ≡ answered at op
-unfolding answered answer enforced IsFrozen
-frozen_answered at (calls.Restrict rs) id a frozen tells = tells (named at.rulesets (at.state.held rs)) frozen
-frozen_answered at op id a frozen tells = absurd frozen
+module _ (at : Situation) (before after : OwnState) (a : Answer) (agrees : Agrees at.tree at.layers before at.state) where
+  restrict_judged : (rs : ℕ) (layer : Option LayerId) → Restricts layer before after a → IsFrozen at layer (named at.rulesets (at.state.held rs))
+      → (a ≡ answered at (calls.Restrict rs)) × Agrees at.tree at.layers after (left at (calls.Restrict rs))
+  unfolding answered left state_after answer change state_by effect
+  restrict_judged rs layer restricts frozen =
+      let rules = named at.rulesets (at.state.held rs) in
+      let both = restricts at agrees rules frozen in
+      (both.0, subst (λ (b : Answer). Agrees at.tree at.layers after (if_allowed b (with_layer at.state rules) at.state)) both.0 both.1)
 
-pub frozen_left : (at : Situation) (own : OwnState) (op : Op) (id : LayerId) (a : Answer) → IsFrozen at (Some id) (enforced at.rulesets op at.state)
-    → ((rules : Option Layer) → IsFrozen at (Some id) rules → a ≡ restrict_answer at.state rules)
-    → ((rules : Option Layer) → IsFrozen at (Some id) rules → Agrees at.tree at.layers own (if_allowed a (with_layer at.state rules) at.state)) → Agrees at.tree at.layers own (left at op)
-unfolding left state_after answer change state_by effect enforced IsFrozen
-frozen_left at own (calls.Restrict rs) id a frozen tells leaves =
-    let rules = named at.rulesets (at.state.held rs) in
-    subst (λ (b : Answer). Agrees at.tree at.layers own (if_allowed b (with_layer at.state rules) at.state)) (tells rules frozen) (leaves rules frozen)
-frozen_left at own op id a frozen tells leaves = absurd frozen
+  -- by a ruleset that it holds
+  pub frozen_judged : (op : Op) (id : LayerId) → Restricts (Some id) before after a → IsFrozen at (Some id) (enforced at.rulesets op at.state)
+      → (a ≡ answered at op) × Agrees at.tree at.layers after (left at op)
+  unfolding enforced IsFrozen
+  frozen_judged (calls.Restrict rs) id restricts frozen = restrict_judged rs (Some id) restricts frozen
+  frozen_judged op id restricts frozen = absurd frozen
 
--- by none
-unheld : (at : Situation) (rs : ℕ) → NoteFits at (calls.Restrict rs) Open → IsFrozen at None (named at.rulesets (at.state.held rs))
-unfolding NoteFits enforced IsFrozen
-unheld at rs fits = subst (λ (rules : Option Layer). IsFrozen at None rules) (sym fits.1) tt
+  unheld : (rs : ℕ) → NoteFits at (calls.Restrict rs) Open → IsFrozen at None (named at.rulesets (at.state.held rs))
+  unfolding NoteFits enforced IsFrozen
+  unheld rs fits = subst (λ (rules : Option Layer). IsFrozen at None rules) (sym fits.1) tt
 
-pub unheld_answered : (at : Situation) (op : Op) (rs : ℕ) (a : Answer) → op ≡ calls.Restrict rs → NoteFits at op Open
-    → ((rules : Option Layer) → IsFrozen at None rules → a ≡ restrict_answer at.state rules) → a ≡ answered at op
-unfolding answered answer
-unheld_answered at op rs a is fits tells =
-    subst (λ (o : Op). a ≡ answered at o) (sym is) (tells (named at.rulesets (at.state.held rs)) (unheld at rs (subst (λ (o : Op). NoteFits at o Open) is fits)))
-
-pub unheld_left : (at : Situation) (own : OwnState) (op : Op) (rs : ℕ) (a : Answer) → op ≡ calls.Restrict rs → NoteFits at op Open
-    → ((rules : Option Layer) → IsFrozen at None rules → a ≡ restrict_answer at.state rules)
-    → ((rules : Option Layer) → IsFrozen at None rules → Agrees at.tree at.layers own (if_allowed a (with_layer at.state rules) at.state)) → Agrees at.tree at.layers own (left at op)
-unfolding left state_after answer change state_by effect
-unheld_left at own op rs a is fits tells leaves =
-    let rules = named at.rulesets (at.state.held rs) in
-    let frozen = unheld at rs (subst (λ (o : Op). NoteFits at o Open) is fits) in
-    subst (λ (o : Op). Agrees at.tree at.layers own (left at o)) (sym is) (subst (λ (b : Answer). Agrees at.tree at.layers own (if_allowed b (with_layer at.state rules) at.state)) (tells rules frozen) (leaves rules frozen))
+  -- by none
+  pub unheld_judged : (op : Op) (rs : ℕ) → Restricts None before after a → op ≡ calls.Restrict rs → NoteFits at op Open
+      → (a ≡ answered at op) × Agrees at.tree at.layers after (left at op)
+  unheld_judged op rs restricts is fits =
+      subst (λ (o : Op). (a ≡ answered at o) × Agrees at.tree at.layers after (left at o)) (sym is)
+      (restrict_judged rs None restricts (unheld rs (subst (λ (o : Op). NoteFits at o Open) is fits)))

@@ -1,5 +1,5 @@
 -- What restricting itself answers a process, and the layer that its domain gets.
-use Rattle.std.proofs.Common.{◌≡◌, ◌≢◌, ℕ, ◌<◌, ◌≤◌, inl, inr, leb, true, false, List, [], ◌∷◌, ◌++◌, length, Option, Some, None, refl, sym, ◌∙◌, arith}
+use Rattle.std.proofs.Common.{◌≡◌, ◌≢◌, ◌||◌, ℕ, ◌<◌, ◌≤◌, inl, inr, leb, true, false, List, [], ◌∷◌, ◌++◌, length, Option, Some, None, refl, sym, ◌∙◌, arith}
 use Rattle.std.proofs.lemmas.Bool.{le-leb}
 use Rattle.std.proofs.lemmas.Bool.Decides.{leb_tells}
 use Rattle.std.proofs.lemmas.List.{map-append, length-map}
@@ -18,6 +18,10 @@ use Rattle.ll_semantics.specs.Effects.{with_layer}
 use Rattle.ll_semantics.specs.Situations.{Situation}
 use Rattle.ll_state.specs.Agreement.{Agrees}
 use Rattle.ll_semantics.specs.Notes.{IsFrozen}
+
+-- a process may restrict itself where its state says so
+pub kept_may : (at : Situation) (own : OwnState) (s : State) → Agrees at.tree at.layers own s → may_restrict s ≡ (own.no_new_privs || own.admin)
+kept_may at own s agrees = rw (agrees.no_new_privs, agrees.admin) refl
 
 -- a process that may not
 pub restrict_denied : (s : State) (rules : Option Layer) → may_restrict s ≡ false → fails Perm ≡ restrict_answer s rules

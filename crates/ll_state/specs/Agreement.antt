@@ -1,19 +1,24 @@
 -- When what is kept of one process agrees with its state in the semantics of a trace.
 -- Source: landlock_restrict_self(2); the kernel's userspace document on Landlock, "Inheritance".
-use Rattle.std.specs.Prelude.{◌≡◌, ℕ, Bool, true, false, List, All}
+use Rattle.std.specs.Prelude.{◌≡◌, ℕ, Bool, false, not, List, All, Option, Result, IfOk, OnOk, OnErr}
 use Rattle.std.specs.List.{AllZip}
 use Rattle.std.specs.FinMap.{get}
 use Rattle.ll_tree.specs.Trees.{Entry}
 use Rattle.ll_rules.specs.Layers.{RulesOn}
-use Rattle.ll_rules.specs.KeptLayers.{SameRules}
-use Rattle.ll_rules.specs.InTree.{AreInTree}
-use Rattle.ll_rules.specs.KeptLayers.{domain_of, IsDomainOf}
-use Rattle.ll_rules.specs.InTree.{all_in_tree}
+use Rattle.ll_rules.specs.declared.domain.LayerId.{LayerId}
+use Rattle.ll_rules.specs.KeptLayers.{SameRules, domain_of, IsDomainOf}
+use Rattle.ll_rules.specs.InTree.{AreInTree, all_in_tree}
+use Rattle.ll_rules.specs.declared.errno.NoMemory.{NoMemory}
 use Rattle.ll_state.specs.declared.own_state.OwnState.{OwnState}
 use Rattle.ll_trace.specs.declared.op.Op.{Op}
 use Rattle.ll_trace.specs.declared.op.Op.TheVariants as calls
-use Rattle.ll_semantics.specs.States.{State}
-use Rattle.ll_semantics.specs.Situations.{Situation}
+use Rattle.ll_semantics.specs.States.{State, Layer}
+use Rattle.ll_semantics.specs.Answers.{restrict_answer}
+use Rattle.ll_semantics.specs.Effects.{with_layer}
+use Rattle.ll_semantics.specs.Worlds.{if_allowed}
+use Rattle.ll_semantics.specs.declared.answer.Answer.{Answer}
+use Rattle.ll_semantics.specs.Notes.{IsFrozen, is_on_rulesets}
+use Rattle.ll_semantics.specs.Situations.{Situation, answered, left}
 
 -- a tree and layers are those that a call meets, and the layers' rules are on nodes of the tree
 pub record IsMet (at : Situation) (tree : List Entry) (layers : List (RulesOn ℕ)) : Type 0 where
@@ -30,17 +35,25 @@ pub record Agrees (tree : List Entry) (layers : List (RulesOn ℕ)) (own : OwnSt
   pub domain : AllZip SameRules (all_in_tree tree (domain_of layers own.domain)) state.domain
   pub descriptors : (fd : ℕ) → get own.descriptors fd ≡ state.descriptors fd
 
+-- a call was judged: its answer, and what is kept of its process then; without memory that is as before
+abbrev pub IsJudged : Situation → Op → OwnState → Result Answer NoMemory → Type 0
+IsJudged at op own result =
+    IfOk result (λ answer. answer ≡ answered at op)
+    × OnOk result (Agrees at.tree at.layers own (left at op))
+    × OnErr result (Agrees at.tree at.layers own at.state)
+
+-- a process restricted itself by the layer that a ruleset was frozen to, or held none: its answer, and what is kept of it then
+abbrev pub Restricts : Option LayerId → OwnState → OwnState → Answer → Type 0
+Restricts layer before after answer =
+    (at : Situation) → Agrees at.tree at.layers before at.state → (rules : Option Layer) → IsFrozen at layer rules
+    → (answer ≡ restrict_answer at.state rules) × Agrees at.tree at.layers after (if_allowed answer (with_layer at.state rules) at.state)
+
 -- a call that leaves the state of its process and the rulesets as they are
 unfoldable pub is_still : Op → Bool
 is_still calls.Nnp = false
-is_still (calls.Create rs fs net) = false
-is_still (calls.AddPath rs path fs) = false
-is_still (calls.AddPort rs port net) = false
-is_still (calls.CloseRs rs) = false
 is_still (calls.Restrict rs) = false
-is_still (calls.CreateEmpty rs) = false
 is_still (calls.OpenFile path fd mode create trunc) = false
 is_still (calls.Adopt fd kind) = false
 is_still (calls.Dup fd to) = false
 is_still (calls.Close fd) = false
-is_still op = true
+is_still op = not (is_on_rulesets op)

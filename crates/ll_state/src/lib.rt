@@ -1,6 +1,10 @@
 //! What one process has by itself, and how its calls are judged.
 #![tactic(auto)]
 
+mod call;
+mod checks;
+mod confinement;
+mod descriptors;
 mod moves;
 mod own_state;
 mod requests;

@@ -1,7 +1,6 @@
 //! What one process has by itself.
 
-mod checks;
-mod descriptors;
+mod opening;
 mod restricting;
 
 ghost use Rattle.std.specs.Prelude.{◌≡◌, ℕ, List, true, IfOk, IfSome, OnOk, OnErr};
@@ -10,10 +9,14 @@ ghost use Rattle.ll_rules.specs.Layers.{RulesOn};
 ghost use Rattle.ll_trace.specs.FirstPlaces.{first_place};
 ghost use Rattle.ll_semantics.specs.States.{State, fresh};
 ghost use Rattle.ll_semantics.specs.Situations.{Situation, answered, left};
-ghost use Rattle.ll_state.specs.Agreement.{IsMet, Agrees, is_still};
+ghost use Rattle.ll_state.specs.Agreement.{IsMet, Agrees, IsJudged, is_still};
 ghost use Rattle.ll_semantics.specs.Notes.{NoteFits};
 
-use crate::requests::{place_of, request};
+use crate::call::Call;
+use crate::confinement::Confinement;
+use crate::descriptors::{ftruncate, ioctl};
+use crate::moves::{link_move, rename_move};
+use crate::requests::place_of;
 use ll_rights::Net;
 use ll_rules::{Domain, Layer, NoMemory};
 use ll_semantics::{Answer, Descriptor, Note};
@@ -95,30 +98,29 @@ impl OwnState {
         match note {
             Note::Answered(answer) => Ok(*answer),
             Note::Frozen(layer) => Ok(self.restrict(Some(*layer))),
-            Note::Open => self.judge_alone(tree, layers, op, known),
+            Note::Open => self.judge_alone(&Call {
+                known,
+                op,
+                tree,
+                layers,
+            }),
         }
     }
 
     /// Judges a call whose answer rests on the state of its process alone.
-    #[tactic(auto, unfolding(crate::specs::Agreement::is_still, ll_semantics::specs::Notes::NoteFits, ll_semantics::specs::Notes::is_on_rulesets, ll_trace::specs::FirstPlaces::first_place, ll_trace::specs::Operations::paths_of))]
-    fn judge_alone(
-        &mut self,
-        tree: &Tree,
-        layers: &[Layer],
-        op: &Op,
-        known: Option<Place>,
-    ) -> Result<Answer, NoMemory>
+    #[tactic(auto, unfolding(crate::specs::Agreement::is_still, ll_semantics::specs::Situations::answered, ll_semantics::specs::Situations::left, ll_semantics::specs::Situations::state_after, ll_semantics::specs::Answers::answer, ll_semantics::specs::Situations::change, ll_semantics::specs::Situations::state_by, ll_semantics::specs::Effects::effect, ll_semantics::specs::Notes::NoteFits, ll_semantics::specs::Notes::is_on_rulesets, ll_trace::specs::FirstPlaces::first_place, ll_trace::specs::Operations::paths_of))]
+    fn judge_alone(&mut self, call: &Call<'_>) -> Result<Answer, NoMemory>
         ghost at: { Situation }
-        requires met { IsMet at tree.now layers.now }
+        requires met { IsMet at call.now.tree.now call.now.layers.now }
         requires agrees { Agrees at.tree at.layers self.old at.state }
-        requires fits { NoteFits at op.now Note.Open }
-        requires known { IfSome known (λ one. one ≡ first_place tree.now op.now) }
-        ensures answer { IfOk result (λ answer. answer ≡ answered at op.now) }
-        ensures ok { OnOk result (Agrees at.tree at.layers self.new (left at op.now)) }
-        ensures err { OnErr result (Agrees at.tree at.layers self.new at.state) }
+        requires fits { NoteFits at call.now.op.now Note.Open }
+        ensures { IsJudged at call.now.op.now self.new result }
     {
-        match op {
-            Op::Nnp => Ok(self.set_no_new_privs()),
+        match call.op {
+            Op::Nnp => {
+                self.no_new_privs = true;
+                Ok(Answer::Allowed)
+            }
             Op::Restrict { .. } => Ok(self.restrict(None)),
             Op::OpenFile {
                 path,
@@ -126,13 +128,11 @@ impl OwnState {
                 mode,
                 create,
                 trunc,
-            } => self.open(tree, layers, path, known, *fd, *mode, *create, *trunc),
+            } => self.open(call, path, *fd, *mode, *create, *trunc),
             Op::Adopt { fd, kind } => self.adopt(*fd, *kind),
             Op::Dup { fd, to } => self.dup(*fd, *to),
             Op::Close { fd } => self.close(*fd),
-            Op::Start { .. } | Op::Fork { .. } | changes_nothing!() => Ok(self.answer(
-                tree, layers, op, known,
-            )),
+            Op::Start { .. } | Op::Fork { .. } | changes_nothing!() => Ok(self.answer(call)),
             Op::Create { .. }
             | Op::AddPath { .. }
             | Op::AddPort { .. }
@@ -142,36 +142,37 @@ impl OwnState {
     }
 
     /// The answer to a call that changes nothing of its process's state.
-    #[tactic(auto, unfolding(crate::specs::Agreement::is_still, ll_trace::specs::FirstPlaces::first_place, ll_trace::specs::Operations::paths_of, ll_semantics::specs::Situations::answered, ll_semantics::specs::Answers::answer, ll_rights::specs::Rights::only, ll_rights::specs::NetRights::has, ll_rights::specs::NetRights::only))]
-    fn answer(&self, tree: &Tree, layers: &[Layer], op: &Op, known: Option<Place>) -> Answer
+    #[tactic(auto, using(crate::proofs::SameLayers::request_same, crate::proofs::SameLayers::move_same, crate::proofs::SameLayers::port_same, crate::proofs::SameLayers::mount_same), unfolding(crate::specs::Agreement::is_still, ll_semantics::specs::Notes::is_on_rulesets, ll_trace::specs::FirstPlaces::first_place, ll_trace::specs::Operations::paths_of, ll_semantics::specs::Situations::answered, ll_semantics::specs::Answers::answer, ll_rights::specs::Rights::only, ll_rights::specs::NetRights::has, ll_rights::specs::NetRights::only))]
+    fn answer(&self, call: &Call<'_>) -> Answer
         ghost at: { Situation }
-        requires met { IsMet at tree.now layers.now }
+        requires met { IsMet at call.now.tree.now call.now.layers.now }
         requires agrees { Agrees at.tree at.layers self.now at.state }
-        requires still { is_still op.now ≡ true }
-        requires known { IfSome known (λ one. one ≡ first_place tree.now op.now) }
-        ensures { result ≡ answered at op.now }
+        requires still { is_still call.now.op.now ≡ true }
+        ensures { result ≡ answered at call.now.op.now }
     {
-        match op {
+        let tree = call.tree;
+        let confinement = Confinement {
+            call: *call,
+            domain: &self.domain,
+        };
+        match call.op {
             Op::Start { .. } | Op::Fork { .. } | Op::Exit => Answer::Allowed,
-            Op::Ftruncate { fd } => self.ftruncate(*fd),
-            Op::Ioctl { fd, driver } => self.ioctl(*fd, *driver),
-            wants_at_a_path!() => self.ask(tree, layers, request(tree, op, known)),
-            Op::Rename { from, to, exchange } => self.rename(
-                tree,
-                layers,
-                place_of(tree, from, known),
-                to.path(),
-                *exchange,
-            ),
-            Op::Link { from, to } => self.link(
-                tree,
-                layers,
-                place_of(tree, from, known),
-                to.path(),
-            ),
-            Op::Mount => self.mount(layers),
-            Op::Bind { port } => self.ask_port(layers, *port, Net::BIND_TCP),
-            Op::Connect { port } => self.ask_port(layers, *port, Net::CONNECT_TCP),
+            Op::Ftruncate { fd } => ftruncate(self.descriptor(*fd)),
+            Op::Ioctl { fd, driver } => ioctl(self.descriptor(*fd), *driver),
+            wants_at_a_path!() => confinement.ask(call.request()),
+            Op::Rename { from, to, exchange } => {
+                let from = place_of(tree, from, call.known);
+                let to = place_of(tree, to.path(), None);
+                confinement.ask_move(rename_move(tree, from, to, *exchange))
+            }
+            Op::Link { from, to } => {
+                let from = place_of(tree, from, call.known);
+                let to = place_of(tree, to.path(), None);
+                confinement.ask_move(link_move(tree, from, to))
+            }
+            Op::Mount => confinement.ask_mount(),
+            Op::Bind { port } => confinement.ask_port(*port, Net::BIND_TCP),
+            Op::Connect { port } => confinement.ask_port(*port, Net::CONNECT_TCP),
             Op::LeaveOut { .. } => Answer::Moot,
             Op::Nnp
             | Op::Create { .. }

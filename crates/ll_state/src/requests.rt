@@ -4,12 +4,12 @@ ghost use Rattle.std.specs.Prelude.{◌≡◌, IfSome};
 ghost use Rattle.ll_tree.specs.Trees.{IsNode, parent_at, place};
 ghost use Rattle.ll_tree.specs.TreeFacts.{IsPlace};
 ghost use Rattle.ll_semantics.specs.Fits.{IsFit};
-ghost use Rattle.ll_trace.specs.FirstPlaces.{first_place};
 ghost use Rattle.ll_semantics.specs.Requests.{rights_of_mode, file_rights, new_file_rights, open_kind, remove_from, asks, request, wanted};
 
+use crate::call::Call;
 use ll_rights::{Fs, Kind};
 use ll_semantics::{Request, Wanted, wanted};
-use ll_trace::{Mode, Op, PathText};
+use ll_trace::{Mode, PathText};
 use ll_tree::{NodeId, Place, Tree};
 
 /// The place that a path leads to, which may be known.
@@ -142,12 +142,13 @@ pub fn asks(tree: &Tree, place: Place, wanted: Wanted) -> Option<Request>
     }
 }
 
-/// What a call asks that wants something at a path, whose place may be known.
-pub(crate) fn request(tree: &Tree, op: &Op, known: Option<Place>) -> Option<Request>
-    requires { IfSome known (λ one. one ≡ first_place tree.now op.now) }
-    ensures exact { result ≡ request tree.now (wanted op.now) }
-    ensures fit { IfSome result (IsFit tree.now) }
-{
-    let (path, wanted) = wanted(op)?;
-    asks(tree, place_of(tree, path, known), wanted)
+impl<'a> Call<'a> {
+    /// What the call asks, where it wants something at a path.
+    pub(crate) fn request(&self) -> Option<Request>
+        ensures exact { result ≡ request self.now.tree.now (wanted self.now.op.now) }
+        ensures fit { IfSome result (IsFit self.now.tree.now) }
+    {
+        let (path, wanted) = wanted(self.op)?;
+        asks(self.tree, place_of(self.tree, path, self.known), wanted)
+    }
 }

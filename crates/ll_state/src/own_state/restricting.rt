@@ -1,14 +1,8 @@
 //! Calls that a process makes on itself.
 
-ghost use Rattle.std.specs.Prelude.{◌≡◌, Option};
-ghost use Rattle.ll_trace.specs.declared.op.Op.{Op};
-ghost use Rattle.ll_semantics.specs.States.{Layer as Rules};
-ghost use Rattle.ll_semantics.specs.Answers.{fails, may_restrict, restrict_answer};
-ghost use Rattle.ll_semantics.specs.Effects.{with_layer};
-ghost use Rattle.ll_semantics.specs.Worlds.{if_allowed};
-ghost use Rattle.ll_semantics.specs.Situations.{Situation, answered, left};
-ghost use Rattle.ll_state.specs.Agreement.{Agrees};
-ghost use Rattle.ll_semantics.specs.Notes.{IsFrozen};
+ghost use Rattle.std.specs.Prelude.{◌≡◌, ◌||◌};
+ghost use Rattle.ll_semantics.specs.Answers.{fails};
+ghost use Rattle.ll_state.specs.Agreement.{Restricts};
 
 use crate::own_state::OwnState;
 use ll_rules::{Errno, Full, LayerId, LayerSet};
@@ -22,33 +16,16 @@ fn fails(error: Errno) -> Answer
 }
 
 impl OwnState {
-    /// prctl(2) with `PR_SET_NO_NEW_PRIVS`.
-    #[tactic(auto, unfolding(ll_semantics::specs::Situations::answered, ll_semantics::specs::Situations::left, ll_semantics::specs::Situations::state_after, ll_semantics::specs::Answers::answer, ll_semantics::specs::Situations::change, ll_semantics::specs::Situations::state_by, ll_semantics::specs::Effects::effect))]
-    pub(crate) fn set_no_new_privs(&mut self) -> Answer
-        ghost at: { Situation }
-        requires { Agrees at.tree at.layers self.old at.state }
-        ensures answer { result ≡ answered at Op.Nnp }
-        ensures after { Agrees at.tree at.layers self.new (left at Op.Nnp) }
-    {
-        self.no_new_privs = true;
-        Answer::Allowed
-    }
-
     /// Whether the process may restrict itself: it can't gain privileges, or has `CAP_SYS_ADMIN`.
     fn may_restrict(&self) -> bool
-        ghost at: { Situation }
-        requires { Agrees at.tree at.layers self.now at.state }
-        ensures { result ≡ may_restrict at.state }
+        ensures { result ≡ (self.now.no_new_privs || self.now.admin) }
     {
         self.no_new_privs || self.admin
     }
 
     /// landlock_restrict_self(2): stacks the layer that a ruleset was frozen to, where one is held.
     pub(crate) fn restrict(&mut self, layer: Option<LayerId>) -> Answer
-        ghost at: { Situation }
-        requires { Agrees at.tree at.layers self.old at.state }
-        ensures answer { (rules : Option Rules) → IsFrozen at layer rules → result ≡ restrict_answer at.state rules }
-        ensures after { (rules : Option Rules) → IsFrozen at layer rules → Agrees at.tree at.layers self.new (if_allowed result (with_layer at.state rules) at.state) }
+        ensures { Restricts layer self.old self.new result }
     {
         if !self.may_restrict() {
             return fails(Errno::Perm);

@@ -2,7 +2,7 @@
 use Rattle.std.proofs.Common.{subst}
 use Rattle.ll_semantics.specs.declared.note.Note.{Note}
 use Rattle.ll_semantics.specs.Notes.{NoteFits}
-use Rattle.ll_state.proofs.Judging.{Agrees-on_rulesets, frozen_answered, frozen_left}
+use Rattle.ll_state.proofs.Judging.{Agrees-on_rulesets, frozen_judged}
 use Rattle.ll_state.proofs.own_state.OwnState.judge.Goals as goal
 
 pub returns-in-Answered-clause-answer : goal.returns-in-Answered-clause-answer
@@ -16,9 +16,11 @@ returns-in-Answered-clause-ok g c = Agrees-on_rulesets g.at c.args.self.now c.ar
 pub returns-in-Frozen-clause-answer : goal.returns-in-Frozen-clause-answer
 unfolding NoteFits
 returns-in-Frozen-clause-answer g c =
-    frozen_answered g.at c.args.op.now c.in-Frozen.layer c.restrict.result (subst (λ (note : Note). NoteFits g.at c.args.op.now note) c.in-Frozen.is c.requires.1.1.0) c.restrict.ensures.answer
+    let fits = subst (λ (note : Note). NoteFits g.at c.args.op.now note) c.in-Frozen.is c.requires.1.1.0 in
+    (frozen_judged g.at c.args.self.now c.restrict.new.self c.restrict.result c.requires.1.0 c.args.op.now c.in-Frozen.layer c.restrict.ensures fits).0
 
 pub returns-in-Frozen-clause-ok : goal.returns-in-Frozen-clause-ok
 unfolding NoteFits
 returns-in-Frozen-clause-ok g c =
-    frozen_left g.at c.restrict.new.self c.args.op.now c.in-Frozen.layer c.restrict.result (subst (λ (note : Note). NoteFits g.at c.args.op.now note) c.in-Frozen.is c.requires.1.1.0) c.restrict.ensures.answer c.restrict.ensures.after
+    let fits = subst (λ (note : Note). NoteFits g.at c.args.op.now note) c.in-Frozen.is c.requires.1.1.0 in
+    (frozen_judged g.at c.args.self.now c.restrict.new.self c.restrict.result c.requires.1.0 c.args.op.now c.in-Frozen.layer c.restrict.ensures fits).1

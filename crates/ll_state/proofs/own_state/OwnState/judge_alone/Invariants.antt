@@ -1,12 +1,6 @@
 -- Each call meets what this one meets.
 use Rattle.ll_state.proofs.own_state.OwnState.judge_alone.Given as goal
 
-abbrev pub ghost-set_no_new_privs : goal.ghost-set_no_new_privs
-ghost-set_no_new_privs g a = g.at
-
-abbrev pub ghost-restrict : goal.ghost-restrict
-ghost-restrict g a = g.at
-
 abbrev pub ghost-open : goal.ghost-open
 ghost-open g a = g.at
 

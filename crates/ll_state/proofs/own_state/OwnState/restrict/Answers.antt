@@ -4,29 +4,34 @@ use Rattle.std.specs.Prelude.{◌≢◌}
 use Rattle.std.proofs.lemmas.Bool.{false≢true}
 use Rattle.ll_rules.specs.declared.domain.LayerId.{LayerId}
 use Rattle.ll_semantics.specs.Notes.{IsFrozen}
-use Rattle.ll_state.proofs.Restricting.{restrict_denied, restrict_unheld, restrict_full, restrict_allowed, length-domain, Agrees-with_layer}
+use Rattle.ll_state.proofs.Restricting.{kept_may, restrict_denied, restrict_unheld, restrict_full, restrict_allowed, length-domain, Agrees-with_layer}
 use Rattle.ll_state.proofs.own_state.OwnState.restrict.Goals as goal
 
-pub returns-then-not-may_restrict-clause-answer : goal.returns-then-not-may_restrict-clause-answer
-returns-then-not-may_restrict-clause-answer g c = λ rules frozen.
-    c.fails.ensures ∙ restrict_denied g.at.state rules (sym c.may_restrict.ensures ∙ c.if-not-may_restrict.true)
+pub returns-then-not-may_restrict : goal.returns-then-not-may_restrict
+returns-then-not-may_restrict c = λ at agrees rules frozen.
+    let may = kept_may at c.args.self.now at.state agrees ∙ sym c.may_restrict.ensures ∙ c.if-not-may_restrict.true in
+    (c.fails.ensures ∙ restrict_denied at.state rules may, rw c.fails.ensures agrees)
 
-pub returns-in_default-clause-answer : goal.returns-in_default-clause-answer
-returns-in_default-clause-answer g c = λ rules frozen.
-    c.fails-in_default.ensures ∙ restrict_unheld g.at g.at.state rules (sym c.may_restrict.ensures ∙ c.if-not-may_restrict.false) (subst (λ (layer : Option LayerId). IsFrozen g.at layer rules) c.in_default.is frozen)
+pub returns-in_default : goal.returns-in_default
+returns-in_default c = λ at agrees rules frozen.
+    let may = kept_may at c.args.self.now at.state agrees ∙ sym c.may_restrict.ensures ∙ c.if-not-may_restrict.false in
+    let none = subst (λ (layer : Option LayerId). IsFrozen at layer rules) c.in_default.is frozen in
+    (c.fails-in_default.ensures ∙ restrict_unheld at at.state rules may none, rw c.fails-in_default.ensures agrees)
 
-pub returns-in-Ok-clause-answer : goal.returns-in-Ok-clause-answer
-returns-in-Ok-clause-answer g c = λ rules frozen.
-    let same = length-domain g.at c.args.self.now g.at.state c.requires in
-    let most : length g.at.state.domain ≤ 16 = subst (λ n. n ≤ 16) same c.layers.ensures.at_most_sixteen in
-    let other : length g.at.state.domain ≢ 16 = λ full. false≢true (c.in-Ok.ensures.full.1 (same ∙ full)) in
-    restrict_allowed g.at c.in-Some.layer g.at.state rules (sym c.may_restrict.ensures ∙ c.if-not-may_restrict.false) most other (subst (λ (layer : Option LayerId). IsFrozen g.at layer rules) c.in-Some.is frozen)
+pub returns-in-Ok : goal.returns-in-Ok
+returns-in-Ok c = λ at agrees rules frozen.
+    let may = kept_may at c.args.self.now at.state agrees ∙ sym c.may_restrict.ensures ∙ c.if-not-may_restrict.false in
+    let same = length-domain at c.args.self.now at.state agrees in
+    let most : length at.state.domain ≤ 16 = subst (λ n. n ≤ 16) same c.layers.ensures.at_most_sixteen in
+    let other : length at.state.domain ≢ 16 = λ full. false≢true (c.in-Ok.ensures.full.1 (same ∙ full)) in
+    let one = subst (λ (layer : Option LayerId). IsFrozen at layer rules) c.in-Some.is frozen in (
+      restrict_allowed at c.in-Some.layer at.state rules may most other one,
+      Agrees-with_layer at c.args.self.now at.state c.in-Some.layer rules c.push.new.self agrees one c.in-Ok.ensures.ok,
+    )
 
-pub returns-in-Ok-clause-after : goal.returns-in-Ok-clause-after
-returns-in-Ok-clause-after g c = λ rules frozen.
-    Agrees-with_layer g.at c.args.self.now g.at.state c.in-Some.layer rules c.push.new.self c.requires (subst (λ (layer : Option LayerId). IsFrozen g.at layer rules) c.in-Some.is frozen) c.in-Ok.ensures.ok
-
-pub returns-in-Err-clause-answer : goal.returns-in-Err-clause-answer
-returns-in-Err-clause-answer g c = λ rules frozen.
-    let full : length g.at.state.domain ≡ 16 = sym (length-domain g.at c.args.self.now g.at.state c.requires) ∙ c.in-Err.ensures.full.0 refl in
-    c.fails-in-Err.ensures ∙ restrict_full g.at c.in-Some.layer g.at.state rules (sym c.may_restrict.ensures ∙ c.if-not-may_restrict.false) (omega (arith, full)) (subst (λ (layer : Option LayerId). IsFrozen g.at layer rules) c.in-Some.is frozen)
+pub returns-in-Err : goal.returns-in-Err
+returns-in-Err c = λ at agrees rules frozen.
+    let may = kept_may at c.args.self.now at.state agrees ∙ sym c.may_restrict.ensures ∙ c.if-not-may_restrict.false in
+    let full : length at.state.domain ≡ 16 = sym (length-domain at c.args.self.now at.state agrees) ∙ c.in-Err.ensures.full.0 refl in
+    let one = subst (λ (layer : Option LayerId). IsFrozen at layer rules) c.in-Some.is frozen in
+    (c.fails-in-Err.ensures ∙ restrict_full at c.in-Some.layer at.state rules may (omega (arith, full)) one, rw (c.fails-in-Err.ensures, c.in-Err.ensures.err) agrees)

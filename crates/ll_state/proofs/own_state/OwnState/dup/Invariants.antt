@@ -1,8 +1,0 @@
--- Each call meets what this one meets.
-use Rattle.ll_state.proofs.own_state.OwnState.dup.Given as goal
-
-abbrev pub ghost-descriptor : goal.ghost-descriptor
-ghost-descriptor g a = g.at
-
-abbrev pub ghost-put : goal.ghost-put
-ghost-put g a = g.at

@@ -1,5 +1,0 @@
--- Each call meets what this one meets.
-use Rattle.ll_state.proofs.own_state.OwnState.opened_file.Given as goal
-
-abbrev pub ghost-refusing : goal.ghost-refusing
-ghost-refusing g a = g.at

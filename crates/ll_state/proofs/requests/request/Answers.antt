@@ -1,6 +1,0 @@
--- The place that is known is that of the path at which the call wants something.
-use Rattle.ll_state.proofs.Places.{place_wanted}
-use Rattle.ll_state.proofs.requests.request.Goals as goal
-
-pub place_of-requires : goal.place_of-requires
-place_of-requires c = place_wanted c.args.tree.now c.args.op.now c.in_ok-path.path.now c.in_ok-path.wanted c.args.known c.in_ok-path.ensures c.requires

@@ -1,0 +1,104 @@
+//! Calls by which numbers get open, and are closed.
+
+ghost use Rattle.std.specs.Prelude.{◌≡◌};
+ghost use Rattle.std.specs.FinMap.{get};
+ghost use Rattle.ll_trace.specs.declared.op.Op.{Op};
+ghost use Rattle.ll_semantics.specs.Situations.{Situation};
+ghost use Rattle.ll_state.specs.Agreement.{IsMet, Agrees, IsJudged};
+
+use crate::call::Call;
+use crate::confinement::Confinement;
+use crate::descriptors::unrestricted;
+use crate::own_state::OwnState;
+use crate::requests::{asks, place_of};
+use ll_rules::NoMemory;
+use ll_semantics::{Answer, Descriptor, Wanted};
+use ll_trace::{Mode, PathText, Sort};
+
+impl OwnState {
+    /// What a number is open on.
+    pub(crate) fn descriptor(&self, fd: u64) -> Option<Descriptor>
+        ensures { result ≡ get self.now.descriptors fd }
+    {
+        self.descriptors.get(fd).copied()
+    }
+
+    /// open(2), whose number must be free.
+    #[tactic(auto, using(crate::proofs::SameLayers::request_same, crate::proofs::SameLayers::opened_same), unfolding(ll_semantics::specs::Situations::answered, ll_semantics::specs::Situations::left, ll_semantics::specs::Situations::state_after, ll_semantics::specs::Situations::change, ll_semantics::specs::Situations::state_by, ll_semantics::specs::Effects::effect, ll_semantics::specs::Answers::answer, ll_semantics::specs::Requests::wanted, ll_trace::specs::FirstPlaces::first_place, ll_trace::specs::Operations::paths_of))]
+    pub(crate) fn open(
+        &mut self,
+        call: &Call<'_>,
+        path: &PathText,
+        fd: u64,
+        mode: Mode,
+        create: bool,
+        trunc: bool,
+    ) -> Result<Answer, NoMemory>
+        ghost at: { Situation }
+        requires met { IsMet at call.now.tree.now call.now.layers.now }
+        requires agrees { Agrees at.tree at.layers self.old at.state }
+        requires opens { call.now.op.now ≡ Op.OpenFile path.now fd mode create trunc }
+        ensures { IsJudged at (Op.OpenFile path.now fd mode create trunc) self.new result }
+    {
+        if self.descriptor(fd).is_some() {
+            return Ok(Answer::Moot);
+        }
+        let place = place_of(call.tree, path, call.known);
+        let wanted = Wanted::Open {
+            mode,
+            create,
+            trunc,
+        };
+        let confinement = Confinement {
+            call: *call,
+            domain: &self.domain,
+        };
+        let answer = confinement.ask(asks(call.tree, place, wanted));
+        if answer == Answer::Allowed {
+            let opened = confinement.opened(place, mode);
+            self.descriptors.insert(fd, opened)?;
+        }
+        Ok(answer)
+    }
+
+    /// A descriptor that was made without open(2) keeps no layers.
+    #[tactic(auto, unfolding(ll_semantics::specs::Situations::answered, ll_semantics::specs::Situations::left, ll_semantics::specs::Situations::state_after, ll_semantics::specs::Answers::answer, ll_semantics::specs::Situations::change, ll_semantics::specs::Situations::state_by, ll_semantics::specs::Effects::effect))]
+    pub(crate) fn adopt(&mut self, fd: u64, kind: Sort) -> Result<Answer, NoMemory>
+        ghost at: { Situation }
+        requires { Agrees at.tree at.layers self.old at.state }
+        ensures { IsJudged at (Op.Adopt fd kind) self.new result }
+    {
+        if self.descriptor(fd).is_some() {
+            return Ok(Answer::Moot);
+        }
+        self.descriptors.insert(fd, unrestricted(kind))?;
+        Ok(Answer::Allowed)
+    }
+
+    /// dup(2): the other number is open on the same, with the same layers kept.
+    #[tactic(auto, unfolding(ll_semantics::specs::Situations::answered, ll_semantics::specs::Situations::left, ll_semantics::specs::Situations::state_after, ll_semantics::specs::Answers::answer, ll_semantics::specs::Situations::change, ll_semantics::specs::Situations::state_by, ll_semantics::specs::Effects::effect))]
+    pub(crate) fn dup(&mut self, fd: u64, to: u64) -> Result<Answer, NoMemory>
+        ghost at: { Situation }
+        requires { Agrees at.tree at.layers self.old at.state }
+        ensures { IsJudged at (Op.Dup fd to) self.new result }
+    {
+        let Some(descriptor) = self.descriptor(fd) else {
+            return Ok(Answer::Moot);
+        };
+        self.descriptors.insert(to, descriptor)?;
+        Ok(Answer::Allowed)
+    }
+
+    /// close(2).
+    #[tactic(auto, unfolding(ll_semantics::specs::Situations::answered, ll_semantics::specs::Situations::left, ll_semantics::specs::Situations::state_after, ll_semantics::specs::Answers::answer, ll_semantics::specs::Situations::change, ll_semantics::specs::Situations::state_by, ll_semantics::specs::Effects::effect))]
+    pub(crate) fn close(&mut self, fd: u64) -> Result<Answer, NoMemory>
+        ghost at: { Situation }
+        requires { Agrees at.tree at.layers self.old at.state }
+        ensures { IsJudged at (Op.Close fd) self.new result }
+    {
+        match self.descriptors.remove(fd)? {
+            Some(_) => Ok(Answer::Allowed),
+            None => Ok(Answer::Moot),
+        }
+    }
+}
