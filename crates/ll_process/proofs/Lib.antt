@@ -1,14 +1,11 @@
-pub mod LawOfOrders
 pub mod Walks
 pub mod Forks
 pub mod Weighing
 pub mod OwnSteps
 pub mod ChildJobs
 pub mod Walked
-pub mod HandingOut
 pub mod Counting
 pub mod KeptMore
-pub mod WalkSteps
 pub mod Descents
 pub mod Roots
 pub mod Crossing

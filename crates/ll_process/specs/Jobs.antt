@@ -1,6 +1,6 @@
 -- What was judged, what a hand kept and what is still to do, by processes.
 -- Source: the kernel's userspace document on Landlock, "Inheritance": each child begins with what its parent has.
-use Rattle.std.specs.Prelude.{◌≡◌, ℕ, ◌+◌, ◌<◌, ◌≤◌, [], ◌∷◌, ◌++◌, List, map, sum_by, ◌⊎◌, All}
+use Rattle.std.specs.Prelude.{◌≡◌, ℕ, ◌+◌, ◌<◌, ◌∷◌, ◌++◌, List, map, sum_by, All}
 use Rattle.ll_trace.specs.declared.record.Record.{Record}
 use Rattle.ll_process.specs.declared.job.Job.{Job}
 use Rattle.ll_process.specs.Cases.{Matter}
@@ -14,23 +14,10 @@ processes_of jobs = map (λ job. job.process.0) jobs
 abbrev pub AllOf : Matter → List Job → Type 0
 AllOf of jobs = All (λ job. job.case.now ≡ of) jobs
 
--- A job was kept, or came back and is still to do.
-abbrev pub HandsOn : Job → List ℕ → List ℕ → List Job → List Job → Type 0
-HandsOn job kept_before kept_after todo_before todo_after =
-    ((kept_after ≡ kept_before ++ job.process.0 ∷ []) × (todo_after ≡ todo_before))
-    ⊎ ((kept_after ≡ kept_before) × (todo_after ≡ todo_before ++ job ∷ []))
-
 -- Children were handed out: each was kept or is still to do. While a process is judged "each as often" is said by
 -- weights: whatever number is given to each process, both sides add up to the same.
 pub record HandedOut (children kept_before kept_after todo_before todo_after : List ℕ) : Type 0 where
-  pub grows : (weight : ℕ → ℕ) → sum_by weight kept_before ≤ sum_by weight kept_after
   pub shared : (weight : ℕ → ℕ) → sum_by weight kept_after + sum_by weight todo_after ≡ sum_by weight kept_before + sum_by weight todo_before + sum_by weight children
-
--- The processes judged, together with those newly kept and those still to do, are the first process together with
--- the children of all that were judged, each as often.
-pub record Accounts (records : List Record) (first : ℕ) (judged kept_before kept_after todo : List ℕ) : Type 0 where
-  pub grows : (weight : ℕ → ℕ) → sum_by weight kept_before ≤ sum_by weight kept_after
-  pub shared : (weight : ℕ → ℕ) → sum_by weight judged + sum_by weight kept_after + sum_by weight todo ≡ sum_by weight (first ∷ kids records judged) + sum_by weight kept_before
 
 -- The processes judged, together with those newly kept, are the first process together with the children of all that
 -- were judged, each as often.

@@ -1,10 +1,10 @@
 //! Children: what they begin with, and to whom their jobs go.
 
-ghost use Rattle.std.specs.Prelude.{◌≡◌, IfOk, IfSome, OnOk};
+ghost use Rattle.std.specs.Prelude.{◌≡◌, IfOk, IfSome, OnOk, option_to_list};
 ghost use Rattle.std.specs.Option.{option_map};
 ghost use Rattle.ll_trace.specs.Processes.{forked_at};
 ghost use Rattle.ll_process.specs.Own.{IsOwn, Leaves};
-ghost use Rattle.ll_process.specs.Jobs.{HandsOn, KeepsMore};
+ghost use Rattle.ll_process.specs.Jobs.{AllOf, HandedOut, KeepsMore, processes_of};
 
 use crate::case::Case;
 use crate::hand::Hand;
@@ -38,19 +38,26 @@ pub(crate) fn child_job<'c>(
     }))
 }
 
-/// Offers a job to the hand, and notes it as still to do if it comes back.
+/// Offers the job of a child of a case, if there is one, to the hand, and notes it as still to do if it comes back.
 pub(crate) fn offer<'c, H: Hand<'c>>(
-    job: Job<'c>,
+    case: &'c Case,
+    child: Option<Job<'c>>,
     hand: &mut H,
     todo: &mut Vec<Job<'c>>,
 ) -> Result<(), NoMemory>
-    requires suits { H.suits hand.old job.case.now }
-    ensures hands_on { OnOk result
-        (HandsOn job.entry (H.kept hand.old) (H.kept hand.new) todo.old.items todo.new.items) }
-    ensures keeps { KeepsMore job.entry.case.now.records (H.kept hand.old) (H.kept hand.new) }
-    ensures suits { H.suits hand.new job.entry.case.now }
+    requires its { IfSome child (λ job. job.case.now ≡ case.now) }
+    requires of_case { AllOf case.now todo.old.items }
+    requires suits { H.suits hand.old case.now }
+    ensures handed { OnOk result (HandedOut (option_to_list (option_map (λ job. job.process.0) child.entry))
+        (H.kept hand.old) (H.kept hand.new) (processes_of todo.old.items) (processes_of todo.new.items)) }
+    ensures of_case { OnOk result (AllOf case.now todo.new.items) }
+    ensures keeps { KeepsMore case.now.records (H.kept hand.old) (H.kept hand.new) }
+    ensures suits { H.suits hand.new case.now }
     ensures stays { (before : H) → H.stays before hand.old → H.stays before hand.new }
 {
+    let Some(job) = child else {
+        return Ok(());
+    };
     let Some(back) = hand.give(job) else {
         return Ok(());
     };

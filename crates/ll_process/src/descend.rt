@@ -7,6 +7,7 @@ ghost use Rattle.ll_process.specs.Jobs.{processes_of, AllOf, HandedOut, KeepsMor
 ghost use Rattle.ll_process.specs.Weights.{weight, weight_of};
 
 use crate::adding::append;
+use crate::case::Case;
 use crate::child::{child_job, offer};
 use crate::hand::Hand;
 use crate::job::Job;
@@ -20,40 +21,39 @@ use std::alloc::Global;
 /// Judges one process: its records, with their answers, go behind those that are there. Each child
 /// that it forks is offered to the hand; those that come back are still to do.
 fn judge_own<'c, H: Hand<'c>>(
+    case: &'c Case,
     job: Job<'c>,
     hand: &mut H,
     todo: &mut Vec<Job<'c>>,
     answers: &mut Vec<(u32, Answer)>,
 ) -> Result<(), NoMemory>
-    requires suits { H.suits hand.old job.case.now }
-    requires of_case { AllOf job.case.now todo.old.items }
+    requires its { job.case.now ≡ case.now }
+    requires of_case { AllOf case.now todo.old.items }
+    requires suits { H.suits hand.old case.now }
     ensures answered { OnOk result
-        (answers.new.items ≡ answers.old.items ++ answers_in job.entry.case.now job.entry.process.0) }
+        (answers.new.items ≡ answers.old.items ++ answers_in case.now job.entry.process.0) }
     ensures handed { OnOk result
-        (HandedOut (children job.entry.case.now.records job.entry.process.0)
+        (HandedOut (children case.now.records job.entry.process.0)
         (H.kept hand.old) (H.kept hand.new) (processes_of todo.old.items) (processes_of todo.new.items)) }
     ensures less { OnOk result
-        (weight_of (process_count job.entry.case.now.records) (processes_of todo.new.items)
-        < weight_of (process_count job.entry.case.now.records) (processes_of todo.old.items)
-        + weight (process_count job.entry.case.now.records) job.entry.process.0) }
-    ensures of_case { OnOk result (AllOf job.entry.case.now todo.new.items) }
-    ensures keeps { KeepsMore job.entry.case.now.records (H.kept hand.old) (H.kept hand.new) }
-    ensures suits { H.suits hand.new job.entry.case.now }
+        (weight_of (process_count case.now.records) (processes_of todo.new.items)
+        < weight_of (process_count case.now.records) (processes_of todo.old.items)
+        + weight (process_count case.now.records) job.entry.process.0) }
+    ensures of_case { OnOk result (AllOf case.now todo.new.items) }
+    ensures keeps { KeepsMore case.now.records (H.kept hand.old) (H.kept hand.new) }
+    ensures suits { H.suits hand.new case.now }
     ensures stays { (before : H) → H.stays before hand.old → H.stays before hand.new }
 {
     let Job {
-        case,
         process,
         mut own,
+        ..
     } = job;
     for index in case.own_records(process) {
         let answer = answer_own(case, process, *index, &mut own)?;
-        if answers.push((*index, answer)).is_err() {
-            return Err(NoMemory);
-        }
-        if let Some(child) = child_job(case, process, *index, &own)? {
-            offer(child, hand, todo)?;
-        }
+        append(answers, (*index, answer))?;
+        let child = child_job(case, process, *index, &own)?;
+        offer(case, child, hand, todo)?;
     }
     Ok(())
 }
@@ -80,11 +80,10 @@ pub fn judge<'c, H: Hand<'c>>(
     let mut todo = Vec::new(alloc);
     let mut processes = Vec::new(alloc);
     let mut answers = Vec::new(alloc);
-    append(&mut processes, job.process)?;
-    judge_own(job, hand, &mut todo, &mut answers)?;
+    append(&mut todo, job)?;
     while let Some(next) = todo.pop() {
         append(&mut processes, next.process)?;
-        judge_own(next, hand, &mut todo, &mut answers)?;
+        judge_own(case, next, hand, &mut todo, &mut answers)?;
     }
     Ok(Piece {
         case,

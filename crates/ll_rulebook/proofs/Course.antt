@@ -19,7 +19,7 @@ use Rattle.ll_semantics.specs.declared.note.Note.TheVariants.{Answered, Frozen, 
 use Rattle.ll_semantics.specs.States.{Layer, fresh}
 use Rattle.ll_semantics.specs.Situations.{answered}
 use Rattle.ll_semantics.specs.Notes.{NoteFits, IsFrozen, enforced}
-use Rattle.ll_semantics.specs.Worlds.{World, empty_world, step}
+use Rattle.ll_semantics.specs.Worlds.{World, step}
 use Rattle.ll_semantics.specs.Situations.{world_after, world_at}
 use Rattle.ll_rulebook.specs.declared.pass.Pass.{Pass}
 use Rattle.ll_rulebook.specs.Tables.{held_by}
@@ -30,35 +30,19 @@ use Rattle.ll_trace.proofs.Numbers.{slice_get-push}
 use Rattle.ll_semantics.proofs.Steps.{count-world_at}
 use Rattle.ll_semantics.proofs.Worlds.{world_at-more}
 
-nothing_stands : {X : Type 0} (xs : List X) (k : ℕ) (x : X) → xs ≡ [] → slice_get xs k ≡ Some x → ⊥
-nothing_stands xs k x empty at = let none : slice_get xs k ≡ None = rw empty refl in cc
-
-none_held : (pass : Pass) (p q : ℕ) → pass.tables.held.items ≡ [] → held_by pass.tables.held.items p q ≡ None
-unfolding held_by
-none_held pass p q empty = rw empty refl
-
-nothing_there : (tree : List Entry) (abi : Abi) (records : List Record) (p q : ℕ) → ((world_at tree abi records 0).processes p).held q ≡ None
-unfolding world_at world_after fresh
-nothing_there tree abi records p q = refl
-
-world_empty : (tree : List Entry) (abi : Abi) (records : List Record) → world_at tree abi records 0 ≡ empty_world
-unfolding world_at world_after
-world_empty tree abi records = refl
-
 -- before the first record
-pub settled_none : (tree : List Entry) (abi : Abi) (records : List Record) (pass : Pass) →
+pub settled_none : (tree : List Entry) (abi : Abi) (records : List Record) (pass : Pass) → pass.tree.now ≡ tree → pass.abi ≡ abi →
     pass.store.rulesets ≡ [] → pass.store.layers ≡ [] → pass.tables.held.items ≡ [] → HasSettled tree abi records 0 pass []
-settled_none tree abi records pass rulesets layers tables = record {
+unfolding held_by world_at world_after fresh
+settled_none tree abi records pass of_tree of_abi rulesets layers tables = record {
+  of_tree = of_tree;
+  of_abi = of_abi;
   sound = record {
-    places = λ p q at is. absurd (let none : held_by pass.tables.held.items p q ≡ None = none_held pass p q tables in cc);
-    rulesets_in_tree = rw rulesets (λ k default within. absurd (omega arith));
-    layers_in_tree = rw layers (λ k default within. absurd (omega arith));
+    places = λ p q at is. absurd (let none : held_by pass.tables.held.items p q ≡ None = rw tables refl in cc);
+    rulesets = rw rulesets (λ k default within. absurd (omega arith));
+    layers = rw layers (λ k default within. absurd (omega arith));
   };
-  agrees = record {
-    rulesets = record { same_count = rw (rulesets, world_empty tree abi records) refl; same = λ k one other at there. absurd (nothing_stands pass.store.rulesets k one rulesets at) };
-    count = rw (tables, world_empty tree abi records) refl;
-    held = λ p q. none_held pass p q tables ∙ sym (nothing_there tree abi records p q);
-  };
+  agrees = record { rulesets = rw rulesets tt; count = rw tables refl; held = λ p q. rw tables refl };
   few = rw layers (omega arith);
   counted = refl;
   fits = λ k r note at noted. absurd (cc);
@@ -84,13 +68,17 @@ note_stays tree abi old new world process op Open extends fits = fits
 
 -- after one record more
 pub settled_next : (tree : List Entry) (abi : Abi) (records : List Record) (k : ℕ) (r : Record) (old new : Pass) (notes : List Note) (note : Note) →
-    slice_get records k ≡ Some r → HasSettled tree abi records k old notes → Settles tree abi r.process.0 r.op old new note →
+    slice_get records k ≡ Some r → HasSettled tree abi records k old notes → Settles r.process.0 r.op old new note →
     HasSettled tree abi records (k + 1) new (notes ++ note ∷ [])
 settled_next tree abi records k r old new notes note at so_far settles =
     let next : world_at tree abi records (k + 1) ≡ step tree abi (world_at tree abi records k) r.process.0 r.op = world_at-more tree abi records k r at in
+    let agrees = rw (so_far.of_tree, so_far.of_abi) at (settles.agrees (world_at tree abi records k) so_far.agrees) in
+    let fits = rw (so_far.of_tree, so_far.of_abi) at (settles.fits (world_at tree abi records k) so_far.agrees) in
     record {
+      of_tree = rw settles.same_tree so_far.of_tree;
+      of_abi = rw settles.same_abi so_far.of_abi;
       sound = settles.sound;
-      agrees = rw next (settles.agrees (world_at tree abi records k) so_far.agrees);
+      agrees = rw next agrees;
       few =
           let longer : length new.store.layers ≡ length old.store.layers + length settles.layers.more = rw settles.layers.is_more (simp length-append) in
           omega (arith, longer, settles.layers.one, so_far.few);
@@ -102,7 +90,7 @@ settled_next tree abi records k r old new notes note at so_far settles =
             let place : j ≡ k = last ∙ so_far.counted in
             let own : slice_get records j ≡ Some r = rw place at in
             let same : r ≡ s = cc in
-            rw (← it, ← same, place) (settles.fits (world_at tree abi records k) so_far.agrees)
+            rw (← it, ← same, place) fits
         | inr earlier ↦
             let before : slice_get (notes ++ note ∷ []) j ≡ slice_get notes j = rw (slice_get-push notes j note, ne_eqb j (length notes) earlier) refl in
             note_stays tree abi old.store.layers new.store.layers (world_at tree abi records j) s.process.0 s.op other settles.layers (so_far.fits j s other at_s (sym before ∙ noted))

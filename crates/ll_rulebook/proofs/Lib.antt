@@ -1,8 +1,6 @@
 pub mod Places
 pub mod HeldNumbers
 pub mod Frozen
-pub mod Quiet
-pub mod Sameness
 pub mod Settling
 pub mod Calls
 pub mod Course

@@ -1,350 +1,270 @@
--- How the pass goes on agreeing with the world: one lemma for each kind of call.
-use Rattle.std.proofs.Common.{◌≡◌, ℕ, ◌+◌, ◌<◌, List, [], ◌∷◌, ◌++◌, length, Bool, true, false, Option, Some, None, cond, get_or, refl, sym, ◌∙◌, ap, arith, eqb, ◌&&◌, ◌⊎◌, inl, inr, All, append-nil, length-append, length-set}
-use Rattle.std.proofs.Math.ListN.{set}
-use Rattle.std.specs.List.{slice_get}
-use Rattle.std.proofs.lemmas.Bool.{cases_eq, eq-eqb, ne_eqb}
+-- How the pass goes on agreeing with the world, whatever a call does.
+use Rattle.std.proofs.Common.{◌≡◌, ℕ, ◌+◌, ◌<◌, ◌≤◌, List, [], ◌∷◌, ◌++◌, length, Bool, true, false, Option, Some, None, Result, Ok, Err, cond, eqb, refl, sym, ◌∙◌, ap, arith, inl, inr, All, subst, get_or, length-append, length-set}
+use Rattle.std.specs.Prelude.{nat_eq}
+use Rattle.std.specs.List.{slice_get, AllZip}
+use Rattle.std.specs.Map.{update}
+use Rattle.std.specs.Option.{MatchOption, option_map}
+use Rattle.std.specs.Result.{IsOkUnless}
+use Rattle.std.proofs.lemmas.Bool.{cases_cond}
 use Rattle.std.proofs.lemmas.List.Elements.{All-push, All-set}
 use Rattle.std.proofs.lemmas.Option.{slice_get_within, slice_get-get_or, get_or_from_slice_get}
+use Rattle.std.proofs.lemmas.Slice.Zip.{AllZip-long}
 use Rattle.ll_rights.specs.declared.abi.Abi.{Abi}
 use Rattle.ll_rights.specs.declared.fs.Fs.{Fs}
 use Rattle.ll_rights.specs.declared.net.Net.{Net}
 use Rattle.ll_rights.specs.Rights as files
 use Rattle.ll_rights.specs.NetRights as network
-use Rattle.ll_tree.specs.Trees.{Entry, place}
+use Rattle.ll_tree.specs.Trees.{Entry}
 use Rattle.ll_rules.specs.declared.domain.LayerId.{LayerId}
+use Rattle.ll_rules.specs.declared.errno.Errno.TheVariants.{BadFd}
+use Rattle.ll_rules.specs.declared.errno.RuleFault.{RuleFault}
+use Rattle.ll_rules.specs.declared.errno.RuleFault.TheVariants as faults
 use Rattle.ll_rules.specs.Layers.{RulesOn, without_rules}
-use Rattle.ll_rules.specs.KeptLayers.{SameRules}
-use Rattle.ll_rules.specs.InTree.{in_tree, AreInTree}
-use Rattle.ll_rules.specs.KeptLayers.{layer_at}
+use Rattle.ll_rules.specs.InTree.{AreInTree}
+use Rattle.ll_rules.specs.RuleFaults.{fault_of}
+use Rattle.ll_rules.specs.Rulesets.{RuleRefusal, with_error, without_object}
+use Rattle.ll_rules.proofs.SameLayers.{SameRules-refl}
 use Rattle.ll_trace.specs.declared.op.Op.{Op}
-use Rattle.ll_trace.specs.declared.op.Op.TheVariants as calls
 use Rattle.ll_semantics.specs.declared.answer.Answer.{Answer}
 use Rattle.ll_semantics.specs.declared.answer.Answer.TheVariants.{Allowed, Moot, Refused}
-use Rattle.ll_semantics.specs.declared.note.Note.TheVariants.{Answered, Frozen, Open}
+use Rattle.ll_semantics.specs.declared.note.Note.{Note}
+use Rattle.ll_semantics.specs.declared.note.Note.TheVariants.{Answered, Frozen}
 use Rattle.ll_semantics.specs.States.{State, Layer}
-use Rattle.ll_semantics.specs.Answers.{answer}
-use Rattle.ll_semantics.specs.Situations.{Situation, answered}
-use Rattle.ll_semantics.specs.Effects.{effect, with_held, changed_at}
-use Rattle.ll_semantics.specs.Situations.{change, rules, started, state_by, rulesets_by, begun_by}
+use Rattle.ll_semantics.specs.Answers.{answer, named, fails, of_rule_refusal}
+use Rattle.ll_semantics.specs.Effects.{Effect, nothing, leaves, leaves_rulesets, begins, effect, changed_at}
+use Rattle.ll_semantics.specs.Situations.{answered}
 use Rattle.ll_semantics.specs.Notes.{NoteFits, IsFrozen, is_on_rulesets, enforced}
-use Rattle.ll_semantics.specs.Worlds.{World, with_state, step, if_allowed}
-use Rattle.ll_semantics.specs.Situations.{state_after, rulesets_after}
+use Rattle.ll_semantics.specs.Worlds.{World, with_state, affected, answer_in, step, if_allowed}
+use Rattle.ll_semantics.proofs.Unchanged.{world_kept}
 use Rattle.ll_rulebook.specs.declared.pass.Pass.{Pass}
-use Rattle.ll_trace.specs.Processes.{is_starting}
-use Rattle.ll_rulebook.specs.Tables.{held_by, Holds, Begins}
-use Rattle.ll_rulebook.specs.Stores.{Extends}
+use Rattle.ll_rulebook.specs.declared.tables.Tables.{Tables}
+use Rattle.ll_rulebook.specs.Tables.{held_by, NowHolds, Holds}
+use Rattle.ll_rulebook.specs.Stores.{Stock, with_created, with_changed, Becomes, AddsRule, Extends, Freezes, IsAnswerTo}
 use Rattle.ll_rulebook.specs.Settled.{met_by}
-use Rattle.ll_rulebook.specs.Passes.{IsSound, Agrees, Creates, Settles}
-use Rattle.ll_rulebook.proofs.Sameness.{same_new, are_same_push, are_same_set, other_of}
-use Rattle.ll_rulebook.proofs.Quiet.{kept_unless, kept_if_same, on_rulesets_starts_none, rulesets_same, held_same}
-use Rattle.ll_semantics.proofs.Steps.{step-rulesets, step-unbegun, step-begun, count-unbegun, count-step, started-none}
+use Rattle.ll_rulebook.specs.Passes.{IsSame, IsSound, Agrees, Creates, Settles}
+use Rattle.ll_rulebook.proofs.Frozen.{extends_same}
+use Rattle.ll_rulebook.proofs.HeldNumbers.{holds_same}
+use Rattle.ll_rulebook.proofs.Places.{zip_push, zip_set, zip_at}
 
--- a pass that has the same rulesets, and tables by which each process holds the same
-pub record IsAlike (old new : Pass) : Type 0 where
-  pub rulesets : new.store.rulesets ≡ old.store.rulesets
-  pub tables : new.tables.held.items ≡ old.tables.held.items
+-- a call that adds a rule to a ruleset that its process holds under a number, if nothing refuses it
+pub record AddsTo (tree : List Entry) (abi : Abi) (op : Op) (rs : ℕ) (refusal : RulesOn ℕ → Option RuleRefusal) (f : Layer → Layer) : Type 0 where
+  pub on_rulesets : is_on_rulesets op ≡ true
+  pub unheld : (rulesets : List Layer) (s : State) → s.held rs ≡ None → answer tree abi rulesets op s ≡ fails BadFd
+  pub answers : (rulesets : List Layer) (s : State) (one : RulesOn ℕ) (other : Layer) → named rulesets (s.held rs) ≡ Some other → IsSame tree one other → answer tree abi rulesets op s ≡ of_rule_refusal (refusal one)
+  pub adds : (rulesets : List Layer) (s : State) → effect tree rulesets op s ≡ leaves_rulesets (changed_at rulesets (s.held rs) f) s
 
--- ---- calls that start no process
+-- the note of a call that adds a rule tells what refuses it
+answer_told : (refusal : Option RuleRefusal) (outcome : Result (Unit {0}) RuleFault) (note : Note) → MatchOption (option_map fault_of refusal) (IsOkUnless outcome faults.Memory) (λ f. outcome ≡ Err f) →
+    IsAnswerTo outcome note → note ≡ Answered (of_rule_refusal refusal)
+answer_told None (Ok done) note told is = is
+answer_told None (Err (faults.Errno error)) note told is = absurd (cc)
+answer_told None (Err faults.Moot) note told is = absurd (cc)
+answer_told refusal (Err faults.Memory) note told is = absurd is
+answer_told (Some refusal) (Ok done) note told is = absurd (cc)
+answer_told (Some (with_error error)) (Err (faults.Errno other)) note told is = cc
+answer_told (Some (with_error error)) (Err faults.Moot) note told is = absurd (cc)
+answer_told (Some without_object) (Err (faults.Errno error)) note told is = absurd (cc)
+answer_told (Some without_object) (Err faults.Moot) note told is = is
 
-module _ (tree : List Entry) (abi : Abi) (process : ℕ) (op : Op) (old : Pass) (world : World) (agrees : Agrees tree old world) (there : process < length old.tables.held.items) where
-  abbrev own : State
-  own = world.processes process
+refused_told : (outcome : RuleFault) (note : Note) → IsAnswerTo (Err outcome) note → note ≡ Answered Allowed → ⊥
+refused_told (faults.Errno error) note is allowed = cc
+refused_told faults.Moot note is allowed = cc
+refused_told faults.Memory note is allowed = is
 
-  count_next : started tree world.rulesets op (world.processes process) ≡ None → length old.tables.held.items ≡ (step tree abi world process op).count
-  count_next none = agrees.count ∙ sym (count-unbegun tree abi world process op none)
+-- an effect leaves the rulesets and what its process holds of them
+abbrev pub IsQuiet : State → Effect → Type 0
+IsQuiet s nothing = Unit {0}
+IsQuiet s (leaves next) = next.held ≡ s.held
+IsQuiet s (leaves_rulesets rulesets next) = ⊥
+IsQuiet s (begins child) = ⊥
 
-  held_next : started tree world.rulesets op (world.processes process) ≡ None → (p q : ℕ) →
-      cond (eqb p process) ((state_after tree abi world.rulesets op (world.processes process)).held q) (held_by old.tables.held.items p q) ≡ ((step tree abi world process op).processes p).held q
-  held_next none p q =
-      let after : State = state_after tree abi world.rulesets op (world.processes process) in
-      let step_is : (step tree abi world process op).processes p ≡ with_state world.processes process after p = step-unbegun tree abi world process op p none in
-      elim (cases_eq p process) [
-        | inl same ↦ rw (step_is, eq-eqb p process same) refl
-        | inr other ↦ rw (step_is, ne_eqb p process other) (agrees.held p q)
-      ]
+-- ---- one process holds other rulesets than before, or begins
 
-  same_held : (q : ℕ) → (state_after tree abi world.rulesets op (world.processes process)).held q ≡ (world.processes process).held q → (p : ℕ) →
-      held_by old.tables.held.items p q ≡ cond (eqb p process) ((state_after tree abi world.rulesets op (world.processes process)).held q) (held_by old.tables.held.items p q)
-  same_held q stays p = elim (cases_eq p process) [
-    | inl same ↦ rw (eq-eqb p process same, same, stays) (agrees.held process q)
-    | inr other ↦ rw (ne_eqb p process other) refl
-  ]
+chosen : (b : Bool) (x y : Option ℕ) (s t : State) (q : ℕ) → x ≡ s.held q → y ≡ t.held q → cond b x y ≡ (cond b s t).held q
+chosen true x y s t q now before = now
+chosen false x y s t q now before = before
 
-  -- where the call changes neither the rulesets nor what is held
-  pub agrees_alike : (new : Pass) → IsAlike old new → started tree world.rulesets op (world.processes process) ≡ None →
-      rulesets_after tree abi world.rulesets op (world.processes process) ≡ world.rulesets →
-      ((q : ℕ) → (state_after tree abi world.rulesets op (world.processes process)).held q ≡ (world.processes process).held q) →
-      Agrees tree new (step tree abi world process op)
-  agrees_alike new alike none rules_stay held_stays = record {
-    rulesets = rw (alike.rulesets, step-rulesets tree abi world process op, rules_stay) agrees.rulesets;
-    count = rw alike.tables (count_next none);
-    held = λ p q. rw alike.tables (same_held q (held_stays q) p ∙ held_next none p q);
+-- a number that is held or closed, here and in the world
+pub renamed : (f g : ℕ → Option ℕ) (rs q : ℕ) (v w : Option ℕ) → f q ≡ g q → v ≡ w → update nat_eq f rs v q ≡ update nat_eq g rs w q
+renamed f g rs q v w same place = ap (λ (x : Option ℕ). cond (eqb rs q) x (f q)) place ∙ ap (λ (x : Option ℕ). cond (eqb rs q) w x) same
+
+pub held_there : (rs n q place : ℕ) (v : Option ℕ) (f : ℕ → Option ℕ) → update nat_eq f rs v q ≡ Some place → (v ≡ Some place → place < n) → (f q ≡ Some place → place < n) → place < n
+held_there rs n q place v f is now before = elim (cases_cond (eqb rs q) v (f q) (Some place) (sym is)) [ inl here ↦ now (sym here) | inr there ↦ before (sym there) ]
+
+module _ (process : ℕ) (op : Op) (old : Pass) (sound : IsSound old) where
+  abbrev after : Stock → Tables → Pass
+  after s t = record old { store = s; tables = t }
+
+  abbrev fit : Pass → Note → Type 0
+  fit new note = (w : World) → Agrees old w → NoteFits (met_by old.tree.now old.abi new.store.layers w process) op note
+
+  sound_after : (s : Stock) (t : Tables) (count at : ℕ) (held : ℕ → Option ℕ) → NowHolds old.tables.held.items t.held.items count at held →
+      ((q place : ℕ) → held q ≡ Some place → place < length s.rulesets) → length old.store.rulesets ≤ length s.rulesets →
+      All (AreInTree old.tree.now) s.rulesets → All (AreInTree old.tree.now) s.layers → IsSound (after s t)
+  sound_after s t count at held holds there more rulesets layers = record {
+    places = λ p q place is. elim (cases_cond (eqb p at) (held q) (held_by old.tables.held.items p q) (Some place) (sym is ∙ holds.holds p q)) [
+      | inl now ↦ there q place (sym now)
+      | inr before ↦ let earlier : place < length old.store.rulesets = sound.places p q place (sym before) in omega arith
+    ];
+    rulesets = rulesets;
+    layers = layers;
   }
 
--- the layers are as they were
-pub extends_same : (layers : List (RulesOn ℕ)) → Extends layers layers
-extends_same layers = record { more = []; is_more = sym (append-nil layers); one = omega arith }
+  agrees_after : (s : Stock) (t : Tables) (w : World) (rulesets : List Layer) (count total at number : ℕ) (held : ℕ → Option ℕ) (state : State) → Agrees old w →
+      AllZip (IsSame old.tree.now) s.rulesets rulesets → NowHolds old.tables.held.items t.held.items count at held → count ≡ total → at ≡ number → ((q : ℕ) → held q ≡ state.held q) →
+      Agrees (after s t) (record { rulesets = rulesets; count = total; processes = with_state w.processes number state })
+  agrees_after s t w rulesets count total at number held state agrees same holds all own held_is = record {
+    rulesets = same;
+    count = holds.counted ∙ all;
+    held = λ p q. holds.holds p q ∙ rw own (chosen (eqb p number) (held q) (held_by old.tables.held.items p q) state (w.processes p) q (held_is q) (agrees.held p q));
+  }
 
--- what is sound stays so where the rulesets and the tables are alike
-sound_alike : (tree : List Entry) (old new : Pass) → IsAlike old new → All (AreInTree tree) new.store.layers → IsSound tree old → IsSound tree new
-sound_alike tree old new alike layers sound = record {
-  places = λ p q at is. rw alike.rulesets (sound.places p q at (rw (← alike.tables) is));
-  rulesets_in_tree = rw alike.rulesets sound.rulesets_in_tree;
-  layers_in_tree = layers;
-}
+  -- what an allowed call makes of the world
+  step_is : (w : World) (e : Effect) → answer old.tree.now old.abi w.rulesets op (w.processes process) ≡ Allowed → effect old.tree.now w.rulesets op (w.processes process) ≡ e →
+      step old.tree.now old.abi w process op ≡ affected w process e
+  unfolding step answer_in
+  step_is w e allowed is = rw (allowed, is) refl
 
--- a call on rulesets that isn't allowed
-pub settles_refused : (tree : List Entry) (abi : Abi) (process : ℕ) (op : Op) (old new : Pass) (a : Answer) → IsSound tree old → process < length old.tables.held.items →
-    IsAlike old new → new.store.layers ≡ old.store.layers →
-    is_on_rulesets op ≡ true → (a ≡ Allowed → ⊥) → ((world : World) → Agrees tree old world → a ≡ answer tree abi world.rulesets op (world.processes process)) →
-    Settles tree abi process op old new (Answered a)
-unfolding NoteFits answered state_after rulesets_after
-settles_refused tree abi process op old new a sound there alike layers on refused is = record {
-  sound = sound_alike tree old new alike (rw layers sound.layers_in_tree) sound;
-  layers = rw layers (extends_same old.store.layers);
-  agrees = λ world agrees.
-      let not : answer tree abi world.rulesets op (world.processes process) ≡ Allowed → ⊥ = λ allowed. refused (is world agrees ∙ allowed) in
-      agrees_alike tree abi process op old world agrees there new alike
-      (started-none tree world.rulesets op (world.processes process) (on_rulesets_starts_none op on))
-      (kept_unless (answer tree abi world.rulesets op (world.processes process)) (rules tree world.rulesets op (world.processes process)) world.rulesets not)
-      (λ q. ap (λ (s : State). s.held q) (kept_unless (answer tree abi world.rulesets op (world.processes process)) (change tree world.rulesets op (world.processes process)) (world.processes process) not));
-  fits = λ world agrees. (on, is world agrees);
-}
+  -- ---- a call that changes nothing of what the pass keeps
 
--- the layer that a ruleset was frozen to
-frozen_by : (at : Situation) (id : LayerId) (rules : Option Layer) (one : Layer) → rules ≡ Some one → id.0 < length at.layers → SameRules (in_tree at.tree (layer_at at.layers id)) one → IsFrozen at (Some id) rules
-unfolding IsFrozen
-frozen_by at id rules one is within same = rw is (within, same)
-
--- a call that neither is on rulesets nor starts a process
-module _ (tree : List Entry) (abi : Abi) (process : ℕ) (op : Op) (old : Pass) (sound : IsSound tree old) (there : process < length old.tables.held.items)
-    (off : is_on_rulesets op ≡ false) (none : is_starting op ≡ false) where
-  agrees_off : (new : Pass) → IsAlike old new → (world : World) → Agrees tree old world → Agrees tree new (step tree abi world process op)
-  agrees_off new alike world agrees =
-      agrees_alike tree abi process op old world agrees there new alike (started-none tree world.rulesets op (world.processes process) none)
-      (rulesets_same tree abi world.rulesets op (world.processes process) off)
-      (λ q. ap (λ (held : ℕ → Option ℕ). held q) (held_same tree abi world.rulesets op (world.processes process) off))
-
-  pub settles_open : ((world : World) → Agrees tree old world → enforced world.rulesets op (world.processes process) ≡ None) → Settles tree abi process op old old Open
-  unfolding NoteFits
-  settles_open unforced = record {
+  -- it isn't allowed
+  pub settles_refused : (a : Answer) → is_on_rulesets op ≡ true → (a ≡ Allowed → ⊥) → ((w : World) → Agrees old w → a ≡ answer old.tree.now old.abi w.rulesets op (w.processes process)) →
+      Settles process op old old (Answered a)
+  unfolding NoteFits answered answer_in
+  settles_refused a on refused is = record {
+    same_tree = refl;
+    same_abi = refl;
     sound = sound;
     layers = extends_same old.store.layers;
-    agrees = agrees_off old (record { rulesets = refl; tables = refl });
-    fits = λ world agrees. (off, unforced world agrees);
+    agrees = λ w agrees. rw (world_kept old.tree.now old.abi w process op (λ allowed. refused (is w agrees ∙ allowed))) agrees;
+    fits = λ w agrees. (on, is w agrees);
   }
 
-  -- a call that restricts its process by a ruleset that it holds
-  pub settles_frozen : (new : Pass) (at : ℕ) (id : LayerId) → IsAlike old new → Extends old.store.layers new.store.layers → All (AreInTree tree) new.store.layers →
-      at < length old.store.rulesets → slice_get new.store.layers id.0 ≡ slice_get old.store.rulesets at →
-      ((world : World) → Agrees tree old world → enforced world.rulesets op (world.processes process) ≡ slice_get world.rulesets at) →
-      Settles tree abi process op old new (Frozen id)
-  unfolding NoteFits
-  settles_frozen new at id alike extends in_tree_all within layer enforces =
-      let one : RulesOn ℕ = get_or old.store.rulesets at (without_rules files.no_right network.no_right) in
-      let stands : slice_get old.store.rulesets at ≡ Some one = slice_get-get_or old.store.rulesets at (without_rules files.no_right network.no_right) within in
-      let frozen : slice_get new.store.layers id.0 ≡ Some one = layer ∙ stands in
+  -- it leaves the rulesets, and which of them are held
+  agrees_quiet : (layers : List (RulesOn ℕ)) (w : World) (a : Answer) (e : Effect) → Agrees old w → IsQuiet (w.processes process) e →
+      Agrees (after (record old.store { layers = layers }) old.tables) (if_allowed a (affected w process e) w)
+  agrees_quiet layers w Allowed (leaves next) agrees quiet =
+      agrees_after (record old.store { layers = layers }) old.tables w w.rulesets _ w.count process process _ next agrees agrees.rulesets (holds_same old.tables.held.items process) agrees.count refl
+      (λ q. agrees.held process q ∙ ap (λ (h : ℕ → Option ℕ). h q) (sym quiet))
+  agrees_quiet layers w Allowed (leaves_rulesets rulesets next) agrees quiet = absurd quiet
+  agrees_quiet layers w Allowed (begins child) agrees quiet = absurd quiet
+  agrees_quiet layers w Allowed nothing agrees quiet = record { rulesets = agrees.rulesets; count = agrees.count; held = agrees.held }
+  agrees_quiet layers w Moot e agrees quiet = record { rulesets = agrees.rulesets; count = agrees.count; held = agrees.held }
+  agrees_quiet layers w (Refused error numbers) e agrees quiet = record { rulesets = agrees.rulesets; count = agrees.count; held = agrees.held }
+
+  pub settles_quiet : (layers : List (RulesOn ℕ)) (note : Note) → ((rulesets : List Layer) (s : State) → IsQuiet s (effect old.tree.now rulesets op s)) →
+      Extends old.store.layers layers → All (AreInTree old.tree.now) layers → fit (after (record old.store { layers = layers }) old.tables) note →
+      Settles process op old (after (record old.store { layers = layers }) old.tables) note
+  unfolding step answer_in
+  settles_quiet layers note quiet extends inside fits = record {
+    same_tree = refl;
+    same_abi = refl;
+    sound = record { places = sound.places; rulesets = sound.rulesets; layers = inside };
+    layers = extends;
+    agrees = λ w agrees. agrees_quiet layers w (answer old.tree.now old.abi w.rulesets op (w.processes process)) (effect old.tree.now w.rulesets op (w.processes process)) agrees (quiet w.rulesets (w.processes process));
+    fits = fits;
+  }
+
+  pub settles_frozen : (s : Stock) (at : ℕ) (id : LayerId) → ((rulesets : List Layer) (s : State) → IsQuiet s (effect old.tree.now rulesets op s)) → at < length old.store.rulesets → Freezes old.store s at id →
+      ((w : World) → Agrees old w → enforced w.rulesets op (w.processes process) ≡ slice_get w.rulesets at) → Settles process op old (after s old.tables) (Frozen id)
+  unfolding NoteFits IsFrozen
+  settles_frozen s at id quiet within freezes enforces =
+      let none : RulesOn ℕ = without_rules files.no_right network.no_right in
+      let stands = slice_get-get_or old.store.rulesets at none within in
+      let frozen : slice_get s.layers id.0 ≡ Some (get_or old.store.rulesets at none) = freezes.layer ∙ stands in
+      subst (λ (rulesets : List (RulesOn ℕ)). Settles process op old (after (record s { rulesets = rulesets }) old.tables) (Frozen id)) (sym freezes.rulesets)
+      (settles_quiet s.layers (Frozen id) quiet freezes.layers (freezes.inside old.tree.now sound.rulesets sound.layers) (λ w agrees.
+      let (other, there, same) = zip_at (IsSame old.tree.now) old.store.rulesets w.rulesets at (get_or old.store.rulesets at none) agrees.rulesets stands in
+      rw (enforces w agrees, there) (slice_get_within s.layers id.0 _ frozen, rw (get_or_from_slice_get s.layers id.0 _ none frozen) same)))
+
+  -- ---- a ruleset is created, and held under a free number
+
+  pub settles_created : (t : Tables) (rs : ℕ) (fs : Fs) (net : Net) (at : ℕ) → Creates old.tree.now old.abi rs fs net op → held_by old.tables.held.items process rs ≡ None →
+      at ≡ length old.store.rulesets → Holds old.tables.held.items t.held.items process rs (Some at) →
+      Settles process op old (after (with_created old.store (without_rules fs net)) t) (Answered Allowed)
+  unfolding NoteFits answered
+  settles_created t rs fs net at creates free last holds =
+      let one : RulesOn ℕ = without_rules fs net in
+      let longer : length (old.store.rulesets ++ one ∷ []) ≡ length old.store.rulesets + 1 = simp length-append in
+      let allowed = λ (w : World) (agrees : Agrees old w). creates.allowed w.rulesets (w.processes process) (sym (agrees.held process rs) ∙ free) in
       record {
-        sound = sound_alike tree old new alike in_tree_all sound;
-        layers = extends;
-        agrees = agrees_off new alike;
-        fits = λ world agrees.
-            let other = other_of tree old.store.rulesets world.rulesets at one agrees.rulesets stands in
-            let enforced_is : enforced world.rulesets op (world.processes process) ≡ Some other.other = enforces world agrees ∙ other.stands in
-            frozen_by (met_by tree abi new.store.layers world process) id (enforced world.rulesets op (world.processes process)) other.other enforced_is
-            (slice_get_within new.store.layers id.0 one frozen)
-            (rw (get_or_from_slice_get new.store.layers id.0 one (without_rules files.no_right network.no_right) frozen) other.same);
+        same_tree = refl;
+        same_abi = refl;
+        sound = sound_after (with_created old.store one) t _ process _ holds
+            (λ q place is. held_there rs _ q place (Some at) (held_by old.tables.held.items process) is (λ same. let it : at ≡ place = cc in omega arith) (λ held. let earlier : place < length old.store.rulesets = sound.places process q place held in omega arith))
+            (omega arith) (All-push (AreInTree old.tree.now) old.store.rulesets one sound.rulesets (λ k default within. absurd (omega arith))) sound.layers;
+        layers = extends_same old.store.layers;
+        agrees = λ w agrees. rw (step_is w _ (allowed w agrees) (creates.creates w.rulesets (w.processes process)))
+            (agrees_after (with_created old.store one) t w _ _ w.count process process _ _ agrees
+            (zip_push (IsSame old.tree.now) old.store.rulesets w.rulesets one (without_rules fs net) agrees.rulesets (SameRules-refl (without_rules fs net))) holds agrees.count refl
+            (λ q. renamed (held_by old.tables.held.items process) (w.processes process).held rs q _ _ (agrees.held process q) (ap (λ (n : ℕ). Some n) (last ∙ sym (AllZip-long (IsSame old.tree.now) old.store.rulesets w.rulesets agrees.rulesets)))));
+        fits = λ w agrees. (creates.on_rulesets, sym (allowed w agrees));
       }
 
--- ---- a ruleset more, and numbers that are held or closed
+  -- ---- a number is closed, or a process begins
 
-if_allowed_is : {A : Type 0} (a : Answer) (after before : A) → a ≡ Allowed → if_allowed a after before ≡ after
-if_allowed_is Allowed after before is = refl
-if_allowed_is Moot after before is = absurd (cc)
-if_allowed_is (Refused error numbers) after before is = absurd (cc)
-
--- what a number names after it was held: the new place or what was held before
-held_or_before : (b : Bool) (place : Option ℕ) (before : Option ℕ) (found : ℕ) → cond b place before ≡ Some found → (place ≡ Some found) ⊎ (before ≡ Some found)
-held_or_before true place before found is = inl is
-held_or_before false place before found is = inr is
-
--- one number of the call's process names another place
-held_changed : (tree : List Entry) (process : ℕ) (old : Pass) (world : World) (rs : ℕ) (place : Option ℕ) → Agrees tree old world → (p q : ℕ) →
-    cond (eqb p process && eqb rs q) place (held_by old.tables.held.items p q)
-    ≡ cond (eqb p process) (cond (eqb rs q) place ((world.processes process).held q)) (held_by old.tables.held.items p q)
-held_changed tree process old world rs place agrees p q = elim (cases_eq p process) [
-  | inl same ↦ rw (eq-eqb p process same, same, agrees.held process q) refl
-  | inr other ↦ rw (ne_eqb p process other) refl
-]
-
-module _ (tree : List Entry) (abi : Abi) (process rs : ℕ) (old new : Pass) (sound : IsSound tree old) (there : process < length old.tables.held.items) where
-  -- a ruleset is created, and held under a free number
-  pub settles_created : (op : Op) (fs : Fs) (net : Net) (made : RulesOn ℕ) (at : ℕ) → Creates tree abi rs fs net op →
-      held_by old.tables.held.items process rs ≡ None → made ≡ without_rules fs net →
-      new.store.rulesets ≡ old.store.rulesets ++ made ∷ [] → new.store.layers ≡ old.store.layers →
-      at ≡ length old.store.rulesets → Holds old.tables.held.items new.tables.held.items process rs (Some at) →
-      Settles tree abi process op old new (Answered Allowed)
-  unfolding NoteFits answered state_after rulesets_after
-  settles_created op fs net made at creates free plain pushed layers last holds = record {
-    sound = record {
-      places = λ p q found is.
-          let more : length new.store.rulesets ≡ length old.store.rulesets + 1 = rw pushed (simp length-append) in
-          elim (held_or_before (eqb p process && eqb rs q) (Some at) (held_by old.tables.held.items p q) found (sym (holds.holds p q) ∙ is)) [
-            | inl now ↦ let it : at ≡ found = cc in omega arith
-            | inr before ↦ let old_place : found < length old.store.rulesets = sound.places p q found before in omega arith
-          ];
-      rulesets_in_tree = rw pushed (All-push (AreInTree tree) old.store.rulesets made sound.rulesets_in_tree (rw plain (λ k default within. absurd (omega arith))));
-      layers_in_tree = rw layers sound.layers_in_tree;
-    };
-    layers = rw layers (extends_same old.store.layers);
-    agrees = λ world agrees.
-        let s : State = world.processes process in
-        let allowed : answer tree abi world.rulesets op s ≡ Allowed = creates.allowed world.rulesets s (sym (agrees.held process rs) ∙ free) in
-        let none : started tree world.rulesets op s ≡ None = creates.starts_none world.rulesets s in
-        let same_place : Some at ≡ Some (length world.rulesets) = ap (λ (n : ℕ). Some n) (last ∙ agrees.rulesets.same_count) in
-        let held_then : (state_after tree abi world.rulesets op s).held ≡ (with_held s rs (Some (length world.rulesets))).held
-        = ap (λ (t : State). t.held) (if_allowed_is (answer tree abi world.rulesets op s) (change tree world.rulesets op s) s allowed ∙ creates.holds world.rulesets s) in
-        record {
-          rulesets = rw (
-            pushed,
-            step-rulesets tree abi world process op,
-            if_allowed_is (answer tree abi world.rulesets op s) (rules tree world.rulesets op s) world.rulesets allowed,
-            creates.adds world.rulesets s,
-          )
-              (are_same_push tree old.store.rulesets world.rulesets made (without_rules fs net) agrees.rulesets (rw plain (same_new tree fs net)));
-          count = holds.same_count ∙ count_next tree abi process op old world agrees there none;
-          held = λ p q.
-              holds.holds p q
-              ∙ held_changed tree process old world rs (Some at) agrees p q
-              ∙ ap (λ (h : Option ℕ). cond (eqb p process) h (held_by old.tables.held.items p q)) (rw (held_then, same_place) refl)
-              ∙ held_next tree abi process op old world agrees there none p q;
-        };
-    fits = λ world agrees. (creates.on_rulesets, sym (creates.allowed world.rulesets (world.processes process) (sym (agrees.held process rs) ∙ free)));
+  pub settles_tables : (t : Tables) (count at : ℕ) (held : ℕ → Option ℕ) (note : Note) → NowHolds old.tables.held.items t.held.items count at held →
+      ((q place : ℕ) → held q ≡ Some place → place < length old.store.rulesets) → fit (after old.store t) note →
+      ((w : World) → Agrees old w → answer old.tree.now old.abi w.rulesets op (w.processes process) ≡ Allowed) →
+      ((w : World) → Agrees old w → (state : State) × (total number : ℕ) × (count ≡ total) × (at ≡ number) × ((q : ℕ) → held q ≡ state.held q)
+      × (affected w process (effect old.tree.now w.rulesets op (w.processes process)) ≡ record { rulesets = w.rulesets; count = total; processes = with_state w.processes number state })) →
+      Settles process op old (after old.store t) note
+  settles_tables t count at held note holds there fits allowed does = record {
+    same_tree = refl;
+    same_abi = refl;
+    sound = sound_after old.store t count at held holds there (omega arith) sound.rulesets sound.layers;
+    layers = extends_same old.store.layers;
+    agrees = λ w agrees.
+        let (state, total, number, all, own, held_is, next) = does w agrees in
+        rw (step_is w _ (allowed w agrees) refl, next) (agrees_after old.store t w w.rulesets count total at number held state agrees agrees.rulesets holds all own held_is);
+    fits = fits;
   }
 
-  -- what a number names is closed
-  pub settles_closed : (at : ℕ) → held_by old.tables.held.items process rs ≡ Some at → new.store ≡ old.store →
-      Holds old.tables.held.items new.tables.held.items process rs None → Settles tree abi process (calls.CloseRs rs) old new (Answered Allowed)
-  unfolding NoteFits answered state_after rulesets_after answer change state_by rules rulesets_by effect is_on_rulesets started begun_by
-  settles_closed at held store holds = record {
-    sound = record {
-      places = λ p q found is. rw store (elim (held_or_before (eqb p process && eqb rs q) None (held_by old.tables.held.items p q) found (sym (holds.holds p q) ∙ is)) [
-        | inl now ↦ absurd (cc)
-        | inr before ↦ sound.places p q found before
-      ]);
-      rulesets_in_tree = rw store sound.rulesets_in_tree;
-      layers_in_tree = rw store sound.layers_in_tree;
-    };
-    layers = rw store (extends_same old.store.layers);
-    agrees = λ world agrees.
-        let s : State = world.processes process in
-        let op : Op = calls.CloseRs rs in
-        let some : s.held rs ≡ Some at = sym (agrees.held process rs) ∙ held in
-        let allowed : answer tree abi world.rulesets op s ≡ Allowed = rw some refl in
-        let held_then : (state_after tree abi world.rulesets op s).held ≡ (with_held s rs None).held
-        = ap (λ (t : State). t.held) (if_allowed_is (answer tree abi world.rulesets op s) (change tree world.rulesets op s) s allowed) in
-        record {
-          rulesets = rw (
-            store,
-            step-rulesets tree abi world process op,
-            if_allowed_is (answer tree abi world.rulesets op s) (rules tree world.rulesets op s) world.rulesets allowed,
-          ) agrees.rulesets;
-          count = holds.same_count ∙ count_next tree abi process op old world agrees there refl;
-          held = λ p q.
-              holds.holds p q
-              ∙ held_changed tree process old world rs None agrees p q
-              ∙ ap (λ (h : Option ℕ). cond (eqb p process) h (held_by old.tables.held.items p q)) (rw held_then refl)
-              ∙ held_next tree abi process op old world agrees there refl p q;
+  -- ---- a rule is added to a ruleset that the process holds
+
+  module _ (rs : ℕ) (refusal : RulesOn ℕ → Option RuleRefusal) (f : Layer → Layer) (call : AddsTo old.tree.now old.abi op rs refusal f) where
+    pub settles_unheld : held_by old.tables.held.items process rs ≡ None → Settles process op old old (Answered (fails BadFd))
+    settles_unheld none = settles_refused (fails BadFd) call.on_rulesets (λ is. cc) (λ w agrees. sym (call.unheld w.rulesets (w.processes process) (sym (agrees.held process rs) ∙ none)))
+
+    module _ (at : ℕ) (held : held_by old.tables.held.items process rs ≡ Some at) where
+      -- what the ruleset is in the world
+      met : (one : RulesOn ℕ) → slice_get old.store.rulesets at ≡ Some one → (w : World) → Agrees old w →
+          (other : Layer) × (slice_get w.rulesets at ≡ Some other) × IsSame old.tree.now one other × ((w.processes process).held rs ≡ Some at)
+      met one was w agrees = let (other, stands, same) = zip_at (IsSame old.tree.now) old.store.rulesets w.rulesets at one agrees.rulesets was in (other, stands, same, sym (agrees.held process rs) ∙ held)
+
+      answer_is : (one : RulesOn ℕ) → slice_get old.store.rulesets at ≡ Some one → (w : World) → Agrees old w → of_rule_refusal (refusal one) ≡ answer old.tree.now old.abi w.rulesets op (w.processes process)
+      answer_is one was w agrees = let (other, stands, same, it) = met one was w agrees in sym (call.answers w.rulesets (w.processes process) one other (rw it stands) same)
+
+      settles_added : (s : Stock) (one : RulesOn ℕ) (IsNow : RulesOn ℕ → Type 0) → slice_get old.store.rulesets at ≡ Some one → of_rule_refusal (refusal one) ≡ Allowed → Becomes old.store s at IsNow →
+          ((next : RulesOn ℕ) → IsNow next → AreInTree old.tree.now next × ((other : Layer) → IsSame old.tree.now one other → IsSame old.tree.now next (f other))) →
+          Settles process op old (after s old.tables) (Answered Allowed)
+      unfolding NoteFits answered
+      settles_added s one IsNow was none now stays = rw now.changed record {
+        same_tree = refl;
+        same_abi = refl;
+        sound = record {
+          places = λ p q place is. rw length-set (sound.places p q place is);
+          rulesets = All-set (AreInTree old.tree.now) old.store.rulesets at now.after (stays now.after now.is_now).0 sound.rulesets;
+          layers = sound.layers;
         };
-    fits = λ world agrees.
-        let some : (world.processes process).held rs ≡ Some at = sym (agrees.held process rs) ∙ held in
-        (refl, sym (rw some refl));
-  }
+        layers = extends_same old.store.layers;
+        agrees = λ w agrees.
+            let (other, stands, same, it) = met one was w agrees in
+            rw (step_is w _ (sym (answer_is one was w agrees) ∙ none) (call.adds w.rulesets (w.processes process)), it, stands)
+            (agrees_after (with_changed old.store at now.after) old.tables w _ _ w.count process process _ _ agrees
+            (zip_set (IsSame old.tree.now) old.store.rulesets w.rulesets at now.after (f other) agrees.rulesets ((stays now.after now.is_now).1 other same))
+            (holds_same old.tables.held.items process) agrees.count refl (agrees.held process));
+        fits = λ w agrees. (call.on_rulesets, sym none ∙ answer_is one was w agrees);
+      }
 
--- ---- rules that are added
-
--- a call that changes one ruleset, which its process holds
-pub settles_added : (tree : List Entry) (abi : Abi) (process rs : ℕ) (old new : Pass) (op : Op) (f : Layer → Layer) (at : ℕ) (before after : RulesOn ℕ) →
-    IsSound tree old → process < length old.tables.held.items → is_on_rulesets op ≡ true →
-    ((rulesets : List Layer) (s : State) → rules tree rulesets op s ≡ changed_at rulesets (s.held rs) f) →
-    ((rulesets : List Layer) (s : State) → change tree rulesets op s ≡ s) →
-    held_by old.tables.held.items process rs ≡ Some at →
-    slice_get old.store.rulesets at ≡ Some before → new.store.rulesets ≡ set old.store.rulesets at after →
-    new.store.layers ≡ old.store.layers → new.tables.held.items ≡ old.tables.held.items →
-    ((other : Layer) → SameRules (in_tree tree before) other → SameRules (in_tree tree after) (f other)) → AreInTree tree after →
-    ((world : World) → Agrees tree old world → answer tree abi world.rulesets op (world.processes process) ≡ Allowed) →
-    Settles tree abi process op old new (Answered Allowed)
-unfolding NoteFits answered state_after rulesets_after
-settles_added tree abi process rs old new op f at before after sound there on rules_is change_is held was is_now layers tables same_next stays allowed = record {
-  sound = record {
-    places = λ p q found is. rw (is_now, length-set) (sound.places p q found (rw (← tables) is));
-    rulesets_in_tree = rw is_now (All-set (AreInTree tree) old.store.rulesets at after stays sound.rulesets_in_tree);
-    layers_in_tree = rw layers sound.layers_in_tree;
-  };
-  layers = rw layers (extends_same old.store.layers);
-  agrees = λ world agrees.
-      let s : State = world.processes process in
-      let some : s.held rs ≡ Some at = sym (agrees.held process rs) ∙ held in
-      let other = other_of tree old.store.rulesets world.rulesets at before agrees.rulesets was in
-      let rules_now : rules tree world.rulesets op s ≡ set world.rulesets at (f other.other) = rules_is world.rulesets s ∙ rw (some, other.stands) refl in
-      let none : started tree world.rulesets op s ≡ None = started-none tree world.rulesets op s (on_rulesets_starts_none op on) in
-      let held_then : (state_after tree abi world.rulesets op s).held ≡ s.held
-      = ap (λ (t : State). t.held) (kept_if_same (answer tree abi world.rulesets op s) (change tree world.rulesets op s) s (change_is world.rulesets s)) in
-      record {
-        rulesets = rw (
-          is_now,
-          step-rulesets tree abi world process op,
-          if_allowed_is (answer tree abi world.rulesets op s) (rules tree world.rulesets op s) world.rulesets (allowed world agrees),
-          rules_now,
-        )
-            (are_same_set tree old.store.rulesets world.rulesets at after (f other.other) (slice_get_within old.store.rulesets at before was) agrees.rulesets (same_next other.other other.same));
-        count = rw tables (count_next tree abi process op old world agrees there none);
-        held = λ p q. rw tables (same_held tree abi process op old world agrees there q (ap (λ (h : ℕ → Option ℕ). h q) held_then) p ∙ held_next tree abi process op old world agrees there none p q);
-      };
-  fits = λ world agrees. (on, sym (allowed world agrees));
-}
-
--- ---- processes that begin
-
-begun_held : (process p q n m : ℕ) (now before : Option ℕ) (child s : State) → n ≡ m → now ≡ child.held q → before ≡ s.held q →
-    cond (eqb p n) now before ≡ (cond (eqb p m) child s).held q
-begun_held process p q n m now before child s same_count now_is before_is = elim (cases_eq p n) [
-  | inl last ↦ let also : p ≡ m = last ∙ same_count in rw (eq-eqb p n last, eq-eqb p m also) now_is
-  | inr earlier ↦
-      let also : p ≡ m → ⊥ = λ last. earlier (last ∙ sym same_count) in
-      rw (ne_eqb p n earlier, ne_eqb p m also) before_is
-]
-
--- a call that starts a process and changes nothing else
-pub settles_begun : (tree : List Entry) (abi : Abi) (process : ℕ) (old new : Pass) (op : Op) (held : ℕ → Option ℕ) (child : World → State) →
-    IsSound tree old → is_on_rulesets op ≡ false → is_starting op ≡ true →
-    ((world : World) → started tree world.rulesets op (world.processes process) ≡ Some (child world)) →
-    ((rulesets : List Layer) (s : State) → enforced rulesets op s ≡ None) →
-    ((world : World) → Agrees tree old world → (q : ℕ) → held q ≡ (child world).held q) →
-    ((q place : ℕ) → held q ≡ Some place → place < length old.store.rulesets) →
-    new.store ≡ old.store → Begins old.tables.held.items new.tables.held.items held → Settles tree abi process op old new Open
-unfolding NoteFits
-settles_begun tree abi process old new op held child sound off starting starts unforced held_is places store begins = record {
-  sound = record {
-    places = λ p q found is. rw store (elim (held_or_before (eqb p (length old.tables.held.items)) (held q) (held_by old.tables.held.items p q) found (sym (begins.holds p q) ∙ is)) [
-      | inl now ↦ places q found now
-      | inr before ↦ sound.places p q found before
-    ]);
-    rulesets_in_tree = rw store sound.rulesets_in_tree;
-    layers_in_tree = rw store sound.layers_in_tree;
-  };
-  layers = rw store (extends_same old.store.layers);
-  agrees = λ world agrees. record {
-    rulesets = rw (store, step-rulesets tree abi world process op, rulesets_same tree abi world.rulesets op (world.processes process) off) agrees.rulesets;
-    count =
-        let more : (step tree abi world process op).count ≡ world.count + cond (is_starting op) 1 0 = count-step tree abi world process op in
-        let one : (let n : ℕ = cond (is_starting op) 1 0 in n) ≡ 1 = rw starting refl in
-        omega (arith, begins.one_more, agrees.count, more, one);
-    held = λ p q.
-        begins.holds p q
-        ∙ begun_held process p q (length old.tables.held.items) world.count (held q) (held_by old.tables.held.items p q) (child world) (world.processes p)
-        agrees.count (held_is world agrees q) (agrees.held p q)
-        ∙ ap (λ (t : State). t.held q) (sym (step-begun tree abi world process op p (child world) (starts world)));
-  };
-  fits = λ world agrees. (off, unforced world.rulesets (world.processes process));
-}
+      pub settles_rule : (s : Stock) (IsAdded : RulesOn ℕ → RulesOn ℕ → Type 0) (outcome : Result (Unit {0}) RuleFault) (note : Note) →
+          AddsRule (λ one. option_map fault_of (refusal one)) IsAdded outcome at old.store s → IsAnswerTo outcome note →
+          ((one next : RulesOn ℕ) → slice_get old.store.rulesets at ≡ Some one → IsAdded one next → AreInTree old.tree.now next × ((other : Layer) → IsSame old.tree.now one other → IsSame old.tree.now next (f other))) →
+          Settles process op old (after s old.tables) note
+      settles_rule s IsAdded (Ok done) note adds is stays =
+          let told : note ≡ Answered (of_rule_refusal (refusal adds.before)) = answer_told (refusal adds.before) (Ok done) note adds.told is in
+          let none : of_rule_refusal (refusal adds.before) ≡ Allowed = cc in
+          rw is (settles_added s adds.before (IsAdded adds.before) adds.was none adds.added (λ next. stays adds.before next adds.was))
+      settles_rule s IsAdded (Err fault) note adds is stays =
+          let told : note ≡ Answered (of_rule_refusal (refusal adds.before)) = answer_told (refusal adds.before) (Err fault) note adds.told is in
+          rw (adds.refused, told) (settles_refused (of_rule_refusal (refusal adds.before)) call.on_rulesets (λ allowed. refused_told fault note is (told ∙ ap Answered allowed)) (answer_is adds.before adds.was))

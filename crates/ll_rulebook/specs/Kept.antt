@@ -1,6 +1,6 @@
 -- When a ruleset that names the layer that it was frozen to still is that layer.
 -- Source: the kernel's userspace document on Landlock, "Defining and enforcing a security policy".
-use Rattle.std.specs.Prelude.{◌≡◌, ℕ, List, map, Some, slice_get}
+use Rattle.std.specs.Prelude.{◌≡◌, ℕ, List, map, Some, All, slice_get}
 use Rattle.ll_rules.specs.declared.domain.LayerId.{LayerId}
 use Rattle.ll_rules.specs.Layers.{RulesOn}
 use Rattle.ll_rulebook.specs.declared.store.Stored.{Stored}
@@ -12,5 +12,9 @@ rulesets_of stored = map (λ one. one.ruleset) stored
 abbrev pub stock_of : List Stored → List (RulesOn ℕ) → Stock
 stock_of stored layers = record { rulesets = rulesets_of stored; layers = layers }
 
-pub record AreFrozen (stored : List Stored) (layers : List (RulesOn ℕ)) : Type 0 where
-  pub is_layer : (k : ℕ) (one : Stored) (id : LayerId) → slice_get stored k ≡ Some one → one.frozen ≡ Some id → slice_get layers id.0 ≡ Some one.ruleset
+-- if it names one
+abbrev pub IsFrozenTo : List (RulesOn ℕ) → Stored → Type 0
+IsFrozenTo layers one = (id : LayerId) → one.frozen ≡ Some id → slice_get layers id.0 ≡ Some one.ruleset
+
+abbrev pub AreFrozen : List Stored → List (RulesOn ℕ) → Type 0
+AreFrozen stored layers = All (IsFrozenTo layers) stored

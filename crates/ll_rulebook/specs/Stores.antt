@@ -1,11 +1,12 @@
 -- The rulesets of a trace and the layers that they were frozen to, and what becomes of both.
 -- Source: the kernel's userspace document on Landlock, "Defining and enforcing a security policy".
-use Rattle.std.specs.Prelude.{◌≡◌, ℕ, ◌≤◌, List, ◌++◌, length, Some, Result, Ok, Err, OnOk, OnErr, MatchOption, IsOkUnless, slice_get, slice_set}
+use Rattle.std.specs.Prelude.{◌≡◌, ℕ, ◌≤◌, List, [], ◌∷◌, ◌++◌, length, Option, Some, Result, Ok, Err, OnOk, OnErr, MatchOption, IsOkUnless, All, slice_get, slice_set}
 use Rattle.ll_rights.specs.declared.abi.Abi.{Abi}
 use Rattle.ll_rights.specs.declared.fs.Fs.{Fs}
 use Rattle.ll_rights.specs.declared.net.Net.{Net}
 use Rattle.ll_tree.specs.declared.place.Place.{Place}
 use Rattle.ll_tree.specs.Trees.{Entry}
+use Rattle.ll_rules.specs.declared.domain.LayerId.{LayerId}
 use Rattle.ll_rules.specs.declared.errno.RuleFault.{RuleFault}
 use Rattle.ll_rules.specs.declared.errno.RuleFault.TheVariants as faults
 use Rattle.ll_semantics.specs.declared.answer.Answer.TheVariants.{Allowed, Moot}
@@ -23,32 +24,49 @@ pub record Stock : Type 0 where
   pub rulesets : List (RulesOn ℕ)
   pub layers : List (RulesOn ℕ)
 
--- what was at a place of a list became another
-pub record Replaces {X : Type 0} (old new : List X) (place : ℕ) (Becomes : X → X → Type 0) : Type 0 where
-  pub before : X
-  pub after : X
-  pub was : slice_get old place ≡ Some before
-  pub is_now : new ≡ slice_set old place after
-  pub becomes : Becomes before after
+abbrev pub with_created : Stock → RulesOn ℕ → Stock
+with_created stock one = record stock { rulesets = stock.rulesets ++ one ∷ [] }
 
--- one rule for files more, if it is added
-pub record AddsPathRule (tree : List Entry) (at : Place) (files : Fs) (result : Result (Unit {0}) RuleFault) (before after : RulesOn ℕ) : Type 0 where
-  pub fault : MatchOption (add_path_fault tree before at files) (IsOkUnless result faults.Memory) (λ fault. result ≡ Err fault)
-  pub ok : OnOk result (SameRules (in_tree tree after) (with_rule_at tree (in_tree tree before) at files))
-  pub err : OnErr result (after ≡ before)
-  pub stays_in_tree : AreInTree tree after
+abbrev pub with_changed : Stock → ℕ → RulesOn ℕ → Stock
+with_changed stock place one = record stock { rulesets = slice_set stock.rulesets place one }
 
--- one rule for a port more, if it is added
-pub record AddsPortRule (abi : Abi) (port : ℕ) (network : Net) (result : Result (Unit {0}) RuleFault) (before after : RulesOn ℕ) : Type 0 where
-  pub fault : MatchOption (add_port_fault abi before port network) (IsOkUnless result faults.Memory) (λ fault. result ≡ Err fault)
-  pub ok : OnOk result (GrantsOnPort before after port network)
-  pub err : OnErr result (after ≡ before)
+-- the ruleset at a place became another
+pub record Becomes (old new : Stock) (place : ℕ) (IsNow : RulesOn ℕ → Type 0) : Type 0 where
+  pub after : RulesOn ℕ
+  pub changed : new ≡ with_changed old place after
+  pub is_now : IsNow after
+
+-- one rule more in the ruleset at a place, or a fault, with which all is as it was
+pub record AddsRule (fault : RulesOn ℕ → Option RuleFault) (IsAdded : RulesOn ℕ → RulesOn ℕ → Type 0) (result : Result (Unit {0}) RuleFault) (place : ℕ) (old new : Stock) : Type 0 where
+  pub before : RulesOn ℕ
+  pub was : slice_get old.rulesets place ≡ Some before
+  pub told : MatchOption (fault before) (IsOkUnless result faults.Memory) (λ fault. result ≡ Err fault)
+  pub added : OnOk result (Becomes old new place (IsAdded before))
+  pub refused : OnErr result (new ≡ old)
+
+-- a rule for files, on nodes of a tree
+abbrev pub IsPathAdded : List Entry → Place → Fs → RulesOn ℕ → RulesOn ℕ → Type 0
+IsPathAdded tree at files before after = SameRules (in_tree tree after) (with_rule_at tree (in_tree tree before) at files) × AreInTree tree after
+
+abbrev pub AddsPathRule : List Entry → Place → Fs → Result (Unit {0}) RuleFault → ℕ → Stock → Stock → Type 0
+AddsPathRule tree at files = AddsRule (λ before. add_path_fault tree before at files) (IsPathAdded tree at files)
+
+-- a rule for a port
+abbrev pub AddsPortRule : Abi → ℕ → Net → Result (Unit {0}) RuleFault → ℕ → Stock → Stock → Type 0
+AddsPortRule abi port network = AddsRule (λ before. add_port_fault abi before port network) (λ before after. GrantsOnPort before after port network)
 
 -- at most one layer more, at the end
 pub record Extends (old new : List (RulesOn ℕ)) : Type 0 where
   pub more : List (RulesOn ℕ)
   pub is_more : new ≡ old ++ more
   pub one : length more ≤ 1
+
+-- The layer of a number is the ruleset at a place as it is; the rulesets are as they were.
+pub record Freezes (old new : Stock) (place : ℕ) (id : LayerId) : Type 0 where
+  pub layer : slice_get new.layers id.0 ≡ slice_get old.rulesets place
+  pub rulesets : new.rulesets ≡ old.rulesets
+  pub layers : Extends old.layers new.layers
+  pub inside : (tree : List Entry) → All (AreInTree tree) old.rulesets → All (AreInTree tree) old.layers → All (AreInTree tree) new.layers
 
 -- the answer to a call that adds a rule with this outcome, other than out of memory
 abbrev pub IsAnswerTo : Result (Unit {0}) RuleFault → Note → Type 0

@@ -1,7 +1,6 @@
 //! One pass over the records of a trace.
 
-ghost use Rattle.std.specs.Prelude.{◌≡◌, ℕ, ◌<◌, ◌^◌, Bool, false, List, [], length, None, IfOk, OnOk};
-ghost use Rattle.ll_tree.specs.Trees.{Entry};
+ghost use Rattle.std.specs.Prelude.{◌≡◌, ℕ, ◌<◌, ◌^◌, Bool, false, [], length, None, IfOk, OnOk};
 ghost use Rattle.ll_rules.specs.Layers.{without_rules};
 ghost use Rattle.ll_semantics.specs.Answers.{fails};
 ghost use Rattle.ll_trace.specs.Entries.{is_start};
@@ -18,9 +17,12 @@ use ll_trace::{Op, PathText, Record, changes_nothing};
 use ll_tree::Tree;
 use std::alloc::Global;
 
-/// What the records so far made of the rulesets, and which of them each process holds.
+/// What the records so far made of the rulesets, and which of them each process holds, on a tree and by a version
+/// of the interface.
 #[derive(Drop)]
-pub(crate) struct Pass {
+pub(crate) struct Pass<'t> {
+    tree: &'t Tree,
+    abi: Abi,
     store: Store,
     tables: Tables,
 }
@@ -44,16 +46,20 @@ fn added(outcome: Result<(), RuleFault>) -> Result<Note, NoMemory>
     }
 }
 
-impl Pass {
+impl<'t> Pass<'t> {
     ghost use Rattle.ll_rulebook.specs.Passes.{IsSound, Creates, Settles, HasSettled, Adds};
 
     /// No record yet.
-    pub(crate) fn new(alloc: Global) -> Pass
+    pub(crate) fn new(alloc: Global, tree: &'t Tree, abi: Abi) -> Pass<'t>
+        ensures tree { result.tree.now ≡ tree.now }
+        ensures abi { result.abi ≡ abi }
         ensures rulesets { result.store.rulesets ≡ [] }
         ensures layers { result.store.layers ≡ [] }
         ensures tables { result.tables.held.items ≡ [] }
     {
         Pass {
+            tree,
+            abi,
             store: Store::new(alloc),
             tables: Tables::new(alloc),
         }
@@ -61,15 +67,18 @@ impl Pass {
 
     /// The layers that rulesets were frozen to.
     pub(crate) fn into_layers(self) -> Vec<Layer>
-        ensures { result.items ≡ self.store.layers }
+        ensures { result.items ≡ self.entry.store.layers }
     {
         self.store.into_layers()
     }
 
     /// A ruleset that a call creates is held under a free number.
     fn hold_created(&mut self, process: usize, rs: u64, created: Ruleset) -> Result<Note, NoMemory>
-        requires { process < length self.old.tables.held.items }
-        ensures { IfOk result (λ note. (tree : List Entry) (abi : Abi) (fs : Fs) (net : Net) (op : Op) → IsSound tree self.old → held_by self.old.tables.held.items process rs ≡ None → created ≡ without_rules fs net → Creates tree abi rs fs net op → Settles tree abi process op self.old self.new note) }
+        requires there { process < length self.old.tables.held.items }
+        requires sound { IsSound self.old }
+        requires free { held_by self.old.tables.held.items process rs ≡ None }
+        ensures { IfOk result (λ note. (fs : Fs) (net : Net) (op : Op) → created ≡ without_rules fs net
+            → Creates self.old.tree.now self.old.abi rs fs net op → Settles process op self.old self.new note) }
     {
         let place = self.store.add(created)?;
         self.tables.hold(process, rs, place)?;
@@ -80,19 +89,19 @@ impl Pass {
     fn create(
         &mut self,
         alloc: Global,
-        abi: Abi,
         process: usize,
         rs: u64,
         fs: Fs,
         net: Net,
     ) -> Result<Note, NoMemory>
-        requires { process < length self.old.tables.held.items }
-        ensures { IfOk result (λ note. (tree : List Entry) → IsSound tree self.old → Settles tree abi process (Op.Create rs fs net) self.old self.new note) }
+        requires there { process < length self.old.tables.held.items }
+        requires sound { IsSound self.old }
+        ensures { IfOk result (Settles process (Op.Create rs fs net) self.old self.new) }
     {
-        if self.tables.place(process, rs).is_some() {
+        if let Some(_) = self.tables.place(process, rs) {
             return Ok(Note::Answered(Answer::Moot));
         }
-        match Ruleset::create(alloc, abi, fs, net) {
+        match Ruleset::create(alloc, self.abi, fs, net) {
             Err(error) => Ok(failed(error)),
             Ok(created) => self.hold_created(process, rs, created),
         }
@@ -101,8 +110,9 @@ impl Pass {
     /// A ruleset that handles nothing stands for one that a program does without, and is held under its number
     /// if this is free.
     fn create_empty(&mut self, alloc: Global, process: usize, rs: u64) -> Result<Note, NoMemory>
-        requires { process < length self.old.tables.held.items }
-        ensures { IfOk result (λ note. (tree : List Entry) (abi : Abi) → IsSound tree self.old → Settles tree abi process (Op.CreateEmpty rs) self.old self.new note) }
+        requires there { process < length self.old.tables.held.items }
+        requires sound { IsSound self.old }
+        ensures { IfOk result (Settles process (Op.CreateEmpty rs) self.old self.new) }
     {
         match self.tables.place(process, rs) {
             Some(_) => Ok(Note::Answered(Answer::Moot)),
@@ -113,50 +123,43 @@ impl Pass {
     /// A rule for files is added to a ruleset that the process holds.
     fn add_path(
         &mut self,
-        tree: &Tree,
         process: usize,
         rs: u64,
         path: &PathText,
         fs: Fs,
     ) -> Result<Note, NoMemory>
         requires there { process < length self.old.tables.held.items }
-        requires sound { IsSound tree.now self.old }
-        ensures { IfOk result (λ note. (abi : Abi) → Settles tree.now abi process (Op.AddPath rs path.now fs) self.old self.new note) }
+        requires sound { IsSound self.old }
+        ensures { IfOk result (Settles process (Op.AddPath rs path.now fs) self.old self.new) }
     {
         let Some(place) = self.tables.place(process, rs) else {
             return Ok(failed(Errno::BadFd));
         };
-        let at = tree.place_of(path.as_str());
-        added(self.store.add_path(place, tree, at, fs))
+        let at = self.tree.place_of(path.as_str());
+        added(self.store.add_path(place, self.tree, at, fs))
     }
 
     /// A rule for a port is added to a ruleset that the process holds.
-    fn add_port(
-        &mut self,
-        abi: Abi,
-        process: usize,
-        rs: u64,
-        port: u64,
-        net: Net,
-    ) -> Result<Note, NoMemory>
+    fn add_port(&mut self, process: usize, rs: u64, port: u64, net: Net) -> Result<Note, NoMemory>
         requires there { process < length self.old.tables.held.items }
-        requires sound { (tree : List Entry) × IsSound tree self.old }
-        ensures { IfOk result (λ note. (tree : List Entry) → IsSound tree self.old → Settles tree abi process (Op.AddPort rs port net) self.old self.new note) }
+        requires sound { IsSound self.old }
+        ensures { IfOk result (Settles process (Op.AddPort rs port net) self.old self.new) }
     {
         let Some(place) = self.tables.place(process, rs) else {
             return Ok(failed(Errno::BadFd));
         };
-        added(self.store.add_port(place, abi, port, net))
+        added(self.store.add_port(place, self.abi, port, net))
     }
 
     /// A process closes a ruleset that it holds.
     fn close_rs(&mut self, process: usize, rs: u64) -> Result<Note, NoMemory>
-        requires { process < length self.old.tables.held.items }
-        ensures { IfOk result (λ note. (tree : List Entry) (abi : Abi) → IsSound tree self.old → Settles tree abi process (Op.CloseRs rs) self.old self.new note) }
+        requires there { process < length self.old.tables.held.items }
+        requires sound { IsSound self.old }
+        ensures { IfOk result (Settles process (Op.CloseRs rs) self.old self.new) }
     {
-        if self.tables.place(process, rs).is_none() {
+        let Some(_) = self.tables.place(process, rs) else {
             return Ok(Note::Answered(Answer::Moot));
-        }
+        };
         self.tables.close(process, rs)?;
         Ok(Note::Answered(Answer::Allowed))
     }
@@ -164,9 +167,9 @@ impl Pass {
     /// The ruleset by which a process restricts itself is frozen to a layer, if the process holds it.
     fn restrict(&mut self, alloc: Global, process: usize, rs: u64) -> Result<Note, NoMemory>
         requires there { process < length self.old.tables.held.items }
-        requires sound { (tree : List Entry) × IsSound tree self.old }
+        requires sound { IsSound self.old }
         requires room { length self.old.store.layers < 2 ^ 32 }
-        ensures { IfOk result (λ note. (tree : List Entry) (abi : Abi) → IsSound tree self.old → Settles tree abi process (Op.Restrict rs) self.old self.new note) }
+        ensures { IfOk result (Settles process (Op.Restrict rs) self.old self.new) }
     {
         match self.tables.place(process, rs) {
             None => Ok(Note::Open),
@@ -176,7 +179,8 @@ impl Pass {
 
     /// A process begins that the trace starts with; it holds nothing.
     fn start(&mut self, alloc: Global) -> Result<Note, NoMemory>
-        ensures { IfOk result (λ note. (tree : List Entry) (abi : Abi) (process : ℕ) (nnp admin : Bool) → IsSound tree self.old → Settles tree abi process (Op.Start nnp admin) self.old self.new note) }
+        requires { IsSound self.old }
+        ensures { IfOk result (λ note. (process : ℕ) (nnp admin : Bool) → Settles process (Op.Start nnp admin) self.old self.new note) }
     {
         self.tables.start(alloc)?;
         Ok(Note::Open)
@@ -184,8 +188,9 @@ impl Pass {
 
     /// A process forks a child, which holds what its parent holds.
     fn fork(&mut self, process: usize) -> Result<Note, NoMemory>
-        requires { process < length self.old.tables.held.items }
-        ensures { IfOk result (λ note. (tree : List Entry) (abi : Abi) (child : ℕ) → IsSound tree self.old → Settles tree abi process (Op.Fork child) self.old self.new note) }
+        requires there { process < length self.old.tables.held.items }
+        requires sound { IsSound self.old }
+        ensures { IfOk result (λ note. (child : ℕ) → Settles process (Op.Fork child) self.old self.new note) }
     {
         self.tables.fork(process)?;
         Ok(Note::Open)
@@ -193,26 +198,21 @@ impl Pass {
 
     /// Settles one record: what it answers, if it is one that creates, changes or closes a ruleset, or the
     /// layer that its ruleset is frozen to.
-    pub(crate) fn settle(
-        &mut self,
-        alloc: Global,
-        tree: &Tree,
-        abi: Abi,
-        record: &Record,
-    ) -> Result<Note, NoMemory>
+    #[tactic(auto, unfolding(ll_trace::specs::Entries::is_start))]
+    pub(crate) fn settle(&mut self, alloc: Global, record: &Record) -> Result<Note, NoMemory>
         requires there { is_start «record».now.op ≡ false → «record».now.process.0 < length self.old.tables.held.items }
-        requires sound { IsSound tree.now self.old }
+        requires sound { IsSound self.old }
         requires room { length self.old.store.layers < 2 ^ 32 }
-        ensures { IfOk result (Settles tree.now abi «record».now.process.0 «record».now.op self.old self.new) }
+        ensures { IfOk result (Settles «record».now.process.0 «record».now.op self.old self.new) }
     {
         let process = record.process.0 as usize;
         match &record.op {
             Op::Start { .. } => self.start(alloc),
             Op::Fork { .. } => self.fork(process),
-            Op::Create { rs, fs, net } => self.create(alloc, abi, process, *rs, *fs, *net),
+            Op::Create { rs, fs, net } => self.create(alloc, process, *rs, *fs, *net),
             Op::CreateEmpty { rs } => self.create_empty(alloc, process, *rs),
-            Op::AddPath { rs, path, fs } => self.add_path(tree, process, *rs, path, *fs),
-            Op::AddPort { rs, port, net } => self.add_port(abi, process, *rs, *port, *net),
+            Op::AddPath { rs, path, fs } => self.add_path(process, *rs, path, *fs),
+            Op::AddPort { rs, port, net } => self.add_port(process, *rs, *port, *net),
             Op::CloseRs { rs } => self.close_rs(process, *rs),
             Op::Restrict { rs } => self.restrict(alloc, process, *rs),
             changes_nothing!()
@@ -229,18 +229,16 @@ impl Pass {
     fn settle_next(
         &mut self,
         alloc: Global,
-        tree: &Tree,
-        abi: Abi,
         record: &Record,
         notes: &mut Vec<Note>,
     ) -> Result<(), NoMemory>
         requires there { is_start «record».now.op ≡ false → «record».now.process.0 < length self.old.tables.held.items }
-        requires sound { IsSound tree.now self.old }
+        requires sound { IsSound self.old }
         requires room { length self.old.store.layers < 2 ^ 32 }
-        ensures { OnOk result (Adds notes.old.items notes.new.items (Settles tree.now abi «record».now.process.0 «record».now.op self.old self.new)) }
+        ensures { OnOk result (Adds notes.old.items notes.new.items (Settles «record».now.process.0 «record».now.op self.old self.new)) }
     {
         notes.reserve(1)?;
-        match self.settle(alloc, tree, abi, record)? {
+        match self.settle(alloc, record)? {
             Note::Answered(answer) => notes.push_reserved(Note::Answered(answer)),
             Note::Frozen(layer) => notes.push_reserved(Note::Frozen(layer)),
             Note::Open => notes.push_reserved(Note::Open),
@@ -252,18 +250,16 @@ impl Pass {
     pub(crate) fn settle_all(
         &mut self,
         alloc: Global,
-        tree: &Tree,
-        abi: Abi,
         records: &[Record],
     ) -> Result<Vec<Note>, NoMemory>
-        requires begins { HasSettled tree.now abi records.now 0 self.old [] }
+        requires begins { HasSettled self.old.tree.now self.old.abi records.now 0 self.old [] }
         requires are_records { AreRecords records.now }
         requires few { length records.now < 2 ^ 32 }
-        ensures { IfOk result (λ notes. HasSettled tree.now abi records.now (length records.now) self.new notes.items) }
+        ensures { IfOk result (λ notes. HasSettled self.old.tree.now self.old.abi records.now (length records.now) self.new notes.items) }
     {
         let mut notes = Vec::new(alloc);
         for record in records {
-            self.settle_next(alloc, tree, abi, record, &mut notes)?;
+            self.settle_next(alloc, record, &mut notes)?;
         }
         Ok(notes)
     }

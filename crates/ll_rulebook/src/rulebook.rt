@@ -28,8 +28,8 @@ impl Rulebook {
     pub fn of(alloc: Global, tree: &Tree, trace: &Trace, abi: Abi) -> Result<Rulebook, NoMemory>
         ensures { IfOk result (λ book. IsSettled tree.now abi trace.now book.layers.items book.notes.items) }
     {
-        let mut pass = Pass::new(alloc);
-        let notes = pass.settle_all(alloc, tree, abi, trace.records())?;
+        let mut pass = Pass::new(alloc, tree, abi);
+        let notes = pass.settle_all(alloc, trace.records())?;
         let layers = pass.into_layers();
         Ok(Rulebook { notes, layers })
     }

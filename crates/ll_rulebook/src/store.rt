@@ -1,13 +1,12 @@
 //! The rulesets of a trace, and the layers that they were frozen to.
 
-ghost use Rattle.std.specs.Prelude.{◌≡◌, None, ◌<◌, ◌+◌, [], ◌∷◌, ◌++◌, List, length, OnOk, IfOk, OnErr, MatchOption, IsOkUnless, All, ◌^◌, slice_get};
-ghost use Rattle.ll_tree.specs.Trees.{Entry};
-ghost use Rattle.ll_rules.specs.KeptLayers.{SameRules, GrantsOnPort};
-ghost use Rattle.ll_rules.specs.InTree.{in_tree, AreInTree};
-ghost use Rattle.ll_rulebook.specs.Stores.{Replaces, AddsPathRule, AddsPortRule, Extends};
-ghost use Rattle.ll_rules.specs.InTree.{IsOfTree};
+ghost use Rattle.std.specs.Prelude.{◌≡◌, ℕ, ◌<◌, ◌^◌, [], List, length, All, IfOk, OnOk, OnErr, MatchOption, IsOkUnless};
+ghost use Rattle.ll_rules.specs.Layers.{RulesOn};
+ghost use Rattle.ll_rules.specs.KeptLayers.{GrantsOnPort};
+ghost use Rattle.ll_rules.specs.InTree.{AreInTree, IsOfTree};
 ghost use Rattle.ll_rules.specs.RuleFaults.{add_path_fault, add_port_fault};
-ghost use Rattle.ll_rules.specs.Rulesets.{with_rule_at};
+ghost use Rattle.ll_rulebook.specs.Stores.{with_created, IsPathAdded, AddsPathRule, AddsPortRule, Freezes};
+ghost use Rattle.ll_rulebook.specs.Kept.{IsFrozenTo};
 
 use ll_rights::{Abi, Fs, Net};
 use ll_rules::{Layer, LayerId, NoMemory, RuleFault, Ruleset};
@@ -28,10 +27,9 @@ impl Stored {
         requires place { IsOfTree tree.now at }
         requires within { AreInTree tree.now self.old.ruleset }
         ensures fault { MatchOption (add_path_fault tree.now self.old.ruleset at files) (IsOkUnless result RuleFault.Memory) (λ fault. result ≡ Err fault) }
-        ensures ok { OnOk result (SameRules (in_tree tree.now self.new.ruleset) (with_rule_at tree.now (in_tree tree.now self.old.ruleset) at files)) }
-        ensures thawed { OnOk result (self.new.frozen ≡ None) }
+        ensures ok { OnOk result (IsPathAdded tree.now at files self.old.ruleset self.new.ruleset) }
+        ensures frozen { (layers : List (RulesOn ℕ)) → IsFrozenTo layers self.old → IsFrozenTo layers self.new }
         ensures err { OnErr result (self.new ≡ self.old) }
-        ensures in_tree { AreInTree tree.now self.new.ruleset }
     {
         self.ruleset.add_path(tree, at, files)?;
         self.frozen = None; // that layer lacks the rule for files
@@ -42,7 +40,7 @@ impl Stored {
     fn add_port(&mut self, abi: Abi, port: u64, network: Net) -> Result<(), RuleFault>
         ensures fault { MatchOption (add_port_fault abi self.old.ruleset port network) (IsOkUnless result RuleFault.Memory) (λ fault. result ≡ Err fault) }
         ensures ok { OnOk result (GrantsOnPort self.old.ruleset self.new.ruleset port network) }
-        ensures thawed { OnOk result (self.new.frozen ≡ None) }
+        ensures frozen { (layers : List (RulesOn ℕ)) → IsFrozenTo layers self.old → IsFrozenTo layers self.new }
         ensures err { OnErr result (self.new ≡ self.old) }
     {
         self.ruleset.add_port(abi, port, network)?;
@@ -92,8 +90,7 @@ impl Store {
     /// Adds a ruleset at the end, and tells its place.
     pub(crate) fn add(&mut self, created: Ruleset) -> Result<usize, AllocError>
         ensures place { IfOk result (λ place. place ≡ length self.old.rulesets) }
-        ensures rulesets { OnOk result (self.new.rulesets ≡ self.old.rulesets ++ created ∷ []) }
-        ensures layers { OnOk result (self.new.layers ≡ self.old.layers) }
+        ensures adds { OnOk result (self.new ≡ with_created self.old created) }
     {
         let place = self.rulesets.len();
         self.rulesets.push(Stored {
@@ -114,8 +111,7 @@ impl Store {
         requires place { IsOfTree tree.now at }
         requires there { place < length self.old.rulesets }
         requires within { All (AreInTree tree.now) self.old.rulesets }
-        ensures rulesets { Replaces self.old.rulesets self.new.rulesets place (AddsPathRule tree.now at files result) }
-        ensures layers { self.new.layers ≡ self.old.layers }
+        ensures { AddsPathRule tree.now at files result place self.old self.new }
     {
         self.rulesets[place].add_path(tree, at, files)
     }
@@ -129,8 +125,7 @@ impl Store {
         network: Net,
     ) -> Result<(), RuleFault>
         requires { place < length self.old.rulesets }
-        ensures rulesets { Replaces self.old.rulesets self.new.rulesets place (AddsPortRule abi port network result) }
-        ensures layers { self.new.layers ≡ self.old.layers }
+        ensures { AddsPortRule abi port network result place self.old self.new }
     {
         self.rulesets[place].add_port(abi, port, network)
     }
@@ -139,10 +134,7 @@ impl Store {
     pub(crate) fn freeze(&mut self, alloc: Global, place: usize) -> Result<LayerId, NoMemory>
         requires there { place < length self.old.rulesets }
         requires room { length self.old.layers < 2 ^ 32 }
-        ensures layer { IfOk result (λ id. slice_get self.new.layers id.0 ≡ slice_get self.old.rulesets place) }
-        ensures rulesets { OnOk result (self.new.rulesets ≡ self.old.rulesets) }
-        ensures layers { OnOk result (Extends self.old.layers self.new.layers) }
-        ensures in_tree { OnOk result ((tree : List Entry) → All (AreInTree tree) self.old.rulesets → All (AreInTree tree) self.old.layers → All (AreInTree tree) self.new.layers) }
+        ensures { IfOk result (Freezes self.old self.new place) }
     {
         let stored = &mut self.rulesets[place];
         if let Some(id) = stored.frozen {

@@ -1,14 +1,34 @@
-use Rattle.std.proofs.Common.{sym, ◌∙◌, refl}
-use Rattle.ll_rulebook.proofs.Calls.{settles_absent, none_of, some_of}
-use Rattle.ll_rulebook.proofs.Settling.{settles_closed}
-use Rattle.std.specs.Option.{unwrap_or}
+use Rattle.std.proofs.Common.{None, refl, sym, ◌∙◌}
+use Rattle.ll_trace.specs.declared.op.Op.TheVariants as calls
+use Rattle.ll_semantics.specs.declared.answer.Answer.TheVariants.{Allowed, Moot}
+use Rattle.ll_semantics.specs.declared.note.Note.TheVariants.{Answered}
+use Rattle.ll_semantics.specs.Answers.{answer}
+use Rattle.ll_semantics.specs.Effects.{effect, with_held}
+use Rattle.ll_semantics.specs.Situations.{answered}
+use Rattle.ll_semantics.specs.Notes.{NoteFits, is_on_rulesets}
+use Rattle.ll_rulebook.specs.Tables.{held_by}
+use Rattle.ll_rulebook.proofs.Settling.{settles_refused, settles_tables, renamed, held_there}
 use Rattle.ll_rulebook.proofs.pass.Pass.close_rs.Goals as goal
 
-pub returns-then-is_none : goal.returns-then-is_none
-returns-then-is_none c = λ tree abi sound.
-    settles_absent tree abi c.args.process c.args.rs c.args.self.now c.place.result c.place.ensures sound c.requires (none_of c.place.result c.if-is_none.ensures)
+pub returns-in_default : goal.returns-in_default
+unfolding is_on_rulesets answer
+returns-in_default c =
+    settles_refused c.args.process (calls.CloseRs c.args.rs) c.args.self.now c.requires.sound Moot refl (λ is. cc)
+    (λ w agrees. sym (rw (sym (agrees.held c.args.process c.args.rs) ∙ sym c.in_default.ensures) refl))
 
 pub returns : goal.returns
-returns c = λ tree abi sound.
-    settles_closed tree abi c.args.process c.args.rs c.args.self.now (record { store = c.args.self.now.store; tables = c.close.new.self }) sound c.requires
-    (unwrap_or c.place.result 0) (sym c.place.ensures ∙ some_of c.place.result 0 c.if-is_none.ensures) refl c.in_ok-close.ensures
+unfolding is_on_rulesets answer effect NoteFits answered
+returns c =
+    settles_tables c.args.process (calls.CloseRs c.args.rs) c.args.self.now c.requires.sound c.close.new.self _ _ _ (Answered Allowed) c.in_ok-close.ensures
+    (λ q place is. held_there c.args.rs _ q place None (held_by c.args.self.now.tables.held.items c.args.process) is (λ none. cc) (c.requires.sound.places c.args.process q place))
+    (λ w agrees. (refl, sym (rw (sym (agrees.held c.args.process c.args.rs) ∙ sym c.in-Some.ensures) refl)))
+    (λ w agrees. rw (sym (agrees.held c.args.process c.args.rs) ∙ sym c.in-Some.ensures) refl)
+    (λ w agrees. (
+      with_held (w.processes c.args.process) c.args.rs None,
+      w.count,
+      c.args.process,
+      agrees.count,
+      refl,
+      λ q. renamed (held_by c.args.self.now.tables.held.items c.args.process) (w.processes c.args.process).held c.args.rs q None None (agrees.held c.args.process q) refl,
+      refl,
+    ))

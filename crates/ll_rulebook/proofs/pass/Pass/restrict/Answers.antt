@@ -1,14 +1,21 @@
-use Rattle.std.proofs.Common.{None, Some, refl}
-use Rattle.ll_rulebook.proofs.Calls.{settles_unheld, settles_restricted}
+use Rattle.std.proofs.Common.{◌∙◌, sym, refl}
+use Rattle.ll_trace.specs.declared.op.Op.TheVariants as calls
+use Rattle.ll_semantics.specs.declared.note.Note.TheVariants.{Open}
+use Rattle.ll_semantics.specs.Effects.{effect}
+use Rattle.ll_semantics.specs.Notes.{NoteFits, is_on_rulesets, enforced}
+use Rattle.ll_rulebook.proofs.Frozen.{extends_same}
+use Rattle.ll_rulebook.proofs.Settling.{settles_quiet, settles_frozen}
 use Rattle.ll_rulebook.proofs.pass.Pass.restrict.Goals as goal
 
 pub returns-in-None : goal.returns-in-None
-returns-in-None c = λ tree abi sound.
-    settles_unheld tree abi c.args.process c.args.rs c.args.self.now None c.in-None.ensures sound c.requires.there refl
+unfolding is_on_rulesets enforced effect NoteFits
+returns-in-None c =
+    settles_quiet c.args.process (calls.Restrict c.args.rs) c.args.self.now c.requires.sound _ Open (λ rulesets s. refl) (extends_same _) c.requires.sound.layers
+    (λ w agrees. (refl, rw (sym (agrees.held c.args.process c.args.rs) ∙ sym c.in-None.ensures) refl))
 
 pub returns-in_ok-freeze-in-Some : goal.returns-in_ok-freeze-in-Some
-returns-in_ok-freeze-in-Some c = λ tree abi sound.
-    settles_restricted tree abi c.args.process c.args.rs c.args.self.now (Some c.in-Some.place) c.in-Some.ensures sound c.requires.there
-    (record { store = c.freeze.new.self; tables = c.args.self.now.tables }) c.in-Some.place c.in_ok-freeze-in-Some.field-0 refl
-    c.in_ok-freeze-in-Some.ensures.rulesets refl c.in_ok-freeze-in-Some.ensures.layers
-    (c.in_ok-freeze-in-Some.ensures.in_tree tree sound.rulesets_in_tree sound.layers_in_tree) c.in_ok-freeze-in-Some.ensures.layer
+unfolding enforced effect
+returns-in_ok-freeze-in-Some c =
+    settles_frozen c.args.process (calls.Restrict c.args.rs) c.args.self.now c.requires.sound c.freeze.new.self c.in-Some.place _ (λ rulesets s. refl)
+    (c.requires.sound.places c.args.process c.args.rs c.in-Some.place (sym c.in-Some.ensures)) c.in_ok-freeze-in-Some.ensures
+    (λ w agrees. rw (sym (agrees.held c.args.process c.args.rs) ∙ sym c.in-Some.ensures) refl)
