@@ -200,12 +200,12 @@ macro_rules! wants_at_a_path {
 macro_rules! still_without_a_path {
     () => {
         $crate::Op::Exit
+            | $crate::Op::LeaveOut { .. }
             | $crate::Op::Ftruncate { .. }
             | $crate::Op::Ioctl { .. }
             | $crate::Op::Mount
             | $crate::Op::Bind { .. }
             | $crate::Op::Connect { .. }
-            | $crate::Op::LeaveOut { .. }
     };
 }
 
@@ -226,10 +226,10 @@ macro_rules! changes_without_names {
     () => {
         $crate::Op::Start { .. }
             | $crate::Op::Fork { .. }
-            | $crate::Op::Nnp
+            | $crate::Op::CreateEmpty { .. }
             | $crate::Op::CloseRs { .. }
             | $crate::Op::Restrict { .. }
-            | $crate::Op::CreateEmpty { .. }
+            | $crate::Op::Nnp
             | $crate::Op::Adopt { .. }
             | $crate::Op::Dup { .. }
             | $crate::Op::Close { .. }

@@ -187,12 +187,7 @@ impl Reader {
         Ok(())
     }
 
-    fn read_line(
-        &mut self,
-        alloc: Global,
-        line: &FileLine,
-        scratch: &mut Scratch,
-    ) -> Result<(), Cause>
+    fn take(&mut self, alloc: Global, line: &FileLine, scratch: &mut Scratch) -> Result<(), Cause>
         requires { IsKept self.old }
         ensures gives { Gives (λ _. entries self.new) result
             (with_line trace_file (entries self.old) (line_view line.now)) }
@@ -268,7 +263,7 @@ pub(crate) fn read_all(alloc: Global, bytes: &[u8]) -> Result<Reader, ReadFault>
     let mut reader = Reader::new(alloc);
     let mut scratch = Scratch::new(alloc);
     for line in FilledLines::new(bytes) {
-        if let Err(cause) = reader.read_line(alloc, &line, &mut scratch) {
+        if let Err(cause) = reader.take(alloc, &line, &mut scratch) {
             return Err(line.fault(cause));
         }
     }

@@ -4,7 +4,6 @@ ghost use Rattle.std.specs.Prelude.{◌≡◌, ◌≢◌, ◌<◌, ◌≤◌, le
 ghost use Rattle.ll_lines.specs.declared.fault.Cause.TheVariants.{Memory};
 ghost use Rattle.ll_lines.specs.Reading.{IsBad};
 ghost use Rattle.ll_trace.specs.Entries.{trace_file};
-ghost use Rattle.ll_trace.specs.Kept.{IsKept};
 ghost use Rattle.ll_trace.specs.RecordFacts.{AreRecords};
 ghost use Rattle.ll_trace.specs.Records.{IsTrace};
 ghost use Rattle.ll_trace.specs.BestEffort.{records_at_best_effort};
@@ -74,7 +73,7 @@ impl Trace {
 
     /// The trace that has the records that were read.
     fn of(alloc: Global, reader: Reader) -> Result<Trace, ReadFault>
-        requires { IsKept reader }
+        requires { AreRecords reader.records.items }
         ensures ok { IfOk result (λ trace. trace ≡ reader.records.items) }
         ensures err { IfErr result (λ fault. fault.cause ≡ Memory) }
     {
