@@ -12,7 +12,7 @@ use Rattle.ll_rights.specs.declared.fs.Fs.{Fs}
 use Rattle.ll_rights.specs.Bits.{has_place}
 use Rattle.ll_rights.specs.Rights.{FsRight, has, other, is_empty, bit_of}
 use Rattle.ll_rights.proofs.Places.{has_place-named, has_place-other, has_place-or, has_place-and, has_place-lacking}
-use Rattle.ll_rights.proofs.Sets.{fs_narrow, fs_is_empty}
+use Rattle.ll_rights.proofs.Sets.{fs_table, fs_is_empty}
 use Rattle.ll_rules.proofs.RightSets.{has_nothing}
 use Rattle.ll_rules.proofs.LayerNumbers.{passing_upto-agree}
 use Rattle.ll_rules.specs.LayerNumbers.{is_at_place, numbers_passing}
@@ -119,7 +119,7 @@ known_bits set w right same known =
     elim (cases_lt (bit_of right) (bit_of other)) [
       | inl named ↦ same right named
       | inr unnamed ↦
-          let last : bit_of right ≡ bit_of other = omega (arith, fs_narrow right) in
+          let last : bit_of right ≡ bit_of other = omega (arith, (fs_table.each right).2) in
           unnamed_none w right unnamed ∙ sym (ap (has_place (bit_of other) set.0) last ∙ known)
     ]
 
