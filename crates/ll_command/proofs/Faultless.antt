@@ -116,25 +116,22 @@ some_value least most some none =
     let bad : InvalidValue ∷ [] ≡ [] = rw (lt-ltb 0 least some) at none in
     omega (arith, ap length bad)
 
-used_set : (action : ArgAction) (rule : Rule) (values : List Text) (rows : List Row) → action ≡ Set
+-- an action that keeps the values of a rule
+abbrev Keeps : ArgAction → Type 0
+Keeps action = (action ≡ Set) ⊎ (action ≡ SetTrue)
+
+used_kept : (action : ArgAction) (rule : Rule) (values : List Text) (rows : List Row) → Keeps action
     → used_as action rule.id (reading_by rule) values rows ≡ with_values rule.id (reading_by rule) CommandLine values (without rule.id rows)
-used_set action rule values rows same = ap (λ (a : ArgAction). used_as a rule.id (reading_by rule) values rows) same
+used_kept action rule values rows (inl set) = ap (λ (a : ArgAction). used_as a rule.id (reading_by rule) values rows) set
+used_kept action rule values rows (inr flag) = ap (λ (a : ArgAction). used_as a rule.id (reading_by rule) values rows) flag
 
-set_passes : (action : ArgAction) (again : Bool) (rule : Rule) (values : List Text) (rows : List Row) → action ≡ Set
+kept_pass : (action : ArgAction) (again : Bool) (rule : Rule) (values : List Text) (rows : List Row) → Keeps action
     → action_fault action again rule values rows ≡ [] → values_fault rule values ≡ []
-set_passes action again rule values rows same none =
-    (both_empty (repeat_fault again rule.id rows) (values_fault rule values)
-    (subst (λ (a : ArgAction). action_fault a again rule values rows ≡ []) same none)).1
-
-used_flag : (action : ArgAction) (rule : Rule) (values : List Text) (rows : List Row) → action ≡ SetTrue
-    → used_as action rule.id (reading_by rule) values rows ≡ with_values rule.id (reading_by rule) CommandLine values (without rule.id rows)
-used_flag action rule values rows same = ap (λ (a : ArgAction). used_as a rule.id (reading_by rule) values rows) same
-
-flag_passes : (action : ArgAction) (again : Bool) (rule : Rule) (values : List Text) (rows : List Row) → action ≡ SetTrue
-    → action_fault action again rule values rows ≡ [] → values_fault rule values ≡ []
-flag_passes action again rule values rows same none =
-    (both_empty (repeat_fault again rule.id rows) (values_fault rule values)
-    (subst (λ (a : ArgAction). action_fault a again rule values rows ≡ []) same none)).1
+kept_pass action again rule values rows keeps none = (both_empty (repeat_fault again rule.id rows) (values_fault rule values) (faults_of keeps)).1
+  where
+    faults_of : Keeps action → or_else (repeat_fault again rule.id rows) (values_fault rule values) ≡ []
+    faults_of (inl set) = subst (λ (a : ArgAction). action_fault a again rule values rows ≡ []) set none
+    faults_of (inr flag) = subst (λ (a : ArgAction). action_fault a again rule values rows ≡ []) flag none
 
 -- a rule that stands for a value has one
 some_missing : (rule : Rule) (values : List Text) → 0 < length rule.missing → 0 < length (values_or_missing rule values)
@@ -167,17 +164,17 @@ use_fits rules again rule values rows known none fit = by_action known.1
         → AllFit rules (used rule vs rows)
     by_values [] set some range acts = absurd (some_value _ _ some range)
     by_values (first ∷ more) set some range acts =
-        subst (AllFit rules) (sym (used_set (action_of rule) rule (first ∷ more) rows set))
+        subst (AllFit rules) (sym (used_kept (action_of rule) rule (first ∷ more) rows (inl set)))
         (with_values_fits rules rule CommandLine first more (without rule.id rows) known.0
-        (set_passes (action_of rule) again rule (first ∷ more) rows set acts) (without_fits rules rule.id rows fit))
+        (kept_pass (action_of rule) again rule (first ∷ more) rows (inl set) acts) (without_fits rules rule.id rows fit))
 
     by_flag : (vs : List Text) → action_of rule ≡ SetTrue → 0 < length vs → action_fault (action_of rule) again rule vs rows ≡ []
         → AllFit rules (used_as (action_of rule) rule.id (reading_by rule) vs rows)
     by_flag [] flag some acts = absurd (omega (arith, some))
     by_flag (first ∷ more) flag some acts =
-        subst (AllFit rules) (sym (used_flag (action_of rule) rule (first ∷ more) rows flag))
+        subst (AllFit rules) (sym (used_kept (action_of rule) rule (first ∷ more) rows (inr flag)))
         (with_values_fits rules rule CommandLine first more (without rule.id rows) known.0
-        (flag_passes (action_of rule) again rule (first ∷ more) rows flag acts) (without_fits rules rule.id rows fit))
+        (kept_pass (action_of rule) again rule (first ∷ more) rows (inr flag) acts) (without_fits rules rule.id rows fit))
 
     by_action : IsUsable rule → AllFit rules (used rule values rows)
     by_action (inl set) = by_values values set.0 set.1 parts.0 parts.1

@@ -3,6 +3,7 @@
 use Rattle.std.specs.Prelude.{◌≡◌, ◌≢◌, ◌⊎◌, ◌+◌, ◌-◌, ◌==◌, ◌&&◌, ◌||◌, ⊤, is_none, nat_le, nat_lt, ℕ, Bool, true, false, List, [], ◌∷◌, Option, Some, None, codes, length, if◌then◌else◌, option_and_then}
 use Rattle.std.specs.Str.{bytes_eq}
 use Rattle.std.specs.Str.Parse.{digits_value, without_leading_plus}
+use Rattle.clap.specs.declared.builder.action.ArgAction.{ArgAction}
 use Rattle.clap.specs.declared.builder.action.ArgAction.TheVariants.{Set, SetTrue}
 use Rattle.clap.specs.declared.builder.value_parser.ValueParser.TheVariants.{Unsigned}
 use Rattle.clap.specs.declared.error.kind.ErrorKind.TheVariants.{DisplayHelp, DisplayVersion, ValueValidation}
@@ -23,22 +24,25 @@ use Rattle.ll_options.specs.declared.options.Options.{Options}
 use Rattle.ll_command.specs.declared.command.Plan.{Plan}
 use Rattle.ll_command.specs.declared.command.Plan.TheVariants as plan
 
--- `--name N`, a number from `least` to `most`
-abbrev pub number_option : Text → ℕ → ℕ → Rule
-number_option name least most = record (new_rule name) {
-  long = Some name;
-  action = Some Set;
-  parser = Some (Unsigned least most);
-  value_names = 1;
-}
+-- an argument, and what is done with its values
+abbrev pub argument : Text → ArgAction → Rule
+argument name action = record (new_rule name) { action = Some action }
+
+-- `--name`
+abbrev pub option : Text → ArgAction → Rule
+option name action = record (argument name action) { long = Some name }
 
 -- `--name N[-M]`
 abbrev pub text_option : Text → Rule
-text_option name = record (new_rule name) {
-  long = Some name;
-  action = Some Set;
-  value_names = 1;
-}
+text_option name = record (option name Set) { value_names = 1 }
+
+-- `--name N`, a number from `least` to `most`
+abbrev pub number_option : Text → ℕ → ℕ → Rule
+number_option name least most = record (text_option name) { parser = Some (Unsigned least most) }
+
+-- `--name`, which has no value
+abbrev pub flag : Text → Rule
+flag name = option name SetTrue
 
 -- an option that has to be given, and one that has a value where it is not
 abbrev pub required : Rule → Rule
@@ -47,16 +51,9 @@ required rule = record rule { required = true }
 abbrev pub with_default : Text → Rule → Rule
 with_default value rule = record rule { defaults = value ∷ [] }
 
--- `--name`, which has no value
-abbrev pub flag : Text → Rule
-flag name = record (new_rule name) {
-  long = Some name;
-  action = Some SetTrue;
-}
-
 -- a file's name
 abbrev pub file_argument : Text → Rule
-file_argument name = record (required (new_rule name)) { action = Some Set }
+file_argument name = required (argument name Set)
 
 -- `-V` and `--version` ask for the version
 abbrev pub with_version : App → App

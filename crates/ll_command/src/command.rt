@@ -152,18 +152,33 @@ Status:
 
 The files and the report are described in landaudit(5) and docs/FORMATS.md.";
 
+/// An argument with its help.
+fn argument<'a>(alloc: Global, name: &'a str, action: ArgAction, help: Help) -> Arg<'a>
+    ensures rule { rule_of result ≡ spec.argument name.entry.now action }
+    ensures local { result.global ≡ false }
+{
+    Arg::new(alloc, name)
+        .action(action)
+        .help(help.short)
+        .long_help(help.whole)
+}
+
+/// An option `--name`.
+fn option<'a>(alloc: Global, name: &'a str, action: ArgAction, help: Help) -> Arg<'a>
+    ensures rule { rule_of result ≡ spec.option name.entry.now action }
+    ensures local { result.global ≡ false }
+{
+    argument(alloc, name, action, help).long(name)
+}
+
 /// An option `--name N`.
 fn number_option<'a>(alloc: Global, name: &'a str, least: u64, most: u64, help: Help) -> Arg<'a>
     ensures rule { rule_of result ≡ spec.number_option name.entry.now least most }
     ensures local { result.global ≡ false }
 {
-    Arg::new(alloc, name)
-        .long(name)
-        .action(ArgAction::Set)
+    option(alloc, name, ArgAction::Set, help)
         .value_name("N")
         .value_parser(ValueParser::unsigned(least, most))
-        .help(help.short)
-        .long_help(help.whole)
 }
 
 /// An option `--name N[-M]`.
@@ -171,24 +186,7 @@ fn text_option<'a>(alloc: Global, name: &'a str, help: Help) -> Arg<'a>
     ensures rule { rule_of result ≡ spec.text_option name.entry.now }
     ensures local { result.global ≡ false }
 {
-    Arg::new(alloc, name)
-        .long(name)
-        .action(ArgAction::Set)
-        .value_name("N[-M]")
-        .help(help.short)
-        .long_help(help.whole)
-}
-
-/// An option `--name`, which has no value.
-fn flag_option<'a>(alloc: Global, name: &'a str, help: Help) -> Arg<'a>
-    ensures rule { rule_of result ≡ spec.flag name.entry.now }
-    ensures local { result.global ≡ false }
-{
-    Arg::new(alloc, name)
-        .long(name)
-        .action(ArgAction::SetTrue)
-        .help(help.short)
-        .long_help(help.whole)
+    option(alloc, name, ArgAction::Set, help).value_name("N[-M]")
 }
 
 /// The name of a file, which has to be given.
@@ -196,11 +194,7 @@ fn file_argument<'a>(alloc: Global, name: &'a str, help: Help) -> Arg<'a>
     ensures rule { rule_of result ≡ spec.file_argument name.entry.now }
     ensures local { result.global ≡ false }
 {
-    Arg::new(alloc, name)
-        .required(true)
-        .action(ArgAction::Set)
-        .help(help.short)
-        .long_help(help.whole)
+    argument(alloc, name, ArgAction::Set, help).required(true)
 }
 
 /// The command, with the texts of its help.
@@ -218,10 +212,10 @@ fn command<'a>(alloc: Global) -> Result<Command<'a>, AllocError>
         .arg(abi.required(true))?
         .arg(workers.default_value("1"))?
         .arg(grain.default_value("64"))?
-        .arg(flag_option(alloc, "best-effort", EFFORT_HELP))?
-        .arg(flag_option(alloc, "refused", REFUSED_HELP))?
-        .arg(flag_option(alloc, "differs", DIFFERS_HELP))?
-        .arg(flag_option(alloc, "explain", EXPLAIN_HELP))?
+        .arg(option(alloc, "best-effort", ArgAction::SetTrue, EFFORT_HELP))?
+        .arg(option(alloc, "refused", ArgAction::SetTrue, REFUSED_HELP))?
+        .arg(option(alloc, "differs", ArgAction::SetTrue, DIFFERS_HELP))?
+        .arg(option(alloc, "explain", ArgAction::SetTrue, EXPLAIN_HELP))?
         .arg(file_argument(alloc, "TREE", TREE_HELP))?
         .arg(file_argument(alloc, "TRACE", TRACE_HELP))
 }

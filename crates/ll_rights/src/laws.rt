@@ -39,16 +39,16 @@ pub fn sets_by_rights()
 pub fn supported_sets()
     ensures fs { (abi : Version) (set : FsSet) (right : files.FsRight) → files.has (supported_fs abi set) right
         ≡ (files.has set right && (knows_fs abi right || files.is_right right files.other)) }
+    ensures net { (abi : Version) (set : NetSet) (right : network.NetRight) → network.has (supported_net abi set) right
+        ≡ (network.has set right && (knows_net abi right || network.is_right right network.other)) }
     ensures known_fs { (abi : Version) (set : FsSet)
         → ((right : files.FsRight) → (files.has set right && not (knows_fs abi right || files.is_right right files.other)) ≡ false)
         → supported_fs abi set ≡ set }
-    ensures older_fs { (older newer : Version) (set : FsSet) → number_of older ≤ number_of newer
-        → supported_fs older (supported_fs newer set) ≡ supported_fs older set }
-    ensures net { (abi : Version) (set : NetSet) (right : network.NetRight) → network.has (supported_net abi set) right
-        ≡ (network.has set right && (knows_net abi right || network.is_right right network.other)) }
     ensures known_net { (abi : Version) (set : NetSet)
         → ((right : network.NetRight) → (network.has set right && not (knows_net abi right || network.is_right right network.other)) ≡ false)
         → supported_net abi set ≡ set }
+    ensures older_fs { (older newer : Version) (set : FsSet) → number_of older ≤ number_of newer
+        → supported_fs older (supported_fs newer set) ≡ supported_fs older set }
     ensures older_net { (older newer : Version) (set : NetSet) → number_of older ≤ number_of newer
         → supported_net older (supported_net newer set) ≡ supported_net older set }
 {}
