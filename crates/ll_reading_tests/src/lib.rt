@@ -3,12 +3,4 @@
 #![tactic(auto)]
 
 #[cfg(test)]
-mod lines;
-#[cfg(test)]
-mod rights;
-#[cfg(test)]
-mod texts;
-#[cfg(test)]
-mod traces;
-#[cfg(test)]
-mod trees;
+mod tests;

@@ -2,11 +2,9 @@
 use Rattle.std.proofs.Common.{◌≡◌, ℕ, ◌+◌, ◌<◌, ◌≤◌, List, [], ◌∷◌, ◌++◌, length, Some, refl, sym, ap, ◌∙◌, subst, arith}
 use Rattle.std.specs.Prelude.{sum_by, slice_get}
 use Rattle.std.specs.List.Sorted.{IsPermutation}
-use Rattle.std.proofs.lemmas.List.{append-nil}
 use Rattle.std.proofs.lemmas.List.Sums.{sum_by-append, sum_by-cons}
 use Rattle.std.proofs.lemmas.List.Sorted.{All-permutation, sum_by_popped}
-use Rattle.std.proofs.lemmas.List.Elements.{All-push, All-nil, All-head, All-tail}
-use Rattle.std.proofs.lemmas.Grind.{flat_map-append}
+use Rattle.std.proofs.lemmas.List.Elements.{All-push, All-head, All-tail}
 use Rattle.std.proofs.lemmas.Option.{none-some}
 use Rattle.ll_trace.specs.declared.record.Record.{Record}
 use Rattle.ll_trace.specs.declared.record.ProcessId.{ProcessId}
@@ -19,37 +17,8 @@ use Rattle.ll_process.specs.Jobs.{processes_of, AllOf as AllJobsOf, SharesOut}
 use Rattle.ll_process.proofs.Weighing.{weight_of-children}
 use Rattle.ll_process.proofs.Counting.{weighed}
 use Rattle.ll_trace.proofs.EachOnce.{each_once_weighed}
-use Rattle.ll_pool.specs.Gathered.{AllOf, processes_in}
-
-pub record Judged (of : Matter) (held : List Job) (pieces : List Piece) : Type 0 where
-  pub held_of : AllJobsOf of held
-  pub pieces_of : AllOf of pieces
-  pub shared : (weight : ℕ → ℕ) → sum_by weight (processes_in pieces) + sum_by weight (processes_of held) ≡ sum_by weight (roots of.records) + sum_by weight (kids of.records (processes_in pieces))
-
-no_processes : processes_in [] ≡ []
-unfolding processes_in
-no_processes = refl
-
-no_kids : (records : List Record) → kids records [] ≡ []
-unfolding kids
-no_kids records = refl
-
-pub judged_none : (of : Matter) (held : List Job) → AllJobsOf of held → processes_of held ≡ roots of.records → Judged of held []
-judged_none of held all are = record {
-  held_of = all;
-  pieces_of = All-nil (λ (piece : Piece). piece.case.now ≡ of);
-  shared = λ weight. rw (no_processes, no_kids of.records, are) (omega arith);
-}
-
-processes_in-push : (pieces : List Piece) (piece : Piece) → processes_in (pieces ++ piece ∷ []) ≡ processes_in pieces ++ numbers piece.processes.items
-unfolding processes_in
-processes_in-push pieces piece =
-    flat_map-append (λ (one : Piece). numbers one.processes.items) pieces (piece ∷ [])
-    ∙ ap (λ (xs : List ℕ). processes_in pieces ++ xs) (append-nil (numbers piece.processes.items))
-
-kids-append : (records : List Record) (xs ys : List ℕ) → kids records (xs ++ ys) ≡ kids records xs ++ kids records ys
-unfolding kids
-kids-append records xs ys = flat_map-append (children records) xs ys
+use Rattle.ll_pool.specs.Gathered.{processes_in}
+use Rattle.ll_pool.proofs.Sharing.{AreShared, no_kids, processes_in-push, kids-append}
 
 kids-cons : (records : List Record) (x : ℕ) (xs : List ℕ) → kids records (x ∷ xs) ≡ children records x ++ kids records xs
 unfolding kids
@@ -86,11 +55,11 @@ taken_out of before rest job taken all =
     }
 
 pub judged_more : (of : Matter) (before rest after : List Job) (job : Job) (pieces : List Piece) (piece : Piece) → IsPermutation before (job ∷ rest) → piece.case.now ≡ job.case.now → AllJobsOf job.case.now after
-    → SharesOut job.case.now.records job.process.0 (numbers piece.processes.items) (processes_of rest) (processes_of after) → Judged of before pieces → Judged of after (pieces ++ piece ∷ [])
+    → SharesOut job.case.now.records job.process.0 (numbers piece.processes.items) (processes_of rest) (processes_of after) → AreShared of before pieces → AreShared of after (pieces ++ piece ∷ [])
 judged_more of before rest after job pieces piece taken same all shares so_far =
-    let of_case : job.case.now ≡ of = (taken_out of before rest job taken so_far.held_of).its_case in
+    let of_case : job.case.now ≡ of = (taken_out of before rest job taken so_far.jobs_of).its_case in
     record {
-      held_of = subst (λ (case : Matter). AllJobsOf case after) of_case all;
+      jobs_of = subst (λ (case : Matter). AllJobsOf case after) of_case all;
       pieces_of = All-push (λ (one : Piece). one.case.now ≡ of) pieces piece so_far.pieces_of (same ∙ of_case);
       shared = λ weight.
           let here = subst (λ (case : Matter). SharesOut case.records job.process.0 (numbers piece.processes.items) (processes_of rest) (processes_of after)) of_case shares in
@@ -107,7 +76,7 @@ judged_more of before rest after job pieces piece taken same all shares so_far =
     }
 
 -- all is judged
-pub judged_all : (of : Matter) (held : List Job) (pieces : List Piece) → IsNumbered of.records → held ≡ [] → Judged of held pieces
+pub judged_all : (of : Matter) (held : List Job) (pieces : List Piece) → IsNumbered of.records → held ≡ [] → AreShared of held pieces
     → (process : ℕ) → process < process_count of.records → times process (processes_in pieces) ≡ 1
 judged_all of held pieces numbered none all process there =
     each_once_weighed of.records (processes_in pieces) numbered

@@ -3,16 +3,4 @@
 #![tactic(auto)]
 
 #[cfg(test)]
-mod families;
-#[cfg(test)]
-mod gates;
-#[cfg(test)]
-mod options;
-#[cfg(test)]
-mod ready;
-#[cfg(test)]
-mod refusals;
-#[cfg(test)]
-mod runs;
-#[cfg(test)]
-mod words;
+mod tests;

@@ -2,21 +2,22 @@
 use Rattle.std.proofs.Common.{◌≡◌, ◌++◌, ◌∷◌, [], arith, sym, subst, refl}
 use Rattle.std.proofs.lemmas.Grind.{common_steps}
 use Rattle.ll_process.specs.Jobs.{AllOf}
-use Rattle.ll_rows.proofs.Ordering.{judged_none, judged_more, judged_all, taken_out, weighs_less}
+use Rattle.ll_pool.proofs.Sharing.{shared_first}
+use Rattle.ll_rows.proofs.Ordering.{judged_more, judged_all, taken_out, weighs_less}
 use Rattle.ll_rows.proofs.order.judge_greatest_first.Goals as goal
 
 pub loop-job-init : goal.loop-job-init
-loop-job-init c = rw c.new-pieces.ensures.items (judged_none c.args.case.now c.in_ok-jobs.jobs.items c.in_ok-jobs.ensures.of_case c.in_ok-jobs.ensures.roots)
+loop-job-init c = rw c.new-pieces.ensures.items (shared_first c.args.case.now c.in_ok-jobs.jobs.items c.in_ok-jobs.ensures.of_case c.in_ok-jobs.ensures.roots)
 
 pub judge-requires : goal.judge-requires
 judge-requires c κs =
-    let out = taken_out c.args.case.now c.loop-job.keeper.jobs.items c.take_greatest.new.self.jobs.items c.in-Some.job c.in-Some.ensures.taken c.loop-job.invariant.held_of in
+    let out = taken_out c.args.case.now c.loop-job.keeper.jobs.items c.take_greatest.new.self.jobs.items c.in-Some.job c.in-Some.ensures.taken c.loop-job.invariant.jobs_of in
     ((refl, tt), subst (λ of. AllOf of c.take_greatest.new.self.jobs.items) (sym out.its_case) out.rest_of)
 
 pub loop-job-smaller : goal.loop-job-smaller
 loop-job-smaller c =
     weighs_less c.args.case.now c.loop-job.keeper.jobs.items c.take_greatest.new.self.jobs.items c.judge.new.hand.jobs.items c.in-Some.job c.in_ok-piece.piece
-    c.in_ok-jobs.ensures.numbered c.in-Some.ensures.taken c.loop-job.invariant.held_of c.in_ok-piece.ensures.first c.in_ok-piece.ensures.shares_out
+    c.in_ok-jobs.ensures.numbered c.in-Some.ensures.taken c.loop-job.invariant.jobs_of c.in_ok-piece.ensures.first c.in_ok-piece.ensures.shares_out
 
 pub loop-job-preserved : goal.loop-job-preserved
 loop-job-preserved c =

@@ -8,14 +8,14 @@ ghost use Rattle.ll_pool.specs.Gathered.{AllOf as AllPiecesOf};
 
 use crate::keeper::{Keeper, Wanted};
 use crate::order::judge_greatest_first;
-use crate::worked::Told::{Allowed, Moot, Refused};
-use crate::worked::{TREE, Told, case_of, meets};
+use crate::tests::worked::{case_of, expect_answers, is_told};
 use ll_pool::{CollectFault, collect, judge_alone};
 use ll_process::{Answer, Case, Job, Piece, judge};
 use ll_rights::Abi;
-use ll_rules::{Errno, NoMemory};
+use ll_rules::NoMemory;
 use ll_trace::{ProcessId, Trace};
 use ll_tree::Tree;
+use ll_worked::TREE;
 use std::alloc::Global;
 use std::process::Abort;
 use std::test::Fail;
@@ -38,23 +38,7 @@ const TRACE: &str = "\
 {\"op\":\"mount\",\"pid\":5}\n\
 {\"op\":\"ftruncate\",\"pid\":9,\"fd\":4}\n";
 
-const ANSWERS: [Told; 15] = [
-    Allowed,
-    Allowed,
-    Allowed,
-    Allowed,
-    Allowed,
-    Allowed,
-    Allowed,
-    Allowed,
-    Allowed,
-    Allowed,
-    Refused(Errno::Acces, &[1]),
-    Allowed,
-    Allowed,
-    Refused(Errno::Perm, &[1]),
-    Moot,
-];
+const ANSWERS: &str = "a a a a a a a a a a E1 a a P1 m";
 
 /// The processes that a hand with even numbers leaves to whoever judges process 1, and the places of
 /// their records.
@@ -78,7 +62,7 @@ fn case_again(alloc: Global) -> Result<Case, Fail> {
     };
     match Case::new(alloc, tree, trace, Abi::V4) {
         Ok(case) => Ok(case),
-        Err(NoMemory) => case_of(alloc, 4, TRACE.as_bytes()),
+        Err(NoMemory) => case_of(alloc, TRACE.as_bytes()),
     }
 }
 
@@ -101,18 +85,10 @@ fn pieces_again(alloc: Global, case: &Case) -> Result<Vec<Piece<'_>>, Fail>
 }
 
 /// Whether the answer at a place is the one told.
-fn is_told(place: usize, answer: &Answer) -> bool {
-    match ANSWERS.get(place) {
-        Some(told) => meets(answer, *told),
+fn is_answer(place: usize, answer: &Answer) -> bool {
+    match ANSWERS.split_ascii_whitespace().nth(place) {
+        Some(word) => is_told(answer, word),
         None => false,
-    }
-}
-
-/// The answers are those told.
-fn expect_answers(rt: &impl Abort, answers: &[Answer]) {
-    assert_eq!(rt; answers.len(), ANSWERS.len());
-    for (place, answer) in answers.iter().enumerate() {
-        assert!(rt; is_told(place, answer), "{answer:?} at {place}");
     }
 }
 
@@ -122,7 +98,7 @@ fn expect_unchanged(rt: &impl Abort, alloc: Global, case: &Case) -> Result<(), F
         Ok(answers) => answers,
         Err(NoMemory) => judge_alone(alloc, case)?,
     };
-    expect_answers(rt, &answers);
+    expect_answers(rt, &answers, ANSWERS);
     Ok(())
 }
 
@@ -169,7 +145,7 @@ fn job_again(alloc: Global, case: &Case) -> Result<(Job<'_>, Keeper<'_>), Fail>
 fn expect_piece(rt: &impl Abort, piece: &Piece<'_>, process: ProcessId) {
     assert_eq!(rt; piece.processes().first().copied(), Some(process));
     for (place, answer) in piece.answers() {
-        assert!(rt; is_told(*place as usize, answer), "{answer:?} at {place}");
+        assert!(rt; is_answer(*place as usize, answer), "{answer:?} at {place}");
     }
 }
 
@@ -260,6 +236,6 @@ fn collect_without_memory(rt: HostRuntime) -> Result<(), Fail> {
     let alloc = rt.alloc();
     let case = case_again(alloc)?;
     let answers = collected_again(&rt, alloc, &case)?;
-    expect_answers(&rt, &answers);
+    expect_answers(&rt, &answers, ANSWERS);
     expect_unchanged(&rt, alloc, &case)
 }

@@ -2,9 +2,10 @@
 
 ghost use Rattle.std.specs.Prelude.{◌+◌, ◌^◌, ◌<◌};
 
-use crate::ready::{REPORT, TRACE, TREE, owned};
+use crate::tests::ready::{REPORT, TRACE, owned};
 use ll_audit::{Ending, Idle, MemorySource, Source, SourceFault, front_ending};
 use ll_source::FailingSource;
+use ll_worked::TREE;
 use std::alloc::AllocError;
 use std::io;
 use std::io::{ErrorKind, Write};

@@ -3,9 +3,9 @@
 ghost use Rattle.std.specs.Prelude.{IfOk};
 ghost use Rattle.ll_tree.specs.Trees.{IsNode};
 
-use crate::texts::TREE;
 use ll_rights::Kind;
 use ll_tree::{NodeId, Place, Tree};
+use ll_worked::TREE;
 use std::test::Fail;
 
 fn node_named(tree: &Tree, path: &str) -> Result<NodeId, Fail>

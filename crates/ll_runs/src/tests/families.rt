@@ -1,8 +1,9 @@
 //! Traces of many processes, by any number of workers and with any cut.
 
-use crate::ready::{FAMILY, FAMILY_REPORT, audited, even_ones};
+use crate::tests::ready::{FAMILY_REPORT, audited, even_ones};
 use ll_audit::{Cut, Fault};
 use ll_tree::{Cause, ReadFault};
+use ll_worked::FAMILY;
 use std::alloc::Global;
 use std::io;
 use std::io::Write;

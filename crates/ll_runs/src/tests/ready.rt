@@ -1,21 +1,12 @@
-//! A worked tree and traces, and running the program on them.
+//! A worked trace, reports, and running the program on the worked tree.
 
 use ll_audit::{Cut, Fault, Idle, MemorySource, Report, audit, front};
 use ll_pool::Gate;
 use ll_rights::Abi;
+use ll_worked::TREE;
 use std::alloc::{AllocError, Global};
 use std::sync::Wait;
 use std::thread::Threads;
-
-pub(crate) const TREE: &str = "\
-{\"path\":\"/a\",\"kind\":\"dir\"}
-{\"path\":\"/b\",\"kind\":\"dir\"}
-{\"path\":\"/a/s\",\"kind\":\"dir\"}
-{\"path\":\"/dev\",\"kind\":\"dir\"}
-{\"path\":\"/a/f\",\"kind\":\"reg\"}
-{\"path\":\"/b/g\",\"kind\":\"reg\"}
-{\"path\":\"/dev/tty\",\"kind\":\"char\"}
-";
 
 pub(crate) const TRACE: &str = "\
 {\"op\":\"start\",\"pid\":10}
@@ -38,34 +29,6 @@ pub(crate) const REPORT: &str = "\
 7 10 open refused EACCES 1
 8 10 open allowed
 total 8 allowed 7 refused 1 moot 0
-";
-
-pub(crate) const FAMILY: &str = "\
-{\"op\":\"start\",\"pid\":1}
-{\"op\":\"nnp\",\"pid\":1}
-{\"op\":\"create\",\"pid\":1,\"rs\":3,\"fs\":[\"read_file\"]}
-{\"op\":\"fork\",\"pid\":1,\"child\":2}
-{\"op\":\"fork\",\"pid\":1,\"child\":3}
-{\"op\":\"add_path\",\"pid\":2,\"rs\":3,\"path\":\"/a\",\"fs\":[\"read_file\"]}
-{\"op\":\"restrict\",\"pid\":3,\"rs\":3}
-{\"op\":\"fork\",\"pid\":2,\"child\":4}
-{\"op\":\"fork\",\"pid\":2,\"child\":5}
-{\"op\":\"fork\",\"pid\":3,\"child\":6}
-{\"op\":\"fork\",\"pid\":3,\"child\":7}
-{\"op\":\"fork\",\"pid\":4,\"child\":8}
-{\"op\":\"fork\",\"pid\":4,\"child\":9}
-{\"op\":\"fork\",\"pid\":5,\"child\":10}
-{\"op\":\"fork\",\"pid\":5,\"child\":11}
-{\"op\":\"fork\",\"pid\":6,\"child\":12}
-{\"op\":\"open\",\"pid\":12,\"path\":\"/a/f\",\"fd\":4,\"mode\":\"r\"}
-{\"op\":\"open\",\"pid\":12,\"path\":\"/b/g\",\"fd\":5,\"mode\":\"r\"}
-{\"op\":\"open\",\"pid\":8,\"path\":\"/b/g\",\"fd\":4,\"mode\":\"r\"}
-{\"op\":\"restrict\",\"pid\":1,\"rs\":3}
-{\"op\":\"open\",\"pid\":1,\"path\":\"/b/g\",\"fd\":4,\"mode\":\"r\"}
-{\"op\":\"ftruncate\",\"pid\":9,\"fd\":4}
-{\"op\":\"mount\",\"pid\":7}
-{\"op\":\"exit\",\"pid\":10}
-{\"op\":\"open\",\"pid\":11,\"path\":\"/a/s\",\"fd\":4,\"mode\":\"r\"}
 ";
 
 pub(crate) const FAMILY_REPORT: &str = "\

@@ -3,6 +3,7 @@
 use ll_lines::Cause;
 use ll_trace::Trace;
 use ll_tree::Tree;
+use ll_worked::TREE;
 use std::alloc::{AllocError, Global};
 use std::test::Fail;
 use std::thread::Threads;
@@ -29,16 +30,6 @@ pub(crate) fn fault_of<R: AllocGlobal + Threads + Sync>(
         Some(fault) => Some((fault.line, fault.cause)),
     }
 }
-
-/// The worked tree.
-pub(crate) const TREE: &str = "{\"path\":\"/a\",\"kind\":\"dir\"}
-{\"path\":\"/b\",\"kind\":\"dir\"}
-{\"path\":\"/a/s\",\"kind\":\"dir\"}
-{\"path\":\"/dev\",\"kind\":\"dir\"}
-{\"path\":\"/a/f\",\"kind\":\"reg\"}
-{\"path\":\"/b/g\",\"kind\":\"reg\"}
-{\"path\":\"/dev/tty\",\"kind\":\"char\"}
-";
 
 /// One record of each operation.
 pub(crate) const EVERY: &str = "\

@@ -1,6 +1,6 @@
 //! Words that ask for no run, and what no clause says: the texts of help, of the version and of faults.
 
-use crate::ready::run;
+use crate::tests::ready::run;
 use ll_audit::{Fault, MemorySource, Source, SourceFault};
 use ll_tree::{Cause, ReadFault};
 use std::test::Fail;

@@ -1,6 +1,6 @@
 //! What a trace says of its records, and that it reads alike by every number of threads, wherever that cuts it.
 
-use crate::texts::{Format, fault_of};
+use crate::tests::texts::{Format, fault_of};
 use ll_lines::Cause;
 use ll_trace::{ProcessId, Record, Trace};
 use std::test::Fail;

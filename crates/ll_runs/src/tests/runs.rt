@@ -1,9 +1,10 @@
 //! Whole runs of the program over files in memory.
 
-use crate::ready::{REPORT, TRACE, TREE, run};
+use crate::tests::ready::{REPORT, TRACE, run};
 use ll_audit::{Cut, Fault, Idle, audit};
 use ll_rights::Abi;
 use ll_tree::{Cause, ReadFault};
+use ll_worked::TREE;
 use std::test::Fail;
 
 #[test]

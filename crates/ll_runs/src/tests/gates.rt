@@ -1,9 +1,10 @@
 //! That two workers judge at once, and that jobs begin where the work is cut.
 
-use crate::ready::{TREE, audited_through, run_through};
+use crate::tests::ready::{audited_through, run_through};
 use ll_audit::Cut;
 use ll_pool::Gate;
 use ll_trace::ProcessId;
+use ll_worked::TREE;
 use std::alloc::{AllocError, Global};
 use std::sync::Wait;
 use std::sync::atomic::{AtomicU64, Ordering};

@@ -1,6 +1,7 @@
 //! Reports of which a part is shown, and explanations over a range of versions.
 
-use crate::ready::{TRACE, TREE, run};
+use crate::tests::ready::{TRACE, run};
+use ll_worked::TREE;
 use std::test::Fail;
 
 const REFUSED_ALONE: &str = "\

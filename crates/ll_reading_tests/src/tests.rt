@@ -1,0 +1,7 @@
+//! The tests, and what they share.
+
+mod lines;
+mod rights;
+mod texts;
+mod traces;
+mod trees;

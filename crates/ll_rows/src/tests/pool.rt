@@ -1,0 +1,167 @@
+//! What no clause of the pool says: that workers run at once, who judges what, and that calls succeed where memory and
+//! threads are there.
+
+ghost use Rattle.std.specs.Prelude.{IfOk};
+ghost use Rattle.ll_pool.specs.Gathered.{AllOf};
+
+use crate::tests::gates::{Meeting, Open};
+use crate::tests::worked::{FAMILY_ANSWERS, Forks, case_of, case_with, expect_answers};
+use ll_pool::{CollectFault, collect, judge_alone, run};
+use ll_process::{Case, Piece};
+use ll_trace::ProcessId;
+use ll_worked::FAMILY;
+use std::alloc::Global;
+use std::sync::Wait;
+use std::test::Fail;
+use std::thread::Threads;
+
+/// The pieces that workers make, of whom there are one to 64.
+fn made<'c, R: Threads + Wait + Sync>(
+    rt: &R,
+    alloc: Global,
+    case: &'c Case,
+    workers: usize,
+    cut: &[bool],
+) -> Result<Vec<Piece<'c>>, Fail>
+    ensures { IfOk result (λ pieces. AllOf case.now pieces.items) }
+{
+    Ok(run(rt, alloc, case, workers.max(1).min(64), cut, &Open)?)
+}
+
+/// How many of the pieces have this many processes.
+fn pieces_of(pieces: &[Piece<'_>], processes: usize) -> usize {
+    pieces
+        .iter()
+        .filter(|piece| piece.processes().len() == processes)
+        .count()
+}
+
+const EVERY: [bool; 12] = [true; 12];
+
+const EVEN: [bool; 12] = [
+    true, false, true, false, true, false, true, false, true, false, true, false,
+];
+
+#[test]
+fn the_answers_are_the_same_for_every_number_of_workers_and_every_cut(
+    rt: HostRuntime,
+) -> Result<(), Fail> {
+    let alloc = rt.alloc();
+    let case = case_of(alloc, FAMILY.as_bytes())?;
+    for cut in [&[], EVERY.as_slice(), EVEN.as_slice()] {
+        for workers in [1, 3, 8] {
+            let pieces = made(&rt, alloc, &case, workers, cut)?;
+            expect_answers(&rt, &collect(alloc, &case, pieces)?, FAMILY_ANSWERS);
+        }
+    }
+    Ok(())
+}
+
+#[test]
+fn one_thread_gives_the_same_answers(rt: HostRuntime) -> Result<(), Fail> {
+    let case = case_of(rt.alloc(), FAMILY.as_bytes())?;
+    expect_answers(&rt, &judge_alone(rt.alloc(), &case)?, FAMILY_ANSWERS);
+    Ok(())
+}
+
+#[test]
+fn one_piece_of_the_whole_family_is_collected(rt: HostRuntime) -> Result<(), Fail> {
+    let alloc = rt.alloc();
+    let case = case_of(alloc, FAMILY.as_bytes())?;
+    let pieces = made(&rt, alloc, &case, 1, &[])?;
+    assert_eq!(rt; pieces.len(), 1);
+    assert_eq!(rt; pieces_of(&pieces, 12), 1);
+    expect_answers(&rt, &collect(alloc, &case, pieces)?, FAMILY_ANSWERS);
+    Ok(())
+}
+
+#[test]
+fn without_a_piece_the_first_process_is_missing(rt: HostRuntime) -> Result<(), Fail> {
+    let case = case_of(rt.alloc(), FAMILY.as_bytes())?;
+    let fault = collect(rt.alloc(), &case, Vec::new(rt.alloc())).err();
+    assert_eq!(rt; fault, Some(CollectFault::Missing(ProcessId(0))));
+    Ok(())
+}
+
+#[test]
+fn a_piece_made_twice_doubles_the_first_process(rt: HostRuntime) -> Result<(), Fail> {
+    let alloc = rt.alloc();
+    let case = case_of(alloc, FAMILY.as_bytes())?;
+    let mut pieces = made(&rt, alloc, &case, 1, &[])?;
+    let mut again = made(&rt, alloc, &case, 1, &[])?;
+    pieces.append(&mut again)?;
+    let fault = collect(alloc, &case, pieces).err();
+    assert_eq!(rt; fault, Some(CollectFault::Double(ProcessId(0))));
+    Ok(())
+}
+
+#[test]
+fn an_empty_trace_has_no_answers(rt: HostRuntime) -> Result<(), Fail> {
+    let alloc = rt.alloc();
+    let case = case_of(alloc, b"")?;
+    assert_eq!(rt; collect(alloc, &case, Vec::new(alloc))?.len(), 0);
+    assert_eq!(rt; made(&rt, alloc, &case, 8, &[])?.len(), 0);
+    Ok(())
+}
+
+#[test]
+fn a_child_is_judged_apart_where_the_cut_says_so(rt: HostRuntime) -> Result<(), Fail> {
+    let case = case_with(rt.alloc(), Forks::TheFirst, 2)?;
+    assert_eq!(rt; made(&rt, rt.alloc(), &case, 1, &[false, true])?.len(), 2);
+    assert_eq!(rt; made(&rt, rt.alloc(), &case, 1, &[])?.len(), 1);
+    Ok(())
+}
+
+#[test]
+fn children_that_find_the_queue_full_are_judged_with_their_parent(
+    rt: HostRuntime,
+) -> Result<(), Fail> {
+    let case = case_with(rt.alloc(), Forks::TheFirst, 1101)?;
+    let every = vec![in rt.alloc(); true; 1101]?;
+    let pieces = made(&rt, rt.alloc(), &case, 1, &every)?;
+    assert_eq!(rt; pieces.len(), 1025);
+    assert_eq!(rt; pieces_of(&pieces, 77), 1);
+    assert_eq!(rt; pieces_of(&pieces, 1), 1024);
+    Ok(())
+}
+
+/// More roots than the queue holds, and a long line of descendants, cut at each process and not at all.
+#[test]
+fn many_processes_are_all_judged(rt: HostRuntime) -> Result<(), Fail> {
+    let every = vec![in rt.alloc(); true; 8192]?;
+    for (forks, processes, cut, pieces) in [
+        (Forks::Nobody, 1100, [].as_slice(), 1100),
+        (Forks::TheOneBefore, 8192, every.as_slice(), 8192),
+        (Forks::TheOneBefore, 8192, [].as_slice(), 1),
+    ] {
+        let case = case_with(rt.alloc(), forks, processes)?;
+        assert_eq!(rt; made(&rt, rt.alloc(), &case, 8, cut)?.len(), pieces);
+    }
+    Ok(())
+}
+
+#[test]
+fn a_tree_of_forks_is_cut_into_single_processes_a_hundred_times(
+    rt: HostRuntime,
+) -> Result<(), Fail> {
+    let case = case_with(rt.alloc(), Forks::TheOneAtHalf, 1023)?;
+    let every = vec![in rt.alloc(); true; 1023]?;
+    for _ in 0..100 {
+        assert_eq!(rt; made(&rt, rt.alloc(), &case, 8, &every)?.len(), 1023);
+    }
+    Ok(())
+}
+
+/// Two roots, and two children of one process, are judged at once.
+#[test]
+fn two_jobs_are_judged_at_once(rt: HostRuntime) -> Result<(), Fail> {
+    for (forks, processes, first) in [(Forks::Nobody, 2, 0), (Forks::TheFirst, 3, 1)] {
+        let case = case_with(rt.alloc(), forks, processes)?;
+        let gate = Meeting::of(first, first + 1);
+        let cut = [true; 3];
+        let pieces = run(&rt, rt.alloc(), &case, 2, &cut, &gate)?;
+        assert_eq!(rt; pieces.len(), processes as usize);
+        assert!(rt; gate.was_met());
+    }
+    Ok(())
+}

@@ -1,0 +1,9 @@
+//! The tests, and what they share.
+
+mod families;
+mod gates;
+mod options;
+mod ready;
+mod refusals;
+mod runs;
+mod words;
