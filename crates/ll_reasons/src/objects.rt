@@ -54,6 +54,9 @@ pub fn unmet<'t>(tree: &Tree, path: &'t PathText, wanted: Wanted) -> Why<'t>
     match wanted {
         Wanted::Make(_) => Why::Present(SpeltPath::of(path)),
         Wanted::Unlink | Wanted::Rmdir if node.is_root() => Why::Root,
-        _ => Why::OfKind(SpeltPath::of(path), tree.kind(node)),
+        Wanted::Open { .. } | Wanted::OnFile(_) | Wanted::Unlink | Wanted::Rmdir => Why::OfKind(
+            SpeltPath::of(path),
+            tree.kind(node),
+        ),
     }
 }
