@@ -10,7 +10,7 @@ use Rattle.ll_tree.specs.Trees.{Entry, kind_at, is_dir, node_at, place}
 use Rattle.ll_trace.specs.declared.op.Op.{Op}
 use Rattle.ll_trace.specs.declared.op.Op.TheVariants as calls
 use Rattle.ll_semantics.specs.declared.request.Wanted.{Wanted}
-use Rattle.ll_semantics.specs.declared.request.Wanted.TheVariants.{Open, OnFile, Make, Unlink, Rmdir}
+use Rattle.ll_semantics.specs.declared.request.Wanted.TheVariants.{Make, Unlink, Rmdir}
 use Rattle.ll_semantics.specs.Requests.{wanted}
 use Rattle.ll_semantics.specs.Moves.{is_above, is_root}
 use Rattle.ll_reasons.specs.Origins.{Origins}
@@ -80,11 +80,10 @@ no_object tree path Nowhere = nowhere tree path
 
 -- an object that isn't what a call wants
 unfoldable pub unsuited : List Entry → Path → NodeId → Wanted → Reason
-unsuited tree path node (Open mode create trunc) = of_kind path (kind_at tree node)
-unsuited tree path node (OnFile rights) = of_kind path (kind_at tree node)
 unsuited tree path node (Make rights) = present path
 unsuited tree path node Unlink = if is_root node then root else of_kind path (kind_at tree node)
 unsuited tree path node Rmdir = if is_root node then root else of_kind path (kind_at tree node)
+unsuited tree path node wanted = of_kind path (kind_at tree node)
 
 -- a place that isn't what a call wants there
 unfoldable pub unmet : List Entry → Path → Place → Wanted → Reason

@@ -54,9 +54,6 @@ pub fn unmet<'t>(tree: &Tree, path: &'t PathText, wanted: Wanted) -> Why<'t>
     match wanted {
         Wanted::Make(_) => Why::Present(SpeltPath::of(path)),
         Wanted::Unlink | Wanted::Rmdir if node.is_root() => Why::Root,
-        Wanted::Open { .. } | Wanted::OnFile(_) | Wanted::Unlink | Wanted::Rmdir => Why::OfKind(
-            SpeltPath::of(path),
-            tree.kind(node),
-        ),
+        _ => Why::OfKind(SpeltPath::of(path), tree.kind(node)),
     }
 }
