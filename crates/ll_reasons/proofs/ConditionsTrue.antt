@@ -1,5 +1,5 @@
 -- What the condition of an error without layers says is so.
-use Rattle.std.proofs.Common.{◌≡◌, ℕ, Bool, true, false, not, ◌&&◌, List, [], ◌∷◌, length, Option, Some, None, refl, sym, ap, ◌∙◌, subst, nat_le, nat_lt, if◌then◌else◌}
+use Rattle.std.proofs.Common.{◌≡◌, ℕ, Bool, true, false, not, ◌&&◌, List, [], length, Option, Some, None, refl, sym, subst, nat_le, nat_lt, if◌then◌else◌}
 use Rattle.ll_rights.specs.declared.abi.Abi.{Abi}
 use Rattle.ll_rights.specs.declared.fs.Fs.{Fs}
 use Rattle.ll_rights.specs.declared.net.Net.{Net}
@@ -15,22 +15,10 @@ use Rattle.ll_tree.specs.Trees.{Entry, kind_at, is_dir, place}
 use Rattle.ll_trace.specs.declared.record.Record.{Record}
 use Rattle.ll_trace.specs.declared.op.Op.{Op}
 use Rattle.ll_trace.specs.declared.op.Op.TheVariants as calls
-use Rattle.ll_semantics.specs.declared.answer.Answer.{Answer}
-use Rattle.ll_semantics.specs.declared.answer.Answer.TheVariants.{Allowed, Moot, Refused}
+use Rattle.ll_semantics.specs.declared.answer.Answer.TheVariants.{Allowed, Refused}
 use Rattle.ll_semantics.specs.States.{State, Layer}
 use Rattle.ll_semantics.specs.Answers as answers
-use Rattle.ll_trace.specs.declared.op.Sort.{Sort}
-use Rattle.ll_trace.specs.declared.op.Sort.TheVariants.{Regular, Device, Other}
-use Rattle.ll_rules.specs.declared.errno.Errno.TheVariants.{XDev}
-use Rattle.ll_rules.specs.declared.moves.Move.{Move}
-use Rattle.ll_rules.specs.declared.moves.Verdict.{Verdict}
-use Rattle.ll_rules.specs.declared.moves.Verdict.TheVariants as verdicts
-use Rattle.ll_rules.specs.Moves.{move_verdict, refused_by, denies, holds_back, source_of, destination_of}
-use Rattle.ll_rules.specs.Checks.{numbers_where}
-use Rattle.ll_tree.specs.Paths.{path_eq}
-use Rattle.ll_semantics.specs.declared.request.Request.{Request}
 use Rattle.ll_semantics.specs.Requests.{request, wanted}
-use Rattle.ll_semantics.specs.declared.descriptor.Descriptor.{Descriptor}
 use Rattle.ll_semantics.specs.Worlds.{World, answer_in}
 use Rattle.ll_semantics.specs.Situations.{world_at}
 use Rattle.ll_reasons.specs.Explanations.{origins_at}
@@ -40,6 +28,7 @@ use Rattle.ll_reasons.specs.Conditions.{handled, handled_on_ports, of_create, in
 use Rattle.ll_reasons.specs.ConditionsHold.{files_of, ports_of, ruleset_of, IsCondition}
 use Rattle.ll_reasons.proofs.Enough.{and_both, and_from}
 use Rattle.ll_reasons.proofs.Named.{rights_named, port_rights_named}
+use Rattle.ll_reasons.proofs.Shapes.{never_faulty, can_there, can_free, can_allowed, can_refused_by, can_request, can_move, can_ftruncate, can_ioctl}
 
 not_true : (b : Bool) → not b ≡ true → b ≡ false
 not_true true holds = cc
@@ -182,87 +171,6 @@ restrict_condition abi rulesets s rs None error is asked =
 restrict_condition abi rulesets s rs (Some rules) error is asked =
     by_restrict (λ (e : Errno). IsCondition abi rulesets s (calls.Restrict rs) (of_restrict rs e)) (answers.may_restrict s) (nat_le 16 (length s.domain)) error asked (λ may. may) (λ many. many)
 
--- ---- other calls fail by layers alone
-
-fails_alone : Answer → Bool
-fails_alone Allowed = false
-fails_alone Moot = false
-fails_alone (Refused error []) = true
-fails_alone (Refused error (number ∷ numbers)) = false
-
-never : {P : Type 0} (a : Answer) (error : Errno) → fails_alone a ≡ false → a ≡ Refused error [] → P
-unfolding fails_alone
-never a error decides is = (let both : true ≡ false = sym (ap (λ (x : Answer). fails_alone x) is) ∙ decides in absurd (cc))
-
-allowed_decided : fails_alone Allowed ≡ false
-unfolding fails_alone
-allowed_decided = refl
-
-moot_decided : fails_alone Moot ≡ false
-unfolding fails_alone
-moot_decided = refl
-
-alone-refused_by : (e : Errno) (numbers : List ℕ) → fails_alone (answers.refused_by e numbers) ≡ false
-unfolding fails_alone
-alone-refused_by e [] = refl
-alone-refused_by e (number ∷ numbers) = refl
-
-alone-request : (tree : List Entry) (domain : List Layer) (request : Option Request) → fails_alone (answers.of_request tree domain request) ≡ false
-unfolding fails_alone
-alone-request tree domain None = refl
-alone-request tree domain (Some request) = alone-refused_by Acces _
-
-alone-verdict : (e : Errno) (numbers : List ℕ) (next : Verdict) → fails_alone (answers.of_verdict next) ≡ false → fails_alone (answers.of_verdict (refused_by e numbers next)) ≡ false
-unfolding fails_alone
-alone-verdict e [] next decides = decides
-alone-verdict e (number ∷ numbers) next decides = refl
-
-alone-either : (b : Bool) (next : Verdict) → fails_alone (answers.of_verdict next) ≡ false → fails_alone (answers.of_verdict (if b then verdicts.Passed else next)) ≡ false
-unfolding fails_alone
-alone-either true next decides = refl
-alone-either false next decides = decides
-
-alone-move : (tree : List Entry) (domain : List Layer) (move : Option Move) → fails_alone (answers.of_move tree domain move) ≡ false
-unfolding fails_alone move_verdict
-alone-move tree domain None = refl
-alone-move tree domain (Some move) =
-    let crossing : Verdict = refused_by XDev (numbers_where (holds_back tree move) domain) verdicts.Passed in
-    alone-verdict Acces (numbers_where (denies tree move) domain) (if path_eq (source_of tree move) (destination_of tree move.target) then verdicts.Passed else crossing)
-    (alone-either (path_eq (source_of tree move) (destination_of tree move.target)) crossing (alone-verdict XDev (numbers_where (holds_back tree move) domain) verdicts.Passed refl))
-
-alone-free : {A : Type 0} (o : Option A) (asked : Answer) → fails_alone asked ≡ false → fails_alone (answers.if_free o asked) ≡ false
-unfolding fails_alone
-alone-free None asked decides = decides
-alone-free (Some held) asked decides = refl
-
-alone-there : {A : Type 0} (o : Option A) → fails_alone (answers.if_there o) ≡ false
-unfolding fails_alone
-alone-there None = refl
-alone-there (Some it) = refl
-
-alone-truncate : (sort : Sort) (numbers : List ℕ) → fails_alone (answers.truncate_kept sort numbers) ≡ false
-unfolding fails_alone
-alone-truncate Regular numbers = alone-refused_by Acces numbers
-alone-truncate Device numbers = refl
-alone-truncate Other numbers = refl
-
-alone-ftruncate : (held : Option Descriptor) → fails_alone (answers.ftruncate_answer held) ≡ false
-unfolding answers.ftruncate_answer fails_alone
-alone-ftruncate None = refl
-alone-ftruncate (Some held) = alone-truncate held.sort held.kept
-
-alone-kept : (sort : Sort) (numbers : List ℕ) (driver : Bool) → fails_alone (answers.ioctl_kept sort numbers driver) ≡ false
-unfolding fails_alone
-alone-kept Device numbers true = alone-refused_by Acces numbers
-alone-kept Device numbers false = refl
-alone-kept Regular numbers driver = refl
-alone-kept Other numbers driver = refl
-
-alone-ioctl : (held : Option Descriptor) (driver : Bool) → fails_alone (answers.ioctl_answer held driver) ≡ false
-unfolding answers.ioctl_answer fails_alone
-alone-ioctl None driver = refl
-alone-ioctl (Some held) driver = alone-kept held.sort held.kept driver
-
 -- ---- every call
 
 call_condition : (tree : List Entry) (abi : Abi) (records : List Record) (rulesets : List Layer) (op : Op) (s : State) (o : Origins) (error : Errno)
@@ -274,26 +182,26 @@ call_condition tree abi records rulesets (calls.AddPath rs path fs) s o error ha
     path_condition abi tree rulesets s rs path fs (handled records o rs) (answers.named rulesets (s.held rs)) error refl (λ layer named. (handles rs layer named).0) is
 call_condition tree abi records rulesets (calls.AddPort rs port net) s o error handles is =
     port_condition abi rulesets s rs port net (handled_on_ports records o rs) (answers.named rulesets (s.held rs)) error refl (λ layer named. (handles rs layer named).1) is
-call_condition tree abi records rulesets (calls.CloseRs rs) s o error handles is = never _ error (alone-there (s.held rs)) is
+call_condition tree abi records rulesets (calls.CloseRs rs) s o error handles is = never_faulty _ _ _ _ error (can_there (s.held rs)) is
 call_condition tree abi records rulesets (calls.Restrict rs) s o error handles is = restrict_condition abi rulesets s rs (answers.named rulesets (s.held rs)) error refl is
-call_condition tree abi records rulesets (calls.OpenFile path fd mode create trunc) s o error handles is = never _ error (alone-free (s.descriptors fd) _ (alone-request tree s.domain _)) is
-call_condition tree abi records rulesets (calls.Adopt fd kind) s o error handles is = never _ error (alone-free (s.descriptors fd) Allowed allowed_decided) is
-call_condition tree abi records rulesets (calls.Dup fd to) s o error handles is = never _ error (alone-there (s.descriptors fd)) is
-call_condition tree abi records rulesets (calls.Close fd) s o error handles is = never _ error (alone-there (s.descriptors fd)) is
-call_condition tree abi records rulesets (calls.Ftruncate fd) s o error handles is = never _ error (alone-ftruncate (s.descriptors fd)) is
-call_condition tree abi records rulesets (calls.Ioctl fd driver) s o error handles is = never _ error (alone-ioctl (s.descriptors fd) driver) is
-call_condition tree abi records rulesets (calls.Rename from to exchange) s o error handles is = never _ error (alone-move tree s.domain _) is
-call_condition tree abi records rulesets (calls.Link from to) s o error handles is = never _ error (alone-move tree s.domain _) is
-call_condition tree abi records rulesets calls.Mount s o error handles is = never _ error (alone-refused_by Perm _) is
-call_condition tree abi records rulesets (calls.Bind port) s o error handles is = never _ error (alone-refused_by Acces _) is
-call_condition tree abi records rulesets (calls.Connect port) s o error handles is = never _ error (alone-refused_by Acces _) is
-call_condition tree abi records rulesets (calls.CreateEmpty rs) s o error handles is = never _ error (alone-free (s.held rs) Allowed allowed_decided) is
-call_condition tree abi records rulesets (calls.LeaveOut rule) s o error handles is = never Moot error moot_decided is
-call_condition tree abi records rulesets (calls.Start nnp admin) s o error handles is = never Allowed error allowed_decided is
-call_condition tree abi records rulesets (calls.Fork child) s o error handles is = never Allowed error allowed_decided is
-call_condition tree abi records rulesets calls.Exit s o error handles is = never Allowed error allowed_decided is
-call_condition tree abi records rulesets calls.Nnp s o error handles is = never Allowed error allowed_decided is
-call_condition tree abi records rulesets op s o error handles is = never _ error (alone-request tree s.domain (request tree (wanted op))) is
+call_condition tree abi records rulesets (calls.OpenFile path fd mode create trunc) s o error handles is = never_faulty _ _ _ _ error (can_free true (s.descriptors fd) _ (can_request tree s.domain _)) is
+call_condition tree abi records rulesets (calls.Adopt fd kind) s o error handles is = never_faulty _ _ _ _ error (can_free false (s.descriptors fd) Allowed can_allowed) is
+call_condition tree abi records rulesets (calls.Dup fd to) s o error handles is = never_faulty _ _ _ _ error (can_there (s.descriptors fd)) is
+call_condition tree abi records rulesets (calls.Close fd) s o error handles is = never_faulty _ _ _ _ error (can_there (s.descriptors fd)) is
+call_condition tree abi records rulesets (calls.Ftruncate fd) s o error handles is = never_faulty _ _ _ _ error (can_ftruncate (s.descriptors fd)) is
+call_condition tree abi records rulesets (calls.Ioctl fd driver) s o error handles is = never_faulty _ _ _ _ error (can_ioctl (s.descriptors fd) driver) is
+call_condition tree abi records rulesets (calls.Rename from to exchange) s o error handles is = never_faulty _ _ _ _ error (can_move tree s.domain _) is
+call_condition tree abi records rulesets (calls.Link from to) s o error handles is = never_faulty _ _ _ _ error (can_move tree s.domain _) is
+call_condition tree abi records rulesets calls.Mount s o error handles is = never_faulty _ _ _ _ error (can_refused_by false Perm _) is
+call_condition tree abi records rulesets (calls.Bind port) s o error handles is = never_faulty _ _ _ _ error (can_refused_by false Acces _) is
+call_condition tree abi records rulesets (calls.Connect port) s o error handles is = never_faulty _ _ _ _ error (can_refused_by false Acces _) is
+call_condition tree abi records rulesets (calls.CreateEmpty rs) s o error handles is = never_faulty _ _ _ _ error (can_free false (s.held rs) Allowed can_allowed) is
+call_condition tree abi records rulesets (calls.LeaveOut rule) s o error handles is = absurd (cc)
+call_condition tree abi records rulesets (calls.Start nnp admin) s o error handles is = absurd (cc)
+call_condition tree abi records rulesets (calls.Fork child) s o error handles is = absurd (cc)
+call_condition tree abi records rulesets calls.Exit s o error handles is = absurd (cc)
+call_condition tree abi records rulesets calls.Nnp s o error handles is = absurd (cc)
+call_condition tree abi records rulesets op s o error handles is = never_faulty _ _ _ _ error (can_request tree s.domain (request tree (wanted op))) is
 
 pub condition_at : (tree : List Entry) (abi : Abi) (records : List Record) (place process : ℕ) (op : Op) (error : Errno) → answer_in tree abi (world_at tree abi records place) process op ≡ Refused error []
     → IsCondition abi (world_at tree abi records place).rulesets ((world_at tree abi records place).processes process) op (condition abi records (origins_at tree abi records place process) op error)

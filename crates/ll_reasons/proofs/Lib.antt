@@ -4,6 +4,7 @@ pub mod LayersMade
 pub mod DescriptorsMade
 pub mod RulesetsMade
 pub mod Grown
+pub mod Shapes
 pub mod Numbers
 pub mod Named
 pub mod Enough

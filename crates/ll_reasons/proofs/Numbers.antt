@@ -1,9 +1,8 @@
 -- The layers that an explanation names are those that refuse.
-use Rattle.std.proofs.Common.{◌≡◌, ℕ, ◌+◌, Bool, true, false, not, ◌&&◌, ◌||◌, List, [], ◌∷◌, ◌++◌, map, filter, Option, Some, None, refl, sym, ap, ◌∙◌, subst, inl, inr, is_some, nat_le, length, if◌then◌else◌}
+use Rattle.std.proofs.Common.{◌≡◌, ℕ, ◌+◌, Bool, true, false, not, ◌&&◌, ◌||◌, List, [], ◌∷◌, ◌++◌, map, filter, Option, Some, None, refl, sym, ap, ◌∙◌, subst, inl, inr, is_some, if◌then◌else◌}
 use Rattle.std.specs.List.{list_any}
 use Rattle.std.proofs.lemmas.Bool.{cases_Bool}
 use Rattle.std.proofs.lemmas.List.Folds.{list_any-append}
-use Rattle.ll_rights.specs.declared.fs.Fs.{Fs}
 use Rattle.ll_rights.specs.declared.net.Net.{Net}
 use Rattle.ll_rights.specs.declared.kind.Kind.{Kind}
 use Rattle.ll_rights.specs.Rights.{FsRight, refer, truncate, ioctl_dev, is_right}
@@ -13,7 +12,7 @@ use Rattle.ll_tree.specs.Paths.{Path, path_eq}
 use Rattle.ll_tree.specs.Trees.{Entry, path_at, kind_at}
 use Rattle.ll_tree.proofs.Positions.{same_path}
 use Rattle.ll_rules.specs.declared.errno.Errno.{Errno}
-use Rattle.ll_rules.specs.declared.errno.Errno.TheVariants.{Acces, XDev, Perm, TooBig}
+use Rattle.ll_rules.specs.declared.errno.Errno.TheVariants.{Acces, XDev, Perm}
 use Rattle.ll_rules.specs.declared.moves.Move.{Move}
 use Rattle.ll_rules.specs.declared.moves.Target.{Target}
 use Rattle.ll_rules.specs.declared.moves.Target.TheVariants.{New, Over}
@@ -26,12 +25,11 @@ use Rattle.ll_rules.specs.Checks.{numbers_from, numbers_where, lacks, refusing, 
 use Rattle.ll_rules.specs.Moves.{source_of, destination_of, kind_there, asked_of_source, asked_of_destination, lacks_one_of, denies, gains, other_gains, holds_back, move_verdict, refused_by}
 use Rattle.ll_rules.proofs.Booleans.{or_assoc, or_and, list_any-agree, list_any-or}
 use Rattle.ll_semantics.specs.declared.answer.Answer.{Answer}
-use Rattle.ll_semantics.specs.declared.answer.Answer.TheVariants.{Allowed, Moot, Refused}
+use Rattle.ll_semantics.specs.declared.answer.Answer.TheVariants.{Allowed, Refused}
 use Rattle.ll_semantics.specs.declared.request.Request.{Request}
 use Rattle.ll_semantics.specs.Requests.{request, wanted}
 use Rattle.ll_semantics.specs.States.{Layer}
 use Rattle.ll_semantics.specs.Answers as answers
-use Rattle.ll_rules.specs.Rulesets.{RuleRefusal, with_error, without_object}
 use Rattle.ll_trace.specs.declared.op.Op.{Op}
 use Rattle.ll_trace.specs.declared.op.Op.TheVariants as calls
 use Rattle.ll_semantics.specs.declared.descriptor.Descriptor.{Descriptor}
@@ -46,6 +44,7 @@ use Rattle.std.specs.Prelude.{slice_get}
 use Rattle.std.proofs.lemmas.Option.{same_Some}
 use Rattle.ll_reasons.specs.Explanations.{kept_by, objections_to, objections, explained, domain_at, origins_at, explained_at}
 use Rattle.ll_reasons.proofs.DescriptorsMade.{descriptor_open}
+use Rattle.ll_reasons.proofs.Shapes.{never_refused, can_there, can_free, can_allowed, can_create, can_add_path, can_add_port, can_restrict}
 use Rattle.ll_reasons.specs.Objections.{Objection, mounting, missing_rights, closed_rights, gained_rights, one_of, if_any, on_path, on_port, on_mount, on_gain, on_directories, on_other_gain, on_crossing, of_layer, objecting_from, objecting, to_request, on_move, to_move}
 
 -- ---- something is named just where a test passes
@@ -260,77 +259,20 @@ opened_request : (held : Option Descriptor) (asked : Answer) (error : Errno) (nu
 opened_request None asked error number numbers is = is
 opened_request (Some held) asked error number numbers is = absurd (cc)
 
--- ---- no layer refuses a call on rulesets
-
-by_no_layer : Answer → Bool
-by_no_layer Allowed = true
-by_no_layer Moot = true
-by_no_layer (Refused error []) = true
-by_no_layer (Refused error (number ∷ numbers)) = false
-
-contradicts : (a : Answer) (error : Errno) (number : ℕ) (numbers : List ℕ) → by_no_layer a ≡ true → a ≡ Refused error (number ∷ numbers) → ⊥
-unfolding by_no_layer
-contradicts a error number numbers none is = (let both : false ≡ true = ap (λ (x : Answer). by_no_layer x) (sym is) ∙ none in cc)
-
-unless_by_none : (e : Option Errno) → by_no_layer (answers.unless e) ≡ true
-unfolding by_no_layer
-unless_by_none None = refl
-unless_by_none (Some e) = refl
-
-rule_by_none : (refusal : Option RuleRefusal) → by_no_layer (answers.of_rule_refusal refusal) ≡ true
-unfolding by_no_layer
-rule_by_none None = refl
-rule_by_none (Some (with_error e)) = refl
-rule_by_none (Some without_object) = refl
-
-either_by_none : (b : Bool) (x y : Answer) → by_no_layer x ≡ true → by_no_layer y ≡ true → by_no_layer (if b then x else y) ≡ true
-either_by_none true x y this that = this
-either_by_none false x y this that = that
-
-create_by_none : (abi : Abi) (fs : Fs) (net : Net) (held : Option ℕ) → by_no_layer (answers.create_answer abi fs net held) ≡ true
-unfolding answers.create_answer by_no_layer
-create_by_none abi fs net None = unless_by_none _
-create_by_none abi fs net (Some place) = refl
-
-add_path_by_none : (tree : List Entry) (path : List ℕ) (fs : Fs) (rules : Option Layer) → by_no_layer (answers.add_path_answer tree path fs rules) ≡ true
-unfolding answers.add_path_answer by_no_layer
-add_path_by_none tree path fs None = refl
-add_path_by_none tree path fs (Some rules) = rule_by_none _
-
-add_port_by_none : (abi : Abi) (port : ℕ) (net : Net) (rules : Option Layer) → by_no_layer (answers.add_port_answer abi port net rules) ≡ true
-unfolding answers.add_port_answer by_no_layer
-add_port_by_none abi port net None = refl
-add_port_by_none abi port net (Some rules) = rule_by_none _
-
-restrict_by_none : (s : State) (rules : Option Layer) → by_no_layer (answers.restrict_answer s rules) ≡ true
-unfolding answers.restrict_answer by_no_layer
-restrict_by_none s None = either_by_none (answers.may_restrict s) _ _ refl refl
-restrict_by_none s (Some rules) = either_by_none (answers.may_restrict s) _ _ (either_by_none (nat_le 16 (length s.domain)) (answers.fails TooBig) Allowed refl refl) refl
-
-there_by_none : {A : Type 0} (o : Option A) → by_no_layer (answers.if_there o) ≡ true
-unfolding by_no_layer
-there_by_none None = refl
-there_by_none (Some it) = refl
-
-free_by_none : {A : Type 0} (o : Option A) → by_no_layer (answers.if_free o Allowed) ≡ true
-unfolding by_no_layer
-free_by_none None = refl
-free_by_none (Some it) = refl
-
 -- ---- every call
 
 pub call_numbers : (tree : List Entry) (abi : Abi) (rulesets : List Layer) (op : Op) (s : State) (o : Origins) (error : Errno) (number : ℕ) (numbers : List ℕ) → ((fd : ℕ) → is_some (o.openings fd) ≡ is_some (s.descriptors fd))
     → answers.answer tree abi rulesets op s ≡ Refused error (number ∷ numbers) → map (λ said. said.0) (objections_to tree s.domain o op error (number ∷ numbers)) ≡ number ∷ numbers
 unfolding answers.answer objections_to
-call_numbers tree abi rulesets (calls.Create rs fs net) s o error number numbers same is = absurd (contradicts _ error number numbers (create_by_none abi fs net (s.held rs)) is)
-call_numbers tree abi rulesets (calls.AddPath rs path fs) s o error number numbers same is = absurd (contradicts _ error number numbers (add_path_by_none tree path fs (answers.named rulesets (s.held rs))) is)
-call_numbers tree abi rulesets (calls.AddPort rs port net) s o error number numbers same is = absurd (contradicts _ error number numbers (add_port_by_none abi port net (answers.named rulesets (s.held rs))) is)
-call_numbers tree abi rulesets (calls.CloseRs rs) s o error number numbers same is = absurd (contradicts _ error number numbers (there_by_none (s.held rs)) is)
-call_numbers tree abi rulesets (calls.Restrict rs) s o error number numbers same is = absurd (contradicts _ error number numbers (restrict_by_none s (answers.named rulesets (s.held rs))) is)
+call_numbers tree abi rulesets (calls.Create rs fs net) s o error number numbers same is = never_refused _ _ _ _ error number numbers (can_create abi fs net (s.held rs)) is
+call_numbers tree abi rulesets (calls.AddPath rs path fs) s o error number numbers same is = never_refused _ _ _ _ error number numbers (can_add_path tree path fs (answers.named rulesets (s.held rs))) is
+call_numbers tree abi rulesets (calls.AddPort rs port net) s o error number numbers same is = never_refused _ _ _ _ error number numbers (can_add_port abi port net (answers.named rulesets (s.held rs))) is
+call_numbers tree abi rulesets (calls.CloseRs rs) s o error number numbers same is = never_refused _ _ _ _ error number numbers (can_there (s.held rs)) is
+call_numbers tree abi rulesets (calls.Restrict rs) s o error number numbers same is = never_refused _ _ _ _ error number numbers (can_restrict s (answers.named rulesets (s.held rs))) is
 call_numbers tree abi rulesets (calls.OpenFile path fd mode create trunc) s o error number numbers same is = request_numbers tree s.domain _ error number numbers (opened_request (s.descriptors fd) _ error number numbers is)
-call_numbers tree abi rulesets (calls.Adopt fd kind) s o error number numbers same is = absurd (contradicts _ error number numbers (free_by_none (s.descriptors fd)) is)
-call_numbers tree abi rulesets (calls.Dup fd to) s o error number numbers same is = absurd (contradicts _ error number numbers (there_by_none (s.descriptors fd)) is)
-call_numbers tree abi rulesets (calls.Close fd) s o error number numbers same is = absurd (contradicts _ error number numbers (there_by_none (s.descriptors fd)) is)
+call_numbers tree abi rulesets (calls.Adopt fd kind) s o error number numbers same is = never_refused _ _ _ _ error number numbers (can_free false (s.descriptors fd) Allowed can_allowed) is
+call_numbers tree abi rulesets (calls.Dup fd to) s o error number numbers same is = never_refused _ _ _ _ error number numbers (can_there (s.descriptors fd)) is
+call_numbers tree abi rulesets (calls.Close fd) s o error number numbers same is = never_refused _ _ _ _ error number numbers (can_there (s.descriptors fd)) is
 call_numbers tree abi rulesets (calls.Ftruncate fd) s o error number numbers same is = kept_numbers truncate (number ∷ numbers) (o.openings fd) (same fd ∙ ftruncate_open (s.descriptors fd) error number numbers is)
 call_numbers tree abi rulesets (calls.Ioctl fd driver) s o error number numbers same is = kept_numbers ioctl_dev (number ∷ numbers) (o.openings fd) (same fd ∙ ioctl_open (s.descriptors fd) driver error number numbers is)
 call_numbers tree abi rulesets (calls.Rename from to exchange) s o error number numbers same is = move_numbers tree s.domain _ error number numbers is
@@ -338,7 +280,7 @@ call_numbers tree abi rulesets (calls.Link from to) s o error number numbers sam
 call_numbers tree abi rulesets calls.Mount s o error number numbers same is = mount_numbers s.domain error number numbers is
 call_numbers tree abi rulesets (calls.Bind port) s o error number numbers same is = port_numbers s.domain port (network.only network.bind_tcp) error number numbers is
 call_numbers tree abi rulesets (calls.Connect port) s o error number numbers same is = port_numbers s.domain port (network.only network.connect_tcp) error number numbers is
-call_numbers tree abi rulesets (calls.CreateEmpty rs) s o error number numbers same is = absurd (contradicts _ error number numbers (free_by_none (s.held rs)) is)
+call_numbers tree abi rulesets (calls.CreateEmpty rs) s o error number numbers same is = never_refused _ _ _ _ error number numbers (can_free false (s.held rs) Allowed can_allowed) is
 call_numbers tree abi rulesets (calls.Start nnp admin) s o error number numbers same is = cc
 call_numbers tree abi rulesets (calls.Fork child) s o error number numbers same is = cc
 call_numbers tree abi rulesets calls.Exit s o error number numbers same is = cc

@@ -1,5 +1,5 @@
 -- What the reason for a moot call says is so.
-use Rattle.std.proofs.Common.{◌≡◌, ℕ, zero, suc, ◌≤◌, ◌==◌, Bool, true, false, not, List, [], ◌∷◌, length, Option, Some, None, is_some, refl, sym, ap, ◌∙◌, subst, subst₂, inl, inr, arith, IsSomeAnd, nat_le, nat_lt, if◌then◌else◌}
+use Rattle.std.proofs.Common.{◌≡◌, ℕ, zero, suc, ◌≤◌, ◌==◌, Bool, true, false, List, [], ◌∷◌, length, Option, Some, None, is_some, refl, sym, ap, ◌∙◌, subst, subst₂, inl, inr, arith, IsSomeAnd, if◌then◌else◌}
 use Rattle.std.specs.List.{list_any, list_all}
 use Rattle.std.specs.Option.{option_map}
 use Rattle.std.proofs.lemmas.Bool.{cases_Bool}
@@ -7,13 +7,8 @@ use Rattle.std.proofs.lemmas.Option.{none-some, same_Some}
 use Rattle.ll_rights.specs.declared.abi.Abi.{Abi}
 use Rattle.ll_rights.specs.declared.fs.Fs.{Fs}
 use Rattle.ll_rights.specs.declared.net.Net.{Net}
-use Rattle.ll_rules.specs.declared.errno.Errno.{Errno}
-use Rattle.ll_rules.specs.declared.errno.Errno.TheVariants.{Acces, Perm, TooBig, Inval, NoMsg}
+use Rattle.ll_rules.specs.declared.errno.Errno.TheVariants.{Acces, Perm}
 use Rattle.ll_rules.specs.declared.moves.Move.{Move}
-use Rattle.ll_rules.specs.declared.moves.Verdict.{Verdict}
-use Rattle.ll_rules.specs.declared.moves.Verdict.TheVariants as verdicts
-use Rattle.ll_rules.specs.Rulesets.{with_error, has_ports}
-use Rattle.ll_rights.specs.NetRights as network
 use Rattle.ll_rules.specs.Moves.{move_verdict}
 use Rattle.ll_tree.specs.declared.place.NodeId.{NodeId}
 use Rattle.ll_tree.specs.declared.place.Place.{Place}
@@ -26,8 +21,7 @@ use Rattle.ll_trace.specs.declared.op.Op.TheVariants as calls
 use Rattle.ll_trace.specs.declared.op.RuleType.{RuleType}
 use Rattle.ll_trace.specs.declared.op.Sort.{Sort}
 use Rattle.ll_trace.specs.declared.op.Sort.TheVariants.{Regular, Device, Other}
-use Rattle.ll_semantics.specs.declared.answer.Answer.{Answer}
-use Rattle.ll_semantics.specs.declared.answer.Answer.TheVariants.{Allowed, Moot, Refused}
+use Rattle.ll_semantics.specs.declared.answer.Answer.TheVariants.{Allowed, Moot}
 use Rattle.ll_semantics.specs.declared.descriptor.Descriptor.{Descriptor}
 use Rattle.ll_semantics.specs.declared.request.Wanted.{Wanted}
 use Rattle.ll_semantics.specs.declared.request.Wanted.TheVariants.{Make, Unlink, Rmdir}
@@ -45,6 +39,7 @@ use Rattle.ll_reasons.specs.Reasons.{Reason, absent, of_kind, root, unmoved, ben
 use Rattle.ll_reasons.specs.ReasonsHold.{paths_of, are_spelt, is_left_out, is_at_root, is_at_one, names_one_twice, is_regular, Holds}
 use Rattle.ll_reasons.proofs.Enough.{and_both, or_left, or_right}
 use Rattle.ll_reasons.proofs.Gains.{prefix-trans, prefix-front}
+use Rattle.ll_reasons.proofs.Shapes.{never_moot, can_refused_by, can_verdict, can_unless, can_ioctl_kept, can_add_port, can_restrict}
 
 -- ---- the tree
 
@@ -207,91 +202,34 @@ module _ (tree : List Entry) (s : State) (op : Op) (there : is_some (node_at tre
   unlinked_holds from to (Gap directory) at_to is_from is_to of_root = gap_holds from directory is_from
   unlinked_holds from to Nowhere at_to is_from is_to of_root = nowhere_holds from is_from
 
--- ---- which answers are moot
-
-is_moot : Answer → Bool
-is_moot Allowed = false
-is_moot Moot = true
-is_moot (Refused error numbers) = false
-
-not_moot : {P : Type 0} (a : Answer) → is_moot a ≡ false → a ≡ Moot → P
-unfolding is_moot
-not_moot a other is = (let both : true ≡ false = sym (ap (λ (x : Answer). is_moot x) is) ∙ other in absurd (cc))
-
-decided : is_moot Allowed ≡ false
-unfolding is_moot
-decided = refl
-
-moot-refused_by : (e : Errno) (numbers : List ℕ) → is_moot (answers.refused_by e numbers) ≡ false
-unfolding is_moot
-moot-refused_by e [] = refl
-moot-refused_by e (number ∷ numbers) = refl
-
-moot-unless : (e : Option Errno) → is_moot (answers.unless e) ≡ false
-unfolding is_moot
-moot-unless None = refl
-moot-unless (Some e) = refl
-
-moot-either : (b : Bool) (x y : Answer) → is_moot x ≡ false → is_moot y ≡ false → is_moot (if b then x else y) ≡ false
-moot-either true x y this that = this
-moot-either false x y this that = that
-
-moot-restrict : (s : State) (rules : Option Layer) → is_moot (answers.restrict_answer s rules) ≡ false
-unfolding answers.restrict_answer is_moot
-moot-restrict s None = moot-either (answers.may_restrict s) _ _ refl refl
-moot-restrict s (Some rules) = moot-either (answers.may_restrict s) _ _ (moot-either (nat_le 16 (length s.domain)) (answers.fails TooBig) Allowed refl refl) refl
-
-moot-tests : (a b c d : Bool) → is_moot (answers.of_rule_refusal (if a then Some (with_error Inval) else (if b then Some (with_error NoMsg) else (if c then Some (with_error Inval) else (if d then Some (with_error Inval) else None))))) ≡ false
-unfolding is_moot
-moot-tests true b c d = refl
-moot-tests false true c d = refl
-moot-tests false false true d = refl
-moot-tests false false false true = refl
-moot-tests false false false false = refl
-
-moot-add_port : (abi : Abi) (port : ℕ) (net : Net) (rules : Option Layer) → is_moot (answers.add_port_answer abi port net rules) ≡ false
-unfolding answers.add_port_answer is_moot
-moot-add_port abi port net None = refl
-moot-add_port abi port net (Some rules) = moot-tests (not (has_ports abi)) (network.is_empty net) (not (network.is_within net rules.handled_network)) (nat_lt 65535 port)
-
-verdict_decides : (v : Verdict) → is_moot (answers.of_verdict v) ≡ false
-unfolding is_moot
-verdict_decides verdicts.Passed = refl
-verdict_decides (verdicts.Refused error numbers) = refl
+-- ---- what a moot call has not
 
 no_move : (tree : List Entry) (domain : List Layer) (move : Option Move) → answers.of_move tree domain move ≡ Moot → move ≡ None
 no_move tree domain None moot = refl
-no_move tree domain (Some move) moot = not_moot _ (verdict_decides (move_verdict tree domain move)) moot
+no_move tree domain (Some move) moot = never_moot _ _ _ _ (can_verdict (move_verdict tree domain move)) moot
 
 -- ---- tables
 
 if_there-none : {A : Type 0} (o : Option A) → answers.if_there o ≡ Moot → o ≡ None
 if_there-none None moot = refl
-if_there-none (Some it) moot = not_moot Allowed decided moot
+if_there-none (Some it) moot = absurd (cc)
 
 if_free-some : {A : Type 0} (o : Option A) → answers.if_free o Allowed ≡ Moot → is_some o ≡ true
-if_free-some None moot = not_moot Allowed decided moot
+if_free-some None moot = absurd (cc)
 if_free-some (Some it) moot = refl
 
 create_taken : (abi : Abi) (fs : Fs) (net : Net) (o : Option ℕ) → answers.create_answer abi fs net o ≡ Moot → is_some o ≡ true
 unfolding answers.create_answer
-create_taken abi fs net None moot = not_moot _ (moot-unless _) moot
+create_taken abi fs net None moot = never_moot _ _ _ _ (can_unless false _) moot
 create_taken abi fs net (Some place) moot = refl
-
-moot-ioctl : (sort : Sort) (numbers : List ℕ) (driver : Bool) → is_moot (answers.ioctl_kept sort numbers driver) ≡ false
-unfolding is_moot
-moot-ioctl Device numbers true = moot-refused_by Acces numbers
-moot-ioctl Device numbers false = refl
-moot-ioctl Regular numbers driver = refl
-moot-ioctl Other numbers driver = refl
 
 ioctl_closed : (o : Option Descriptor) (driver : Bool) → answers.ioctl_answer o driver ≡ Moot → o ≡ None
 unfolding answers.ioctl_answer
 ioctl_closed None driver moot = refl
-ioctl_closed (Some held) driver moot = not_moot _ (moot-ioctl held.sort held.kept driver) moot
+ioctl_closed (Some held) driver moot = never_moot _ _ _ _ (can_ioctl_kept false held.sort held.kept driver) moot
 
 not_regular : (sort : Sort) (numbers : List ℕ) → answers.truncate_kept sort numbers ≡ Moot → is_regular sort ≡ false
-not_regular Regular numbers moot = not_moot _ (moot-refused_by Acces numbers) moot
+not_regular Regular numbers moot = never_moot _ _ _ _ (can_refused_by false Acces numbers) moot
 not_regular Device numbers moot = refl
 not_regular Other numbers moot = refl
 
@@ -359,9 +297,9 @@ pub call_reason : (tree : List Entry) (abi : Abi) (rulesets : List Layer) (op : 
 unfolding answers.answer reason are_spelt paths_of wanted
 call_reason tree abi rulesets (calls.Create rs fs net) s o there are same moot = holds_held tree s (calls.Create rs fs net) rs (create_taken abi fs net (s.held rs) moot)
 call_reason tree abi rulesets (calls.AddPath rs path fs) s o there are same moot = no_object_holds tree s (calls.AddPath rs path fs) there (spelt path) (place tree path) (text_placed tree path (path_of path) refl (and_both (is_some (path_of path)) true are).0)
-call_reason tree abi rulesets (calls.AddPort rs port net) s o there are same moot = not_moot _ (moot-add_port abi port net (answers.named rulesets (s.held rs))) moot
+call_reason tree abi rulesets (calls.AddPort rs port net) s o there are same moot = never_moot _ _ _ _ (can_add_port abi port net (answers.named rulesets (s.held rs))) moot
 call_reason tree abi rulesets (calls.CloseRs rs) s o there are same moot = holds_unheld tree s (calls.CloseRs rs) rs (if_there-none (s.held rs) moot)
-call_reason tree abi rulesets (calls.Restrict rs) s o there are same moot = not_moot _ (moot-restrict s (answers.named rulesets (s.held rs))) moot
+call_reason tree abi rulesets (calls.Restrict rs) s o there are same moot = never_moot _ _ _ _ (can_restrict s (answers.named rulesets (s.held rs))) moot
 call_reason tree abi rulesets (calls.OpenFile path fd mode create trunc) s o there are same moot =
     open_holds tree s (calls.OpenFile path fd mode create trunc) fd (is_some (o.openings fd)) (no_object tree (spelt path) (place tree path)) (same fd)
     (no_object_holds tree s (calls.OpenFile path fd mode create trunc) there (spelt path) (place tree path) (text_placed tree path (path_of path) refl (and_both (is_some (path_of path)) true are).0))
@@ -385,15 +323,15 @@ call_reason tree abi rulesets (calls.Link from to) s o there are same moot =
     unlinked_holds tree s op there (spelt from) (spelt to) (place tree from) (place tree to)
     (text_placed tree from (path_of from) refl parts.0) (text_placed tree to (path_of to) refl (and_both (is_some (path_of to)) true parts.1).0)
     (λ here. holds_root tree s op (or_left (is_at_root (place tree from)) _ here))
-call_reason tree abi rulesets calls.Mount s o there are same moot = not_moot _ (moot-refused_by Perm _) moot
-call_reason tree abi rulesets (calls.Bind port) s o there are same moot = not_moot _ (moot-refused_by Acces _) moot
-call_reason tree abi rulesets (calls.Connect port) s o there are same moot = not_moot _ (moot-refused_by Acces _) moot
+call_reason tree abi rulesets calls.Mount s o there are same moot = never_moot _ _ _ _ (can_refused_by false Perm _) moot
+call_reason tree abi rulesets (calls.Bind port) s o there are same moot = never_moot _ _ _ _ (can_refused_by false Acces _) moot
+call_reason tree abi rulesets (calls.Connect port) s o there are same moot = never_moot _ _ _ _ (can_refused_by false Acces _) moot
 call_reason tree abi rulesets (calls.CreateEmpty rs) s o there are same moot = holds_held tree s (calls.CreateEmpty rs) rs (if_free-some (s.held rs) moot)
 call_reason tree abi rulesets (calls.LeaveOut rule) s o there are same moot = holds_left_out tree s rule
-call_reason tree abi rulesets (calls.Start nnp admin) s o there are same moot = not_moot Allowed decided moot
-call_reason tree abi rulesets (calls.Fork child) s o there are same moot = not_moot Allowed decided moot
-call_reason tree abi rulesets calls.Exit s o there are same moot = not_moot Allowed decided moot
-call_reason tree abi rulesets calls.Nnp s o there are same moot = not_moot Allowed decided moot
+call_reason tree abi rulesets (calls.Start nnp admin) s o there are same moot = absurd (cc)
+call_reason tree abi rulesets (calls.Fork child) s o there are same moot = absurd (cc)
+call_reason tree abi rulesets calls.Exit s o there are same moot = absurd (cc)
+call_reason tree abi rulesets calls.Nnp s o there are same moot = absurd (cc)
 call_reason tree abi rulesets op s o there are same moot = wanted_holds tree s op there are (wanted op) refl refl
 
 -- ---- a process at a place

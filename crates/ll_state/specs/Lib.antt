@@ -1,2 +1,2 @@
 pub mod Agreement
-pub mod Confinements
+pub mod ConfinedCalls

@@ -3,7 +3,7 @@
 
 mod call;
 mod checks;
-mod confinement;
+mod confined_call;
 mod descriptors;
 mod moves;
 mod own_state;

@@ -13,7 +13,7 @@ ghost use Rattle.ll_state.specs.Agreement.{IsMet, Agrees, IsJudged, is_still};
 ghost use Rattle.ll_semantics.specs.Notes.{NoteFits};
 
 use crate::call::Call;
-use crate::confinement::Confinement;
+use crate::confined_call::ConfinedCall;
 use crate::descriptors::{ftruncate, ioctl};
 use crate::moves::{link_move, rename_move};
 use crate::requests::place_of;
@@ -151,7 +151,7 @@ impl OwnState {
         ensures { result ≡ answered at call.now.op.now }
     {
         let tree = call.tree;
-        let confinement = Confinement {
+        let confined = ConfinedCall {
             call: *call,
             domain: &self.domain,
         };
@@ -159,20 +159,20 @@ impl OwnState {
             Op::Start { .. } | Op::Fork { .. } | Op::Exit => Answer::Allowed,
             Op::Ftruncate { fd } => ftruncate(self.descriptor(*fd)),
             Op::Ioctl { fd, driver } => ioctl(self.descriptor(*fd), *driver),
-            wants_at_a_path!() => confinement.ask(call.request()),
+            wants_at_a_path!() => confined.ask(call.request()),
             Op::Rename { from, to, exchange } => {
                 let from = place_of(tree, from, call.known);
                 let to = place_of(tree, to.path(), None);
-                confinement.ask_move(rename_move(tree, from, to, *exchange))
+                confined.ask_move(rename_move(tree, from, to, *exchange))
             }
             Op::Link { from, to } => {
                 let from = place_of(tree, from, call.known);
                 let to = place_of(tree, to.path(), None);
-                confinement.ask_move(link_move(tree, from, to))
+                confined.ask_move(link_move(tree, from, to))
             }
-            Op::Mount => confinement.ask_mount(),
-            Op::Bind { port } => confinement.ask_port(*port, Net::BIND_TCP),
-            Op::Connect { port } => confinement.ask_port(*port, Net::CONNECT_TCP),
+            Op::Mount => confined.ask_mount(),
+            Op::Bind { port } => confined.ask_port(*port, Net::BIND_TCP),
+            Op::Connect { port } => confined.ask_port(*port, Net::CONNECT_TCP),
             Op::LeaveOut { .. } => Answer::Moot,
             Op::Nnp
             | Op::Create { .. }

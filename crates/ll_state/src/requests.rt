@@ -105,7 +105,7 @@ fn asks_of_object(tree: &Tree, node: NodeId, wanted: Wanted) -> Option<Request>
         Wanted::OnFile(rights) if kind == Kind::Reg => Some(Request { node, rights }),
         Wanted::Unlink if kind != Kind::Dir => remove_from(tree, kind, node),
         Wanted::Rmdir if kind == Kind::Dir => remove_from(tree, kind, node),
-        _ => None,
+        Wanted::OnFile(_) | Wanted::Make(_) | Wanted::Unlink | Wanted::Rmdir => None,
     }
 }
 
@@ -123,7 +123,7 @@ fn asks_of_gap(tree: &Tree, node: NodeId, wanted: Wanted) -> Option<Request>
             ..
         } => new_file_rights(mode),
         Wanted::Make(rights) => rights,
-        _ => return None,
+        Wanted::Open { .. } | Wanted::OnFile(_) | Wanted::Unlink | Wanted::Rmdir => return None,
     };
     Some(Request { node, rights })
 }

@@ -7,7 +7,7 @@ ghost use Rattle.ll_semantics.specs.Situations.{Situation};
 ghost use Rattle.ll_state.specs.Agreement.{IsMet, Agrees, IsJudged};
 
 use crate::call::Call;
-use crate::confinement::Confinement;
+use crate::confined_call::ConfinedCall;
 use crate::descriptors::unrestricted;
 use crate::own_state::OwnState;
 use crate::requests::{asks, place_of};
@@ -49,13 +49,13 @@ impl OwnState {
             create,
             trunc,
         };
-        let confinement = Confinement {
+        let confined = ConfinedCall {
             call: *call,
             domain: &self.domain,
         };
-        let answer = confinement.ask(asks(call.tree, place, wanted));
+        let answer = confined.ask(asks(call.tree, place, wanted));
         if answer == Answer::Allowed {
-            let opened = confinement.opened(place, mode);
+            let opened = confined.opened(place, mode);
             self.descriptors.insert(fd, opened)?;
         }
         Ok(answer)

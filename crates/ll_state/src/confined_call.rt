@@ -8,7 +8,7 @@ use ll_rules::Domain;
 
 /// A call, and the domain of its process: which of the layers it stacks.
 #[derive(Clone, Copy)]
-pub(crate) struct Confinement<'a> {
+pub(crate) struct ConfinedCall<'a> {
     pub(crate) call: Call<'a>,
     pub(crate) domain: &'a Domain,
     ghost places: { IsDomainOf call.layers.now domain.now } by { Prim.hlevel props },
