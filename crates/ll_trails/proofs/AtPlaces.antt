@@ -1,14 +1,13 @@
 -- The sources of a case, place after place: how many processes they have, and what the next record makes of them.
 use Rattle.std.proofs.Common.{◌≡◌, ◌<◌, ◌≤◌, ℕ, zero, suc, ◌+◌, List, length, take, get_or, Some, false, refl, sym, ap, ◌∙◌, inl, inr, arith}
 use Rattle.std.specs.Prelude.{slice_get}
-use Rattle.std.proofs.lemmas.Option.{same_Some, slice_get_cases}
+use Rattle.std.proofs.lemmas.Option.{same_Some, slice_get_cases, slice_get_read}
 use Rattle.ll_rights.specs.declared.abi.Abi.{Abi}
 use Rattle.ll_tree.specs.Trees.{Entry}
 use Rattle.ll_trace.specs.declared.record.Record.{Record}
 use Rattle.ll_trace.specs.Entries.{is_start}
 use Rattle.ll_trace.specs.Processes.{process_count, IsNumbered}
 use Rattle.ll_trace.proofs.Numbers.{count-more, no_count}
-use Rattle.ll_rulebook.proofs.Places.{stands}
 use Rattle.ll_semantics.specs.declared.answer.Answer.{Answer}
 use Rattle.ll_semantics.specs.Worlds.{answer_in, judged}
 use Rattle.ll_semantics.specs.Situations.{world_at}
@@ -22,7 +21,7 @@ use Rattle.ll_trails.specs.Trails.{AreTrails}
 
 -- what is read at a place of the same list is there
 pub read_there : {X : Type 0} (xs read : List X) (k : ℕ) (x : X) → read ≡ xs → k < length xs → x ≡ get_or read k x → slice_get xs k ≡ Some x
-read_there {X = X} xs read k x same within is = stands xs k x within (is ∙ ap (λ (ys : List X). get_or ys k x) same)
+read_there {X = X} xs read k x same within is = slice_get_read xs (length xs) k x refl within (is ∙ ap (λ (ys : List X). get_or ys k x) same)
 
 -- there are none before the first record
 pub sources_at-first : (tree : List Entry) (abi : Abi) (records : List Record) → sources_at tree abi records 0 ≡ no_sources

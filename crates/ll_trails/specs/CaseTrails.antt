@@ -1,17 +1,22 @@
 -- What is kept of the origins of a case's processes, before one of its records.
 -- Source: landlock_restrict_self(2); landlock(7), "Inheritance".
-use Rattle.std.specs.Prelude.{◌≡◌, ℕ, List, Some, slice_get}
+use Rattle.std.specs.Prelude.{◌≡◌, ℕ, List, Option, Some, slice_get}
 use Rattle.std.specs.List.{AllZip}
 use Rattle.ll_rules.specs.declared.domain.LayerId.{LayerId}
 use Rattle.ll_rules.specs.KeptLayers.{SameRules, domain_of, IsDomainOf}
 use Rattle.ll_rules.specs.InTree.{all_in_tree}
 use Rattle.ll_semantics.specs.declared.answer.Answer.{Answer}
+use Rattle.ll_semantics.specs.Notes.{IsFrozen}
+use Rattle.ll_semantics.specs.Situations.{world_at}
 use Rattle.ll_semantics.specs.Worlds.{judged}
+use Rattle.ll_rulebook.specs.Settled.{met_by}
 use Rattle.ll_process.specs.Cases.{Matter}
-use Rattle.ll_reasons.specs.Explanations.{domain_at}
+use Rattle.ll_reasons.specs.Explanations.{domain_at, origins_at}
+use Rattle.ll_reasons.specs.Made.{enforced_at}
 use Rattle.ll_reasons.specs.Origins.{sources_at}
+use Rattle.ll_trails.specs.declared.trail.Trail.{Trail}
 use Rattle.ll_trails.specs.declared.trail.Trails.{Trails}
-use Rattle.ll_trails.specs.Trails.{AreTrails}
+use Rattle.ll_trails.specs.Trails.{Follows, AreTrails}
 
 -- what is kept says where all that the processes of a case have before the record at a place comes from
 abbrev pub AreTrailsAt : Matter → ℕ → Trails → Type 0
@@ -25,3 +30,11 @@ IsAnswerAt of place answer = slice_get (judged of.tree of.abi of.records) place 
 pub record IsDomainAt (of : Matter) (place process : ℕ) (ids : List LayerId) : Type 0 where
   pub places : IsDomainOf of.layers ids
   pub same : AllZip SameRules (all_in_tree of.tree (domain_of of.layers ids)) (domain_at of.tree of.abi of.records place process)
+
+-- the layer of a case by which the record at a place restricts its process, whichever process meets it; none if it restricts none
+abbrev pub IsLayerBy : Matter → ℕ → Option LayerId → Type 0
+IsLayerBy of place id = (process : ℕ) → IsFrozen (met_by of.tree of.abi of.layers (world_at of.tree of.abi of.records place) process) id (enforced_at of.tree of.abi of.records place)
+
+-- layers of a case that are those of each process which a trail follows
+abbrev pub AreLayersBy : Matter → Trail → List LayerId → Type 0
+AreLayersBy of trail ids = (place process : ℕ) → Follows trail (origins_at of.tree of.abi of.records place process) → IsDomainAt of place process ids

@@ -1,3 +1,4 @@
 pub mod Opened
 pub mod Trails
 pub mod CaseTrails
+pub mod Objecting

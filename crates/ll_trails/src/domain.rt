@@ -1,13 +1,7 @@
 //! The domain of a process, as its case keeps it.
 
-ghost use Rattle.std.specs.Prelude.{ℕ, IfOk};
-ghost use Rattle.ll_rulebook.specs.Settled.{met_by};
-ghost use Rattle.ll_semantics.specs.Notes.{IsFrozen};
-ghost use Rattle.ll_semantics.specs.Situations.{world_at};
-ghost use Rattle.ll_reasons.specs.Explanations.{origins_at};
-ghost use Rattle.ll_reasons.specs.Made.{enforced_at};
-ghost use Rattle.ll_trails.specs.CaseTrails.{IsDomainAt};
-ghost use Rattle.ll_trails.specs.Trails.{Follows};
+ghost use Rattle.std.specs.Prelude.{IfOk};
+ghost use Rattle.ll_trails.specs.CaseTrails.{IsLayerBy, AreLayersBy};
 
 use crate::trail::Trail;
 use ll_process::Case;
@@ -17,8 +11,7 @@ use std::alloc::{AllocError, Global};
 
 /// The layer of a case that the record at a place restricts its process by, if it does.
 fn layer_by(case: &Case, place: u32) -> Option<LayerId>
-    ensures { (process : ℕ) → IsFrozen (met_by case.now.tree case.now.abi case.now.layers (world_at case.now.tree case.now.abi case.now.records place) process)
-        result (enforced_at case.now.tree case.now.abi case.now.records place) }
+    ensures { IsLayerBy case.now place result }
 {
     let place = place as usize;
     if place >= case.trace().records().len() {
@@ -34,9 +27,7 @@ fn layer_by(case: &Case, place: u32) -> Option<LayerId>
 /// The layers of a process in the case that its records are of: those that the rulesets were frozen to which its
 /// `restrict` records named, the oldest first. An error says that memory ran out.
 pub fn domain_of(alloc: Global, case: &Case, trail: &Trail) -> Result<Vec<LayerId>, AllocError>
-    ensures { IfOk result (λ ids. (place process : ℕ)
-        → Follows trail.now (origins_at case.now.tree case.now.abi case.now.records place process)
-        → IsDomainAt case.now place process ids.items) }
+    ensures { IfOk result (λ ids. AreLayersBy case.now trail.now ids.items) }
 {
     let mut ids = Vec::new(alloc);
     for place in &trail.layers {

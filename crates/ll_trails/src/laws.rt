@@ -1,18 +1,11 @@
 //! What holds of what is kept of a case's processes.
 
-ghost use Rattle.std.specs.Prelude.{◌≡◌, ℕ, List};
-ghost use Rattle.std.specs.List.{AllZip};
-ghost use Rattle.ll_tree.specs.Trees.{Entry};
-ghost use Rattle.ll_rules.specs.declared.errno.Errno.{Errno};
-ghost use Rattle.ll_rules.specs.KeptLayers.{SameRules};
-ghost use Rattle.ll_trace.specs.declared.op.Op.{Op};
-ghost use Rattle.ll_semantics.specs.States.{Layer};
 ghost use Rattle.ll_process.specs.Cases.{Matter};
-ghost use Rattle.ll_reasons.specs.Explanations.{objections_to};
-ghost use Rattle.ll_reasons.specs.Origins.{Origins, no_sources};
+ghost use Rattle.ll_reasons.specs.Origins.{no_sources};
 ghost use Rattle.ll_trails.specs.declared.trail.Trails.{Trails};
 ghost use Rattle.ll_trails.specs.CaseTrails.{AreTrailsAt};
 ghost use Rattle.ll_trails.specs.Trails.{AreTrails};
+ghost use Rattle.ll_trails.specs.Objecting.{ObjectToTheSame};
 
 /// What is kept of no process is what is kept before the first record, whichever the case.
 pub fn trails_begin()
@@ -22,6 +15,5 @@ pub fn trails_begin()
 /// Layers that are one by one the same object to the same in each call, so that a case's own layers of a process may
 /// be asked in place of those that the semantics gives it.
 pub fn same_layers_object_to_the_same()
-    ensures { (tree : List Entry) (xs ys : List Layer) → AllZip SameRules xs ys → (o : Origins) (op : Op) (error : Errno) (numbers : List ℕ)
-        → objections_to tree xs o op error numbers ≡ objections_to tree ys o op error numbers }
+    ensures { ObjectToTheSame }
 {}
