@@ -12,12 +12,16 @@ import subprocess
 import unittest
 from pathlib import Path
 
+from landaudit_record.rights import NEWEST_ABI, OLDEST_ABI
+
 from . import options
 from .places import COMPLETIONS
 
 #: The versions of Landlock's interface, and the ranges of them.
-ABIS = {str(abi) for abi in range(1, 6)}
-RANGES = {f"{oldest}-{newest}" for oldest in range(1, 6) for newest in range(oldest + 1, 6)}
+ABIS = {str(abi) for abi in range(OLDEST_ABI, NEWEST_ABI + 1)}
+RANGES = {
+    f"{oldest}-{newest}" for oldest in range(OLDEST_ABI, NEWEST_ABI) for newest in range(oldest + 1, NEWEST_ABI + 1)
+}
 
 BASH = """
 source "$1/landaudit.bash"

@@ -1,0 +1,25 @@
+"""All that names the versions of Landlock's interface names the same."""
+
+from __future__ import annotations
+
+import re
+import unittest
+
+from landaudit_record.rights import NEWEST_ABI, OLDEST_ABI
+
+from .places import MAN, TOP
+
+VERSIONS = TOP / "crates" / "ll_rights" / "src" / "abi.rt"
+PAGES = (MAN / "landaudit.1", MAN / "landaudit-record.1", TOP / "docs" / "FORMATS.md", TOP / "docs" / "GLOSSARY.md")
+
+
+class Versions(unittest.TestCase):
+    def test_both_programs_know_the_same(self) -> None:
+        known = re.findall(r"^    V(\d+),$", VERSIONS.read_text(encoding="utf-8"), re.MULTILINE)
+        self.assertEqual([int(number) for number in known], list(range(OLDEST_ABI, NEWEST_ABI + 1)))
+
+    def test_pages_name_the_newest(self) -> None:
+        for page in PAGES:
+            with self.subTest(page.name):
+                named = re.findall(r"interface(?: that answers)?, (\d+) to (\d+)", page.read_text(encoding="utf-8"))
+                self.assertEqual(set(named), {(str(OLDEST_ABI), str(NEWEST_ABI))})
