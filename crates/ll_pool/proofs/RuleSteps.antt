@@ -30,6 +30,14 @@ at_read (x ∷ xs) (suc i) a e = at_read xs i a e
 sum_set : (f : Known → ℕ) (views : List Known) (port : ℕ) (v w : Known) → get_elem? views port ≡ some v → sum_by f (set views port w) + f v ≡ sum_by f views + f w
 sum_set f views port v w at = subst (λ (u : Known). sum_by f (set views port w) + f u ≡ sum_by f views + f w) (at_read views port v at) (sum_by-set f views port w v (at_within views port v at))
 
+-- what was given and taken in all after one view has changed
+law_set : (weight : ℕ → ℕ) (views : List Known) (port : ℕ) (v w : Known) (queued left : ℕ) → get_elem? views port ≡ some v
+    → sum_by (λ (u : Known). sum_by weight u.given) views ≡ sum_by (λ (u : Known). sum_by weight u.taken) views + queued
+    → sum_by weight w.given + (sum_by weight v.taken + queued) ≡ sum_by weight v.given + (sum_by weight w.taken + left)
+    → sum_by (λ (u : Known). sum_by weight u.given) (set views port w) ≡ sum_by (λ (u : Known). sum_by weight u.taken) (set views port w) + left
+law_set weight views port v w queued left at law step =
+    omega (arith, sum_set (λ (u : Known). sum_by weight u.given) views port v w at, sum_set (λ (u : Known). sum_by weight u.taken) views port v w at, law, step)
+
 abbrev AllFit : Matter → List Known → Type 0
 AllFit of views = (port : ℕ) (v : Known) → get_elem? views port ≡ some v → Fits of v
 
@@ -71,15 +79,13 @@ gives of n port v job some_part its jobs views room fair at =
       record {
         parts = omega (arith, sum_set (λ (u : Known). u.parts) views port v w at, fair.parts);
         law = λ weight.
-            omega (
+            law_set weight views port v w (sum_by weight (processes_of jobs)) (sum_by weight (processes_of (jobs ++ job ∷ []))) at (fair.law weight)
+            (omega (
               arith,
-              sum_set (λ (u : Known). sum_by weight u.given) views port v w at,
-              sum_set (λ (u : Known). sum_by weight u.taken) views port v w at,
-              fair.law weight,
               sum_by_push weight v.given job.process.0,
               ap (λ (xs : List ℕ). sum_by weight xs) (map-append (λ (j : Job). j.process.0) jobs (job ∷ [])),
               sum_by_push weight (processes_of jobs) job.process.0,
-            );
+            ));
         fits = fits_set of views port w (fits_here of w some_part (case_of of views port v fair.fits at some_part)) fair.fits;
         jobs_of = All-push (λ (j : Job). j.case.now ≡ of) jobs job fair.jobs_of its;
       },
@@ -94,14 +100,8 @@ takes of port v some_part job jobs views fair at =
       record {
         parts = omega (arith, sum_set (λ (u : Known). u.parts) views port v w at, fair.parts);
         law = λ weight.
-            omega (
-              arith,
-              sum_set (λ (u : Known). sum_by weight u.given) views port v w at,
-              sum_set (λ (u : Known). sum_by weight u.taken) views port v w at,
-              fair.law weight,
-              sum_by_push weight v.taken job.process.0,
-              sum_by-cons weight job.process.0 (processes_of jobs),
-            );
+            law_set weight views port v w (sum_by weight (processes_of (job ∷ jobs))) (sum_by weight (processes_of jobs)) at (fair.law weight)
+            (omega (arith, sum_by_push weight v.taken job.process.0, sum_by-cons weight job.process.0 (processes_of jobs)));
         fits = fits_set of views port w (fits_here of w some_part mine) fair.fits;
         jobs_of = All-tail (λ (j : Job). j.case.now ≡ of) job jobs fair.jobs_of;
       },
@@ -120,14 +120,8 @@ parts_with of port v more jobs views fair at =
     record {
       parts = omega (arith, sum_set (λ (u : Known). u.parts) views port v left at, fair.parts, sum_by_push (λ (u : Known). u.parts) rest right);
       law = λ weight.
-          omega (
-            arith,
-            sum_set (λ (u : Known). sum_by weight u.given) views port v left at,
-            sum_set (λ (u : Known). sum_by weight u.taken) views port v left at,
-            sum_by_push (λ (u : Known). sum_by weight u.given) rest right,
-            sum_by_push (λ (u : Known). sum_by weight u.taken) rest right,
-            fair.law weight,
-          );
+          let law = law_set weight views port v left (sum_by weight (processes_of jobs)) (sum_by weight (processes_of jobs)) at (fair.law weight) (omega arith) in
+          omega (arith, law, sum_by_push (λ (u : Known). sum_by weight u.given) rest right, sum_by_push (λ (u : Known). sum_by weight u.taken) rest right);
       fits = λ j u e. ⊎_elim (λ (x : get_elem? rest j ≡ some u). fits j u x) (λ (is : right ≡ u). subst (λ (y : Known). Fits of y) is (fits_here of right (omega arith) mine)) (at_snoc rest right u j e);
       jobs_of = fair.jobs_of;
     }
@@ -142,12 +136,14 @@ joins of port v other w some_part jobs views fair at apart at_other =
     record {
       parts = omega (arith, sum_set (λ (u : Known). u.parts) views port v both at, sum_set (λ (u : Known). u.parts) rest other w spent at_other, fair.parts);
       law = λ weight.
+          let given = λ (u : Known). sum_by weight u.given in
+          let taken = λ (u : Known). sum_by weight u.taken in
           omega (
             arith,
-            sum_set (λ (u : Known). sum_by weight u.given) views port v both at,
-            sum_set (λ (u : Known). sum_by weight u.given) rest other w spent at_other,
-            sum_set (λ (u : Known). sum_by weight u.taken) views port v both at,
-            sum_set (λ (u : Known). sum_by weight u.taken) rest other w spent at_other,
+            sum_set given views port v both at,
+            sum_set given rest other w spent at_other,
+            sum_set taken views port v both at,
+            sum_set taken rest other w spent at_other,
             sum_by-append weight v.given w.given,
             sum_by-append weight v.taken w.taken,
             fair.law weight,

@@ -6,7 +6,8 @@ ghost use Rattle.ll_trace.specs.Processes.{kids, roots, IsNumbered};
 ghost use Rattle.ll_pool.specs.Gathered.{AllOf, processes_in};
 
 use crate::empty::Empty;
-use crate::gather::{CollectFault, collect};
+use crate::gather::collect_whole;
+use crate::keep::keep;
 use ll_process::{Answer, Case, Piece, judge};
 use ll_rules::NoMemory;
 use std::alloc::Global;
@@ -22,9 +23,7 @@ fn pieces_of(alloc: Global, case: &Case) -> Result<Vec<Piece<'_>>, NoMemory>
     let mut pieces = Vec::new(alloc);
     while let Some(job) = jobs.pop() {
         let piece = judge(alloc, job, &mut Empty)?;
-        if pieces.push(piece).is_err() {
-            return Err(NoMemory);
-        }
+        keep(&mut pieces, piece)?;
     }
     Ok(pieces)
 }
@@ -34,11 +33,5 @@ fn pieces_of(alloc: Global, case: &Case) -> Result<Vec<Piece<'_>>, NoMemory>
 pub fn judge_alone(alloc: Global, case: &Case) -> Result<Vec<Answer>, NoMemory>
     ensures { IfOk result (λ answers. answers.items ≡ judged case.now.tree case.now.abi case.now.records) }
 {
-    let pieces = pieces_of(alloc, case)?;
-    match collect(alloc, case, pieces) {
-        Ok(answers) => Ok(answers),
-        Err(CollectFault::Memory) => Err(NoMemory),
-        Err(CollectFault::Missing(_absent)) => unreachable!(),
-        Err(CollectFault::Double(_doubled)) => unreachable!(),
-    }
+    collect_whole(alloc, case, pieces_of(alloc, case)?)
 }

@@ -3,12 +3,14 @@
 ghost use Rattle.std.specs.Prelude.{◌≡◌, ℕ, ◌<◌, IfOk, IfErr};
 ghost use Rattle.ll_semantics.specs.Worlds.{judged};
 ghost use Rattle.ll_trace.specs.Processes.{process_count, times};
+ghost use Rattle.ll_pool.specs.declared.gather.CollectFault.TheVariants.{Memory};
 ghost use Rattle.ll_pool.specs.Faults.{IsFault};
 ghost use Rattle.ll_pool.specs.Gathered.{AllOf, processes_in};
 
 use crate::assemble::assemble;
 use crate::tally::{first_absent, first_double, tally};
 use ll_process::{Answer, Case, Piece};
+use ll_rules::NoMemory;
 use ll_trace::ProcessId;
 use std::alloc::{AllocError, Global};
 
@@ -24,9 +26,6 @@ pub enum CollectFault {
 }
 
 impl From<AllocError> for CollectFault {
-    ghost use Rattle.std.specs.Prelude.{◌≡◌};
-    ghost use Rattle.ll_pool.specs.declared.gather.CollectFault.TheVariants.{Memory};
-
     ghost from_gives = { λ _ e. e ≡ Memory };
 
     fn from(_failed: AllocError) -> CollectFault {
@@ -56,4 +55,22 @@ pub fn collect(
         return Err(CollectFault::Missing(ProcessId(process)));
     }
     Ok(assemble(alloc, case, &pieces)?)
+}
+
+/// The answers to all records, in their order, where each process is in one piece.
+pub fn collect_whole(
+    alloc: Global,
+    case: &Case,
+    pieces: Vec<Piece<'_>>,
+) -> Result<Vec<Answer>, NoMemory>
+    requires of_case { AllOf case.now pieces.items }
+    requires each_once { (process : ℕ) → process < process_count case.now.records → times process (processes_in pieces.items) ≡ 1 }
+    ensures { IfOk result (λ answers. answers.items ≡ judged case.now.tree case.now.abi case.now.records) }
+{
+    match collect(alloc, case, pieces) {
+        Ok(answers) => Ok(answers),
+        Err(CollectFault::Memory) => Err(NoMemory),
+        Err(CollectFault::Missing(_absent)) => unreachable!(),
+        Err(CollectFault::Double(_doubled)) => unreachable!(),
+    }
 }

@@ -22,5 +22,5 @@ mod worker;
 
 pub use alone::judge_alone;
 pub use gate::Gate;
-pub use gather::{CollectFault, collect};
+pub use gather::{CollectFault, collect, collect_whole};
 pub use running::{PoolFault, run};

@@ -1,6 +1,7 @@
 //! Judging all processes of a case by workers.
 ghost use Rattle.std.specs.Prelude.{◌≡◌, ◌≤◌, ◌<◌, ◌+◌, ◌-◌, ◌^◌, ℕ, IfOk, count_by, min};
 ghost use Rattle.ll_trace.specs.Processes.{process_count, times};
+ghost use Rattle.ll_pool.specs.declared.running.PoolFault.TheVariants.{Memory};
 ghost use Rattle.ll_pool.specs.Gathered.{AllOf, processes_in};
 
 use crate::busy::Busy;
@@ -29,9 +30,6 @@ pub enum PoolFault {
 }
 
 impl From<NoMemory> for PoolFault {
-    ghost use Rattle.std.specs.Prelude.{◌≡◌};
-    ghost use Rattle.ll_pool.specs.declared.running.PoolFault.TheVariants.{Memory};
-
     ghost from_gives = { λ _ e. e ≡ Memory };
 
     fn from(_failed: NoMemory) -> PoolFault {
@@ -40,9 +38,6 @@ impl From<NoMemory> for PoolFault {
 }
 
 impl From<AllocError> for PoolFault {
-    ghost use Rattle.std.specs.Prelude.{◌≡◌};
-    ghost use Rattle.ll_pool.specs.declared.running.PoolFault.TheVariants.{Memory};
-
     ghost from_gives = { λ _ e. e ≡ Memory };
 
     fn from(_failed: AllocError) -> PoolFault {

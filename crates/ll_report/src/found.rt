@@ -5,13 +5,16 @@ ghost use Rattle.std.specs.List.{range_with_len};
 ghost use Rattle.ll_semantics.specs.Worlds.{judged};
 ghost use Rattle.ll_explain.specs.Explained.{text_at};
 ghost use Rattle.ll_report.specs.Found.{answer_at, explanation_at, found_under};
+ghost use Rattle.ll_report.specs.SaidUnder.{said_by};
 
+use crate::report::push_verdict;
+use crate::spans::Form;
 use crate::texts::Texts;
 use ll_options::Shown;
 use ll_process::{Answer, Case};
 use ll_rules::NoMemory;
 use ll_trails::Trails;
-use std::alloc::Global;
+use std::alloc::{AllocError, Global};
 use std::marker::Model;
 
 /// What is found under a version: the answers to all records, and the explanations, where they are shown.
@@ -75,6 +78,23 @@ impl Finding {
         ensures { result.now ≡ explanation_at self.now place }
     {
         self.explanations.get(place)
+    }
+
+    /// What is said of the record at a place.
+    pub(crate) fn text_of(
+        &self,
+        alloc: Global,
+        form: Form,
+        place: usize,
+    ) -> Result<Vec<u8>, AllocError>
+        ensures { IfOk result (λ text. text.items ≡ said_by form place self.now) }
+    {
+        let mut text = Vec::new(alloc);
+        match form {
+            Form::Answers => push_verdict(&mut text, &self.answer(place))?,
+            Form::Explanations => text.extend_from_slice(self.explanation(place))?,
+        }
+        Ok(text)
     }
 }
 

@@ -142,8 +142,7 @@ fn push_counts(text: &mut Vec<u8>, allowed: u64, refused: u64, moot: u64) -> Res
     push_number(text, refused)?;
     text.extend_from_slice(b" moot ")?;
     push_number(text, moot)?;
-    text.push(b'\n')?;
-    Ok(())
+    text.extend_from_slice(b"\n")
 }
 
 /// Adds the last line.

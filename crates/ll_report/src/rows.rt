@@ -4,6 +4,7 @@ ghost use Rattle.std.specs.Prelude.{◌≡◌, ◌+◌, ◌++◌, ◌<◌, ◌^�
 ghost use Rattle.std.specs.List.{range_with_len};
 ghost use Rattle.ll_report.specs.Alike.{IsSaid};
 ghost use Rattle.ll_report.specs.Found.{answer_at};
+ghost use Rattle.ll_report.specs.SaidUnder.{said_under};
 ghost use Rattle.ll_report.specs.Shown.{behind_line};
 ghost use Rattle.ll_report.specs.Spans.{versions_text};
 ghost use Rattle.ll_report.specs.declared.spans.Form.TheVariants.{Explanations};
@@ -12,41 +13,25 @@ ghost use Rattle.ll_report.specs.Rows.{answers_said, explanations_said, is_refus
 use crate::alike::{common_answer, common_explanation};
 use crate::blocks::is_hidden;
 use crate::found::Finding;
-use crate::report::{Report, Totals, is_refused, push_line, push_record, push_verdict};
-use crate::spans::{Form, agree, push_alone, push_versions};
+use crate::report::{Report, Totals, is_refused, push_line, push_record};
+use crate::spans::{Form, Sayings, agree, push_alone};
 use ll_options::Shown;
 use ll_process::Answer;
 use ll_trace::Record;
 use std::alloc::{AllocError, Global};
 
-/// How the record at a place is answered under each version.
-fn answers_said(
+/// What is said of the record at a place under each version.
+fn said_under(
     alloc: Global,
+    form: Form,
     findings: &[Finding],
     place: usize,
 ) -> Result<Vec<Vec<u8>>, AllocError>
-    ensures { IfOk result (λ said. map (λ text. text.items) said.items ≡ answers_said findings.now place) }
+    ensures { IfOk result (λ said. map (λ text. text.items) said.items ≡ said_under form findings.now place) }
 {
     let mut said = Vec::new(alloc);
     for finding in findings {
-        let mut text = Vec::new(alloc);
-        push_verdict(&mut text, &finding.answer(place))?;
-        said.push(text)?;
-    }
-    Ok(said)
-}
-
-/// How these answers are explained.
-fn explanations_said(
-    alloc: Global,
-    findings: &[Finding],
-    place: usize,
-) -> Result<Vec<Vec<u8>>, AllocError>
-    ensures { IfOk result (λ said. map (λ text. text.items) said.items ≡ explanations_said findings.now place) }
-{
-    let mut said = Vec::new(alloc);
-    for finding in findings {
-        said.push(Vec::from_slice(alloc, finding.explanation(place))?)?;
+        said.push(finding.text_of(alloc, form, place)?)?;
     }
     Ok(said)
 }
@@ -60,124 +45,119 @@ fn is_refused_under_some(findings: &[Finding], place: usize) -> bool
         .any(|finding| is_refused(&finding.answer(place)))
 }
 
-/// Whether a record is left out, by what is answered to it under each version.
-fn is_left_out(shown: Shown, findings: &[Finding], place: usize, answers: &[Vec<u8>]) -> bool
-    requires { map (λ text. text.items) answers.now ≡ answers_said findings.now place }
-    ensures { result ≡ is_row_left_out shown findings.now place }
-{
-    shown.refused_alone && !is_refused_under_some(findings, place)
-        || shown.differing_alone && agree(answers)
-}
-
-/// Adds what is behind the line of the record at a place.
-fn push_behind(
+/// What a report over neighbouring versions is made of: what is shown of it, the number of the oldest version, and what
+/// was found under each.
+#[derive(Drop)]
+struct Versions<'f> {
     alloc: Global,
-    text: &mut Vec<u8>,
     shown: Shown,
     oldest: u64,
-    findings: &[Finding],
-    place: usize,
-) -> Result<(), AllocError>
-    requires { oldest + length findings.now < 2 ^ 64 }
-    ensures { OnOk result (text.new.items ≡ text.old.items
-        ++ behind_line shown.explanations (versions_text Explanations oldest (explanations_said findings.now place))) }
-{
-    if !shown.explanations {
-        return Ok(());
-    }
-    if let Some(explanation) = common_explanation(findings, place) {
-        return push_alone(text, Form::Explanations, explanation);
-    }
-    let explanations = explanations_said(alloc, findings, place)?;
-    push_versions(text, Form::Explanations, oldest, &explanations)
+    findings: &'f [Finding],
 }
 
-/// Adds what is shown of the record at a place, which all versions answer alike.
-fn push_common_row(
-    alloc: Global,
-    text: &mut Vec<u8>,
-    shown: Shown,
-    oldest: u64,
-    findings: &[Finding],
-    place: usize,
-    record: &Record,
-    answer: Answer,
-) -> Result<(), AllocError>
-    requires few { oldest + length findings.now < 2 ^ 64 }
-    requires common { IsSaid (λ found. answer_at found place) answer findings.now }
-    ensures { OnOk result (text.new.items ≡ text.old.items
-        ++ row_text shown oldest findings.now place (told_of «record».now)) }
-{
-    if is_hidden(shown, &answer) {
-        return Ok(());
+impl<'f> Versions<'f> {
+    /// What is said under each version.
+    fn sayings<'s>(&self, form: Form, said: &'s [Vec<u8>]) -> Sayings<'s>
+        ensures form { result.form ≡ form }
+        ensures oldest { result.oldest ≡ self.now.oldest }
+        ensures said { result.said.now ≡ said.now }
+    {
+        Sayings {
+            form,
+            oldest: self.oldest,
+            said,
+        }
     }
-    push_line(text, record, &answer)?;
-    push_behind(alloc, text, shown, oldest, findings, place)
-}
 
-/// Adds what is shown of the record at a place, with the answers version by version.
-fn push_row_by_versions(
-    alloc: Global,
-    text: &mut Vec<u8>,
-    shown: Shown,
-    oldest: u64,
-    findings: &[Finding],
-    place: usize,
-    record: &Record,
-) -> Result<(), AllocError>
-    requires { oldest + length findings.now < 2 ^ 64 }
-    ensures { OnOk result (text.new.items ≡ text.old.items
-        ++ row_text shown oldest findings.now place (told_of «record».now)) }
-{
-    let answers = answers_said(alloc, findings, place)?;
-    if is_left_out(shown, findings, place, &answers) {
-        return Ok(());
+    /// Whether a record is left out, by what is answered to it under each version.
+    fn is_left_out(&self, place: usize, answers: &[Vec<u8>]) -> bool
+        requires { map (λ text. text.items) answers.now ≡ answers_said self.now.findings.now place }
+        ensures { result ≡ is_row_left_out self.now.shown self.now.findings.now place }
+    {
+        self.shown.refused_alone && !is_refused_under_some(self.findings, place)
+            || self.shown.differing_alone && agree(answers)
     }
-    push_record(text, record.line, record.pid, record.op.name())?;
-    push_versions(text, Form::Answers, oldest, &answers)?;
-    text.push(b'\n')?;
-    push_behind(alloc, text, shown, oldest, findings, place)
-}
 
-/// Adds what is shown of the record at a place, where the oldest version has this number.
-fn push_row(
-    alloc: Global,
-    text: &mut Vec<u8>,
-    shown: Shown,
-    oldest: u64,
-    findings: &[Finding],
-    place: usize,
-    record: &Record,
-) -> Result<(), AllocError>
-    requires { oldest + length findings.now < 2 ^ 64 }
-    ensures { OnOk result (text.new.items ≡ text.old.items
-        ++ row_text shown oldest findings.now place (told_of «record».now)) }
-{
-    match common_answer(findings, place) {
-        Some(answer) => push_common_row(
-            alloc, text, shown, oldest, findings, place, record, answer,
-        ),
-        None => push_row_by_versions(alloc, text, shown, oldest, findings, place, record),
+    /// Adds what is behind the line of the record at a place.
+    fn push_behind(&self, text: &mut Vec<u8>, place: usize) -> Result<(), AllocError>
+        requires { self.now.oldest + length self.now.findings.now < 2 ^ 64 }
+        ensures { OnOk result (text.new.items ≡ text.old.items ++ behind_line self.now.shown.explanations
+            (versions_text Explanations self.now.oldest (explanations_said self.now.findings.now place))) }
+    {
+        if !self.shown.explanations {
+            return Ok(());
+        }
+        if let Some(explanation) = common_explanation(self.findings, place) {
+            return push_alone(text, Form::Explanations, explanation);
+        }
+        let explanations = said_under(self.alloc, Form::Explanations, self.findings, place)?;
+        self.sayings(Form::Explanations, &explanations)
+            .push_to(text)
     }
-}
 
-/// Adds what is shown of all records.
-fn push_rows(
-    alloc: Global,
-    text: &mut Vec<u8>,
-    shown: Shown,
-    oldest: u64,
-    findings: &[Finding],
-    records: &[Record],
-) -> Result<(), AllocError>
-    requires { oldest + length findings.now < 2 ^ 64 }
-    ensures { OnOk result (text.new.items ≡ text.old.items
-        ++ rows_from shown oldest findings.now 0 records.now) }
-{
-    for (place, record) in records.iter().enumerate() {
-        push_row(alloc, text, shown, oldest, findings, place, record)?;
+    /// Adds what is shown of the record at a place, which all versions answer alike.
+    fn push_common_row(
+        &self,
+        text: &mut Vec<u8>,
+        place: usize,
+        record: &Record,
+        answer: Answer,
+    ) -> Result<(), AllocError>
+        requires few { self.now.oldest + length self.now.findings.now < 2 ^ 64 }
+        requires common { IsSaid (λ found. answer_at found place) answer self.now.findings.now }
+        ensures { OnOk result (text.new.items ≡ text.old.items
+            ++ row_text self.now.shown self.now.oldest self.now.findings.now place (told_of «record».now)) }
+    {
+        if is_hidden(self.shown, &answer) {
+            return Ok(());
+        }
+        push_line(text, record, &answer)?;
+        self.push_behind(text, place)
     }
-    Ok(())
+
+    /// Adds what is shown of the record at a place.
+    fn push_row(&self, text: &mut Vec<u8>, place: usize, record: &Record) -> Result<(), AllocError>
+        requires { self.now.oldest + length self.now.findings.now < 2 ^ 64 }
+        ensures { OnOk result (text.new.items ≡ text.old.items
+            ++ row_text self.now.shown self.now.oldest self.now.findings.now place (told_of «record».now)) }
+    {
+        if let Some(answer) = common_answer(self.findings, place) {
+            return self.push_common_row(text, place, record, answer);
+        }
+        let answers = said_under(self.alloc, Form::Answers, self.findings, place)?;
+        if self.is_left_out(place, &answers) {
+            return Ok(());
+        }
+        push_record(text, record.line, record.pid, record.op.name())?;
+        self.sayings(Form::Answers, &answers).push_to(text)?;
+        text.push(b'\n')?;
+        self.push_behind(text, place)
+    }
+
+    /// Adds what is shown of all records.
+    fn push_rows(&self, text: &mut Vec<u8>, records: &[Record]) -> Result<(), AllocError>
+        requires { self.now.oldest + length self.now.findings.now < 2 ^ 64 }
+        ensures { OnOk result (text.new.items ≡ text.old.items
+            ++ rows_from self.now.shown self.now.oldest self.now.findings.now 0 records.now) }
+    {
+        for (place, record) in records.iter().enumerate() {
+            self.push_row(text, place, record)?;
+        }
+        Ok(())
+    }
+
+    /// Adds the last lines, one a version.
+    fn push_totals(&self, text: &mut Vec<u8>) -> Result<(), AllocError>
+        requires { self.now.oldest + length self.now.findings.now < 2 ^ 64 }
+        ensures { OnOk result (text.new.items ≡ text.old.items ++ totals_from self.now.oldest self.now.findings.now) }
+    {
+        let mut abi = self.oldest;
+        for finding in self.findings {
+            push_total_under(text, abi, finding)?;
+            abi += 1;
+        }
+        Ok(())
+    }
 }
 
 /// Adds the last line of a version.
@@ -185,19 +165,6 @@ fn push_total_under(text: &mut Vec<u8>, abi: u64, finding: &Finding) -> Result<(
     ensures { OnOk result (text.new.items ≡ text.old.items ++ total_under_text abi finding.now) }
 {
     Totals::of(finding.answers()).push_under(text, abi)
-}
-
-/// Adds the last lines, one a version, of which the oldest has this number.
-fn push_totals(text: &mut Vec<u8>, oldest: u64, findings: &[Finding]) -> Result<(), AllocError>
-    requires { oldest + length findings.now < 2 ^ 64 }
-    ensures { OnOk result (text.new.items ≡ text.old.items ++ totals_from oldest findings.now) }
-{
-    let mut abi = oldest;
-    for finding in findings {
-        push_total_under(text, abi, finding)?;
-        abi += 1;
-    }
-    Ok(())
 }
 
 /// How many records some version refuses, of this many.
@@ -222,9 +189,15 @@ impl Report {
         ensures text { IfOk result (λ report. report.bytes.items ≡ rows_text shown oldest findings.now records.now) }
         ensures refused { IfOk result (λ report. report.refused ≡ refused_under_some findings.now records.now) }
     {
+        let versions = Versions {
+            alloc,
+            shown,
+            oldest,
+            findings,
+        };
         let mut bytes = Vec::new(alloc);
-        push_rows(alloc, &mut bytes, shown, oldest, findings, records)?;
-        push_totals(&mut bytes, oldest, findings)?;
+        versions.push_rows(&mut bytes, records)?;
+        versions.push_totals(&mut bytes)?;
         Ok(Report {
             bytes,
             refused: refused_under_some(findings, records.len()),

@@ -74,33 +74,6 @@ fn push_span(
     text.extend_from_slice(said)
 }
 
-/// Adds what is said under neighbouring versions, of which the oldest has this number.
-fn push_spans(
-    text: &mut Vec<u8>,
-    form: Form,
-    oldest: u64,
-    said: &[Vec<u8>],
-) -> Result<(), AllocError>
-    requires { oldest + length said.now < 2 ^ 64 }
-    ensures { OnOk result (text.new.items ≡ text.old.items
-        ++ flat_map (span_text form) (spans_of oldest (map (λ text. text.items) said.now))) }
-{
-    let Some((mut current, others)) = said.split_first() else {
-        return Ok(());
-    };
-    let mut first = oldest;
-    let mut last = oldest;
-    for other in others {
-        if current.as_slice() != other.as_slice() {
-            push_span(text, form, first, last, current)?;
-            first = last + 1;
-            current = other;
-        }
-        last += 1;
-    }
-    push_span(text, form, first, last, current)
-}
-
 /// Adds what all versions say.
 pub(crate) fn push_alone(text: &mut Vec<u8>, form: Form, said: &[u8]) -> Result<(), AllocError>
     ensures { OnOk result (text.new.items ≡ text.old.items ++ alone_text form said.now) }
@@ -111,19 +84,46 @@ pub(crate) fn push_alone(text: &mut Vec<u8>, form: Form, said: &[u8]) -> Result<
     text.extend_from_slice(said)
 }
 
-/// Adds what is said under neighbouring versions, of which the oldest has this number: once, where all say the same.
-pub(crate) fn push_versions(
-    text: &mut Vec<u8>,
-    form: Form,
-    oldest: u64,
-    said: &[Vec<u8>],
-) -> Result<(), AllocError>
-    requires { oldest + length said.now < 2 ^ 64 }
-    ensures { OnOk result (text.new.items ≡ text.old.items
-        ++ versions_text form oldest (map (λ text. text.items) said.now)) }
-{
-    match said.first() {
-        Some(first) if agree(said) => push_alone(text, form, first),
-        _ => push_spans(text, form, oldest, said),
+/// What is said under neighbouring versions, of which the oldest has this number.
+#[derive(Clone, Copy)]
+pub(crate) struct Sayings<'s> {
+    pub(crate) form: Form,
+    pub(crate) oldest: u64,
+    pub(crate) said: &'s [Vec<u8>],
+}
+
+impl<'s> Sayings<'s> {
+    /// Adds what is said, span after span.
+    fn push_spans(&self, text: &mut Vec<u8>) -> Result<(), AllocError>
+        requires { self.now.oldest + length self.now.said.now < 2 ^ 64 }
+        ensures { OnOk result (text.new.items ≡ text.old.items ++ flat_map (span_text self.now.form)
+            (spans_of self.now.oldest (map (λ text. text.items) self.now.said.now))) }
+    {
+        let Some((mut current, others)) = self.said.split_first() else {
+            return Ok(());
+        };
+        let mut first = self.oldest;
+        let mut last = self.oldest;
+        for other in others {
+            if current.as_slice() != other.as_slice() {
+                push_span(text, self.form, first, last, current)?;
+                first = last + 1;
+                current = other;
+            }
+            last += 1;
+        }
+        push_span(text, self.form, first, last, current)
+    }
+
+    /// Adds what is said: once, where all say the same.
+    pub(crate) fn push_to(&self, text: &mut Vec<u8>) -> Result<(), AllocError>
+        requires { self.now.oldest + length self.now.said.now < 2 ^ 64 }
+        ensures { OnOk result (text.new.items ≡ text.old.items
+            ++ versions_text self.now.form self.now.oldest (map (λ text. text.items) self.now.said.now)) }
+    {
+        match self.said.first() {
+            Some(first) if agree(self.said) => push_alone(text, self.form, first),
+            _ => self.push_spans(text),
+        }
     }
 }

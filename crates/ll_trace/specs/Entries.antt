@@ -28,10 +28,6 @@ unfoldable pub is_start : Op → Bool
 is_start (Start nnp admin) = true
 is_start _ = false
 
-unfoldable pub is_exit : Op → Bool
-is_exit Exit = true
-is_exit _ = false
-
 -- the pid of the process that an operation of this pid starts
 unfoldable pub pid_started : Op → ℕ → Option ℕ
 pid_started (Start nnp admin) pid = Some pid
@@ -46,10 +42,15 @@ abbrev pub is_pid : ℕ → Option ℕ → Bool
 is_pid pid None = false
 is_pid pid (Some started) = started == pid
 
--- whether an entry starts a process under a pid, or ends the one that has it
+-- whether an entry starts a process under a pid
 abbrev pub is_start_of : ℕ → Entry → Bool
 is_start_of pid entry = is_pid pid (started_pid entry)
 
+unfoldable pub is_exit : Op → Bool
+is_exit Exit = true
+is_exit _ = false
+
+-- whether an entry ends the process that has a pid
 abbrev pub is_end_of : ℕ → Entry → Bool
 is_end_of pid entry = is_exit entry.op && entry.pid == pid
 

@@ -24,7 +24,7 @@ texts_at name add whole value = do
   names ← items_at name value
   fold_texts add whole names
 
--- what is made of one to five members, if they read
+-- what is made of one, two, three or five members, if they read
 abbrev pub of_one : {A T : Type 0} → (A → T) → Result A Cause → Result T Cause
 of_one make a = a >>= λ x. Ok (make x)
 
@@ -34,8 +34,5 @@ of_two make a b = a >>= λ x. of_one (make x) b
 abbrev pub of_three : {A B C T : Type 0} → (A → B → C → T) → Result A Cause → Result B Cause → Result C Cause → Result T Cause
 of_three make a b c = a >>= λ x. of_two (make x) b c
 
-abbrev pub of_four : {A B C D T : Type 0} → (A → B → C → D → T) → Result A Cause → Result B Cause → Result C Cause → Result D Cause → Result T Cause
-of_four make a b c d = a >>= λ x. of_three (make x) b c d
-
 abbrev pub of_five : {A B C D E T : Type 0} → (A → B → C → D → E → T) → Result A Cause → Result B Cause → Result C Cause → Result D Cause → Result E Cause → Result T Cause
-of_five make a b c d e = a >>= λ x. of_four (make x) b c d e
+of_five make a b c d e = a >>= λ x. b >>= λ y. of_three (make x y) c d e

@@ -224,12 +224,12 @@ macro_rules! changes_nothing {
 /// The calls that change something, and name neither a path nor rights, as a pattern.
 macro_rules! changes_without_names {
     () => {
-        $crate::Op::Start { .. }
-            | $crate::Op::Fork { .. }
-            | $crate::Op::CreateEmpty { .. }
+        $crate::Op::CreateEmpty { .. }
             | $crate::Op::CloseRs { .. }
             | $crate::Op::Restrict { .. }
             | $crate::Op::Nnp
+            | $crate::Op::Start { .. }
+            | $crate::Op::Fork { .. }
             | $crate::Op::Adopt { .. }
             | $crate::Op::Dup { .. }
             | $crate::Op::Close { .. }

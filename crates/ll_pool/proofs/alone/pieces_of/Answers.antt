@@ -1,4 +1,4 @@
-use Rattle.std.proofs.Common.{◌≡◌, ◌++◌, ◌∷◌, [], arith}
+use Rattle.std.proofs.Common.{◌≡◌, [], arith}
 use Rattle.std.proofs.lemmas.Grind.{common_steps}
 use Rattle.ll_pool.proofs.Sharing.{shared_first, shared_more, shared_all}
 use Rattle.ll_pool.proofs.alone.pieces_of.Goals as goal
@@ -9,8 +9,7 @@ loop-job-init c = rw c.new-pieces.ensures.items (shared_first c.args.case.now c.
 pub loop-job-preserved : goal.loop-job-preserved
 loop-job-preserved c =
     let more = shared_more c.args.case.now c.loop-job.jobs.items c.pop.new.self.items c.in-Some.job c.loop-job.pieces.items c.in_ok-piece.piece c.in-Some.ensures.items c.in_ok-piece.ensures.of_case c.in_ok-piece.ensures.shares_out c.loop-job.invariant in
-    let items : c.push.new.self.items ≡ c.loop-job.pieces.items ++ c.in_ok-piece.piece ∷ [] = grind (arith, common_steps) in
-    rw items more
+    rw c.in_ok-keep.ensures more
 
 pub returns-clause-of_case : goal.returns-clause-of_case
 returns-clause-of_case c = c.loop-job.invariant.pieces_of
