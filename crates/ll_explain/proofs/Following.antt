@@ -23,9 +23,9 @@ module _ (tree : List Entry) (domain : List Layer) (trail : Trail) (o : Origins)
   same (calls.Ioctl fd driver) = ap (kept_by ioctl_dev numbers) (follows.openings fd)
   same op = refl
 
-  pub objected : (records : List Record) (made : List ℕ) (op : Op) (start text : List ℕ) → made ≡ trail.layers.items →
-      text ≡ start ++ flat_map (layer_text records made) (objections_to tree domain (followed trail) op error numbers) →
+  pub objected : (records : List Record) (op : Op) (start text : List ℕ) →
+      text ≡ start ++ flat_map (layer_text records trail.layers.items) (objections_to tree domain (followed trail) op error numbers) →
       text ≡ start ++ flat_map (layer_text records o.layers) (objections_to tree domain o op error numbers)
-  objected records made op start text is written =
-      written ∙ ap (λ (said : List (ℕ × List Objection)). start ++ flat_map (layer_text records made) said) (same op)
-      ∙ ap (λ layers. start ++ flat_map (layer_text records layers) (objections_to tree domain o op error numbers)) (is ∙ follows.layers)
+  objected records op start text written =
+      written ∙ ap (λ (said : List (ℕ × List Objection)). start ++ flat_map (layer_text records trail.layers.items) said) (same op)
+      ∙ ap (λ layers. start ++ flat_map (layer_text records layers) (objections_to tree domain o op error numbers)) follows.layers

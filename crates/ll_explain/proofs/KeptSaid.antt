@@ -10,12 +10,12 @@ use Rattle.ll_trace.specs.declared.record.Record.{Record}
 use Rattle.ll_rules.specs.LayerNumbers.{passing_upto}
 use Rattle.ll_reasons.specs.Explanations.{kept_by}
 use Rattle.ll_explain.specs.Kept.{kept_entry, kept_text}
-use Rattle.ll_explain.specs.Words.{joined, layer_head, layer_text, objection_text, word_of}
+use Rattle.ll_explain.specs.Words.{joined, layer_head, layer_text, objection_text, word_for}
 
 module _ (records : List Record) (layers : List ℕ) (right : files.FsRight) (place : ℕ) where
-  pub kept_line : (number : ℕ) → layer_text records layers (kept_entry right place number) ≡ layer_head records layers number ++ kept_text records (word_of right) place ++ codes "\n"
+  pub kept_line : (number : ℕ) → layer_text records layers (kept_entry right place number) ≡ layer_head records layers number ++ kept_text records (word_for (files.name_of right)) place ++ codes "\n"
   unfolding layer_text kept_entry kept_text objection_text joined
-  kept_line number = ap (λ text. layer_head records layers number ++ text ++ codes "\n") (append-nil (kept_text records (word_of right) place))
+  kept_line number = ap (λ text. layer_head records layers number ++ text ++ codes "\n") (append-nil (kept_text records (word_for (files.name_of right)) place))
 
   unfoldable pub lines_upto : (ℕ → Bool) → ℕ → List ℕ
   lines_upto test bound = flat_map (layer_text records layers) (map (kept_entry right place) (passing_upto test bound))

@@ -7,7 +7,7 @@ use Rattle.ll_rights.specs.Rights as files
 use Rattle.ll_rights.proofs.Sets.{fs_has-only, fs_has-united}
 use Rattle.ll_tree.specs.Paths.{Path}
 use Rattle.ll_rules.specs.Layers.{RulesOn, handles, granted}
-use Rattle.ll_rules.specs.Checks.{lacks, refusing, numbers_from}
+use Rattle.ll_rules.specs.Checks.{lacks, numbers_from, numbers_where}
 use Rattle.ll_rules.proofs.Booleans.{or_false, list_any-agree}
 use Rattle.ll_reasons.proofs.Named.{same_right}
 use Rattle.ll_explain.specs.Lacked.{lacked}
@@ -42,10 +42,10 @@ unfolding lacked
 lacked-by layer path asked one true l has is = is ∙ lacks-only layer path one ∙ ap (λ b. b && handles layer one && not (granted layer path one)) (sym has)
 lacked-by layer path asked one false l has is = ap (λ b. b && handles layer one && not (granted layer path one)) (sym has)
 
--- a domain of one layer refuses just where the layer lacks something
-pub refusing-alone : (layer : RulesOn Path) (path : Path) (wanted : Fs) → not (length (refusing (layer ∷ []) path wanted) == 0) ≡ lacks layer path wanted
+-- of one layer alone a number is found just where it passes
+pub numbers-alone : {L : Type 0} (test : L → Bool) (layer : L) → not (length (numbers_where test (layer ∷ [])) == 0) ≡ test layer
 unfolding numbers_from
-refusing-alone layer path wanted = elim (cases_Bool (lacks layer path wanted)) [
+numbers-alone test layer = elim (cases_Bool (test layer)) [
   | inl holds ↦ rw holds refl
   | inr fails ↦ rw fails refl
 ]

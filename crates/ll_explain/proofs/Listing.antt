@@ -1,10 +1,8 @@
--- Names of rights, written one after another.
-use Rattle.std.proofs.Common.{◌≡◌, ◌∙◌, ℕ, suc, ◌+◌, ◌<◌, Bool, true, false, cond, List, [], ◌∷◌, ◌++◌, length, take, map, get_or, refl, sym, ap, append_assoc, arith}
-use Rattle.std.specs.Prelude.{filter}
-use Rattle.std.specs.List.{flat_map}
-use Rattle.std.proofs.Math.Seq.{take-suc, take-length}
-use Rattle.std.proofs.lemmas.List.{append-nil}
-use Rattle.std.proofs.lemmas.List.Elements.{filter-append}
+-- Texts of the items of a list that pass a test, written one after another.
+use Rattle.std.proofs.Common.{◌≡◌, ◌∙◌, ℕ, ◌+◌, ◌<◌, ◌≤◌, Bool, true, false, cond, List, [], ◌∷◌, ◌++◌, length, map, drop, get_or, refl, sym, ap, append_assoc}
+use Rattle.std.specs.Prelude.{filter, not, ◌&&◌, ◌||◌}
+use Rattle.std.specs.List.{flat_map, list_all}
+use Rattle.std.proofs.lemmas.List.{append-nil, drop_all, drop_more}
 use Rattle.ll_explain.specs.Words.{behind, joined}
 
 -- nothing is written yet
@@ -12,77 +10,75 @@ abbrev pub is_none_yet : {A : Type 0} → List A → Bool
 is_none_yet [] = true
 is_none_yet (first ∷ more) = false
 
-flat_map-push : (separator : List ℕ) (texts : List (List ℕ)) (text : List ℕ) → flat_map (behind separator) (texts ++ text ∷ []) ≡ flat_map (behind separator) texts ++ behind separator text
-flat_map-push separator [] text = append-nil (behind separator text)
-flat_map-push separator (first ∷ more) text =
-    ap (λ t. behind separator first ++ t) (flat_map-push separator more text)
-    ∙ sym (append_assoc (behind separator first) (flat_map (behind separator) more) (behind separator text))
+module _ {X : Type 0} (test : X → Bool) (text_of : X → List ℕ) (separator : List ℕ) where
+  -- what is to be written of items, where it is the first to be written or not
+  unfoldable pub left : Bool → List X → List ℕ
+  left true items = joined separator (map text_of (filter test items))
+  left false items = flat_map (behind separator) (map text_of (filter test items))
 
--- one text more
-pub joined-push : (separator : List ℕ) (texts : List (List ℕ)) (text : List ℕ) →
-    joined separator (texts ++ text ∷ []) ≡ joined separator texts ++ cond (is_none_yet texts) text (behind separator text)
-unfolding joined
-joined-push separator [] text = append-nil text
-joined-push separator (first ∷ more) text =
-    ap (λ t. first ++ t) (flat_map-push separator more text) ∙ sym (append_assoc first (flat_map (behind separator) more) (behind separator text))
+  passed : (first : Bool) (x : X) (items : List X) → test x ≡ true → left first (x ∷ items) ≡ cond first (text_of x) (behind separator (text_of x)) ++ left false items
+  unfolding left joined
+  passed true x items is = rw is refl
+  passed false x items is = rw is refl
 
-is_none_yet-push : {A : Type 0} (xs : List A) (x : A) → is_none_yet (xs ++ x ∷ []) ≡ false
-is_none_yet-push [] x = refl
-is_none_yet-push (first ∷ more) x = refl
+  failed : (first : Bool) (x : X) (items : List X) → test x ≡ false → left first (x ∷ items) ≡ left first items
+  unfolding left
+  failed true x items is = rw is refl
+  failed false x items is = rw is refl
 
-map-push : {A B : Type 0} (f : A → B) (xs : List A) (x : A) → map f (xs ++ x ∷ []) ≡ map f xs ++ f x ∷ []
-map-push f [] x = refl
-map-push f (first ∷ more) x = ap (λ ys. f first ∷ ys) (map-push f more x)
+  next : (items : List X) (k : ℕ) (x : X) → k < length items → x ≡ get_or items k x → drop k items ≡ x ∷ drop (k + 1) items
+  next items k x there is = drop_more items k x there ∙ ap (λ y. y ∷ drop (k + 1) items) (sym is)
 
-module _ {R : Type 0} (has : R → Bool) (name : R → List ℕ) (rights : List R) (none : R) where
-  -- the names of the rights up to a place of the table
-  unfoldable pub names_upto : ℕ → List (List ℕ)
-  names_upto place = map name (filter has (take place rights))
+  -- one text more is written
+  pub written_with : (text after whole : List ℕ) (first : Bool) (items : List X) (k : ℕ) (x : X) → k < length items → x ≡ get_or items k x → test x ≡ true →
+      text ++ left first (drop k items) ≡ whole → after ≡ text ++ cond first (text_of x) (behind separator (text_of x)) → after ++ left false (drop (k + 1) items) ≡ whole
+  written_with text after whole first items k x there is passes so_far written =
+      let more = cond first (text_of x) (behind separator (text_of x)) in
+      let rest = left false (drop (k + 1) items) in
+      ap (λ t. t ++ rest) written ∙ append_assoc text more rest
+      ∙ ap (λ t. text ++ t) (sym (ap (left first) (next items k x there is) ∙ passed first x (drop (k + 1) items) passes)) ∙ so_far
 
-  pub names_upto-none : names_upto 0 ≡ []
-  unfolding names_upto
-  names_upto-none = refl
+  -- an item fails the test
+  pub written_without : (text whole : List ℕ) (first : Bool) (items : List X) (k : ℕ) (x : X) → k < length items → x ≡ get_or items k x → test x ≡ false →
+      text ++ left first (drop k items) ≡ whole → text ++ left first (drop (k + 1) items) ≡ whole
+  written_without text whole first items k x there is fails so_far =
+      ap (λ t. text ++ t) (sym (ap (left first) (next items k x there is) ∙ failed first x (drop (k + 1) items) fails)) ∙ so_far
 
-  pub names_upto-all : (count : ℕ) → length rights ≡ count → names_upto count ≡ map name (filter has rights)
-  unfolding names_upto
-  names_upto-all count counted = rw (← counted, take-length rights) refl
+  none_left : (first : Bool) → left first [] ≡ []
+  unfolding left joined
+  none_left true = refl
+  none_left false = refl
 
-  kept : (b : Bool) (x : R) → has x ≡ b → filter has (x ∷ []) ≡ cond b (x ∷ []) []
-  kept true x is = rw is refl
-  kept false x is = rw is refl
+  -- all is written
+  pub written_all : (start text : List ℕ) (first : Bool) (items : List X) (k : ℕ) → length items ≤ k → text ++ left first (drop k items) ≡ start ++ left true items →
+      text ≡ start ++ joined separator (map text_of (filter test items))
+  unfolding left
+  written_all start text first items k end is =
+      sym (append-nil text) ∙ ap (λ t. text ++ t) (sym (ap (left first) (drop_all k items end) ∙ none_left first)) ∙ is
 
-  filter-next : (place : ℕ) → place < length rights → filter has (take (suc place) rights) ≡ filter has (take place rights) ++ cond (has (get_or rights place none)) (get_or rights place none ∷ []) []
-  filter-next place there =
-      ap (filter has) (take-suc rights place none there) ∙ filter-append has (take place rights) (get_or rights place none ∷ [])
-      ∙ ap (λ xs. filter has (take place rights) ++ xs) (kept (has (get_or rights place none)) (get_or rights place none) refl)
+-- ---- sets within sets
 
-  -- a right that the set has
-  pub names_upto-with : (place : ℕ) → place < length rights → has (get_or rights place none) ≡ true → names_upto (place + 1) ≡ names_upto place ++ name (get_or rights place none) ∷ []
-  unfolding names_upto
-  names_upto-with place there is =
-      let next : place + 1 ≡ suc place = omega arith in
-      rw next (ap (map name) (filter-next place there ∙ ap (λ b. filter has (take place rights) ++ cond b (get_or rights place none ∷ []) []) is)
-      ∙ map-push name (filter has (take place rights)) (get_or rights place none))
+module _ {R : Type 0} (has whole : R → Bool) where
+  abbrev pub within : List R → Bool
+  within rights = list_all (λ right. not (has right) || whole right) rights
 
-  -- a right that it hasn't
-  pub names_upto-without : (place : ℕ) → place < length rights → has (get_or rights place none) ≡ false → names_upto (place + 1) ≡ names_upto place
-  unfolding names_upto
-  names_upto-without place there isnt =
-      let next : place + 1 ≡ suc place = omega arith in
-      rw next (ap (map name) (filter-next place there ∙ ap (λ b. filter has (take place rights) ++ cond b (get_or rights place none ∷ []) []) isnt
-      ∙ append-nil (filter has (take place rights))))
+  not_beyond : (a b all : Bool) → ((not a || b) && all) ≡ (not (a && not b) && all)
+  not_beyond true true all = refl
+  not_beyond true false all = refl
+  not_beyond false b all = refl
 
-  -- the text and the flag behind one name more
-  pub written_with : (separator : List ℕ) (place : ℕ) (start text after : List ℕ) (is_first : Bool) → place < length rights → has (get_or rights place none) ≡ true →
-      text ≡ start ++ joined separator (names_upto place) → is_first ≡ is_none_yet (names_upto place) →
-      after ≡ text ++ cond is_first (name (get_or rights place none)) (behind separator (name (get_or rights place none))) →
-      (after ≡ start ++ joined separator (names_upto (place + 1))) × (false ≡ is_none_yet (names_upto (place + 1)))
-  written_with separator place start text after is_first there is so_far first written =
-      let sofar : List (List ℕ) = names_upto place in
-      let this : List ℕ = name (get_or rights place none) in
-      let next = names_upto-with place there is in
-      let more : List ℕ = cond (is_none_yet sofar) this (behind separator this) in (
-        written ∙ (ap (λ b. text ++ cond b this (behind separator this)) first ∙ (ap (λ t. t ++ more) so_far
-            ∙ (append_assoc start (joined separator sofar) more ∙ ap (λ t. start ++ t) (sym (ap (joined separator) next ∙ joined-push separator sofar this))))),
-        sym (ap is_none_yet next ∙ is_none_yet-push sofar this),
-      )
+  here : (rights : List R) (k : ℕ) (x : R) (b : Bool) → k < length rights → x ≡ get_or rights k x → (has x && not (whole x)) ≡ b →
+      within (drop k rights) ≡ (not b && within (drop (k + 1) rights))
+  here rights k x b there is beyond =
+      ap within (drop_more rights k x there ∙ ap (λ y. y ∷ drop (k + 1) rights) (sym is))
+      ∙ not_beyond (has x) (whole x) (within (drop (k + 1) rights)) ∙ ap (λ b. not b && within (drop (k + 1) rights)) beyond
+
+  pub within_next : (rights : List R) (k : ℕ) (x : R) (all : Bool) → k < length rights → x ≡ get_or rights k x → (has x && not (whole x)) ≡ false → within (drop k rights) ≡ all →
+      within (drop (k + 1) rights) ≡ all
+  within_next rights k x all there is beyond so_far = sym (here rights k x false there is beyond) ∙ so_far
+
+  pub within_not : (rights : List R) (k : ℕ) (x : R) (all : Bool) → k < length rights → x ≡ get_or rights k x → (has x && not (whole x)) ≡ true → within (drop k rights) ≡ all → false ≡ all
+  within_not rights k x all there is beyond so_far = sym (here rights k x true there is beyond) ∙ so_far
+
+  pub within_all : (rights : List R) (k : ℕ) (all : Bool) → length rights ≤ k → within (drop k rights) ≡ all → true ≡ all
+  within_all rights k all end so_far = sym (ap within (drop_all k rights end)) ∙ so_far

@@ -10,7 +10,7 @@ use Rattle.ll_rules.specs.declared.moves.Move.{Move}
 use Rattle.ll_semantics.specs.Moves.{is_above, is_mixed, is_root, rename_into, rename_onto, rename_to, rename_move, link_to, link_move}
 use Rattle.ll_reasons.specs.Reasons.{spelt}
 use Rattle.ll_explain.specs.Moved.{IsBetween}
-use Rattle.ll_explain.proofs.PlacesNamed.{IsNamed, named}
+use Rattle.ll_explain.proofs.PlacesNamed.{Names, named}
 
 module _ (tree : List Entry) (from to : Path) where
   -- a test by which nothing may be asked
@@ -32,25 +32,25 @@ module _ (tree : List Entry) (from to : Path) where
       unless (is_root there) _ (unless (is_above tree here there) _ (unless (is_above tree there here) _
       (either exchange _ _ (record { moved = source; target = target }) (unless (is_mixed tree here there) _ (record { moved = source; target = target })))))
 
-  renamed_to : (here : NodeId) (target : Place) (exchange : Bool) → path_at tree here ≡ from → IsNamed tree to target → IfSome (rename_to tree here target exchange) (IsBetween tree from to)
+  renamed_to : (here : NodeId) (target : Place) (exchange : Bool) → path_at tree here ≡ from → Names tree to target → IfSome (rename_to tree here target exchange) (IsBetween tree from to)
   unfolding rename_to
   renamed_to here (Gap up) exchange source is = into here up exchange source (sym is)
   renamed_to here (Node there) exchange source is = onto here there exchange source (sym is)
   renamed_to here Nowhere exchange source is = tt
 
-  renamed : (source target : Place) (exchange : Bool) → IsNamed tree from source → IsNamed tree to target → IfSome (rename_move tree source target exchange) (IsBetween tree from to)
+  renamed : (source target : Place) (exchange : Bool) → Names tree from source → Names tree to target → IfSome (rename_move tree source target exchange) (IsBetween tree from to)
   unfolding rename_move
   renamed (Node here) target exchange is there = unless (is_root here) _ (renamed_to here target exchange (sym is) there)
   renamed (Gap up) target exchange is there = tt
   renamed Nowhere target exchange is there = tt
 
-  linked_to : (here : NodeId) (target : Place) → path_at tree here ≡ from → IsNamed tree to target → IfSome (link_to tree here target) (IsBetween tree from to)
+  linked_to : (here : NodeId) (target : Place) → path_at tree here ≡ from → Names tree to target → IfSome (link_to tree here target) (IsBetween tree from to)
   unfolding link_to
   linked_to here (Gap up) source is = unless (is_dir (kind_at tree here)) _ (record { moved = source; target = sym is })
   linked_to here (Node there) source is = tt
   linked_to here Nowhere source is = tt
 
-  linked : (source target : Place) → IsNamed tree from source → IsNamed tree to target → IfSome (link_move tree source target) (IsBetween tree from to)
+  linked : (source target : Place) → Names tree from source → Names tree to target → IfSome (link_move tree source target) (IsBetween tree from to)
   unfolding link_move
   linked (Node here) target is there = unless (is_root here) _ (linked_to here target (sym is) there)
   linked (Gap up) target is there = tt

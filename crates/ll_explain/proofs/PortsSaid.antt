@@ -1,6 +1,5 @@
 -- What is said of a layer by one right for a port, and by whether it handles rights for files.
-use Rattle.std.proofs.Common.{◌≡◌, ◌∙◌, ℕ, Bool, true, false, not, ◌&&◌, cond, List, [], ◌∷◌, length, refl, sym, ap, inl, inr}
-use Rattle.std.specs.Prelude.{◌==◌}
+use Rattle.std.proofs.Common.{◌≡◌, ◌∙◌, ℕ, Bool, true, false, not, ◌&&◌, cond, [], ◌∷◌, refl, sym, ap, inl, inr}
 use Rattle.std.specs.List.{list_any}
 use Rattle.std.proofs.lemmas.Bool.{cases_Bool}
 use Rattle.std.proofs.lemmas.List.Elements.{filter_agree}
@@ -8,10 +7,8 @@ use Rattle.ll_rights.specs.declared.net.Net.{Net}
 use Rattle.ll_rights.specs.Rights as files
 use Rattle.ll_rights.specs.NetRights as network
 use Rattle.ll_rights.proofs.Sets.{net_has-only}
-use Rattle.ll_rules.specs.Layers.{RulesOn, granted_on_port}
-use Rattle.ll_rules.specs.Checks.{lacks_on_port, refusing_mount, refusing_port, numbers_from}
-use Rattle.ll_tree.specs.Trees.{Entry}
-use Rattle.ll_rules.specs.InTree.{in_tree}
+use Rattle.ll_rules.specs.Layers.{granted_on_port}
+use Rattle.ll_rules.specs.Checks.{lacks_on_port}
 use Rattle.ll_rules.proofs.Booleans.{or_false, list_any-agree}
 use Rattle.ll_semantics.specs.States.{Layer}
 use Rattle.ll_reasons.specs.Objections.{closed, if_any, on_mount, on_port}
@@ -19,23 +16,6 @@ use Rattle.ll_explain.specs.Parts.{port_rights_in, said_of}
 use Rattle.ll_explain.specs.PortRights.{IsOne}
 use Rattle.ll_explain.specs.declared.parts.Part.TheVariants.{Closed, Mounting}
 use Rattle.ll_explain.proofs.Saying.{closed_said, no_port_right}
-
--- ---- a domain of one layer
-
-module _ {P : Type 0} (layer : RulesOn P) where
-  pub port-alone : (port : ℕ) (wanted : Net) → not (length (refusing_port (layer ∷ []) port wanted) == 0) ≡ lacks_on_port layer port wanted
-  unfolding numbers_from
-  port-alone port wanted = elim (cases_Bool (lacks_on_port layer port wanted)) [
-    | inl holds ↦ rw holds refl
-    | inr fails ↦ rw fails refl
-  ]
-
-  pub mount-alone : not (length (refusing_mount (layer ∷ [])) == 0) ≡ not (files.is_empty layer.handled_files)
-  unfolding numbers_from
-  mount-alone = elim (cases_Bool (not (files.is_empty layer.handled_files))) [
-    | inl holds ↦ rw holds refl
-    | inr fails ↦ rw fails refl
-  ]
 
 -- ---- one right
 
@@ -101,17 +81,11 @@ module _ (layer : Layer) (port : ℕ) (one : network.NetRight) where
       (filter_agree (network.has (cond b (network.only one) (record { 0 = 0 }))) (λ right. network.has (network.only one) right && network.has layer.handled_network right && not (granted_on_port layer port right))
       (closed_right b (sym lacks-one ∙ is)) network.all_rights)
 
-pub said_on_port : (layer : Layer) (port : ℕ) (wanted : Net) → IsOne wanted → (b : Bool) → lacks_on_port layer port wanted ≡ b → said_of (Closed (cond b wanted (record { 0 = 0 })) port ∷ []) ≡ on_port port wanted layer
+pub said_on_port : (layer : Layer) (port : ℕ) (wanted : Net) → IsOne wanted → (b : Bool) → b ≡ lacks_on_port layer port wanted → said_of (Closed (cond b wanted (record { 0 = 0 })) port ∷ []) ≡ on_port port wanted layer
 said_on_port layer port wanted one b is =
     ap (λ set. said_of (Closed (cond b set (record { 0 = 0 })) port ∷ [])) one.same
-    ∙ said_one layer port one.one b (sym (ap (lacks_on_port layer port) one.same) ∙ is)
+    ∙ said_one layer port one.one b (sym (ap (lacks_on_port layer port) one.same) ∙ sym is)
     ∙ sym (ap (λ set. on_port port set layer) one.same)
-
--- ---- layers as they are kept
-
-pub port_kept : (tree : List Entry) (kept : RulesOn ℕ) (port : ℕ) (wanted : Net) → lacks_on_port (in_tree tree kept) port wanted ≡ lacks_on_port kept port wanted
-unfolding granted_on_port
-port_kept tree kept port wanted = refl
 
 -- ---- what is mounted
 

@@ -1,10 +1,13 @@
 pub mod Words
+pub mod Tables
+pub mod Confined
 pub mod Lacked
+pub mod Named
 pub mod Parts
 pub mod PortRights
-pub mod Named
 pub mod Kept
 pub mod Followed
 pub mod Moved
 pub mod Route
+pub mod Questions
 pub mod Explained

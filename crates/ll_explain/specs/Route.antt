@@ -1,23 +1,29 @@
--- A move with the texts of the paths of its objects and directories.
+-- A move with the texts of the paths of its objects and directories, and what it asks of the two directories.
 -- Source: rename(2); link(2); path_resolution(7).
 use Rattle.std.specs.Prelude.{◌≡◌, List, IsTrue, is_some}
+use Rattle.ll_rights.specs.Rights.{FsRight, has}
 use Rattle.ll_tree.specs.Paths.{path_of}
-use Rattle.ll_tree.specs.Trees.{Entry, IsNode, path_at}
+use Rattle.ll_tree.specs.Trees.{Entry, kind_at, path_at}
+use Rattle.ll_tree.specs.TreeFacts.{IsTree}
 use Rattle.ll_rules.specs.InTree.{IsTargetIn}
-use Rattle.ll_rules.specs.Moves.{source_of, destination_of}
+use Rattle.ll_rules.specs.Moves.{asked_of_destination, asked_of_source, source_of, destination_of, kind_there}
+use Rattle.ll_reasons.specs.Objections.{one_of}
 use Rattle.ll_reasons.specs.Reasons.{spelt}
 use Rattle.ll_explain.specs.Moved.{IsTo}
+use Rattle.ll_explain.specs.Named.{IsNamed}
 use Rattle.ll_explain.specs.declared.route.Route.{Route}
 
 -- the texts are paths: of the moved object, of the name that it goes to, and of the directories of both
 pub record IsRoute (tree : List Entry) (route : Route) : Type 0 where
-  pub moved : IsNode tree route.attempt.moved
+  pub is_tree : IsTree tree
+  pub object : IsNamed tree route.object
+  pub moved : route.object.node ≡ route.attempt.moved
   pub target : IsTargetIn tree route.attempt.target
-  pub from_shape : IsTrue (is_some (path_of route.from.now))
-  pub from : spelt route.from.now ≡ path_at tree route.attempt.moved
   pub to_shape : IsTrue (is_some (path_of route.to.now))
   pub to : IsTo tree (spelt route.to.now) route.attempt.target
-  pub source_shape : IsTrue (is_some (path_of route.source.now))
-  pub source : spelt route.source.now ≡ source_of tree route.attempt
-  pub destination_shape : IsTrue (is_some (path_of route.destination.now))
-  pub destination : spelt route.destination.now ≡ destination_of tree route.attempt.target
+  pub source : IsNamed tree route.source
+  pub from : path_at tree route.source.node ≡ source_of tree route.attempt
+  pub leaving : (right : FsRight) → has route.leaving right ≡ one_of (asked_of_source route.attempt.how (kind_at tree route.attempt.moved) (kind_there tree route.attempt.target)) right
+  pub destination : IsNamed tree route.destination
+  pub into : path_at tree route.destination.node ≡ destination_of tree route.attempt.target
+  pub entering : (right : FsRight) → has route.entering right ≡ one_of (asked_of_destination (kind_at tree route.attempt.moved) (kind_there tree route.attempt.target)) right

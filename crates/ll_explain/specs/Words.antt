@@ -31,20 +31,19 @@ unfoldable pub path_text : Path → List ℕ
 path_text path = escape (text_of path)
 
 -- the word for a right: its name, or one word for all that have none
-abbrev pub word_of : files.FsRight → List ℕ
-word_of files.other = codes "a right of another name"
-word_of right = files.name_of right
+abbrev pub word_for : List ℕ → List ℕ
+word_for [] = codes "a right of another name"
+word_for (first ∷ more) = first ∷ more
 
-abbrev pub port_word_of : network.NetRight → List ℕ
-port_word_of network.other = codes "a right of another name"
-port_word_of right = network.name_of right
+-- rights by their words, separated by commas
+unfoldable pub listed : {R : Type 0} → (R → List ℕ) → List R → List ℕ
+listed name_of rights = joined (codes ", ") (map (λ right. word_for (name_of right)) rights)
 
--- rights, separated by commas
-unfoldable pub rights_text : List files.FsRight → List ℕ
-rights_text rights = joined (codes ", ") (map word_of rights)
+abbrev pub rights_text : List files.FsRight → List ℕ
+rights_text rights = listed files.name_of rights
 
-unfoldable pub port_rights_text : List network.NetRight → List ℕ
-port_rights_text rights = joined (codes ", ") (map port_word_of rights)
+abbrev pub port_rights_text : List network.NetRight → List ℕ
+port_rights_text rights = listed network.name_of rights
 
 -- ---- objections
 
@@ -67,7 +66,7 @@ objection_text records (closed rights port) = port_rights_text rights ++ codes "
 objection_text records (gained object rights directory) = path_text object ++ codes " would gain " ++ rights_text rights ++ codes " in " ++ path_text directory
 objection_text records mounting = codes "it handles rights for files"
 objection_text records (kept right place) =
-    word_of right ++ codes " on " ++ escape (path_opened (slice_get records place)) ++ codes ", opened at line " ++ decimal (line_of (slice_get records place))
+    word_for (files.name_of right) ++ codes " on " ++ escape (path_opened (slice_get records place)) ++ codes ", opened at line " ++ decimal (line_of (slice_get records place))
 
 -- a layer by its number, with the line of the record that made it, and what it objects to
 unfoldable pub layer_head : List Record → List ℕ → ℕ → List ℕ

@@ -1,21 +1,21 @@
 //! The lines for calls that descriptors decide: what was missing when they were opened.
 
 ghost use Rattle.std.specs.Prelude.{◌≡◌, ◌++◌, ◌<◌, OnOk, Some, slice_get};
-ghost use Rattle.std.specs.List.{flat_map};
 ghost use Rattle.json.specs.Print.{escape};
 ghost use Rattle.ll_rights.specs.CodeRights.{fs_right};
 ghost use Rattle.ll_reasons.specs.Explanations.{kept_by};
 ghost use Rattle.ll_trails.specs.Opened.{opened};
 ghost use Rattle.ll_explain.specs.Kept.{kept_entry, kept_text};
+ghost use Rattle.ll_explain.specs.Confined.{lines};
 ghost use Rattle.ll_explain.specs.Words.{layer_text, line_of, path_opened};
 
-use crate::layers::push_head;
-use crate::rights::file_right_word;
+use crate::confinement::Confinement;
+use crate::parts::push_head;
+use crate::rights::word_for;
 use crate::words::{push_escaped, push_number};
 use ll_rights::FsRight;
 use ll_rules::LayerSet;
 use ll_trace::{Op, Record};
-use ll_trails::Trail;
 use std::alloc::AllocError;
 
 /// Adds the path that the record at a place opens, if it opens one.
@@ -59,43 +59,40 @@ fn push_opened(
     Ok(())
 }
 
-/// Adds the line of a layer under which a right was missing when the record at a place of the
-/// trace opened a file.
+/// Adds the line of a layer under which a right was missing when the record at a place of the trace opened a file.
 fn push_kept_line(
     text: &mut Vec<u8>,
-    records: &[Record],
-    restricts: &[u32],
+    of: &Confinement,
     number: u64,
     right: FsRight,
     place: u32,
 ) -> Result<(), AllocError>
     requires number { 0 < number }
-    ensures { OnOk result (text.new.items ≡ text.old.items ++ layer_text records.now restricts.now (kept_entry (fs_right right) place number)) }
+    ensures { OnOk result (text.new.items ≡ text.old.items ++ layer_text of.now.records.now of.now.trail.now.layers.items (kept_entry (fs_right right) place number)) }
 {
-    push_head(text, records, restricts, number)?;
-    push_opened(text, records, file_right_word(right), place)?;
+    push_head(text, of, number)?;
+    push_opened(text, of.records, word_for(right.name()), place)?;
     text.push(b'\n')?;
     Ok(())
 }
 
-/// Adds the lines of some layers under which a right was missing when the record at a place of
-/// the trace opened a file.
+/// Adds the lines of some layers under which a right was missing when the record at a place of the trace opened a
+/// file.
 fn push_kept_lines(
     text: &mut Vec<u8>,
-    records: &[Record],
-    restricts: &[u32],
+    of: &Confinement,
     right: FsRight,
     numbers: LayerSet,
     place: u32,
 ) -> Result<(), AllocError>
-    ensures { OnOk result (text.new.items ≡ text.old.items ++ flat_map (layer_text records.now restricts.now) (kept_by (fs_right right) numbers (Some place))) }
+    ensures { OnOk result (text.new.items ≡ text.old.items ++ lines of.now (kept_by (fs_right right) numbers (Some place))) }
 {
     if numbers.is_empty() {
         return Ok(());
     }
     for index in 0..16 {
         if numbers.has(index + 1) {
-            push_kept_line(text, records, restricts, index as u64 + 1, right, place)?;
+            push_kept_line(text, of, index as u64 + 1, right, place)?;
         }
     }
     Ok(())
@@ -104,23 +101,15 @@ fn push_kept_lines(
 /// Adds the lines for a call on a descriptor that some layers refuse, by the record that opened it.
 pub(crate) fn push_kept(
     text: &mut Vec<u8>,
-    records: &[Record],
-    trail: &Trail,
+    of: &Confinement,
     right: FsRight,
     numbers: LayerSet,
     fd: u64,
 ) -> Result<(), AllocError>
-    ensures { OnOk result (text.new.items ≡ text.old.items ++ flat_map (layer_text records.now trail.now.layers.items) (kept_by (fs_right right) numbers (opened trail.now.openings fd))) }
+    ensures { OnOk result (text.new.items ≡ text.old.items ++ lines of.now (kept_by (fs_right right) numbers (opened of.now.trail.now.openings fd))) }
 {
-    match trail.openings.get(fd) {
+    match of.trail.openings.get(fd) {
         None => Ok(()),
-        Some(place) => push_kept_lines(
-            text,
-            records,
-            trail.layers.as_slice(),
-            right,
-            numbers,
-            place,
-        ),
+        Some(place) => push_kept_lines(text, of, right, numbers, place),
     }
 }

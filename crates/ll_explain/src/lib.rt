@@ -1,22 +1,23 @@
 //! Says why calls are refused or not asked, record after record of a trace that was judged.
 #![tactic(auto)]
 
-mod asked;
 mod conditions;
+mod confinement;
 mod explanation;
-mod gains;
 mod kept;
 mod laws;
 mod layers;
 mod missing;
 mod mootness;
 mod moved;
+mod named;
 mod objections;
 mod parts;
 mod ports;
 mod reasons;
 mod rights;
 mod route;
+mod wants;
 mod words;
 
 pub use explanation::push_explanation;

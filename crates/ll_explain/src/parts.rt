@@ -1,17 +1,23 @@
 //! What is said of one layer.
 
-ghost use Rattle.std.specs.Prelude.{◌≡◌, ◌++◌, ◌<◌, All, IsTrue, OnOk, codes, decimal, if◌then◌else◌, is_some, map, filter};
-ghost use Rattle.std.specs.List.{flat_map, list_any};
+ghost use Rattle.std.specs.Prelude.{◌≡◌, ◌++◌, ◌<◌, ◌-◌, ◌∷◌, [], All, IsTrue, OnOk, codes, decimal, if◌then◌else◌, is_some, map, filter, option_and_then, slice_get};
+ghost use Rattle.std.specs.List.{list_any};
+ghost use Rattle.ll_rights.specs.Rights as files;
 ghost use Rattle.ll_tree.specs.Paths.{path_of};
-ghost use Rattle.ll_reasons.specs.Objections.{of_layer};
+ghost use Rattle.ll_tree.specs.Trees.{path_at};
+ghost use Rattle.ll_reasons.specs.Objections.{of_layer, on_path};
 ghost use Rattle.ll_reasons.specs.Reasons.{spelt};
+ghost use Rattle.ll_explain.specs.Confined.{lines, rules_of};
+ghost use Rattle.ll_explain.specs.Named.{IsNamed};
 ghost use Rattle.ll_explain.specs.Parts.{IsSpelt, is_said, objection_of, part_text, port_rights_in, rights_in, said_of};
-ghost use Rattle.ll_explain.specs.Words.{behind, joined, layer_text, path_text, port_rights_text, rights_text};
+ghost use Rattle.ll_explain.specs.Words.{behind, joined, layer_head, line_of, path_text, port_rights_text, rights_text};
 
-use crate::layers::push_head;
+use crate::confinement::{Confinement, OneLayer};
+use crate::missing::{Test, passing};
+use crate::named::NamedNode;
 use crate::reasons::push_path;
-use crate::rights::{push_port_rights_beyond, push_rights_beyond};
-use crate::words::push_number;
+use crate::rights::push_beyond;
+use crate::words::{push_number, push_numbered};
 use ll_rights::{Fs, Net};
 use ll_trace::Record;
 use std::alloc::AllocError;
@@ -59,7 +65,7 @@ impl<'p> Part<'p> {
 fn push_rights(text: &mut Vec<u8>, rights: Fs) -> Result<(), AllocError>
     ensures { OnOk result (text.new.items ≡ text.old.items ++ rights_text (rights_in rights)) }
 {
-    push_rights_beyond(text, rights, Fs::NONE)?;
+    push_beyond(text, rights, Fs::NONE)?;
     Ok(())
 }
 
@@ -67,7 +73,7 @@ fn push_rights(text: &mut Vec<u8>, rights: Fs) -> Result<(), AllocError>
 fn push_port_rights(text: &mut Vec<u8>, rights: Net) -> Result<(), AllocError>
     ensures { OnOk result (text.new.items ≡ text.old.items ++ port_rights_text (port_rights_in rights)) }
 {
-    push_port_rights_beyond(text, rights, Net::NONE)?;
+    push_beyond(text, rights, Net::NONE)?;
     Ok(())
 }
 
@@ -164,22 +170,65 @@ fn some_said(parts: &[Part]) -> bool
     parts.iter().any(Part::is_said)
 }
 
+/// What a layer lacks of rights on a node.
+pub(crate) fn part_on_path<'p>(layer: &OneLayer, named: NamedNode<'p>, asked: Fs) -> Part<'p>
+    requires { IsNamed layer.now.of.tree.now named }
+    ensures said { said_of (result ∷ []) ≡ on_path (path_at layer.now.of.tree.now named.entry.node) (files.has asked) (rules_of layer.now) }
+    ensures spelt { IsSpelt result }
+{
+    let test = Test::Lacking {
+        node: named.node,
+        asked,
+    };
+    Part::Missing {
+        rights: passing(layer, test),
+        path: named.path,
+    }
+}
+
+/// The line of the record that made a layer, or 0 where there is none.
+fn line_at(records: &[Record], layers: &[u32], number: u64) -> u64
+    requires { 0 < number }
+    ensures { result ≡ line_of (option_and_then (slice_get records.now) (slice_get layers.now (number - 1))) }
+{
+    match layers.get(number as usize - 1) {
+        None => 0,
+        Some(place) => match records.get(*place as usize) {
+            None => 0,
+            Some(record) => record.line,
+        },
+    }
+}
+
+/// Begins the line of a layer, which says where the layer comes from.
+pub(crate) fn push_head(
+    text: &mut Vec<u8>,
+    of: &Confinement,
+    number: u64,
+) -> Result<(), AllocError>
+    requires { 0 < number }
+    ensures { OnOk result (text.new.items ≡ text.old.items ++ layer_head of.now.records.now of.now.trail.now.layers.items number) }
+{
+    push_numbered(text, "    layer ", number, " (line ")?;
+    let line = line_at(of.records, of.trail.layers.as_slice(), number);
+    push_number(text, line)?;
+    text.extend_from_slice(b"): ")?;
+    Ok(())
+}
+
 /// Adds the line of a layer, where something is said of it.
 pub(crate) fn push_line(
     text: &mut Vec<u8>,
-    records: &[Record],
-    restricts: &[u32],
-    number: u64,
+    layer: &OneLayer,
     parts: &[Part],
 ) -> Result<(), AllocError>
-    requires number { 0 < number }
-    requires spelt { All IsSpelt parts.now }
-    ensures { OnOk result (text.new.items ≡ text.old.items ++ flat_map (layer_text records.now restricts.now) (of_layer number (said_of parts.now))) }
+    requires { All IsSpelt parts.now }
+    ensures { OnOk result (text.new.items ≡ text.old.items ++ lines layer.now.of (of_layer layer.now.number (said_of parts.now))) }
 {
     if !some_said(parts) {
         return Ok(());
     }
-    push_head(text, records, restricts, number)?;
+    push_head(text, &layer.of, layer.number)?;
     push_parts(text, parts)?;
     text.push(b'\n')?;
     Ok(())

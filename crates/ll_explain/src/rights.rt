@@ -1,49 +1,121 @@
-//! The names of the rights of a set.
+//! The names of the rights of a set, for files and for ports alike.
 
-ghost use Rattle.std.specs.Prelude.{◌≡◌, ◌++◌, ◌&&◌, not, OnOk, codes, if◌then◌else◌};
+ghost use Rattle.std.specs.Prelude.{◌≡◌, ◌++◌, ◌&&◌, ◌||◌, ℕ, Bool, List, not, OnOk, codes, filter, map, if◌then◌else◌};
+ghost use Rattle.std.specs.List.{list_all};
 ghost use Rattle.ll_rights.specs.CodeRights.{fs_right, net_right};
 ghost use Rattle.ll_rights.specs.Rights as files;
 ghost use Rattle.ll_rights.specs.NetRights as network;
 ghost use Rattle.ll_reasons.specs.Conditions.{port_rights_beyond, rights_beyond};
-ghost use Rattle.ll_explain.specs.Words.{behind, port_rights_text, port_word_of, rights_text, word_of};
+ghost use Rattle.ll_explain.specs.Tables.{files_within, listed_alike, ports_within};
+ghost use Rattle.ll_explain.specs.Words.{behind, listed, port_rights_text, rights_text, word_for};
 
 use ll_rights::{Fs, FsRight, Net, NetRight};
 use std::alloc::AllocError;
 
-/// The word for all rights that have no name.
-const OTHER: &str = "a right of another name";
+/// A set of access rights, for files or for ports.
+pub(crate) trait RightSet: Copy {
+    /// A right of the set's table.
+    type Right: Copy + 'static;
 
-/// Whether a set has a right, and another hasn't.
-fn is_beyond(rights: Fs, whole: Fs, right: FsRight) -> bool
-    ensures { result ≡ (files.has rights (fs_right right) && not (files.has whole (fs_right right))) }
-{
-    rights.has(right) && !whole.has(right)
+    ghost is_table: { List Self.Right → Type 0 };
+
+    ghost has: { Self → Self.Right → Bool };
+
+    ghost name: { Self.Right → List ℕ };
+
+    ghost beyond_text: { Self → Self → List ℕ };
+
+    ghost is_within: { Self → Self → Bool };
+
+    /// All rights, in the order of the table.
+    fn all() -> &'static [Self::Right]
+        ensures { is_table result.now };
+
+    /// Whether the set has a right.
+    fn has(self, right: Self::Right) -> bool
+        ensures { result ≡ has self right };
+
+    /// The name of a right, which is empty where it has none.
+    fn name(right: Self::Right) -> &'static str
+        ensures { result.now ≡ name right };
+
+    ghost named: { (all : List Self.Right) → is_table all → (set whole : Self)
+        → listed name (filter (λ right. has set right && not (has whole right)) all) ≡ beyond_text set whole };
+
+    ghost tested: { (all : List Self.Right) → is_table all → (set whole : Self)
+        → list_all (λ right. not (has set right) || has whole right) all ≡ is_within set whole };
 }
 
-/// Whether a set has a right for ports, and another hasn't.
-fn is_beyond_on_ports(rights: Net, whole: Net, right: NetRight) -> bool
-    ensures { result ≡ (network.has rights (net_right right) && not (network.has whole (net_right right))) }
-{
-    rights.has(right) && !whole.has(right)
-}
+impl RightSet for Fs {
+    type Right = FsRight;
 
-/// The word for a right.
-pub(crate) fn file_right_word(right: FsRight) -> &'static str
-    ensures { result.now ≡ word_of (fs_right right) }
-{
-    match right {
-        FsRight::Other => OTHER,
-        _ => right.name(),
+    ghost is_table = { λ rights. map fs_right rights ≡ files.all_rights };
+
+    ghost has = { λ set right. files.has set (fs_right right) };
+
+    ghost name = { λ right. files.name_of (fs_right right) };
+
+    ghost beyond_text = { λ set whole. rights_text (rights_beyond set whole) };
+
+    ghost is_within = { files.is_within };
+
+    ghost named = { λ all table set whole. listed_alike fs_right files.name_of files.all_rights all table
+        (λ right. files.has set right && not (files.has whole right)) };
+
+    ghost tested = { files_within };
+
+    fn all() -> &'static [FsRight] {
+        FsRight::all()
+    }
+
+    fn has(self, right: FsRight) -> bool {
+        Fs::has(self, right)
+    }
+
+    fn name(right: FsRight) -> &'static str {
+        right.name()
     }
 }
 
-/// The word for a right for ports.
-fn port_right_word(right: NetRight) -> &'static str
-    ensures { result.now ≡ port_word_of (net_right right) }
+impl RightSet for Net {
+    type Right = NetRight;
+
+    ghost is_table = { λ rights. map net_right rights ≡ network.all_rights };
+
+    ghost has = { λ set right. network.has set (net_right right) };
+
+    ghost name = { λ right. network.name_of (net_right right) };
+
+    ghost beyond_text = { λ set whole. port_rights_text (port_rights_beyond set whole) };
+
+    ghost is_within = { network.is_within };
+
+    ghost named = { λ all table set whole. listed_alike net_right network.name_of network.all_rights all table
+        (λ right. network.has set right && not (network.has whole right)) };
+
+    ghost tested = { ports_within };
+
+    fn all() -> &'static [NetRight] {
+        NetRight::all()
+    }
+
+    fn has(self, right: NetRight) -> bool {
+        Net::has(self, right)
+    }
+
+    fn name(right: NetRight) -> &'static str {
+        right.name()
+    }
+}
+
+/// The word for a right by its name, which may be empty.
+pub(crate) fn word_for(name: &str) -> &str
+    ensures { result.now ≡ word_for name.now }
 {
-    match right {
-        NetRight::Other => OTHER,
-        _ => right.name(),
+    if name.is_empty() {
+        "a right of another name"
+    } else {
+        name
     }
 }
 
@@ -58,38 +130,25 @@ fn push_name(text: &mut Vec<u8>, name: &str, is_first: bool) -> Result<(), Alloc
     text.extend_from_slice(name.as_bytes())
 }
 
-/// Adds the names of the rights that a set has and another hasn't, in the order of the table.
-#[tactic(auto, unfolding(crate::specs::Words::rights_text))]
-pub(crate) fn push_rights_beyond(
-    text: &mut Vec<u8>,
-    rights: Fs,
-    whole: Fs,
-) -> Result<(), AllocError>
-    ensures { OnOk result (text.new.items ≡ text.old.items ++ rights_text (rights_beyond rights whole)) }
+/// Whether a set has a right, and another hasn't.
+fn is_beyond<S: RightSet>(rights: S, whole: S, right: S::Right) -> bool
+    ensures { result ≡ (S.has rights right && not (S.has whole right)) }
 {
-    let mut is_first = true;
-    for right in FsRight::all() {
-        if is_beyond(rights, whole, *right) {
-            push_name(text, file_right_word(*right), is_first)?;
-            is_first = false;
-        }
-    }
-    Ok(())
+    rights.has(right) && !whole.has(right)
 }
 
-/// Adds the names of the rights for ports that a set has and another hasn't, in the order of the table.
-#[tactic(auto, unfolding(crate::specs::Words::port_rights_text))]
-pub(crate) fn push_port_rights_beyond(
+/// Adds the names of the rights that a set has and another hasn't, in the order of the table.
+pub(crate) fn push_beyond<S: RightSet>(
     text: &mut Vec<u8>,
-    rights: Net,
-    whole: Net,
+    rights: S,
+    whole: S,
 ) -> Result<(), AllocError>
-    ensures { OnOk result (text.new.items ≡ text.old.items ++ port_rights_text (port_rights_beyond rights whole)) }
+    ensures { OnOk result (text.new.items ≡ text.old.items ++ S.beyond_text rights whole) }
 {
     let mut is_first = true;
-    for right in NetRight::all() {
-        if is_beyond_on_ports(rights, whole, *right) {
-            push_name(text, port_right_word(*right), is_first)?;
+    for right in S::all() {
+        if is_beyond(rights, whole, *right) {
+            push_name(text, word_for(S::name(*right)), is_first)?;
             is_first = false;
         }
     }
@@ -97,23 +156,11 @@ pub(crate) fn push_port_rights_beyond(
 }
 
 /// Whether each right of a set is one of `whole`.
-pub(crate) fn is_within(rights: Fs, whole: Fs) -> bool
-    ensures { result ≡ files.is_within rights whole }
+pub(crate) fn is_within<S: RightSet>(rights: S, whole: S) -> bool
+    ensures { result ≡ S.is_within rights whole }
 {
-    for right in FsRight::all() {
+    for right in S::all() {
         if is_beyond(rights, whole, *right) {
-            return false;
-        }
-    }
-    true
-}
-
-/// Whether each right for ports of a set is one of `whole`.
-pub(crate) fn is_within_on_ports(rights: Net, whole: Net) -> bool
-    ensures { result ≡ network.is_within rights whole }
-{
-    for right in NetRight::all() {
-        if is_beyond_on_ports(rights, whole, *right) {
             return false;
         }
     }

@@ -9,4 +9,4 @@ use Rattle.ll_explain.proofs.conditions.push_only_for_directories.Goals as goal
 pub returns : goal.returns
 unfolding condition_text
 returns c = appended_3 c.args.text.now.items _ _ _ _ _ _ c.in_ok-push_escaped.ensures c.in_ok-extend_from_slice.ensures.items
-    (c.in_ok-push_rights_beyond.ensures ∙ ap (λ rights. c.extend_from_slice.new.self.items ++ rights_text rights) (directory_beyond c.args.rights FILE is_file))
+    (c.in_ok-push_beyond.ensures ∙ ap (λ rights. c.extend_from_slice.new.self.items ++ rights_text rights) (directory_beyond c.args.rights FILE is_file))

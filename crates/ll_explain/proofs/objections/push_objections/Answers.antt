@@ -6,4 +6,4 @@ use Rattle.ll_explain.proofs.objections.push_objections.Goals as goal
 pub returns : goal.returns
 returns c = λ o follows.
     objected c.args.tree.now (all_in_tree c.args.tree.now (domain_of c.args.layers.now c.args.domain.now)) c.args.trail.now o follows c.args.error c.args.numbers
-    c.args.records.now c.as_slice.result.now c.args.op.now c.args.text.now.items _ c.as_slice.ensures.value c.in_ok-push_call.ensures
+    c.args.records.now c.args.op.now c.args.text.now.items _ c.in_ok-push_call.ensures

@@ -1,12 +1,9 @@
-use Rattle.std.proofs.Common.{◌≡◌, ◌++◌, false, codes}
+use Rattle.std.proofs.Common.{◌≡◌, ◌++◌, codes, drop, true}
 use Rattle.ll_explain.specs.Parts.{is_said, part_text}
-use Rattle.ll_explain.specs.Words.{joined}
-use Rattle.ll_explain.specs.declared.parts.Part.TheVariants.{Mounting}
-use Rattle.ll_explain.proofs.Listing.{is_none_yet, names_upto}
+use Rattle.ll_explain.proofs.Listing.{left}
 use Rattle.ll_explain.proofs.parts.push_parts.Given as goal
 
--- the parts before the next one are said
+-- what is said and what is left make the whole
 abbrev pub invariant-loop-part : goal.invariant-loop-part
 invariant-loop-part l =
-    (l.text.items ≡ l.fn.text.items ++ joined (codes "; ") (names_upto is_said part_text l.parts (Mounting false) l.part-index))
-    × (l.is_first ≡ is_none_yet (names_upto is_said part_text l.parts (Mounting false) l.part-index))
+    l.text.items ++ left is_said part_text (codes "; ") l.is_first (drop l.part-index l.parts) ≡ l.fn.text.items ++ left is_said part_text (codes "; ") true l.parts

@@ -1,13 +1,15 @@
-use Rattle.std.proofs.Common.{◌≡◌, ◌∙◌, ◌++◌, ◌∷◌, [], length, not, ap}
+use Rattle.std.proofs.Common.{◌∙◌, ℕ, length, not, ap}
 use Rattle.std.specs.Prelude.{◌==◌}
-use Rattle.ll_rules.specs.Checks.{refusing_port}
+use Rattle.ll_rules.specs.Checks.{lacks_on_port, refusing_port}
+use Rattle.ll_rules.specs.Layers.{RulesOn, granted_on_port}
 use Rattle.ll_rules.specs.KeptLayers.{domain_of, layer_at}
-use Rattle.ll_explain.proofs.PortsSaid.{port-alone}
+use Rattle.ll_explain.proofs.Lacking.{numbers-alone}
 use Rattle.ll_explain.proofs.ports.lacks_on_port.Goals as goal
 
 pub returns : goal.returns
+unfolding granted_on_port
 returns c =
-    let alone : c.push.new.self ≡ c.args.id ∷ [] = c.in-Ok.ensures.ok ∙ ap (λ ids. ids ++ c.args.id ∷ []) c.new-alone.ensures in
+    let layers = c.args.layer.now.of.layers.now in
     ap not (c.is_empty.ensures.empty
-    ∙ ap (λ numbers. length numbers == 0) (c.check_port.ensures ∙ ap (λ ids. refusing_port (domain_of c.args.layers.now ids) c.args.port c.args.rights) alone))
-    ∙ port-alone (layer_at c.args.layers.now c.args.id) c.args.port c.args.rights
+    ∙ ap (λ numbers. length numbers == 0) (c.check_port.ensures ∙ ap (λ ids. refusing_port (domain_of layers ids) c.args.port c.args.rights) c.alone.ensures))
+    ∙ numbers-alone (λ (layer : RulesOn ℕ). lacks_on_port layer c.args.port c.args.rights) (layer_at layers c.args.layer.now.id)

@@ -1,8 +1,9 @@
-use Rattle.std.proofs.Common.{◌≡◌, ◌<◌, ℕ, false}
-use Rattle.ll_rights.specs.Rights as files
-use Rattle.ll_explain.proofs.RightPlaces.{is_beyond}
+use Rattle.std.proofs.Common.{◌≡◌, drop}
+use Rattle.ll_explain.proofs.Listing.{within}
 use Rattle.ll_explain.proofs.rights.is_within.Given as goal
 
--- no right before the place is beyond the whole
+-- what is left decides
 abbrev pub invariant-loop-right : goal.invariant-loop-right
-invariant-loop-right l = (k : ℕ) → k < l.right-index → is_beyond files.other (files.has l.rights) (files.has l.whole) files.all_rights k ≡ false
+invariant-loop-right g l =
+    let has = g.S.RightSet.has in
+    within (has l.rights) (has l.whole) (drop l.right-index l.right-items) ≡ within (has l.rights) (has l.whole) l.right-items

@@ -1,0 +1,24 @@
+use Rattle.std.proofs.Common.{◌∙◌, ◌++◌, ◌&&◌, not, codes, cond, drop, ap, sym}
+use Rattle.std.specs.Prelude.{filter}
+use Rattle.ll_explain.specs.Words.{behind, listed, word_for}
+use Rattle.ll_explain.proofs.Listing.{written_all, written_with, written_without}
+use Rattle.ll_explain.proofs.rights.push_beyond.Goals as goal
+use Rattle.ll_explain.proofs.rights.push_beyond.Goals.{then-is_beyond+in_ok-push_name, else-is_beyond}
+
+pub loop-right-preserved : goal.loop-right-preserved
+loop-right-preserved g c =
+    let set = g.S.RightSet in
+    let place = c.loop-right.right-index in
+    elim c.if-is_beyond.branch [
+      | then-is_beyond+in_ok-push_name w ↦ rw (w.text-is, w.is_first-is) (written_with _ _ (codes ", ") c.loop-right.text.items _ _ c.loop-right.is_first _ place c.right-item.result
+          c.loop-right-test.true c.right-item.is (sym c.is_beyond.ensures ∙ w.if-is_beyond.true) c.loop-right.invariant
+          (w.in_ok-push_name.ensures ∙ ap (λ name. c.loop-right.text.items ++ cond c.loop-right.is_first name (behind (codes ", ") name)) (w.word_for.ensures ∙ ap word_for w.name.ensures)))
+      | else-is_beyond w ↦ rw (w.text-is, w.is_first-is) (written_without _ _ (codes ", ") c.loop-right.text.items _ c.loop-right.is_first _ place c.right-item.result
+          c.loop-right-test.true c.right-item.is (sym c.is_beyond.ensures ∙ w.if-is_beyond.false) c.loop-right.invariant)
+    ]
+
+pub returns : goal.returns
+unfolding listed
+returns g c =
+    written_all _ _ (codes ", ") c.args.text.now.items c.loop-right.text.items c.loop-right.is_first c.all-right-items.result.now c.loop-right.right-index c.loop-right-test.false c.loop-right.invariant
+    ∙ ap (λ names. c.args.text.now.items ++ names) (g.met.S.RightSet.named c.all-right-items.result.now c.all-right-items.ensures c.args.rights c.args.whole)

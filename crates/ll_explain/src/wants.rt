@@ -1,0 +1,36 @@
+//! The lines for calls that want something at a path.
+
+ghost use Rattle.std.specs.Prelude.{◌≡◌, ◌++◌, OnOk};
+ghost use Rattle.ll_tree.specs.Trees.{place};
+ghost use Rattle.ll_semantics.specs.Requests.{asks};
+ghost use Rattle.ll_reasons.specs.Objections.{to_request};
+ghost use Rattle.ll_explain.specs.Confined.{lines, stacked};
+
+use crate::confinement::Confinement;
+use crate::layers::{Question, push_asked};
+use crate::named::{NamedNode, text_for};
+use ll_semantics::Wanted;
+use ll_state::{asks, place_of};
+use ll_trace::PathText;
+use std::alloc::AllocError;
+
+/// Adds the lines for what a call wants at a path.
+#[tactic(auto, unfolding(ll_reasons::specs::Objections::to_request))]
+pub(crate) fn push_wanted(
+    text: &mut Vec<u8>,
+    of: &Confinement,
+    path: &PathText,
+    wanted: Wanted,
+) -> Result<(), AllocError>
+    ensures { OnOk result (text.new.items ≡ text.old.items ++ lines of.now (to_request of.now.tree.now (stacked of.now) (asks of.now.tree.now (place of.now.tree.now path.now) wanted))) }
+{
+    let place = place_of(of.tree, path, None);
+    let Some(request) = asks(of.tree, place, wanted) else {
+        return Ok(());
+    };
+    let asked = NamedNode {
+        node: request.node,
+        path: text_for(place, wanted, path),
+    };
+    push_asked(text, of, &Question::OnNode(asked, request.rights))
+}
