@@ -6,8 +6,8 @@ use Rattle.std.specs.List.{list_all}
 use Rattle.ll_rights.specs.CodeRights.{fs_right, net_right}
 use Rattle.ll_rights.specs.declared.fs.Fs.{Fs}
 use Rattle.ll_rights.specs.declared.net.Net.{Net}
-use Rattle.ll_rights.specs.declared.right.FsRight.{FsRight}
-use Rattle.ll_rights.specs.declared.right.NetRight.{NetRight}
+use Rattle.ll_rights.specs.declared.fs.FsRight.{FsRight}
+use Rattle.ll_rights.specs.declared.net.NetRight.{NetRight}
 use Rattle.ll_rights.specs.Rights as files
 use Rattle.ll_rights.specs.NetRights as network
 use Rattle.ll_explain.specs.Words.{joined, listed, word_for}

@@ -1,5 +1,5 @@
 use Rattle.std.proofs.Common.{◌≡◌, ◌<◌, ◌∙◌, length, get_or, ap, sym, arith}
-use Rattle.ll_rights.specs.declared.right.FsRight.TheVariants as code
+use Rattle.ll_rights.specs.declared.fs.FsRight.TheVariants as code
 use Rattle.ll_rights.specs.CodeRights.{fs_right}
 use Rattle.ll_rights.specs.Rights as files
 use Rattle.ll_explain.specs.Confined.{rules_of}
