@@ -19,8 +19,7 @@ use Rattle.ll_tree.specs.Trees.{Entry, IsNode, path_at}
 use Rattle.ll_tree.specs.TreeFacts.{IsPlace}
 use Rattle.ll_rules.specs.Layers.{RulesOn, with_file_rule, granted_on_port, without_rules}
 use Rattle.ll_rules.specs.KeptLayers.{SameRules, granted_on, granted_on_node, GrantsOn}
-use Rattle.ll_rules.specs.InTree.{in_tree, rule_on_path, node, AreInTree}
-use Rattle.ll_rules.specs.InTree.{IsOfTree}
+use Rattle.ll_rules.specs.InTree.{in_tree, rule_on_path, node, AreInTree, IsOfTree}
 use Rattle.ll_rules.proofs.Lookups.{any_at-get, any-insert}
 use Rattle.ll_rules.proofs.Booleans.{list_any-agree, list_any-map, and_true}
 

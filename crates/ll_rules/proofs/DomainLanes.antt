@@ -21,10 +21,8 @@ use Rattle.ll_tree.specs.Trees.{Entry, IsNode, path_at, parent_at, parent_of}
 use Rattle.ll_tree.specs.TreeFacts.{IsTree, StandsIn, depth_at}
 use Rattle.ll_rules.specs.declared.domain.LayerId.{LayerId}
 use Rattle.ll_rules.specs.Layers.{RulesOn, without_rules, handles, granted}
-use Rattle.ll_rules.specs.KeptLayers.{granted_on_node}
-use Rattle.ll_rules.specs.InTree.{in_tree, AreInTree}
-use Rattle.ll_rules.specs.KeptLayers.{layer_at, domain_of}
-use Rattle.ll_rules.specs.InTree.{all_in_tree}
+use Rattle.ll_rules.specs.KeptLayers.{granted_on_node, layer_at, domain_of}
+use Rattle.ll_rules.specs.InTree.{in_tree, AreInTree, all_in_tree}
 use Rattle.ll_rules.specs.Checks.{numbers_from, lacks, refusing}
 use Rattle.ll_rules.specs.LayerNumbers.{passing_upto, numbers_passing}
 use Rattle.ll_rules.specs.Lanes.{set_of, lane, is_filled, layer_in}

@@ -15,15 +15,12 @@ use Rattle.ll_rules.specs.declared.moves.Target.TheVariants.{New, Over}
 use Rattle.ll_rules.specs.declared.moves.How.{How}
 use Rattle.ll_rules.specs.declared.moves.How.TheVariants.{Rename, Exchange, Link}
 use Rattle.ll_rules.specs.Layers.{RulesOn, without_rules, handles, granted}
-use Rattle.ll_rules.specs.KeptLayers.{granted_on_node}
-use Rattle.ll_rules.specs.InTree.{in_tree, AreInTree}
-use Rattle.ll_rules.specs.KeptLayers.{domain_of}
-use Rattle.ll_rules.specs.InTree.{all_in_tree}
+use Rattle.ll_rules.specs.KeptLayers.{granted_on_node, domain_of}
+use Rattle.ll_rules.specs.InTree.{in_tree, AreInTree, all_in_tree, IsTargetIn}
 use Rattle.ll_rules.specs.Checks.{numbers_where}
 use Rattle.ll_rules.specs.LayerNumbers.{numbers_passing}
 use Rattle.ll_rules.specs.Lanes.{lane, is_filled, layer_in, AreLacking}
 use Rattle.ll_rules.specs.declared.domain.LayerId.{LayerId}
-use Rattle.ll_rules.specs.InTree.{IsTargetIn}
 use Rattle.ll_rules.specs.Moves.{source_of, destination_of, kind_there, asked_of_source, asked_of_destination, lacks_one_of, denies, gains, other_gains, holds_back}
 use Rattle.ll_rules.proofs.Booleans.{list_any-or, and_none}
 use Rattle.ll_rules.proofs.Climbs.{from_path, granted_on-node}

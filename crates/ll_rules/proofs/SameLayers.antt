@@ -16,9 +16,8 @@ use Rattle.ll_rules.specs.declared.moves.Target.{Target}
 use Rattle.ll_rules.specs.declared.moves.Target.TheVariants.{New, Over}
 use Rattle.ll_rules.specs.Layers.{RulesOn, with_file_rule, with_port_rule, handles, granted, granted_on_port}
 use Rattle.ll_rules.specs.KeptLayers.{granted_on, SameRules, GrantsOnPort}
-use Rattle.ll_rules.specs.InTree.{in_tree}
+use Rattle.ll_rules.specs.InTree.{in_tree, all_in_tree}
 use Rattle.ll_rules.specs.Checks.{numbers_from, lacks, refusing, lacks_on_port, refusing_port, refusing_mount}
-use Rattle.ll_rules.specs.InTree.{all_in_tree}
 use Rattle.ll_rules.specs.Moves.{lacks_one_of, gains, other_gains, denies, holds_back, source_of, destination_of, kind_there, asked_of_source, asked_of_destination, move_verdict}
 use Rattle.ll_rules.proofs.Climbs.{granted-split, granted-root}
 use Rattle.ll_rules.proofs.AskedRights.{some_agree}

@@ -3,9 +3,8 @@
 ghost use Rattle.std.specs.Prelude.{◌≡◌, ◌+◌, ◌*◌, ◌<◌, ◌≤◌, length, All};
 ghost use Rattle.ll_tree.specs.Trees.{IsNode, path_at};
 ghost use Rattle.ll_tree.specs.TreeFacts.{depth_at};
-ghost use Rattle.ll_rules.specs.InTree.{AreInTree};
+ghost use Rattle.ll_rules.specs.InTree.{AreInTree, all_in_tree};
 ghost use Rattle.ll_rules.specs.KeptLayers.{layer_at, domain_of, IsDomainOf};
-ghost use Rattle.ll_rules.specs.InTree.{all_in_tree};
 ghost use Rattle.ll_rules.specs.Checks.{refusing, refusing_port, refusing_mount};
 
 use crate::alone::Alone;

@@ -1,6 +1,6 @@
 //! The errors that Landlock answers, and those of this crate's own calls.
 
-use std::alloc::{AllocError, AllocFailed};
+use std::alloc::AllocError;
 
 /// An error of a system call (landlock_create_ruleset(2), landlock_add_rule(2),
 /// landlock_restrict_self(2), "ERRORS").
@@ -31,28 +31,6 @@ pub enum RuleFault {
     Moot,
     /// Out of memory for the rule.
     Memory,
-}
-
-impl<T: Drop> From<AllocFailed<T>> for RuleFault {
-    ghost use Rattle.std.specs.Prelude.{◌≡◌};
-    ghost use Rattle.ll_rules.specs.declared.errno.RuleFault.TheVariants.{Memory};
-
-    ghost from_gives = { λ _ e. e ≡ Memory };
-
-    fn from(_failed: AllocFailed<T>) -> RuleFault {
-        RuleFault::Memory
-    }
-}
-
-impl From<AllocError> for RuleFault {
-    ghost use Rattle.std.specs.Prelude.{◌≡◌};
-    ghost use Rattle.ll_rules.specs.declared.errno.RuleFault.TheVariants.{Memory};
-
-    ghost from_gives = { λ _ e. e ≡ Memory };
-
-    fn from(_failed: AllocError) -> RuleFault {
-        RuleFault::Memory
-    }
 }
 
 /// Out of memory for what was asked.

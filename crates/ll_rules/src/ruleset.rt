@@ -7,9 +7,8 @@ ghost use Rattle.ll_rights.specs.NetRights as for_ports;
 ghost use Rattle.ll_tree.specs.Trees.{is_dir};
 ghost use Rattle.ll_rules.specs.Layers.{without_rules};
 ghost use Rattle.ll_rules.specs.KeptLayers.{SameRules, GrantsOnPort};
-ghost use Rattle.ll_rules.specs.InTree.{in_tree, AreInTree};
+ghost use Rattle.ll_rules.specs.InTree.{in_tree, AreInTree, IsOfTree};
 ghost use Rattle.ll_rules.specs.Rulesets.{has_ports, create_fault, are_file_rights, with_rule_at};
-ghost use Rattle.ll_rules.specs.InTree.{IsOfTree};
 ghost use Rattle.ll_rules.specs.RuleFaults.{add_path_fault, add_port_fault};
 
 use crate::filter::Marks;
@@ -18,7 +17,7 @@ use bitflags::Flags;
 use ll_rights::{Abi, Fs, Kind, Net};
 use ll_shared::SharedMap;
 use ll_tree::{NodeId, Place, Tree};
-use std::alloc::Global;
+use std::alloc::{AllocError, Global};
 use std::marker::Model;
 
 /// A layer of a domain: a ruleset as it was when a process restricted itself by it.
@@ -174,10 +173,9 @@ impl Layer {
     }
 
     /// Grants rights on a node beside those that its rule grants already.
-    fn grant_on(&mut self, node: NodeId, files: Fs) -> Result<(), RuleFault>
+    fn grant_on(&mut self, node: NodeId, files: Fs) -> Result<(), AllocError>
         ensures ok { OnOk result (GrantsOn self.old self.new node files) }
         ensures err { OnErr result (self.new ≡ self.old) }
-        ensures memory { IsOkUnless result RuleFault.Memory }
     {
         let granted = self.rule_at(node).union(files);
         self.marks.mark(node.index())?;
@@ -186,10 +184,9 @@ impl Layer {
     }
 
     /// Grants rights on a port beside those that its rule grants already.
-    fn grant_on_port(&mut self, port: u16, network: Net) -> Result<(), RuleFault>
+    fn grant_on_port(&mut self, port: u16, network: Net) -> Result<(), AllocError>
         ensures ok { OnOk result (GrantsOnPort self.old self.new port network) }
         ensures err { OnErr result (self.new ≡ self.old) }
-        ensures memory { IsOkUnless result RuleFault.Memory }
     {
         let granted = self.rule_on_port(port).union(network);
         self.on_ports.insert(port as u64, granted)?;
@@ -310,7 +307,9 @@ impl Ruleset {
         ensures in_tree { AreInTree tree.now self.new }
     {
         let node = self.node_for(tree, place, files)?;
-        self.layer.grant_on(node, files)?;
+        if self.layer.grant_on(node, files).is_err() {
+            return Err(RuleFault::Memory);
+        }
         Ok(())
     }
 
@@ -340,7 +339,9 @@ impl Ruleset {
         ensures err { OnErr result (self.new ≡ self.old) }
     {
         let number = self.port_for(abi, port, network)?;
-        self.layer.grant_on_port(number, network)?;
+        if self.layer.grant_on_port(number, network).is_err() {
+            return Err(RuleFault::Memory);
+        }
         Ok(())
     }
 

@@ -9,9 +9,8 @@ ghost use Rattle.ll_tree.specs.Trees.{Entry};
 ghost use Rattle.ll_rules.specs.declared.moves.Move.{Move as Attempt};
 ghost use Rattle.ll_rules.specs.Layers.{RulesOn, with_file_rule, with_port_rule};
 ghost use Rattle.ll_rules.specs.KeptLayers.{SameRules, GrantsOnPort};
-ghost use Rattle.ll_rules.specs.InTree.{in_tree};
+ghost use Rattle.ll_rules.specs.InTree.{in_tree, all_in_tree};
 ghost use Rattle.ll_rules.specs.Checks.{refusing, refusing_port, refusing_mount};
-ghost use Rattle.ll_rules.specs.InTree.{all_in_tree};
 ghost use Rattle.ll_rules.specs.Moves.{move_verdict};
 
 /// To be the same is an equivalence, and rules that are the same stay so with one rule more.

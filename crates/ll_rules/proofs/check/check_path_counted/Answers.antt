@@ -2,9 +2,8 @@ use Rattle.std.proofs.Common.{◌∙◌, ◌&&◌, ap, Bool, List, not, length, 
 use Rattle.ll_tree.specs.Trees.{path_at}
 use Rattle.ll_rules.specs.declared.domain.LayerId.{LayerId}
 use Rattle.ll_rules.specs.Layers.{granted}
-use Rattle.ll_rules.specs.InTree.{in_tree}
+use Rattle.ll_rules.specs.InTree.{in_tree, all_in_tree}
 use Rattle.ll_rules.specs.KeptLayers.{domain_of}
-use Rattle.ll_rules.specs.InTree.{all_in_tree}
 use Rattle.ll_rules.specs.Checks.{refusing}
 use Rattle.ll_rules.specs.Lanes.{layer_in}
 use Rattle.ll_rules.proofs.DomainLanes.{refusing_lanes, all_in}
