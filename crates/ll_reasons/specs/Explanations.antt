@@ -58,15 +58,18 @@ domain_at tree abi records place process = ((world_at tree abi records place).pr
 unfoldable pub origins_at : List Entry → Abi → List Record → ℕ → ℕ → Origins
 origins_at tree abi records place process = (sources_at tree abi records place).processes process
 
--- what the process has there, what a call of it is answered, and the ruleset that a number names
+-- what the process has there, what a call of it is answered, all rulesets, and the one that a number of it names
 abbrev pub state_at : List Entry → Abi → List Record → ℕ → ℕ → State
 state_at tree abi records place process = (world_at tree abi records place).processes process
 
 abbrev pub answer_at : List Entry → Abi → List Record → ℕ → ℕ → Op → Answer
 answer_at tree abi records place process op = answer_in tree abi (world_at tree abi records place) process op
 
+abbrev pub rulesets_at : List Entry → Abi → List Record → ℕ → List Layer
+rulesets_at tree abi records place = (world_at tree abi records place).rulesets
+
 abbrev pub ruleset_at : List Entry → Abi → List Record → ℕ → ℕ → ℕ → Option Layer
-ruleset_at tree abi records place process rs = named (world_at tree abi records place).rulesets ((state_at tree abi records place process).held rs)
+ruleset_at tree abi records place process rs = named (rulesets_at tree abi records place) ((state_at tree abi records place process).held rs)
 
 -- the explanation of the record at a place of a trace
 unfoldable pub explained_at : List Entry → Abi → List Record → ℕ → Record → Answer → Explanation

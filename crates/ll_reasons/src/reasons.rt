@@ -6,13 +6,12 @@ ghost use Rattle.ll_tree.specs.Trees.{Entry, node_at};
 ghost use Rattle.ll_trace.specs.declared.record.Record.{Record};
 ghost use Rattle.ll_trace.specs.declared.op.Op.{Op};
 ghost use Rattle.ll_semantics.specs.declared.answer.Answer.TheVariants.{Moot, Refused};
-ghost use Rattle.ll_semantics.specs.Situations.{world_at};
 ghost use Rattle.ll_rules.specs.declared.errno.Errno.{Errno};
 ghost use Rattle.ll_reasons.specs.Conditions.{condition};
 ghost use Rattle.ll_reasons.specs.ConditionsHold.{IsCondition};
 ghost use Rattle.ll_reasons.specs.Reasons.{reason};
 ghost use Rattle.ll_reasons.specs.ReasonsHold.{Holds, are_spelt};
-ghost use Rattle.ll_reasons.specs.Explanations.{origins_at, state_at, answer_at};
+ghost use Rattle.ll_reasons.specs.Explanations.{origins_at, state_at, answer_at, rulesets_at};
 
 /// A moot call has a reason, and what this says holds of the tree, the call and the state of its process: for a tree
 /// that has a root, and a call whose paths are spelt as such.
@@ -28,7 +27,7 @@ pub fn reasons_hold()
 pub fn conditions_hold()
     ensures { (tree : List Entry) (abi : Abi) (records : List Record) (place process : ℕ) (op : Op) (error : Errno)
         → answer_at tree abi records place process op ≡ Refused error []
-        → IsCondition abi (world_at tree abi records place).rulesets
+        → IsCondition abi (rulesets_at tree abi records place)
         (state_at tree abi records place process) op
         (condition abi records (origins_at tree abi records place process) op error) }
 {}
