@@ -11,7 +11,7 @@ use Rattle.ll_trace.specs.declared.op.Mode.TheVariants.{Read, Write, Both}
 use Rattle.ll_trace.specs.declared.op.Sort.TheVariants.{Regular, Device}
 use Rattle.ll_trace.specs.declared.op.RuleType.TheVariants.{PathBeneath, NetPort}
 use Rattle.ll_semantics.specs.declared.answer.Answer.{Answer}
-use Rattle.ll_semantics.specs.WorkedWords.{begins, confines, confines_on_two, moving, grant, renames, goes_over, ok, moot, refused, start, creates, adds, adds_port, opens}
+use Rattle.ll_semantics.specs.WorkedWords.{begins, opens_before, confines, confines_on_two, moving, grant, renames, goes_over, ok, moot, refused, start, creates, adds, adds_port, opens}
 
 -- what each call asks of the file tree
 abbrev pub path_requests : List (Record × Answer)
@@ -64,11 +64,8 @@ moot_calls =
 -- whether an open file may be truncated is settled when it is opened, also through dup and fork
 abbrev pub truncating : List (Record × Answer)
 truncating =
-    begins
-    ++ ok 0 (creates 3 (truncate ∷ []) [])
-    ∷ ok 0 (opens (codes "/a/f") 4 Write)
-    ∷ ok 0 (calls.Restrict 3)
-    ∷ ok 0 (calls.Ftruncate 4)
+    opens_before truncate (codes "/a/f") 4 Write
+    ++ ok 0 (calls.Ftruncate 4)
     ∷ ok 0 (opens (codes "/a/f") 5 Write)
     ∷ refused Acces (1 ∷ []) 0 (calls.Ftruncate 5)
     ∷ ok 0 (calls.Fork 11)
@@ -90,11 +87,8 @@ truncating =
 -- commands of a device: those that the policy judges, and others
 abbrev pub driver_commands : List (Record × Answer)
 driver_commands =
-    begins
-    ++ ok 0 (creates 3 (ioctl_dev ∷ []) [])
-    ∷ ok 0 (opens (codes "/dev/tty") 6 Both)
-    ∷ ok 0 (calls.Restrict 3)
-    ∷ ok 0 (opens (codes "/dev/tty") 4 Both)
+    opens_before ioctl_dev (codes "/dev/tty") 6 Both
+    ++ ok 0 (opens (codes "/dev/tty") 4 Both)
     ∷ refused Acces (1 ∷ []) 0 (calls.Ioctl 4 true)
     ∷ ok 0 (calls.Ioctl 4 false)
     ∷ ok 0 (calls.Ioctl 6 true)

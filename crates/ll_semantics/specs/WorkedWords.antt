@@ -76,6 +76,10 @@ holds_reading = begins ++ ok 0 (creates 3 (read_file ∷ []) []) ∷ []
 abbrev pub forks : ℕ → List ℕ → List (Record × Answer)
 forks process pids = map (λ pid. ok process (calls.Fork pid)) pids
 
+-- a process opens an object, and then restricts itself by a ruleset that handles one right
+abbrev pub opens_before : FsRight → List ℕ → ℕ → Mode → List (Record × Answer)
+opens_before right path fd mode = begins ++ ok 0 (creates 3 (right ∷ []) []) ∷ ok 0 (opens path fd mode) ∷ ok 0 (calls.Restrict 3) ∷ []
+
 -- the first process confines itself, and has these rights on one directory and those on another
 abbrev pub confines_on_two : List FsRight → List FsRight → List FsRight → List (Record × Answer)
 confines_on_two handled one other = confines handled (grant (codes "/a") one ∷ grant (codes "/b") other ∷ [])
