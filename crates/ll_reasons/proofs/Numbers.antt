@@ -28,12 +28,11 @@ use Rattle.ll_semantics.specs.declared.answer.Answer.{Answer}
 use Rattle.ll_semantics.specs.declared.answer.Answer.TheVariants.{Allowed, Refused}
 use Rattle.ll_semantics.specs.declared.request.Request.{Request}
 use Rattle.ll_semantics.specs.Requests.{request, wanted}
-use Rattle.ll_semantics.specs.States.{Layer}
+use Rattle.ll_semantics.specs.States.{Layer, State}
 use Rattle.ll_semantics.specs.Answers as answers
 use Rattle.ll_trace.specs.declared.op.Op.{Op}
 use Rattle.ll_trace.specs.declared.op.Op.TheVariants as calls
 use Rattle.ll_semantics.specs.declared.descriptor.Descriptor.{Descriptor}
-use Rattle.ll_semantics.specs.States.{State}
 use Rattle.ll_rights.specs.declared.abi.Abi.{Abi}
 use Rattle.ll_reasons.specs.Origins.{Origins}
 use Rattle.ll_trace.specs.declared.record.Record.{Record}

@@ -18,7 +18,6 @@ use Rattle.ll_tree.specs.Trees.{Entry, path_at, kind_at, is_dir, node_at, positi
 use Rattle.ll_tree.proofs.Positions.{at_position}
 use Rattle.ll_trace.specs.declared.op.Op.{Op}
 use Rattle.ll_trace.specs.declared.op.Op.TheVariants as calls
-use Rattle.ll_trace.specs.declared.op.RuleType.{RuleType}
 use Rattle.ll_trace.specs.declared.op.Sort.{Sort}
 use Rattle.ll_trace.specs.declared.op.Sort.TheVariants.{Regular, Device, Other}
 use Rattle.ll_semantics.specs.declared.answer.Answer.TheVariants.{Allowed, Moot}
@@ -35,7 +34,7 @@ use Rattle.ll_semantics.specs.Situations.{world_at}
 use Rattle.ll_reasons.specs.Origins.{Origins}
 use Rattle.ll_reasons.specs.Explanations.{origins_at}
 use Rattle.ll_reasons.proofs.DescriptorsMade.{descriptor_open}
-use Rattle.ll_reasons.specs.Reasons.{Reason, absent, of_kind, root, unmoved, beneath_itself, over_itself, mixed, open_already, unopened, not_for_writing, held_already, unheld, unsupported, spelt, beside, or_above, ends_at, nowhere, no_object, unsuited, unmet, onto, moved_to, unrenamed, linked_to, unlinked, reason}
+use Rattle.ll_reasons.specs.Reasons.{Reason, absent, of_kind, root, unmoved, beneath_itself, over_itself, mixed, open_already, unopened, not_for_writing, spelt, beside, or_above, ends_at, nowhere, no_object, unsuited, unmet, onto, moved_to, unrenamed, linked_to, unlinked, reason}
 use Rattle.ll_reasons.specs.ReasonsHold.{paths_of, are_spelt, is_left_out, is_at_root, is_at_one, names_one_twice, is_regular, Holds}
 use Rattle.ll_reasons.proofs.Enough.{and_both, or_left, or_right}
 use Rattle.ll_reasons.proofs.Gains.{prefix-trans, prefix-front}
@@ -245,34 +244,6 @@ unfolding Holds
 open_holds tree s op fd true other same holds = sym same
 open_holds tree s op fd false other same holds = holds
 
-holds_held : (tree : List Entry) (s : State) (op : Op) (rs : ℕ) → is_some (s.held rs) ≡ true → Holds tree s op (held_already rs)
-unfolding Holds
-holds_held tree s op rs is = is
-
-holds_unheld : (tree : List Entry) (s : State) (op : Op) (rs : ℕ) → s.held rs ≡ None → Holds tree s op (unheld rs)
-unfolding Holds
-holds_unheld tree s op rs is = is
-
-holds_open : (tree : List Entry) (s : State) (op : Op) (fd : ℕ) → is_some (s.descriptors fd) ≡ true → Holds tree s op (open_already fd)
-unfolding Holds
-holds_open tree s op fd is = is
-
-holds_left_out : (tree : List Entry) (s : State) (rule : RuleType) → Holds tree s (calls.LeaveOut rule) unsupported
-unfolding Holds is_left_out
-holds_left_out tree s rule = refl
-
-holds_unopened : (tree : List Entry) (s : State) (op : Op) (fd : ℕ) → s.descriptors fd ≡ None → Holds tree s op (unopened fd)
-unfolding Holds
-holds_unopened tree s op fd is = is
-
-holds_root : (tree : List Entry) (s : State) (op : Op) → list_any (λ text. is_at_root (place tree text)) (paths_of op) ≡ true → Holds tree s op root
-unfolding Holds
-holds_root tree s op is = is
-
-holds_unmoved : (tree : List Entry) (s : State) (from to : List ℕ) (exchange : Bool) → is_at_one (place tree from) (place tree to) ≡ true → Holds tree s (calls.Rename from to exchange) (unmoved (spelt from))
-unfolding Holds names_one_twice
-holds_unmoved tree s from to exchange is = is
-
 -- ---- what a call wants at a path
 
 paths_wanted : (op : Op) (want : List ℕ × Wanted) → wanted op ≡ Some want → paths_of op ≡ want.0 ∷ []
@@ -282,52 +253,52 @@ paths_wanted op want is = cc
 
 wanted_holds : (tree : List Entry) (s : State) (op : Op) → is_some (node_at tree []) ≡ true → are_spelt op ≡ true → (want : Option (List ℕ × Wanted)) → wanted op ≡ want → is_some want ≡ true
     → IsSomeAnd (option_map (λ w. unmet tree (spelt w.0) (place tree w.0) w.1) want) (Holds tree s op)
-unfolding are_spelt
+unfolding are_spelt Holds
 wanted_holds tree s op there are None is some = cc
 wanted_holds tree s op there are (Some want) is some =
     let paths : paths_of op ≡ want.0 ∷ [] = paths_wanted op want is in
     let spells = subst (λ (texts : List (List ℕ)). list_all (λ text. is_some (path_of text)) texts ≡ true) paths are in
     unmet_holds tree s op there (spelt want.0) (place tree want.0) want.1 (text_placed tree want.0 (path_of want.0) refl (and_both (is_some (path_of want.0)) true spells).0)
-    (λ here. holds_root tree s op (subst (λ (texts : List (List ℕ)). list_any (λ text. is_at_root (place tree text)) texts ≡ true) (sym paths) (or_left (is_at_root (place tree want.0)) false here)))
+    (λ here. subst (λ (texts : List (List ℕ)). list_any (λ text. is_at_root (place tree text)) texts ≡ true) (sym paths) (or_left (is_at_root (place tree want.0)) false here))
 
 -- ---- every call
 
 pub call_reason : (tree : List Entry) (abi : Abi) (rulesets : List Layer) (op : Op) (s : State) (o : Origins) → is_some (node_at tree []) ≡ true → are_spelt op ≡ true → ((fd : ℕ) → is_some (o.openings fd) ≡ is_some (s.descriptors fd))
     → answers.answer tree abi rulesets op s ≡ Moot → IsSomeAnd (reason tree o op) (Holds tree s op)
-unfolding answers.answer reason are_spelt paths_of wanted
-call_reason tree abi rulesets (calls.Create rs fs net) s o there are same moot = holds_held tree s (calls.Create rs fs net) rs (create_taken abi fs net (s.held rs) moot)
+unfolding answers.answer reason are_spelt paths_of wanted Holds is_left_out names_one_twice
+call_reason tree abi rulesets (calls.Create rs fs net) s o there are same moot = create_taken abi fs net (s.held rs) moot
 call_reason tree abi rulesets (calls.AddPath rs path fs) s o there are same moot = no_object_holds tree s (calls.AddPath rs path fs) there (spelt path) (place tree path) (text_placed tree path (path_of path) refl (and_both (is_some (path_of path)) true are).0)
 call_reason tree abi rulesets (calls.AddPort rs port net) s o there are same moot = never_moot _ _ _ _ (can_add_port abi port net (answers.named rulesets (s.held rs))) moot
-call_reason tree abi rulesets (calls.CloseRs rs) s o there are same moot = holds_unheld tree s (calls.CloseRs rs) rs (if_there-none (s.held rs) moot)
+call_reason tree abi rulesets (calls.CloseRs rs) s o there are same moot = if_there-none (s.held rs) moot
 call_reason tree abi rulesets (calls.Restrict rs) s o there are same moot = never_moot _ _ _ _ (can_restrict s (answers.named rulesets (s.held rs))) moot
 call_reason tree abi rulesets (calls.OpenFile path fd mode create trunc) s o there are same moot =
     open_holds tree s (calls.OpenFile path fd mode create trunc) fd (is_some (o.openings fd)) (no_object tree (spelt path) (place tree path)) (same fd)
     (no_object_holds tree s (calls.OpenFile path fd mode create trunc) there (spelt path) (place tree path) (text_placed tree path (path_of path) refl (and_both (is_some (path_of path)) true are).0))
-call_reason tree abi rulesets (calls.Adopt fd kind) s o there are same moot = holds_open tree s (calls.Adopt fd kind) fd (if_free-some (s.descriptors fd) moot)
-call_reason tree abi rulesets (calls.Dup fd to) s o there are same moot = holds_unopened tree s (calls.Dup fd to) fd (if_there-none (s.descriptors fd) moot)
-call_reason tree abi rulesets (calls.Close fd) s o there are same moot = holds_unopened tree s (calls.Close fd) fd (if_there-none (s.descriptors fd) moot)
+call_reason tree abi rulesets (calls.Adopt fd kind) s o there are same moot = if_free-some (s.descriptors fd) moot
+call_reason tree abi rulesets (calls.Dup fd to) s o there are same moot = if_there-none (s.descriptors fd) moot
+call_reason tree abi rulesets (calls.Close fd) s o there are same moot = if_there-none (s.descriptors fd) moot
 call_reason tree abi rulesets (calls.Ftruncate fd) s o there are same moot = ftruncate_holds tree s (calls.Ftruncate fd) fd (is_some (o.openings fd)) (s.descriptors fd) (same fd) refl moot
-call_reason tree abi rulesets (calls.Ioctl fd driver) s o there are same moot = holds_unopened tree s (calls.Ioctl fd driver) fd (ioctl_closed (s.descriptors fd) driver moot)
+call_reason tree abi rulesets (calls.Ioctl fd driver) s o there are same moot = ioctl_closed (s.descriptors fd) driver moot
 call_reason tree abi rulesets (calls.Rename from to exchange) s o there are same moot =
     let op : Op = calls.Rename from to exchange in
     let parts = and_both (is_some (path_of from)) _ are in
     unrenamed_holds tree s op there (spelt from) (spelt to) (place tree from) (place tree to) exchange
     (text_placed tree from (path_of from) refl parts.0) (text_placed tree to (path_of to) refl (and_both (is_some (path_of to)) true parts.1).0)
-    (λ here. holds_root tree s op (or_left (is_at_root (place tree from)) _ here))
-    (λ here. holds_root tree s op (or_right (is_at_root (place tree from)) _ (or_left (is_at_root (place tree to)) false here)))
-    (λ one. holds_unmoved tree s from to exchange one)
+    (λ here. or_left (is_at_root (place tree from)) _ here)
+    (λ here. or_right (is_at_root (place tree from)) _ (or_left (is_at_root (place tree to)) false here))
+    (λ one. one)
     (no_move tree s.domain (rename_move tree (place tree from) (place tree to) exchange) moot)
 call_reason tree abi rulesets (calls.Link from to) s o there are same moot =
     let op : Op = calls.Link from to in
     let parts = and_both (is_some (path_of from)) _ are in
     unlinked_holds tree s op there (spelt from) (spelt to) (place tree from) (place tree to)
     (text_placed tree from (path_of from) refl parts.0) (text_placed tree to (path_of to) refl (and_both (is_some (path_of to)) true parts.1).0)
-    (λ here. holds_root tree s op (or_left (is_at_root (place tree from)) _ here))
+    (λ here. or_left (is_at_root (place tree from)) _ here)
 call_reason tree abi rulesets calls.Mount s o there are same moot = never_moot _ _ _ _ (can_refused_by false Perm _) moot
 call_reason tree abi rulesets (calls.Bind port) s o there are same moot = never_moot _ _ _ _ (can_refused_by false Acces _) moot
 call_reason tree abi rulesets (calls.Connect port) s o there are same moot = never_moot _ _ _ _ (can_refused_by false Acces _) moot
-call_reason tree abi rulesets (calls.CreateEmpty rs) s o there are same moot = holds_held tree s (calls.CreateEmpty rs) rs (if_free-some (s.held rs) moot)
-call_reason tree abi rulesets (calls.LeaveOut rule) s o there are same moot = holds_left_out tree s rule
+call_reason tree abi rulesets (calls.CreateEmpty rs) s o there are same moot = if_free-some (s.held rs) moot
+call_reason tree abi rulesets (calls.LeaveOut rule) s o there are same moot = refl
 call_reason tree abi rulesets (calls.Start nnp admin) s o there are same moot = absurd (cc)
 call_reason tree abi rulesets (calls.Fork child) s o there are same moot = absurd (cc)
 call_reason tree abi rulesets calls.Exit s o there are same moot = absurd (cc)

@@ -22,8 +22,14 @@ by_above tree [] some = absurd (some refl)
 by_above tree (name ∷ names) some =
     ap (λ (n : ℕ). or_above tree (name ∷ names) (node_at tree (front (name ∷ names))) (ends_at tree n (front (name ∷ names)))) (length_front name names)
 
-pub above_there : (tree : List Entry) (path : Path) (node : NodeId) → path ≢ [] → Some node ≡ node_at tree (front path) → nowhere tree path ≡ beside tree path node
+above_there : (tree : List Entry) (path : Path) (node : NodeId) → path ≢ [] → Some node ≡ node_at tree (front path) → nowhere tree path ≡ beside tree path node
 above_there tree path node some is = by_above tree path some ∙ ap (λ (above : Option NodeId). or_above tree path above (nowhere tree (front path))) (sym is)
+
+pub above_directory : (tree : List Entry) (path above : Path) (node : NodeId) → (above ≡ front path) × (path ≢ []) → Some node ≡ node_at tree above → is_dir (kind_at tree node) ≡ true → absent path ≡ nowhere tree path
+above_directory tree path above node up is directory = sym (above_there tree path node up.1 (is ∙ ap (node_at tree) up.0) ∙ rw directory refl)
+
+pub above_other : (tree : List Entry) (path above : Path) (node : NodeId) → (above ≡ front path) × (path ≢ []) → Some node ≡ node_at tree above → is_dir (kind_at tree node) ≡ false → no_directory above ≡ nowhere tree path
+above_other tree path above node up is other = ap no_directory up.0 ∙ sym (above_there tree path node up.1 (is ∙ ap (node_at tree) up.0) ∙ rw other refl)
 
 pub above_gone : (tree : List Entry) (path : Path) → path ≢ [] → None ≡ node_at tree (front path) → nowhere tree path ≡ nowhere tree (front path)
 above_gone tree path some is = by_above tree path some ∙ ap (λ (above : Option NodeId). or_above tree path above (nowhere tree (front path))) (sym is)
@@ -31,9 +37,3 @@ above_gone tree path some is = by_above tree path some ∙ ap (λ (above : Optio
 pub root_absent : (tree : List Entry) (path : Path) → path ≡ [] → nowhere tree path ≡ absent path
 unfolding ends_at
 root_absent tree path is = rw is refl
-
-pub beside_directory : (tree : List Entry) (path : Path) (node : NodeId) → is_dir (kind_at tree node) ≡ true → beside tree path node ≡ absent path
-beside_directory tree path node is = rw is refl
-
-pub beside_other : (tree : List Entry) (path : Path) (node : NodeId) → is_dir (kind_at tree node) ≡ false → beside tree path node ≡ no_directory (front path)
-beside_other tree path node is = rw is refl

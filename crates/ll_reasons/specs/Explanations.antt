@@ -13,7 +13,9 @@ use Rattle.ll_semantics.specs.declared.answer.Answer.{Answer}
 use Rattle.ll_semantics.specs.declared.answer.Answer.TheVariants.{Allowed, Moot, Refused}
 use Rattle.ll_semantics.specs.Requests.{wanted, request}
 use Rattle.ll_semantics.specs.Moves.{rename_move, link_move}
-use Rattle.ll_semantics.specs.States.{Layer}
+use Rattle.ll_semantics.specs.States.{State, Layer}
+use Rattle.ll_semantics.specs.Answers.{named}
+use Rattle.ll_semantics.specs.Worlds.{answer_in}
 use Rattle.ll_semantics.specs.Situations.{world_at}
 use Rattle.ll_reasons.specs.Objections.{Objection, kept, on_port, on_mount, objecting, to_request, to_move}
 use Rattle.ll_reasons.specs.Origins.{Origins, sources_at}
@@ -55,6 +57,19 @@ domain_at tree abi records place process = ((world_at tree abi records place).pr
 
 unfoldable pub origins_at : List Entry → Abi → List Record → ℕ → ℕ → Origins
 origins_at tree abi records place process = (sources_at tree abi records place).processes process
+
+-- what the process has there, what a call of it is answered, all rulesets, and the one that a number of it names
+abbrev pub state_at : List Entry → Abi → List Record → ℕ → ℕ → State
+state_at tree abi records place process = (world_at tree abi records place).processes process
+
+abbrev pub answer_at : List Entry → Abi → List Record → ℕ → ℕ → Op → Answer
+answer_at tree abi records place process op = answer_in tree abi (world_at tree abi records place) process op
+
+abbrev pub rulesets_at : List Entry → Abi → List Record → ℕ → List Layer
+rulesets_at tree abi records place = (world_at tree abi records place).rulesets
+
+abbrev pub ruleset_at : List Entry → Abi → List Record → ℕ → ℕ → ℕ → Option Layer
+ruleset_at tree abi records place process rs = named (rulesets_at tree abi records place) ((state_at tree abi records place process).held rs)
 
 -- the explanation of the record at a place of a trace
 unfoldable pub explained_at : List Entry → Abi → List Record → ℕ → Record → Answer → Explanation

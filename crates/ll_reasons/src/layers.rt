@@ -7,17 +7,16 @@ ghost use Rattle.ll_rules.specs.declared.errno.Errno.{Errno};
 ghost use Rattle.ll_trace.specs.declared.record.Record.{Record};
 ghost use Rattle.ll_trace.specs.declared.op.Op.{Op};
 ghost use Rattle.ll_semantics.specs.declared.answer.Answer.TheVariants.{Refused};
-ghost use Rattle.ll_semantics.specs.Worlds.{answer_in, judged};
-ghost use Rattle.ll_semantics.specs.Situations.{world_at};
+ghost use Rattle.ll_semantics.specs.Worlds.{judged};
 ghost use Rattle.ll_reasons.specs.Objections.{Objection};
-ghost use Rattle.ll_reasons.specs.Explanations.{objections_to, domain_at, origins_at, objections, explained_at};
+ghost use Rattle.ll_reasons.specs.Explanations.{objections_to, domain_at, origins_at, objections, explained_at, answer_at};
 
 /// The layers that are explained are exactly those that refuse, in order: for every call of a process before the
 /// record at a place, and so for each record of a trace.
 pub fn refusing_layers_are_explained()
     ensures calls { (tree : List Entry) (abi : Abi) (records : List Record) (place process : ℕ) (op : Op)
         (error : Errno) (number : ℕ) (numbers : List ℕ)
-        → answer_in tree abi (world_at tree abi records place) process op ≡ Refused error (number ∷ numbers)
+        → answer_at tree abi records place process op ≡ Refused error (number ∷ numbers)
         → map (λ said. said.0) (objections_to tree (domain_at tree abi records place process)
         (origins_at tree abi records place process) op error (number ∷ numbers)) ≡ number ∷ numbers }
     ensures records { (tree : List Entry) (abi : Abi) (records : List Record) (place : ℕ) (of : Record)

@@ -5,11 +5,9 @@ ghost use Rattle.ll_rights.specs.declared.abi.Abi.{Abi};
 ghost use Rattle.ll_tree.specs.Trees.{Entry};
 ghost use Rattle.ll_trace.specs.declared.record.Record.{Record};
 ghost use Rattle.ll_semantics.specs.States.{Layer};
-ghost use Rattle.ll_semantics.specs.Answers.{named};
-ghost use Rattle.ll_semantics.specs.Situations.{world_at};
 ghost use Rattle.ll_reasons.specs.Made.{enforced_at, is_restrict, opened_at, is_opening, is_create, IsEarlier, domain_there, BeganAs};
 ghost use Rattle.ll_reasons.specs.Conditions.{handled, handled_on_ports};
-ghost use Rattle.ll_reasons.specs.Explanations.{domain_at, origins_at};
+ghost use Rattle.ll_reasons.specs.Explanations.{domain_at, origins_at, state_at, ruleset_at};
 
 /// The layers of a process are in order the rulesets that the records restricted by which its origins name; each
 /// of these records is a `restrict` of an earlier place that was allowed.
@@ -33,11 +31,11 @@ pub fn layers_come_from_their_restricts()
 /// earlier `open` or `adopt` that was allowed.
 pub fn descriptors_come_from_their_openings()
     ensures descriptors { (tree : List Entry) (abi : Abi) (records : List Record) (place process fd : ℕ)
-        → ((world_at tree abi records place).processes process).descriptors fd
+        → (state_at tree abi records place process).descriptors fd
         ≡ option_and_then (opened_at tree abi records) ((origins_at tree abi records place process).openings fd) }
     ensures open { (tree : List Entry) (abi : Abi) (records : List Record) (place process fd : ℕ)
         → is_some ((origins_at tree abi records place process).openings fd)
-        ≡ is_some (((world_at tree abi records place).processes process).descriptors fd) }
+        ≡ is_some ((state_at tree abi records place process).descriptors fd) }
     ensures openings { (tree : List Entry) (abi : Abi) (records : List Record) (place process fd : ℕ)
         → IfSome ((origins_at tree abi records place process).openings fd)
         (IsEarlier is_opening tree abi records place) }
@@ -48,18 +46,15 @@ pub fn descriptors_come_from_their_openings()
 pub fn rulesets_come_from_their_creations()
     ensures held { (tree : List Entry) (abi : Abi) (records : List Record) (place process rs : ℕ)
         → is_some ((origins_at tree abi records place process).rulesets rs)
-        ≡ is_some (((world_at tree abi records place).processes process).held rs) }
+        ≡ is_some ((state_at tree abi records place process).held rs) }
     ensures named { (tree : List Entry) (abi : Abi) (records : List Record) (place process rs : ℕ)
-        → is_some (named (world_at tree abi records place).rulesets
-        (((world_at tree abi records place).processes process).held rs))
-        ≡ is_some (((world_at tree abi records place).processes process).held rs) }
+        → is_some (ruleset_at tree abi records place process rs)
+        ≡ is_some ((state_at tree abi records place process).held rs) }
     ensures files { (tree : List Entry) (abi : Abi) (records : List Record) (place process rs : ℕ) (rules : Layer)
-        → named (world_at tree abi records place).rulesets
-        (((world_at tree abi records place).processes process).held rs) ≡ Some rules
+        → ruleset_at tree abi records place process rs ≡ Some rules
         → handled records (origins_at tree abi records place process) rs ≡ rules.handled_files }
     ensures ports { (tree : List Entry) (abi : Abi) (records : List Record) (place process rs : ℕ) (rules : Layer)
-        → named (world_at tree abi records place).rulesets
-        (((world_at tree abi records place).processes process).held rs) ≡ Some rules
+        → ruleset_at tree abi records place process rs ≡ Some rules
         → handled_on_ports records (origins_at tree abi records place process) rs ≡ rules.handled_network }
     ensures creations { (tree : List Entry) (abi : Abi) (records : List Record) (place process rs : ℕ)
         → IfSome ((origins_at tree abi records place process).rulesets rs)

@@ -6,30 +6,28 @@ ghost use Rattle.ll_tree.specs.Trees.{Entry, node_at};
 ghost use Rattle.ll_trace.specs.declared.record.Record.{Record};
 ghost use Rattle.ll_trace.specs.declared.op.Op.{Op};
 ghost use Rattle.ll_semantics.specs.declared.answer.Answer.TheVariants.{Moot, Refused};
-ghost use Rattle.ll_semantics.specs.Worlds.{answer_in};
-ghost use Rattle.ll_semantics.specs.Situations.{world_at};
 ghost use Rattle.ll_rules.specs.declared.errno.Errno.{Errno};
 ghost use Rattle.ll_reasons.specs.Conditions.{condition};
 ghost use Rattle.ll_reasons.specs.ConditionsHold.{IsCondition};
 ghost use Rattle.ll_reasons.specs.Reasons.{reason};
 ghost use Rattle.ll_reasons.specs.ReasonsHold.{Holds, are_spelt};
-ghost use Rattle.ll_reasons.specs.Explanations.{origins_at};
+ghost use Rattle.ll_reasons.specs.Explanations.{origins_at, state_at, answer_at, rulesets_at};
 
 /// A moot call has a reason, and what this says holds of the tree, the call and the state of its process: for a tree
 /// that has a root, and a call whose paths are spelt as such.
 pub fn reasons_hold()
     ensures { (tree : List Entry) (abi : Abi) (records : List Record) (place process : ℕ) (op : Op)
         (there : is_some (node_at tree []) ≡ true) (spelt : are_spelt op ≡ true)
-        → answer_in tree abi (world_at tree abi records place) process op ≡ Moot
+        → answer_at tree abi records place process op ≡ Moot
         → IsSomeAnd (reason tree (origins_at tree abi records place process) op)
-        (Holds tree ((world_at tree abi records place).processes process) op) }
+        (Holds tree (state_at tree abi records place process) op) }
 {}
 
 /// Where a call fails with an error that no layer gives, what the condition says of it holds.
 pub fn conditions_hold()
     ensures { (tree : List Entry) (abi : Abi) (records : List Record) (place process : ℕ) (op : Op) (error : Errno)
-        → answer_in tree abi (world_at tree abi records place) process op ≡ Refused error []
-        → IsCondition abi (world_at tree abi records place).rulesets
-        ((world_at tree abi records place).processes process) op
+        → answer_at tree abi records place process op ≡ Refused error []
+        → IsCondition abi (rulesets_at tree abi records place)
+        (state_at tree abi records place process) op
         (condition abi records (origins_at tree abi records place process) op error) }
 {}

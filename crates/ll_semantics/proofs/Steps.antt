@@ -11,9 +11,8 @@ use Rattle.ll_semantics.specs.declared.answer.Answer.TheVariants.{Allowed, Moot,
 use Rattle.ll_semantics.specs.States.{State, Layer}
 use Rattle.ll_semantics.specs.Answers.{answer}
 use Rattle.ll_semantics.specs.Effects.{Effect, nothing, leaves, leaves_rulesets, begins, effect}
-use Rattle.ll_semantics.specs.Situations.{state_by, rulesets_by, begun_by, change, rules, started, state_after, rulesets_after}
+use Rattle.ll_semantics.specs.Situations.{state_by, rulesets_by, begun_by, change, rules, started, state_after, rulesets_after, world_after, world_at}
 use Rattle.ll_semantics.specs.Worlds.{World, if_allowed, with_state, affected, answer_in, step, empty_world}
-use Rattle.ll_semantics.specs.Situations.{world_after, world_at}
 use Rattle.ll_trace.specs.Processes.{is_start, is_fork, is_starting, process_count}
 use Rattle.ll_trace.proofs.Numbers.{process_count-cons}
 

@@ -2,9 +2,8 @@
 -- Source: landlock_restrict_self(2); the kernel's userspace document on Landlock, "Defining and enforcing a security policy".
 use Rattle.std.specs.Prelude.{◌≡◌, ◌<◌, List, Bool, true, false, Option, Some, None, length}
 use Rattle.ll_rules.specs.declared.domain.LayerId.{LayerId}
-use Rattle.ll_rules.specs.KeptLayers.{SameRules}
+use Rattle.ll_rules.specs.KeptLayers.{SameRules, layer_at}
 use Rattle.ll_rules.specs.InTree.{in_tree}
-use Rattle.ll_rules.specs.KeptLayers.{layer_at}
 use Rattle.ll_trace.specs.declared.op.Op.{Op}
 use Rattle.ll_trace.specs.declared.op.Op.TheVariants as calls
 use Rattle.ll_semantics.specs.declared.note.Note.{Note}

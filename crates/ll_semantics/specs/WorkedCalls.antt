@@ -11,7 +11,7 @@ use Rattle.ll_trace.specs.declared.op.Mode.TheVariants.{Read, Write, Both}
 use Rattle.ll_trace.specs.declared.op.Sort.TheVariants.{Regular, Device}
 use Rattle.ll_trace.specs.declared.op.RuleType.TheVariants.{PathBeneath, NetPort}
 use Rattle.ll_semantics.specs.declared.answer.Answer.{Answer}
-use Rattle.ll_semantics.specs.WorkedWords.{begins, confines, grant, renames, ok, moot, refused, start, creates, adds, adds_port, opens}
+use Rattle.ll_semantics.specs.WorkedWords.{begins, opens_before, confines, confines_on_two, moving, grant, renames, goes_over, ok, moot, refused, start, creates, adds, adds_port, opens}
 
 -- what each call asks of the file tree
 abbrev pub path_requests : List (Record × Answer)
@@ -64,11 +64,8 @@ moot_calls =
 -- whether an open file may be truncated is settled when it is opened, also through dup and fork
 abbrev pub truncating : List (Record × Answer)
 truncating =
-    begins
-    ++ ok 0 (creates 3 (truncate ∷ []) [])
-    ∷ ok 0 (opens (codes "/a/f") 4 Write)
-    ∷ ok 0 (calls.Restrict 3)
-    ∷ ok 0 (calls.Ftruncate 4)
+    opens_before truncate (codes "/a/f") 4 Write
+    ++ ok 0 (calls.Ftruncate 4)
     ∷ ok 0 (opens (codes "/a/f") 5 Write)
     ∷ refused Acces (1 ∷ []) 0 (calls.Ftruncate 5)
     ∷ ok 0 (calls.Fork 11)
@@ -90,11 +87,8 @@ truncating =
 -- commands of a device: those that the policy judges, and others
 abbrev pub driver_commands : List (Record × Answer)
 driver_commands =
-    begins
-    ++ ok 0 (creates 3 (ioctl_dev ∷ []) [])
-    ∷ ok 0 (opens (codes "/dev/tty") 6 Both)
-    ∷ ok 0 (calls.Restrict 3)
-    ∷ ok 0 (opens (codes "/dev/tty") 4 Both)
+    opens_before ioctl_dev (codes "/dev/tty") 6 Both
+    ++ ok 0 (opens (codes "/dev/tty") 4 Both)
     ∷ refused Acces (1 ∷ []) 0 (calls.Ioctl 4 true)
     ∷ ok 0 (calls.Ioctl 4 false)
     ∷ ok 0 (calls.Ioctl 6 true)
@@ -177,7 +171,7 @@ abbrev pub unreferred : List (Record × Answer)
 unreferred =
     confines (read_file ∷ []) []
     ++ ok 0 (renames (codes "/a/f") (codes "/a/h"))
-    ∷ refused XDev (1 ∷ []) 0 (renames (codes "/a/f") (codes "/b/h"))
+    ∷ refused XDev (1 ∷ []) 0 goes_over
     ∷ refused XDev (1 ∷ []) 0 (calls.Link (codes "/a/f") (codes "/b/h"))
     ∷ ok 0 (calls.Link (codes "/a/f") (codes "/a/h"))
     ∷ []
@@ -189,7 +183,7 @@ ports_alone =
     ++ ok 0 (creates 3 [] (bind_tcp ∷ []))
     ∷ ok 0 (calls.Restrict 3)
     ∷ ok 0 (renames (codes "/a/f") (codes "/a/h"))
-    ∷ ok 0 (renames (codes "/a/f") (codes "/b/h"))
+    ∷ ok 0 goes_over
     ∷ ok 0 (calls.Link (codes "/a/f") (codes "/b/h"))
     ∷ ok 0 (calls.Link (codes "/a/f") (codes "/a/h"))
     ∷ []
@@ -197,9 +191,8 @@ ports_alone =
 -- moves by which an object gains a right
 abbrev pub gaining : List (Record × Answer)
 gaining =
-    confines (refer ∷ make_reg ∷ remove_file ∷ execute ∷ [])
-    (grant (codes "/a") (refer ∷ make_reg ∷ remove_file ∷ []) ∷ grant (codes "/b") (refer ∷ make_reg ∷ remove_file ∷ execute ∷ []) ∷ [])
-    ++ refused XDev (1 ∷ []) 0 (renames (codes "/a/f") (codes "/b/h"))
+    confines_on_two (moving ++ execute ∷ []) moving (moving ++ execute ∷ [])
+    ++ refused XDev (1 ∷ []) 0 goes_over
     ∷ ok 0 (renames (codes "/b/g") (codes "/a/h"))
     ∷ ok 0 (calls.Link (codes "/b/g") (codes "/a/h"))
     ∷ refused XDev (1 ∷ []) 0 (calls.Rename (codes "/b/g") (codes "/a/f") true)
@@ -208,9 +201,8 @@ gaining =
 -- a rule on the object itself
 abbrev pub not_gaining : List (Record × Answer)
 not_gaining =
-    confines (refer ∷ make_reg ∷ remove_file ∷ execute ∷ [])
-    (grant (codes "/a") (refer ∷ make_reg ∷ remove_file ∷ []) ∷ grant (codes "/b") (refer ∷ make_reg ∷ remove_file ∷ execute ∷ []) ∷ grant (codes "/a/f") (execute ∷ []) ∷ [])
-    ++ ok 0 (renames (codes "/a/f") (codes "/b/h"))
+    confines (moving ++ execute ∷ []) (grant (codes "/a") moving ∷ grant (codes "/b") (moving ++ execute ∷ []) ∷ grant (codes "/a/f") (execute ∷ []) ∷ [])
+    ++ ok 0 goes_over
     ∷ ok 0 (renames (codes "/b/g") (codes "/a/h"))
     ∷ ok 0 (calls.Link (codes "/b/g") (codes "/a/h"))
     ∷ ok 0 (calls.Rename (codes "/b/g") (codes "/a/f") true)
@@ -218,18 +210,13 @@ not_gaining =
 
 -- what is denied comes before what would be gained
 abbrev pub denied_and_gaining : List (Record × Answer)
-denied_and_gaining =
-    confines (refer ∷ make_reg ∷ remove_file ∷ execute ∷ [])
-    (grant (codes "/a") (refer ∷ make_reg ∷ remove_file ∷ []) ∷ grant (codes "/b") (refer ∷ remove_file ∷ execute ∷ []) ∷ [])
-    ++ refused Acces (1 ∷ []) 0 (renames (codes "/a/f") (codes "/b/h"))
-    ∷ []
+denied_and_gaining = confines_on_two (moving ++ execute ∷ []) moving (refer ∷ remove_file ∷ execute ∷ []) ++ refused Acces (1 ∷ []) 0 goes_over ∷ []
 
 -- what is denied comes before the missing right to move between directories
 abbrev pub denied_first : List (Record × Answer)
 denied_first =
-    confines (make_reg ∷ remove_file ∷ [])
-    (grant (codes "/a") (make_reg ∷ remove_file ∷ []) ∷ grant (codes "/b") (remove_file ∷ []) ∷ [])
-    ++ refused Acces (1 ∷ []) 0 (renames (codes "/a/f") (codes "/b/h"))
+    confines_on_two (make_reg ∷ remove_file ∷ []) (make_reg ∷ remove_file ∷ []) (remove_file ∷ [])
+    ++ refused Acces (1 ∷ []) 0 goes_over
     ∷ ok 0 (renames (codes "/a/f") (codes "/a/h"))
     ∷ []
 
@@ -244,18 +231,13 @@ link_removes_nothing =
 -- a directory gains what counts for directories too
 abbrev pub directory_gaining : List (Record × Answer)
 directory_gaining =
-    confines (refer ∷ make_dir ∷ remove_dir ∷ read_dir ∷ [])
-    (grant (codes "/a") (refer ∷ make_dir ∷ remove_dir ∷ []) ∷ grant (codes "/b") (refer ∷ make_dir ∷ read_dir ∷ []) ∷ [])
+    confines_on_two (refer ∷ make_dir ∷ remove_dir ∷ read_dir ∷ []) (refer ∷ make_dir ∷ remove_dir ∷ []) (refer ∷ make_dir ∷ read_dir ∷ [])
     ++ refused XDev (1 ∷ []) 0 (renames (codes "/a/s") (codes "/b/x"))
     ∷ []
 
 -- a file gains a right for devices too
 abbrev pub device_right_gaining : List (Record × Answer)
-device_right_gaining =
-    confines (refer ∷ make_reg ∷ remove_file ∷ ioctl_dev ∷ [])
-    (grant (codes "/a") (refer ∷ make_reg ∷ remove_file ∷ []) ∷ grant (codes "/b") (refer ∷ make_reg ∷ ioctl_dev ∷ []) ∷ [])
-    ++ refused XDev (1 ∷ []) 0 (renames (codes "/a/f") (codes "/b/h"))
-    ∷ []
+device_right_gaining = confines_on_two (moving ++ ioctl_dev ∷ []) moving (refer ∷ make_reg ∷ ioctl_dev ∷ []) ++ refused XDev (1 ∷ []) 0 goes_over ∷ []
 
 -- A program makes do with a ruleset that handles nothing, and leaves out a rule for it. The ruleset's number is held,
 -- its layer refuses nothing, and the layer after it is the second.
@@ -271,7 +253,7 @@ makes_do =
     ∷ ok 0 (calls.Restrict 3)
     ∷ ok 0 (opens (codes "/a/f") 4 Both)
     ∷ ok 0 (calls.Ftruncate 4)
-    ∷ ok 0 (renames (codes "/a/f") (codes "/b/h"))
+    ∷ ok 0 goes_over
     ∷ ok 0 calls.Mount
     ∷ ok 0 (calls.Bind 80)
     ∷ ok 0 (creates 4 (read_file ∷ truncate ∷ []) [])
@@ -280,7 +262,7 @@ makes_do =
     ∷ ok 0 (calls.Ftruncate 4)
     ∷ ok 0 (opens (codes "/a/f") 6 Write)
     ∷ refused Acces (2 ∷ []) 0 (calls.Ftruncate 6)
-    ∷ refused XDev (2 ∷ []) 0 (renames (codes "/a/f") (codes "/b/h"))
+    ∷ refused XDev (2 ∷ []) 0 goes_over
     ∷ refused Perm (2 ∷ []) 0 calls.Mount
     ∷ ok 0 (calls.CloseRs 3)
     ∷ moot 0 (calls.CloseRs 3)

@@ -10,7 +10,7 @@ use Rattle.ll_trace.specs.declared.record.Record.{Record}
 use Rattle.ll_trace.specs.declared.op.Op.TheVariants as calls
 use Rattle.ll_trace.specs.declared.op.Mode.TheVariants.{Read, Write, Both}
 use Rattle.ll_semantics.specs.declared.answer.Answer.{Answer}
-use Rattle.ll_semantics.specs.WorkedWords.{begins, confines, grant, ok, moot, refused, start, privileged_start, creates, adds, adds_port, opens}
+use Rattle.ll_semantics.specs.WorkedWords.{begins, holds_reading, forks, confines, grant, ok, moot, refused, start, privileged_start, creates, adds, adds_port, opens}
 
 -- a process confines itself to reading under one directory
 abbrev pub confined : List (Record × Answer)
@@ -101,9 +101,8 @@ rule_errors =
 -- rules for ports, before the version that has them
 abbrev pub port_rules_unknown : List (Record × Answer)
 port_rules_unknown =
-    begins
-    ++ ok 0 (creates 3 (read_file ∷ []) [])
-    ∷ refused Inval [] 0 (adds_port 3 80 [])
+    holds_reading
+    ++ refused Inval [] 0 (adds_port 3 80 [])
     ∷ []
 
 -- who may restrict itself
@@ -124,8 +123,8 @@ restricting =
 -- sixteen layers, and no more
 abbrev pub sixteen_layers : List (Record × Answer)
 sixteen_layers =
-    begins
-    ++ ok 0 (creates 3 (read_file ∷ []) []) ∷ replicate 16 (ok 0 (calls.Restrict 3))
+    holds_reading
+    ++ replicate 16 (ok 0 (calls.Restrict 3))
     ++ refused TooBig [] 0 (calls.Restrict 3)
     ∷ refused Acces (range_with_len 1 16) 0 (opens (codes "/a/f") 4 Read)
     ∷ []
@@ -144,9 +143,8 @@ frozen_layers =
 -- a ruleset that two processes hold is one ruleset
 abbrev pub shared_ruleset : List (Record × Answer)
 shared_ruleset =
-    begins
-    ++ ok 0 (creates 3 (read_file ∷ []) [])
-    ∷ ok 0 (calls.Fork 11)
+    holds_reading
+    ++ ok 0 (calls.Fork 11)
     ∷ ok 1 (adds 3 (codes "/a") (read_file ∷ []))
     ∷ ok 0 (calls.Restrict 3)
     ∷ ok 0 (opens (codes "/a/f") 4 Read)
@@ -155,9 +153,8 @@ shared_ruleset =
 -- a rule that comes after the restriction
 abbrev pub late_rule : List (Record × Answer)
 late_rule =
-    begins
-    ++ ok 0 (creates 3 (read_file ∷ []) [])
-    ∷ ok 0 (calls.Fork 11)
+    holds_reading
+    ++ ok 0 (calls.Fork 11)
     ∷ ok 0 (calls.Restrict 3)
     ∷ ok 1 (adds 3 (codes "/a") (read_file ∷ []))
     ∷ refused Acces (1 ∷ []) 0 (opens (codes "/a/f") 4 Read)
@@ -189,21 +186,15 @@ three_processes =
 -- twelve processes, some of which share a ruleset
 abbrev pub twelve_processes : List (Record × Answer)
 twelve_processes =
-    begins
-    ++ ok 0 (creates 3 (read_file ∷ []) [])
-    ∷ ok 0 (calls.Fork 2)
-    ∷ ok 0 (calls.Fork 3)
-    ∷ ok 1 (adds 3 (codes "/a") (read_file ∷ []))
+    holds_reading
+    ++ forks 0 (2 ∷ 3 ∷ [])
+    ++ ok 1 (adds 3 (codes "/a") (read_file ∷ []))
     ∷ ok 2 (calls.Restrict 3)
-    ∷ ok 1 (calls.Fork 4)
-    ∷ ok 1 (calls.Fork 5)
-    ∷ ok 2 (calls.Fork 6)
-    ∷ ok 2 (calls.Fork 7)
-    ∷ ok 3 (calls.Fork 8)
-    ∷ ok 3 (calls.Fork 9)
-    ∷ ok 4 (calls.Fork 10)
-    ∷ ok 4 (calls.Fork 11)
-    ∷ ok 5 (calls.Fork 12)
+    ∷ forks 1 (4 ∷ 5 ∷ [])
+    ++ forks 2 (6 ∷ 7 ∷ [])
+    ++ forks 3 (8 ∷ 9 ∷ [])
+    ++ forks 4 (10 ∷ 11 ∷ [])
+    ++ ok 5 (calls.Fork 12)
     ∷ ok 11 (opens (codes "/a/f") 4 Read)
     ∷ refused Acces (1 ∷ []) 11 (opens (codes "/b/g") 5 Read)
     ∷ ok 7 (opens (codes "/b/g") 4 Read)

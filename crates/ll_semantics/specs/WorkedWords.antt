@@ -1,8 +1,8 @@
 -- Short words for records and their answers, over the small tree of the worked tree file.
 -- Source: docs/FORMATS.md, "The trace file" and "The report".
-use Rattle.std.specs.Prelude.{◌≡◌, ℕ, List, [], ◌∷◌, ◌++◌, map, true, false}
+use Rattle.std.specs.Prelude.{◌≡◌, ℕ, List, [], ◌∷◌, ◌++◌, map, codes, true, false}
 use Rattle.ll_rights.specs.declared.abi.Abi.{Abi}
-use Rattle.ll_rights.specs.Rights.{FsRight}
+use Rattle.ll_rights.specs.Rights.{FsRight, read_file, remove_file, make_reg, refer}
 use Rattle.ll_rights.specs.NetRights.{NetRight}
 use Rattle.ll_tree.specs.WorkedTree.{worked_tree}
 use Rattle.ll_rules.specs.declared.errno.Errno.{Errno}
@@ -68,9 +68,33 @@ confines handled rules =
     ++ ok 0 (calls.Restrict 3)
     ∷ []
 
+-- a process that holds a ruleset of reading
+abbrev pub holds_reading : List (Record × Answer)
+holds_reading = begins ++ ok 0 (creates 3 (read_file ∷ []) []) ∷ []
+
+-- a process forks children with these pids
+abbrev pub forks : ℕ → List ℕ → List (Record × Answer)
+forks process pids = map (λ pid. ok process (calls.Fork pid)) pids
+
+-- a process opens an object, and then restricts itself by a ruleset that handles one right
+abbrev pub opens_before : FsRight → List ℕ → ℕ → Mode → List (Record × Answer)
+opens_before right path fd mode = begins ++ ok 0 (creates 3 (right ∷ []) []) ∷ ok 0 (opens path fd mode) ∷ ok 0 (calls.Restrict 3) ∷ []
+
+-- the first process confines itself, and has these rights on one directory and those on another
+abbrev pub confines_on_two : List FsRight → List FsRight → List FsRight → List (Record × Answer)
+confines_on_two handled one other = confines handled (grant (codes "/a") one ∷ grant (codes "/b") other ∷ [])
+
+-- what a file's move from one directory to another needs of both
+abbrev pub moving : List FsRight
+moving = refer ∷ make_reg ∷ remove_file ∷ []
+
 -- it renames an object, without an exchange
 abbrev pub renames : List ℕ → List ℕ → Op
 renames from to = calls.Rename from to false
+
+-- a file goes from the one directory to the other
+abbrev pub goes_over : Op
+goes_over = renames (codes "/a/f") (codes "/b/h")
 
 -- each record of a trace is answered as it says
 abbrev pub IsAnswered : Abi → List (Record × Answer) → Type 0

@@ -6,10 +6,8 @@ use Rattle.std.proofs.lemmas.List.{map-append, length-map}
 use Rattle.std.proofs.lemmas.List.Elements.{All-push, AllZip-push, length_all_zip}
 use Rattle.ll_rules.specs.declared.errno.Errno.TheVariants.{Perm, BadFd, TooBig}
 use Rattle.ll_rules.specs.declared.domain.LayerId.{LayerId}
-use Rattle.ll_rules.specs.KeptLayers.{SameRules}
-use Rattle.ll_rules.specs.InTree.{in_tree}
-use Rattle.ll_rules.specs.KeptLayers.{layer_at, domain_of}
-use Rattle.ll_rules.specs.InTree.{all_in_tree}
+use Rattle.ll_rules.specs.KeptLayers.{SameRules, layer_at, domain_of}
+use Rattle.ll_rules.specs.InTree.{in_tree, all_in_tree}
 use Rattle.ll_semantics.specs.declared.answer.Answer.TheVariants.{Allowed}
 use Rattle.ll_state.specs.declared.own_state.OwnState.{OwnState}
 use Rattle.ll_semantics.specs.States.{State, Layer}

@@ -1,32 +1,22 @@
-use Rattle.std.proofs.Common.{◌≡◌, ◌<◌, ◌∙◌, true, false, None, Some, length, sym, ap, subst, rules}
+use Rattle.std.proofs.Common.{◌≡◌, ◌<◌, ◌∙◌, true, false, None, length, sym, ap, subst, rules}
 use Rattle.ll_tree.specs.Paths.{Path, front}
 use Rattle.ll_tree.specs.Trees.{is_dir, kind_at, node_at}
 use Rattle.ll_reasons.specs.Meant.{meant}
-use Rattle.ll_reasons.specs.Reasons.{no_directory, nowhere}
-use Rattle.ll_reasons.proofs.Upward.{above_gone, above_there, beside_directory, beside_other, root_absent, shorter_above}
+use Rattle.ll_reasons.specs.Reasons.{nowhere}
+use Rattle.ll_reasons.proofs.Upward.{above_directory, above_gone, above_other, root_absent, shorter_above}
 use Rattle.ll_reasons.proofs.objects.nowhere.Goals as goal
 
 pub returns-then-is_directory : goal.returns-then-is_directory
 unfolding meant
 returns-then-is_directory c =
-    let tree = c.args.tree.now in
-    let path = c.loop-above.missing in
-    let node = c.in-Some-node.node in
-    let up = c.in-Some.ensures.some in
-    let there : Some node ≡ node_at tree (front path) = sym c.in-Some-node.is ∙ c.node.ensures.exact ∙ ap (node_at tree) up.0 in
-    let directory : is_dir (kind_at tree node) ≡ true = search rules in
-    sym (above_there tree path node up.1 there ∙ beside_directory tree path node directory) ∙ c.loop-above.invariant
+    let directory : is_dir (kind_at c.args.tree.now c.in-Some-node.node) ≡ true = search rules in
+    above_directory c.args.tree.now c.loop-above.missing _ c.in-Some-node.node c.in-Some.ensures.some (sym c.in-Some-node.is ∙ c.node.ensures.exact) directory ∙ c.loop-above.invariant
 
 pub returns-in-Some-node : goal.returns-in-Some-node
 unfolding meant
 returns-in-Some-node c =
-    let tree = c.args.tree.now in
-    let path = c.loop-above.missing in
-    let node = c.in-Some-node.node in
-    let up = c.in-Some.ensures.some in
-    let there : Some node ≡ node_at tree (front path) = sym c.in-Some-node.is ∙ c.node.ensures.exact ∙ ap (node_at tree) up.0 in
-    let other : is_dir (kind_at tree node) ≡ false = search rules in
-    ap no_directory up.0 ∙ sym (above_there tree path node up.1 there ∙ beside_other tree path node other) ∙ c.loop-above.invariant
+    let other : is_dir (kind_at c.args.tree.now c.in-Some-node.node) ≡ false = search rules in
+    above_other c.args.tree.now c.loop-above.missing _ c.in-Some-node.node c.in-Some.ensures.some (sym c.in-Some-node.is ∙ c.node.ensures.exact) other ∙ c.loop-above.invariant
 
 pub loop-above-smaller : goal.loop-above-smaller
 loop-above-smaller c =
