@@ -2,11 +2,10 @@
 use Rattle.std.proofs.Common.{◌≡◌, ℕ, suc, ◌≤◌, ◌<◌, ◌+◌, ◌-◌, ◌∷◌, [], ◌++◌, List, true, false, length, Some, leb, refl, sym, ap, ◌∙◌, subst, ⊎_elim, arith, get_or, take}
 use Rattle.std.specs.Prelude.{◌≢◌, codes}
 use Rattle.std.specs.List.{list_all, All, join_with_byte}
-use Rattle.std.proofs.lemmas.Bool.{cases_lt, le-leb, leb-true, false≢true}
+use Rattle.std.proofs.lemmas.Bool.{cases_lt, le-leb, leb-true, false≢true, and_parts}
 use Rattle.std.proofs.lemmas.List.{append_assoc, length-append, get_or_at, get_or-append_right, take_at}
 use Rattle.ll_tree.specs.Paths.{Path, Name, is_slash, is_name, path_of, names_in, after_slash, front}
 use Rattle.ll_tree.specs.PathTexts.{is_path, text_of}
-use Rattle.ll_tree.proofs.Bools.{both}
 use Rattle.ll_tree.proofs.PathLaws.{name_parts, text_of-path_of, is_path-path_of, path_of-text_of}
 
 last_name : Path → Name
@@ -23,8 +22,8 @@ join_last name next (third ∷ names) =
 
 last_is_name : (name : Name) (names : Path) → list_all is_name (name ∷ names) ≡ true → is_name (last_name (name ∷ names)) ≡ true
 unfolding last_name
-last_is_name name [] are = (both (is_name name) true are).0
-last_is_name name (next ∷ names) are = last_is_name next names (both (is_name name) (list_all is_name (next ∷ names)) are).1
+last_is_name name [] are = (and_parts (is_name name) true are).0
+last_is_name name (next ∷ names) are = last_is_name next names (and_parts (is_name name) (list_all is_name (next ∷ names)) are).1
 
 -- the names before the last one are names
 front_names : (path : Path) → list_all is_name path ≡ true → list_all is_name (front path) ≡ true
@@ -32,7 +31,7 @@ unfolding front
 front_names [] are = refl
 front_names (name ∷ []) are = refl
 front_names (name ∷ next ∷ names) are =
-    let parts = both (is_name name) (list_all is_name (next ∷ names)) are in
+    let parts = and_parts (is_name name) (list_all is_name (next ∷ names)) are in
     rw parts.0 (front_names (next ∷ names) parts.1)
 
 -- a list in which 47 is last at a place, and is followed by no other 47
@@ -64,15 +63,15 @@ front_read text [] place read within slash after =
     (λ _. refl, λ later. absurd (omega arith))
 front_read text (name ∷ []) place read within slash after =
     let is : 47 ∷ name ≡ text = text_of-path_of text (name ∷ []) read in
-    let are = both (list_all is_name (name ∷ [])) (leb (length (text_of (name ∷ []))) 4096) (is_path-path_of text (name ∷ []) read) in
-    let first : place ≡ 0 = last_slash text [] name place (sym is) (name_parts name (both (is_name name) true are.0).0).1 within slash after in
+    let are = and_parts (list_all is_name (name ∷ [])) (leb (length (text_of (name ∷ []))) 4096) (is_path-path_of text (name ∷ []) read) in
+    let first : place ≡ 0 = last_slash text [] name place (sym is) (name_parts name (and_parts (is_name name) true are.0).0).1 within slash after in
     (λ _. refl, λ later. absurd (omega arith))
 front_read text (name ∷ next ∷ names) place read within slash after =
     let path : Path = name ∷ next ∷ names in
     let last = last_name (next ∷ names) in
     let is : text ≡ text_of (front path) ++ 47 ∷ last = sym (text_of-path_of text path read) ∙ ap (λ rest. 47 ∷ rest) (join_last name next names) in
-    let are = both (list_all is_name path) (leb (length (text_of path)) 4096) (is_path-path_of text path read) in
-    let others = both (is_name name) (list_all is_name (next ∷ names)) are.0 in
+    let are = and_parts (list_all is_name path) (leb (length (text_of path)) 4096) (is_path-path_of text path read) in
+    let others = and_parts (is_name name) (list_all is_name (next ∷ names)) are.0 in
     let end : place ≡ length (text_of (front path)) = last_slash text (text_of (front path)) last place is (name_parts last (last_is_name next names others.1)).1 within slash after in
     let size : length text ≡ length (text_of (front path)) + suc (length last) = ap length is ∙ length-append (text_of (front path)) (47 ∷ last) in
     let fits : length (text_of path) ≤ 4096 = leb-true (length (text_of path)) 4096 are.1 in

@@ -1,11 +1,11 @@
 -- A tree with one more object is a tree.
-use Rattle.std.proofs.Common.{◌≡◌, ℕ, suc, ◌≤◌, ◌<◌, ◌+◌, ◌⊎◌, ◌∷◌, [], ◌++◌, List, length, Bool, true, false, Option, Some, None, cond, leb, refl, sym, ap, ◌∙◌, subst, inl, inr, ⊎_elim, arith, get_or, take}
-use Rattle.std.specs.Prelude.{◌≢◌, IsTrue}
+use Rattle.std.proofs.Common.{◌≡◌, ℕ, suc, ◌≤◌, ◌<◌, ◌+◌, ◌∷◌, [], ◌++◌, List, length, Bool, true, false, Option, Some, None, cond, leb, refl, sym, ap, ◌∙◌, subst, inl, inr, ⊎_elim, arith, get_or, take}
+use Rattle.std.specs.Prelude.{◌≢◌, IsTrue, is_some}
 use Rattle.std.specs.Option.{option_map}
 use Rattle.std.specs.List.{list_all, join_with_byte}
-use Rattle.std.proofs.lemmas.Bool.{cases_lt, leb-true}
+use Rattle.std.proofs.lemmas.Bool.{cases_lt, leb-true, and_parts}
 use Rattle.std.proofs.lemmas.List.{length-append, length_push, get_or_append_left, get_or_push, take-append-le, take_at}
-use Rattle.std.proofs.lemmas.Option.{none-some, same_Some}
+use Rattle.std.proofs.lemmas.Option.{none-some}
 use Rattle.ll_rights.specs.declared.kind.Kind.{Kind}
 use Rattle.ll_rights.specs.declared.kind.Kind.TheVariants.{Dir}
 use Rattle.ll_tree.specs.declared.place.NodeId.{NodeId}
@@ -13,11 +13,11 @@ use Rattle.ll_tree.specs.declared.place.Place.TheVariants as places
 use Rattle.ll_tree.specs.Paths.{Path, is_name, path_of, front}
 use Rattle.ll_tree.specs.PathTexts.{is_path, text_of}
 use Rattle.ll_tree.specs.Trees.{Entry, root, IsNode, is_dir, is_dir_in, path_at, kind_at, position_of, node_at, parent_of, parent_at, gap_in, place_or_gap, place_of, place}
-use Rattle.ll_tree.specs.TreeFacts.{IsTree, depth_at}
-use Rattle.ll_tree.proofs.Bools.{both}
+use Rattle.ll_tree.specs.TreeFacts.{spelt, named, IsTree, depth_at}
 use Rattle.ll_tree.proofs.Positions.{path_in, at_position, position_of-some, position_of-kept, is_dir_in-from_place}
 use Rattle.ll_tree.proofs.Standing.{node, is_root, parent_of-root, parent_of-other, parent_found, empty_or_not, is_dir-Dir}
 use Rattle.ll_tree.proofs.PathLaws.{is_path-path_of}
+use Rattle.ll_tree.proofs.Finding.{spelt_is, place_is, node_at-position}
 
 -- what holds where an entry can be added in a directory
 pub record Fits (tree : List Entry) (new : Entry) (up : NodeId) : Type 0 where
@@ -35,33 +35,24 @@ gap_dir tree (Some dir) up is = go (is_dir (kind_at tree dir)) refl is where
   go true test same = let dirs : dir ≡ up = cc in (ap (λ (n : NodeId). Some n) dirs, ap (λ n. is_dir (kind_at tree n)) (sym dirs) ∙ test)
   go false test same = cc
 
-pub not_at : (tree : List Entry) (path : Path) → node_at tree path ≡ None → position_of path tree ≡ None
-unfolding node_at
-not_at tree path is = go (position_of path tree) is where
-  go : (place : Option ℕ) → option_map node place ≡ None → place ≡ None
-  go None same = refl
-  go (Some number) same = absurd (none-some (node number) (sym same))
+pub gap_fits : (tree : List Entry) (text : List ℕ) (kind : Kind) (up : NodeId) → is_some (path_of text) ≡ true → place tree text ≡ places.Gap up → Fits tree (named text kind) up
+unfolding place_or_gap node_at
+gap_fits tree text kind up shape is = go (position_of (spelt text) tree) refl (place_is tree text shape ∙ is) where
+  go : (found : Option ℕ) → position_of (spelt text) tree ≡ found → place_or_gap tree (spelt text) (option_map node found) ≡ places.Gap up → Fits tree (named text kind) up
+  go (Some number) at same = cc
+  go None at same =
+      let dir = gap_dir tree (node_at tree (front (spelt text))) up same in
+      record { is_path = is_path-path_of text (spelt text) (spelt_is text shape); fresh = at; above = dir.0; is_dir = is_dir-Dir (kind_at tree up) dir.1 }
 
-pub gap_fits : (tree : List Entry) (text : List ℕ) (kind : Kind) (up : NodeId) → place tree text ≡ places.Gap up → (path : Path) × (path_of text ≡ Some path) × Fits tree (record { path = path; kind = kind }) up
-unfolding place place_of place_or_gap
-gap_fits tree text kind up is = go (path_of text) refl is where
-  go : (read : Option Path) → path_of text ≡ read → place_of tree read ≡ places.Gap up → (path : Path) × (path_of text ≡ Some path) × Fits tree (record { path = path; kind = kind }) up
-  go None read same = cc
-  go (Some path) read same = go2 (node_at tree path) refl same where
-    go2 : (found : Option NodeId) → node_at tree path ≡ found → place_or_gap tree path found ≡ places.Gap up → (path : Path) × (path_of text ≡ Some path) × Fits tree (record { path = path; kind = kind }) up
-    go2 (Some here) at same2 = cc
-    go2 None at same2 =
-        let dir = gap_dir tree (node_at tree (front path)) up same2 in
-        (path, read, record { is_path = is_path-path_of text path read; fresh = not_at tree path at; above = dir.0; is_dir = is_dir-Dir (kind_at tree up) dir.1 })
-
--- the entries of the longer list are those of the shorter one, and the new one
-pub old_or_new : (tree : List Entry) (new : Entry) (number : ℕ) → number < length (tree ++ new ∷ []) → ((number < length tree) × (get_or (tree ++ new ∷ []) number root ≡ get_or tree number root)) ⊎ ((number ≡ length tree) × (get_or (tree ++ new ∷ []) number root ≡ new))
-old_or_new tree new number within =
-    let size = length_push tree new in
-    ⊎_elim
-    (λ (old : number < length tree). inl (old, get_or_append_left tree (new ∷ []) root number old))
-    (λ (later : length tree ≤ number). let last : number ≡ length tree = omega arith in inr (last, get_or_push tree new root number (sym last)))
-    (cases_lt number (length tree))
+-- what holds of each item by its place, and of a new one at the end
+pub each_push : {X : Type 0} (P : ℕ → X → Type 0) (xs : List X) (x other : X) → ((n : ℕ) → n < length xs → P n (get_or xs n other)) → P (length xs) x → (n : ℕ) → n < length (xs ++ x ∷ []) → P n (get_or (xs ++ x ∷ []) n other)
+each_push P xs x other all last n within = elim (cases_lt n (length xs)) [
+  | inl before ↦ rw (get_or_append_left xs (x ∷ []) other n before) (all n before)
+  | inr after ↦
+      (let size = length_push xs x in
+      let end : length xs ≡ n = omega arith in
+      subst (λ m. P m (get_or (xs ++ x ∷ []) m other)) end (rw (get_or_push xs x other (length xs) refl) last))
+]
 
 pub path_at-old : (tree : List Entry) (new : Entry) (here : NodeId) → IsNode tree here → path_at (tree ++ new ∷ []) here ≡ path_at tree here
 unfolding path_at
@@ -76,11 +67,7 @@ length-front (name ∷ next ∷ names) other = let rest = length-front (next ∷
 module _ (tree : List Entry) (new : Entry) (up : NodeId) (listed : IsTree tree) (fits : Fits tree new up) where
   -- the directory above the new entry, in the tree
   pub above_at : (up.0 < length tree) × (path_in tree up.0 ≡ front new.path)
-  unfolding node_at
-  above_at = go (position_of (front new.path) tree) refl fits.above where
-    go : (place : Option ℕ) → position_of (front new.path) tree ≡ place → option_map node place ≡ Some up → (up.0 < length tree) × (path_in tree up.0 ≡ front new.path)
-    go None at same = absurd (none-some up same)
-    go (Some number) at same = subst (λ (n : NodeId). (n.0 < length tree) × (path_in tree n.0 ≡ front new.path)) (same_Some (node number) up same) (at_position (front new.path) tree number at)
+  above_at = at_position (front new.path) tree up.0 (node_at-position tree (front new.path) up fits.above)
 
   -- the new path is not an old one
   other_path : (here : NodeId) → IsNode tree here → path_at tree here ≢ new.path
@@ -94,50 +81,27 @@ module _ (tree : List Entry) (new : Entry) (up : NodeId) (listed : IsTree tree) 
 
   pub grown : IsTree (tree ++ new ∷ [])
   unfolding path_at kind_at
-  grown = record { begins = first; paths = paths; distinct = distinct; above = above } where
-    first : (0 < length (tree ++ new ∷ [])) × (get_or (tree ++ new ∷ []) 0 root ≡ root)
-    first = let size = length_push tree new in let some = listed.begins.0 in (omega arith, get_or_append_left tree (new ∷ []) root 0 listed.begins.0 ∙ listed.begins.1)
-
-    paths : (here : NodeId) → IsNode (tree ++ new ∷ []) here → IsTrue (Rattle.ll_tree.specs.PathTexts.is_path (path_at (tree ++ new ∷ []) here))
-    paths here within =
-        ⊎_elim
-        (λ (old : (here.0 < length tree) × (get_or (tree ++ new ∷ []) here.0 root ≡ get_or tree here.0 root)). ap (λ (e : Entry). Rattle.ll_tree.specs.PathTexts.is_path e.path) old.1 ∙ listed.paths here old.0)
-        (λ (last : (here.0 ≡ length tree) × (get_or (tree ++ new ∷ []) here.0 root ≡ new)). ap (λ (e : Entry). Rattle.ll_tree.specs.PathTexts.is_path e.path) last.1 ∙ fits.is_path)
-        (old_or_new tree new here.0 within)
-
-    distinct : (a b : NodeId) → IsNode (tree ++ new ∷ []) a → IsNode (tree ++ new ∷ []) b → path_at (tree ++ new ∷ []) a ≡ path_at (tree ++ new ∷ []) b → a ≡ b
-    distinct a b a_within b_within same =
-        ⊎_elim
-        (λ (a_old : (a.0 < length tree) × (get_or (tree ++ new ∷ []) a.0 root ≡ get_or tree a.0 root)). ⊎_elim
-        (λ (b_old : (b.0 < length tree) × (get_or (tree ++ new ∷ []) b.0 root ≡ get_or tree b.0 root)). listed.distinct a b a_old.0 b_old.0 (ap (λ (e : Entry). e.path) (sym a_old.1) ∙ same ∙ ap (λ (e : Entry). e.path) b_old.1))
-        (λ (b_new : (b.0 ≡ length tree) × (get_or (tree ++ new ∷ []) b.0 root ≡ new)). absurd (other_path a a_old.0 (ap (λ (e : Entry). e.path) (sym a_old.1) ∙ same ∙ ap (λ (e : Entry). e.path) b_new.1)))
-        (old_or_new tree new b.0 b_within))
-        (λ (a_new : (a.0 ≡ length tree) × (get_or (tree ++ new ∷ []) a.0 root ≡ new)). ⊎_elim
-        (λ (b_old : (b.0 < length tree) × (get_or (tree ++ new ∷ []) b.0 root ≡ get_or tree b.0 root)). absurd (other_path b b_old.0 (ap (λ (e : Entry). e.path) (sym b_old.1) ∙ sym same ∙ ap (λ (e : Entry). e.path) a_new.1)))
-        (λ (b_new : (b.0 ≡ length tree) × (get_or (tree ++ new ∷ []) b.0 root ≡ new)). ap node (a_new.0 ∙ sym b_new.0))
-        (old_or_new tree new b.0 b_within))
-        (old_or_new tree new a.0 a_within)
-
-    above : (here : NodeId) → IsNode (tree ++ new ∷ []) here → 0 < here.0 → IsTrue (is_dir_in (take here.0 (tree ++ new ∷ [])) (front (path_at (tree ++ new ∷ []) here)))
-    above here within later =
-        ⊎_elim
-        (λ (old : (here.0 < length tree) × (get_or (tree ++ new ∷ []) here.0 root ≡ get_or tree here.0 root)).
-        let before : here.0 ≤ length tree = let w = old.0 in omega arith in
-        ap (λ t. is_dir_in t (front (path_in (tree ++ new ∷ []) here.0))) (take-append-le here.0 tree (new ∷ []) before)
-        ∙ ap (λ (e : Entry). is_dir_in (take here.0 tree) (front e.path)) old.1 ∙ listed.above here old.0 later)
-        (λ (last : (here.0 ≡ length tree) × (get_or (tree ++ new ∷ []) here.0 root ≡ new)).
-        ap (λ t. is_dir_in t (front (path_in (tree ++ new ∷ []) here.0))) (take_at tree (new ∷ []) here.0 (sym last.0))
-        ∙ ap (λ (e : Entry). is_dir_in tree (front e.path)) last.1
-        ∙ is_dir_in-from_place (front new.path) tree up.0 above_at.0 above_at.1 (ap (λ k. Rattle.ll_tree.specs.Trees.is_dir k) fits.is_dir))
-        (old_or_new tree new here.0 within)
+  grown =
+      let both : List Entry = tree ++ new ∷ [] in
+      let size = length_push tree new in
+      record {
+        begins = (let some = listed.begins.0 in omega arith, get_or_append_left tree (new ∷ []) root 0 listed.begins.0 ∙ listed.begins.1);
+        paths = λ here within. each_push (λ n e. IsTrue (Rattle.ll_tree.specs.PathTexts.is_path e.path)) tree new root (λ n inside. listed.paths (node n) inside) fits.is_path here.0 within;
+        distinct = λ a b a_within b_within same. ap node (each_push (λ n e. (m : ℕ) → m < length both → e.path ≡ path_in both m → n ≡ m) tree new root
+            (λ n inside. each_push (λ m e. path_in tree n ≡ e.path → n ≡ m) tree new root
+            (λ m m_inside is. ap (λ (here : NodeId). here.0) (listed.distinct (node n) (node m) inside m_inside is)) (λ is. absurd (other_path (node n) inside is)))
+            (each_push (λ m e. new.path ≡ e.path → length tree ≡ m) tree new root (λ m m_inside is. absurd (other_path (node m) m_inside (sym is))) (λ is. refl))
+            a.0 a_within b.0 b_within same);
+        above = λ here within later. each_push (λ n e. 0 < n → IsTrue (is_dir_in (take n both) (front e.path))) tree new root
+            (λ n inside deeper. rw (take-append-le n tree (new ∷ []) (omega arith)) (listed.above (node n) inside deeper))
+            (λ deeper. rw (take_at tree (new ∷ []) (length tree) refl) (is_dir_in-from_place (front new.path) tree up.0 above_at.0 above_at.1 (ap (λ k. Rattle.ll_tree.specs.Trees.is_dir k) fits.is_dir)))
+            here.0 within later;
+      }
 
   -- what is found of an old path stays
   node_at-kept : (path : Path) (found : NodeId) → node_at tree path ≡ Some found → node_at (tree ++ new ∷ []) path ≡ Some found
   unfolding node_at
-  node_at-kept path found is = go (position_of path tree) refl is where
-    go : (place : Option ℕ) → position_of path tree ≡ place → option_map node place ≡ Some found → option_map node (position_of path (tree ++ new ∷ [])) ≡ Some found
-    go None at same = absurd (none-some found same)
-    go (Some number) at same = ap (option_map node) (position_of-kept path tree new number fits.fresh at) ∙ same
+  node_at-kept path found is = ap (option_map node) (position_of-kept path tree new found.0 (node_at-position tree path found is))
 
   -- the parent of an old node stays
   pub parent_at-old : (here : NodeId) → IsNode tree here → parent_at (tree ++ new ∷ []) here ≡ parent_at tree here
@@ -169,10 +133,8 @@ module _ (tree : List Entry) (new : Entry) (up : NodeId) (listed : IsTree tree) 
       ap (λ (e : Entry). length e.path) (get_or_push tree new root (length tree) refl) ∙ length-front new.path not_root ∙ ap (λ p. length p + 1) (sym above_at.1)
 
 -- a gap is in a node of the tree
-pub gap_node : (tree : List Entry) (text : List ℕ) (kind : Kind) (up : NodeId) → IsTree tree → place tree text ≡ places.Gap up → up.0 < length tree
-gap_node tree text kind up listed is =
-    let fits = gap_fits tree text kind up is in
-    (above_at tree (record { path = fits.0; kind = kind }) up listed fits.2).0
+pub gap_node : (tree : List Entry) (text : List ℕ) (kind : Kind) (up : NodeId) → IsTree tree → is_some (path_of text) ≡ true → place tree text ≡ places.Gap up → up.0 < length tree
+gap_node tree text kind up listed shape is = (above_at tree (named text kind) up listed (gap_fits tree text kind up shape is)).0
 
 length-join : (path : Path) → length path ≤ suc (length (join_with_byte 47 path))
 length-join [] = omega arith
@@ -187,6 +149,6 @@ pub depth_small : (tree : List Entry) (here : NodeId) → IsTree tree → IsNode
 unfolding depth_at Rattle.ll_tree.specs.PathTexts.is_path text_of
 depth_small tree here listed within =
     let path = path_at tree here in
-    let short = leb-true (length (text_of path)) 4096 (both (list_all is_name path) (leb (length (text_of path)) 4096) (listed.paths here within)).1 in
+    let short = leb-true (length (text_of path)) 4096 (and_parts (list_all is_name path) (leb (length (text_of path)) 4096) (listed.paths here within)).1 in
     let names = length-join path in
     omega arith

@@ -1,8 +1,6 @@
-pub mod Bools
 pub mod PathText
 pub mod PathLaws
 pub mod Positions
-pub mod Listing
 pub mod Standing
 pub mod Objects
 pub mod Fronts

@@ -1,15 +1,25 @@
 -- What a read of an object says of the tree's entries.
-use Rattle.std.proofs.Common.{◌≡◌, ℕ, ◌<◌, [], List, length, Some, sym, ap, ◌∙◌, arith, get_or}
-use Rattle.std.specs.Prelude.{unwrap_or}
+use Rattle.std.proofs.Common.{◌≡◌, ℕ, ◌<◌, ◌∷◌, [], ◌++◌, List, length, sym, ap, ◌∙◌, subst, arith, get_or}
 use Rattle.std.specs.String.{string_bytes}
 use Rattle.std.specs.declared.string.String.{String}
 use Rattle.ll_tree.specs.declared.tree.Object.{Object}
 use Rattle.ll_tree.specs.declared.place.NodeId.{NodeId}
-use Rattle.ll_tree.specs.Paths.{Path, path_of}
-use Rattle.ll_tree.specs.Trees.{Entry, root, path_at, kind_at, parent_at}
-use Rattle.ll_tree.specs.TreeFacts.{depth_at}
-use Rattle.ll_tree.specs.Kept.{entry_of, entries_of, IsSound}
-use Rattle.ll_tree.proofs.Listing.{length-entries_of, get_or-entries_of}
+use Rattle.ll_tree.specs.TreeFacts.{spelt}
+use Rattle.ll_tree.specs.Trees.{Entry, root, path_at, kind_at}
+use Rattle.ll_tree.specs.Kept.{entry_of, entries_of, IsOf, IsSound}
+use Rattle.std.proofs.lemmas.List.{length-map, map-append, get_or-map}
+
+pub length-entries_of : (objects : List Object) → length (entries_of objects) ≡ length objects
+unfolding entries_of
+length-entries_of objects = length-map objects entry_of
+
+pub get_or-entries_of : (objects : List Object) (place : ℕ) (other : Object) → place < length objects → get_or (entries_of objects) place root ≡ entry_of (get_or objects place other)
+unfolding entries_of
+get_or-entries_of objects place other within = get_or-map entry_of objects place other root within
+
+pub entries_of-push : (objects : List Object) (object : Object) → entries_of (objects ++ object ∷ []) ≡ entries_of objects ++ entry_of object ∷ []
+unfolding entries_of
+entries_of-push objects object = map-append entry_of objects (object ∷ [])
 
 module _ (objects : List Object) (value : List Entry) (is : entries_of objects ≡ value) where
   -- there are as many objects as entries
@@ -27,16 +37,9 @@ module _ (objects : List Object) (value : List Entry) (is : entries_of objects �
     unfolding kind_at entry_of
     kind_is = ap (λ (e : Entry). e.kind) entry_is
 
-    -- where the object's text spells a path, it is the node's
-    pub path_is : (path : Path) → path_of (string_bytes object.text) ≡ Some path → path_at value node ≡ path
+    pub path_is : path_at value node ≡ spelt (string_bytes object.text)
     unfolding path_at entry_of
-    path_is path read = sym (ap (λ (e : Entry). e.path) entry_is) ∙ ap (λ p. unwrap_or p []) read
+    path_is = sym (ap (λ (e : Entry). e.path) entry_is)
 
-    module _ {A : Type 0} (numbers : List (String A × ℕ)) (sound : IsSound objects numbers) where
-      pub parent_is : object.parent ≡ parent_at value node
-      parent_is =
-          ap (λ (o : Object). o.parent) found ∙ sound.parents node.0 object (within_is node.0 within) ∙ ap (λ es. parent_at es node) is
-
-      pub depth_is : object.depth ≡ depth_at value node
-      depth_is =
-          ap (λ (o : Object). o.depth) found ∙ sound.depths node.0 object (within_is node.0 within) ∙ ap (λ es. depth_at es node) is
+    pub of_node : {A : Type 0} (numbers : List (String A × ℕ)) → IsSound objects numbers → IsOf value node.0 object
+    of_node numbers sound = rw found (subst (λ (entries : List Entry). IsOf entries node.0 (get_or objects node.0 object)) is (sound.each node.0 object (within_is node.0 within)))

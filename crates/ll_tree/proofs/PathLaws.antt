@@ -2,7 +2,7 @@
 use Rattle.std.proofs.Common.{◌≡◌, ℕ, ◌≤◌, ◌∷◌, [], List, true, false, ◌&&◌, length, Some, None, cond, eqb, leb, refl, sym, ap, ◌∙◌, subst, arith, get_or}
 use Rattle.std.specs.Prelude.{◌≢◌, not, codes}
 use Rattle.std.specs.List.{list_all, slice_split, All, join_with_byte}
-use Rattle.std.proofs.lemmas.Bool.{le-leb, leb-true, false≢true}
+use Rattle.std.proofs.lemmas.Bool.{le-leb, leb-true, false≢true, and_parts}
 use Rattle.std.specs.Str.{bytes_eq}
 use Rattle.std.specs.Bool.{Decides}
 use Rattle.std.proofs.lemmas.Bool.Decides.{nat_tests, Decides-like, same_from_decides}
@@ -12,7 +12,6 @@ use Rattle.std.proofs.lemmas.List.Splits.{join_with_byte-slice_split, slice_spli
 use Rattle.std.proofs.lemmas.List.Sums.{AllPass-from_list_all}
 use Rattle.ll_tree.specs.Paths.{Path, Name, is_slash, is_name, is_name_byte, path_eq, names_in, after_slash, path_of}
 use Rattle.ll_tree.specs.PathTexts.{is_path, text_of}
-use Rattle.ll_tree.proofs.Bools.{both}
 use Rattle.ll_tree.proofs.PathText.{path_of-slash}
 
 -- what is read of a text, and that it is short
@@ -66,15 +65,15 @@ name_parts name is =
     let first = not (eqb (length name) 0) in
     let second = not (bytes_eq name (codes ".")) in
     let third = not (bytes_eq name (codes "..")) in
-    let all = both (first && second && third) (list_all is_name_byte name) is in
-    let rest = both first second (both (first && second) third all.0).0 in
+    let all = and_parts (first && second && third) (list_all is_name_byte name) is in
+    let rest = and_parts first second (and_parts (first && second) third all.0).0 in
     (not_empty name rest.0, λ k d within. not_slash (get_or name k d) (AllPass-from_list_all is_name_byte name all.1 k d within))
 
 -- names are cut apart again after they were joined
 cut_again : (name : Name) (names : Path) → list_all is_name (name ∷ names) ≡ true → slice_split is_slash (join_with_byte 47 (name ∷ names)) ≡ name ∷ names
-cut_again name [] is = slice_split_none is_slash name (name_parts name (both (is_name name) true is).0).1
+cut_again name [] is = slice_split_none is_slash name (name_parts name (and_parts (is_name name) true is).0).1
 cut_again name (next ∷ names) is =
-    let parts = both (is_name name) (list_all is_name (next ∷ names)) is in
+    let parts = and_parts (is_name name) (list_all is_name (next ∷ names)) is in
     slice_split_at is_slash name 47 (join_with_byte 47 (next ∷ names)) (name_parts name parts.0).1 refl ∙ ap (λ (rest : Path). name ∷ rest) (cut_again next names parts.1)
 
 -- names that aren't empty are read where each is a name
@@ -93,14 +92,14 @@ unfolding names_in
 names_in-joined [] are = refl
 names_in-joined (name ∷ names) are =
     let cut = cut_again name names are in
-    let some = joined_some name names (name_parts name (both (is_name name) (list_all is_name names) are).0).0 in
+    let some = joined_some name names (name_parts name (and_parts (is_name name) (list_all is_name names) are).0).0 in
     some_names (join_with_byte 47 (name ∷ names)) some (ap (list_all is_name) cut ∙ are) ∙ ap (λ (p : Path). Some p) cut
 
 -- a path is read back from its text
 pub path_of-text_of : (path : Path) → is_path path ≡ true → path_of (text_of path) ≡ Some path
 unfolding is_path text_of
 path_of-text_of path is =
-    let parts = both (list_all is_name path) (leb (length (text_of path)) 4096) is in
+    let parts = and_parts (list_all is_name path) (leb (length (text_of path)) 4096) is in
     path_of-slash (text_of path) (join_with_byte 47 path) (leb-true (length (text_of path)) 4096 parts.1) refl ∙ names_in-joined path parts.0
 
 -- paths are the same exactly where their texts are

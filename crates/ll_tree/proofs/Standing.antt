@@ -6,7 +6,7 @@ use Rattle.std.proofs.lemmas.Bool.{false≢true, cases_lt}
 use Rattle.std.proofs.lemmas.List.{length-take, get_or-take}
 use Rattle.std.proofs.lemmas.Option.{none-some, same_Some}
 use Rattle.ll_rights.specs.declared.kind.Kind.{Kind}
-use Rattle.ll_rights.specs.declared.kind.Kind.TheVariants.{Dir, Reg, Sym, Char, Block, Fifo, Sock}
+use Rattle.ll_rights.specs.declared.kind.Kind.TheVariants.{Dir}
 use Rattle.ll_tree.specs.declared.place.NodeId.{NodeId}
 use Rattle.ll_tree.specs.Paths.{Path, front}
 use Rattle.ll_tree.specs.Trees.{Entry, root, IsNode, is_dir, path_at, kind_at, position_of, node_at, parent_of, parent_at}
@@ -43,12 +43,7 @@ position_is tree place listed within =
 
 pub is_dir-Dir : (kind : Kind) → is_dir kind ≡ true → kind ≡ Dir
 is_dir-Dir Dir is = refl
-is_dir-Dir Reg is = absurd (false≢true is)
-is_dir-Dir Sym is = absurd (false≢true is)
-is_dir-Dir Char is = absurd (false≢true is)
-is_dir-Dir Block is = absurd (false≢true is)
-is_dir-Dir Fifo is = absurd (false≢true is)
-is_dir-Dir Sock is = absurd (false≢true is)
+is_dir-Dir kind is = absurd (false≢true is)
 
 -- the parent of a node that isn't the root
 pub parent_found : (tree : List Entry) (here : NodeId) → IsTree tree → IsNode tree here → path_at tree here ≢ [] → (up : NodeId) × (parent_at tree here ≡ Some up) × StandsIn tree here up

@@ -1,26 +1,25 @@
 -- The first fault of an object is told by the place that its path names.
-use Rattle.std.proofs.Common.{◌≡◌, ℕ, suc, ◌∷◌, [], ◌++◌, List, length, Bool, true, false, ◌||◌, Option, Some, None, Result, Ok, Err, cond, ltb, refl, sym, ap, ◌∙◌, arith}
-use Rattle.std.specs.Prelude.{◌≢◌, is_some, IfOk, IfErr}
+use Rattle.std.proofs.Common.{◌≡◌, ℕ, suc, ◌∷◌, [], ◌++◌, List, length, Bool, true, false, ◌||◌, Option, Some, None, Result, Ok, Err, cond, ltb, refl, sym, ap, ◌∙◌, inl, inr, get_or, arith}
+use Rattle.std.specs.Prelude.{◌≢◌, not, is_some, IfOk, IfErr}
 use Rattle.std.specs.Option.{option_map}
-use Rattle.std.proofs.lemmas.Bool.{false_from_ne_true}
-use Rattle.std.proofs.lemmas.Option.{none-some}
+use Rattle.std.proofs.lemmas.Bool.{cases_Bool, false≢true}
 use Rattle.ll_rights.specs.declared.kind.Kind.{Kind}
 use Rattle.ll_lines.specs.declared.fault.Cause.{Cause}
 use Rattle.ll_lines.specs.declared.fault.Cause.TheVariants.{Twice, NoParent, TooMany, Memory}
 use Rattle.ll_lines.specs.declared.fault.ReadFault.{ReadFault}
 use Rattle.ll_tree.specs.declared.place.NodeId.{NodeId}
+use Rattle.ll_tree.specs.declared.place.Place.{Place}
 use Rattle.ll_tree.specs.declared.place.Place.TheVariants as places
 use Rattle.ll_tree.specs.Paths.{Path, path_of, path_eq, front}
 use Rattle.ll_tree.specs.Trees.{Entry, root, is_dir, is_dir_in, kind_at, position_of, node_at, gap_in, place_or_gap, place_of, place}
-use Rattle.ll_tree.specs.TreeFacts.{named, IsTree}
+use Rattle.ll_tree.specs.TreeFacts.{spelt, named, IsTree}
 use Rattle.ll_lines.specs.LineByLine.{with_entry, add_unless, reading, GivesReading}
 use Rattle.ll_lines.specs.Reading.{IsBad}
 use Rattle.ll_tree.specs.TreeReading.{is_listed, fault_in, tree_format, IsTreeOf}
 use Rattle.ll_tree.specs.TreeByLine.{below_root, IsRooted}
 use Rattle.ll_lines.proofs.ReadingLemmas.{good_from_reading, bad_from_fault}
-use Rattle.ll_tree.proofs.Finding.{read_of}
-use Rattle.ll_tree.proofs.Growing.{gap_fits, above_at, not_at}
-use Rattle.ll_tree.proofs.Positions.{place_of_dir, is_dir_in-from_place}
+use Rattle.ll_tree.proofs.Finding.{spelt_is}
+use Rattle.ll_tree.proofs.Positions.{at_position, place_of_dir, is_dir_in-from_place}
 use Rattle.ll_tree.proofs.Standing.{node, position_is}
 
 -- a tree is the root and what is below it
@@ -42,77 +41,62 @@ is_listed-position (entry ∷ entries) path = go (path_eq entry.path path) (posi
   go false None is = is
   go false (Some n) is = is
 
-listed_node : (tree : List Entry) (path : Path) (here : NodeId) → node_at tree path ≡ Some here → is_listed tree path ≡ true
-unfolding node_at
-listed_node tree path here is = is_listed-position tree path ∙ go (position_of path tree) is where
-  go : (found : Option ℕ) → option_map node found ≡ Some here → is_some found ≡ true
-  go None same = absurd (none-some here same)
-  go (Some n) same = refl
+-- a directory is in a tree where its path has a node that is one
+dir_found : List Entry → Option NodeId → Bool
+dir_found tree None = false
+dir_found tree (Some up) = is_dir (kind_at tree up)
 
-not_listed : (tree : List Entry) (path : Path) → position_of path tree ≡ None → is_listed tree path ≡ false
-not_listed tree path is = is_listed-position tree path ∙ ap is_some is
+is_dir_in-found : (tree : List Entry) (path : Path) → IsTree tree → is_dir_in tree path ≡ dir_found tree (node_at tree path)
+unfolding dir_found node_at kind_at
+is_dir_in-found tree path listed = elim (cases_Bool (is_dir_in tree path)) [
+  | inl dir ↦
+      let (place, within, is, is_one) = place_of_dir path tree dir in
+      let found : position_of path tree ≡ Some place = ap (λ p. position_of p tree) (sym is) ∙ position_is tree place listed within in
+      dir ∙ rw found (sym is_one)
+  | inr other ↦ other ∙ go (position_of path tree) refl other
+]
+  where
+    go : (found : Option ℕ) → position_of path tree ≡ found → is_dir_in tree path ≡ false → false ≡ dir_found tree (option_map node found)
+    go None at other = refl
+    go (Some place) at other = elim (cases_Bool (is_dir (get_or tree place root).kind)) [
+      | inl dir ↦ let there = at_position path tree place at in absurd (false≢true (sym other ∙ is_dir_in-from_place path tree place there.0 there.1 dir))
+      | inr not ↦ sym not
+    ]
 
--- no place is both a gap or nowhere and a node
-gap_no_node : (tree : List Entry) (up : Option NodeId) (here : NodeId) → gap_in tree up ≡ places.Node here → ⊥
-unfolding gap_in
-gap_no_node tree None here is = cc
-gap_no_node tree (Some dir) here is = go (is_dir (kind_at tree dir)) is where
-  go : (b : Bool) → cond b (places.Gap dir) places.Nowhere ≡ places.Node here → ⊥
-  go true same = cc
-  go false same = cc
+-- the fault of an object is told by the place that its path names
+unfoldable pub fault_at : List Entry → Place → Option Cause
+fault_at tree (places.Node here) = Some Twice
+fault_at tree (places.Gap up) = cond (ltb (length tree) 65536) None (Some TooMany)
+fault_at tree places.Nowhere = Some NoParent
 
-node_there : (tree : List Entry) (path : Path) (found : Option NodeId) (here : NodeId) → place_or_gap tree path found ≡ places.Node here → found ≡ Some here
-unfolding place_or_gap
-node_there tree path None here is = absurd (gap_no_node tree (node_at tree (front path)) here is)
-node_there tree path (Some other) here is = let same : other ≡ here = cc in ap (λ (n : NodeId). Some n) same
+gap_fault : (tree : List Entry) (up : Option NodeId) → cond (not (dir_found tree up)) (Some NoParent) (cond (ltb (length tree) 65536) None (Some TooMany)) ≡ fault_at tree (gap_in tree up)
+unfolding dir_found fault_at gap_in
+gap_fault tree None = refl
+gap_fault tree (Some up) =
+    elim (is_dir (kind_at tree up)) as (λ b. cond (not b) (Some NoParent) (cond (ltb (length tree) 65536) None (Some TooMany)) ≡ fault_at tree (cond b (places.Gap up) places.Nowhere)) [ true ↦ refl | false ↦ refl ]
 
-no_gap : (tree : List Entry) (up : NodeId) → is_dir (kind_at tree up) ≡ true → gap_in tree (Some up) ≡ places.Nowhere → ⊥
-unfolding gap_in
-no_gap tree up dir is = let same : places.Gap up ≡ places.Nowhere = sym (rw dir refl) ∙ is in cc
+place_fault : (tree : List Entry) (path : Path) (found : Option ℕ) →
+    cond (is_some found) (Some Twice) (cond (not (dir_found tree (node_at tree (front path)))) (Some NoParent) (cond (ltb (length tree) 65536) None (Some TooMany))) ≡ fault_at tree (place_or_gap tree path (option_map node found))
+unfolding fault_at place_or_gap
+place_fault tree path (Some n) = refl
+place_fault tree path None = gap_fault tree (node_at tree (front path))
 
-not_there : (tree : List Entry) (path : Path) (found : Option NodeId) → place_or_gap tree path found ≡ places.Nowhere → (found ≡ None) × (gap_in tree (node_at tree (front path)) ≡ places.Nowhere)
-unfolding place_or_gap
-not_there tree path None is = (refl, is)
-not_there tree path (Some here) is = cc
+pub fault_in-place : (tree : List Entry) (text : List ℕ) (kind : Kind) → IsTree tree → is_some (path_of text) ≡ true → fault_in tree (named text kind) ≡ fault_at tree (place tree text)
+unfolding place place_of node_at fault_in
+fault_in-place tree text kind listed shape =
+    let path = spelt text in
+    rw (spelt_is text shape, is_listed-position tree path, is_dir_in-found tree (front path) listed) (place_fault tree path (position_of path tree))
 
--- where a directory is, there is a gap in it
-no_dir : (tree : List Entry) (path : Path) → IsTree tree → gap_in tree (node_at tree path) ≡ places.Nowhere → is_dir_in tree path ≡ false
-unfolding node_at kind_at
-no_dir tree path listed is = false_from_ne_true (is_dir_in tree path) (λ dir.
-    let there = place_of_dir path tree dir in
-    let found : node_at tree path ≡ Some (node there.0) = ap (option_map node) (ap (λ p. position_of p tree) (sym there.2) ∙ position_is tree there.0 listed there.1) in
-    no_gap tree (node there.0) there.3 (ap (gap_in tree) (sym found) ∙ is))
+-- what is listed after an object: the fault that its place tells, or the tree with it
+module _ (tree : List Entry) (text : List ℕ) (kind : Kind) (at : Place) (listed : IsTree tree) (shape : is_some (path_of text) ≡ true) (is : at ≡ place tree text) where
+  with_entry-is : (told : Option Cause) → fault_at tree at ≡ told → with_entry tree_format (below_root tree) (named text kind) ≡ add_unless (below_root tree) (named text kind) told
+  with_entry-is told fault = ap (λ t. add_unless (below_root tree) (named text kind) (fault_in t (named text kind))) (rooted tree listed) ∙ rw (fault_in-place tree text kind listed shape, ← is, fault) refl
 
-pub fault-node : (tree : List Entry) (text : List ℕ) (kind : Kind) (here : NodeId) → is_some (path_of text) ≡ true → places.Node here ≡ place tree text → fault_in tree (named text kind) ≡ Some Twice
-unfolding place place_of fault_in
-fault-node tree text kind here shape is =
-    let read = read_of text shape in
-    let there = node_there tree read.0 (node_at tree read.0) here (ap (place_of tree) (sym read.1) ∙ sym is) in
-    rw (read.1, listed_node tree read.0 here there) refl
+  pub with_entry-fault : (cause : Cause) → fault_at tree at ≡ Some cause → with_entry tree_format (below_root tree) (named text kind) ≡ Err cause
+  with_entry-fault cause fault = with_entry-is (Some cause) fault
 
-pub fault-nowhere : (tree : List Entry) (text : List ℕ) (kind : Kind) → IsTree tree → is_some (path_of text) ≡ true → places.Nowhere ≡ place tree text → fault_in tree (named text kind) ≡ Some NoParent
-unfolding place place_of fault_in
-fault-nowhere tree text kind listed shape is =
-    let read = read_of text shape in
-    let there = not_there tree read.0 (node_at tree read.0) (ap (place_of tree) (sym read.1) ∙ sym is) in
-    rw (read.1, not_listed tree read.0 (not_at tree read.0 there.0), no_dir tree (front read.0) listed there.1) refl
-
-pub fault-gap : (tree : List Entry) (text : List ℕ) (kind : Kind) (up : NodeId) → IsTree tree → places.Gap up ≡ place tree text → fault_in tree (named text kind) ≡ cond (ltb (length tree) 65536) None (Some TooMany)
-unfolding fault_in kind_at
-fault-gap tree text kind up listed is =
-    let fits = gap_fits tree text kind up (sym is) in
-    let new : Entry = record { path = fits.0; kind = kind } in
-    let above = above_at tree new up listed fits.2 in
-    let dir : is_dir_in tree (front fits.0) ≡ true = is_dir_in-from_place (front fits.0) tree up.0 above.0 above.1 (ap is_dir fits.2.is_dir) in
-    rw (fits.1, not_listed tree fits.0 fits.2.fresh, dir) refl
-
--- what is listed after an object: the fault that it has, or the tree with it
-pub with_entry-fault : (tree : List Entry) (entry : Entry) (cause : Cause) → IsTree tree → fault_in tree entry ≡ Some cause → with_entry tree_format (below_root tree) entry ≡ Err cause
-with_entry-fault tree entry cause listed is = ap (λ t. add_unless (below_root tree) entry (fault_in t entry)) (rooted tree listed) ∙ ap (add_unless (below_root tree) entry) is
-
-pub with_entry-added : (tree later : List Entry) (entry : Entry) → IsTree tree → fault_in tree entry ≡ None → later ≡ tree ++ entry ∷ [] → with_entry tree_format (below_root tree) entry ≡ Ok (below_root later)
-with_entry-added tree later entry listed is added =
-    ap (λ t. add_unless (below_root tree) entry (fault_in t entry)) (rooted tree listed) ∙ ap (add_unless (below_root tree) entry) is ∙ ap Ok (sym (ap below_root added ∙ below_root-push tree entry listed))
+  pub with_entry-added : (later : List Entry) → fault_at tree at ≡ None → later ≡ tree ++ named text kind ∷ [] → with_entry tree_format (below_root tree) (named text kind) ≡ Ok (below_root later)
+  with_entry-added later fault added = with_entry-is None fault ∙ ap Ok (sym (ap below_root added ∙ below_root-push tree (named text kind) listed))
 
 pub rooted_later : (tree later : List Entry) (entry : Entry) → IsTree tree → later ≡ tree ++ entry ∷ [] → IsRooted later
 rooted_later tree later entry listed added =

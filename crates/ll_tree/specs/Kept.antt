@@ -24,11 +24,15 @@ entries_of objects = map entry_of objects
 abbrev pub number_of : {A : Type 0} → List (String A × ℕ) → List ℕ → Option ℕ
 number_of numbers text = lookup (is_at (λ key. slice_cmp nat_cmp text (string_bytes key))) numbers
 
+-- an object has the parent and the depth of the node of a number
+pub record IsOf (entries : List Entry) (number : ℕ) (object : Object) : Type 0 where
+  pub parent : object.parent ≡ parent_at entries (record { 0 = number })
+  pub depth : object.depth ≡ depth_at entries (record { 0 = number })
+
 -- The entries are a tree of at most 65,536 nodes, the map has the number of each of their paths, and each object
--- has its parent and its depth.
+-- is that of its number.
 pub record IsSound {A : Type 0} (objects : List Object) (numbers : List (String A × ℕ)) : Type 0 where
   pub listed : IsTree (entries_of objects)
   pub small : length objects ≤ 65536
   pub found : (path : Path) → IsTrue (is_path path) → number_of numbers (text_of path) ≡ position_of path (entries_of objects)
-  pub parents : (number : ℕ) (other : Object) → number < length objects → (slice_index_or objects number other).parent ≡ parent_at (entries_of objects) (record { 0 = number })
-  pub depths : (number : ℕ) (other : Object) → number < length objects → (slice_index_or objects number other).depth ≡ depth_at (entries_of objects) (record { 0 = number })
+  pub each : (number : ℕ) (other : Object) → number < length objects → IsOf (entries_of objects) number (slice_index_or objects number other)

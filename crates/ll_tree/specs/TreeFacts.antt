@@ -6,7 +6,7 @@ use Rattle.ll_rights.specs.declared.kind.Kind.TheVariants.{Dir}
 use Rattle.ll_tree.specs.declared.place.NodeId.{NodeId}
 use Rattle.ll_tree.specs.declared.place.Place.{Place}
 use Rattle.ll_tree.specs.declared.place.Place.TheVariants as places
-use Rattle.ll_tree.specs.Paths.{front, path_of}
+use Rattle.ll_tree.specs.Paths.{Path, front, path_of}
 use Rattle.ll_tree.specs.PathTexts.{is_path}
 use Rattle.ll_tree.specs.Trees.{Entry, root, IsNode, path_at, kind_at, is_dir_in}
 
@@ -35,6 +35,10 @@ IsPlace tree (places.Node node) = IsNode tree node
 IsPlace tree (places.Gap node) = IsNode tree node × (kind_at tree node ≡ Dir)
 IsPlace tree places.Nowhere = Unit {0}
 
+-- the path that a text spells, where it spells one
+abbrev pub spelt : List ℕ → Path
+spelt text = unwrap_or (path_of text) []
+
 -- the entry that a text and a kind make
 abbrev pub named : List ℕ → Kind → Entry
-named text kind = record { path = unwrap_or (path_of text) []; kind = kind }
+named text kind = record { path = spelt text; kind = kind }

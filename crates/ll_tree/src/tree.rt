@@ -11,7 +11,7 @@ ghost use Rattle.ll_tree.specs.TreeReading.{IsTreeOf, tree_format};
 ghost use Rattle.ll_tree.specs.TreeByLine.{IsRooted, below_root, with_value};
 ghost use Rattle.ll_tree.specs.Paths.{Path, path_of, is_prefix};
 ghost use Rattle.ll_tree.specs.Trees.{Entry, root, IsNode, is_dir, path_at, kind_at, parent_at, node_at, gap_in, place};
-ghost use Rattle.ll_tree.specs.TreeFacts.{named, IsTree, IsPlace, StandsIn, depth_at};
+ghost use Rattle.ll_tree.specs.TreeFacts.{spelt, named, IsTree, IsPlace, StandsIn, depth_at};
 
 use crate::hints::Hints;
 use crate::object::object_of;
@@ -64,6 +64,7 @@ impl Tree {
     ///
     /// A file that does not read is refused with the number of its first faulty line and the first
     /// fault of that line. Where memory ran out the line is the one that was being read.
+    #[tactic(auto, using(crate::proofs::TreeLines::is_tree_of, crate::proofs::TreeLines::is_bad))]
     pub fn read(alloc: Global, bytes: &[u8]) -> Result<Tree, ReadFault>
         ensures ok { IfOk result (IsTreeOf bytes.now) }
         ensures err { IfErr result (λ fault. fault.cause ≢ Memory → IsBad tree_format bytes.now fault) }
@@ -72,6 +73,7 @@ impl Tree {
     }
 
     /// Reads line after line.
+    #[tactic(auto, using(ll_lines::proofs::ReadingLemmas::read_lines_next, ll_lines::proofs::ReadingLemmas::read_lines_end))]
     fn read_lines(alloc: Global, bytes: &[u8]) -> Result<Tree, ReadFault>
         ensures reading { GivesReading below_root result (reading tree_format bytes.now) }
         ensures rooted { IfOk result IsRooted }
@@ -168,6 +170,7 @@ impl Tree {
         kind: Kind,
         parent: NodeId,
     ) -> Result<(), AllocError>
+        requires path { IsTrue (is_some (path_of text.now)) }
         requires gap { place self.old text.now ≡ Place.Gap parent }
         requires room { length self.old < 65536 }
         ensures ok { OnOk result (self.new ≡ self.old ++ named text.now kind ∷ []) }
@@ -226,6 +229,7 @@ impl Tree {
     }
 
     /// The directory that a node is in, and None for the root.
+    #[tactic(auto, using(crate::proofs::Standing::if_none, crate::proofs::Standing::if_some))]
     pub fn parent(&self, node: NodeId) -> Option<NodeId>
         requires { IsNode self.now node }
         ensures exact { result ≡ parent_at self.now node }
@@ -262,6 +266,7 @@ impl Tree {
     }
 
     /// The place that a text names: a node, the gap in a directory that has no such name, or nowhere.
+    #[tactic(auto, using(crate::proofs::Finding::place_other))]
     pub fn resolve(&self, text: &str) -> Place
         ensures place { result ≡ place self.now text.now }
         ensures inside { IsPlace self.now result }
@@ -297,8 +302,9 @@ impl Tree {
 
     /// The node whose path this text spells.
     fn find(&self, text: &str) -> Option<NodeId>
-        ensures found { (path : Path) → path_of text.now ≡ Some path → result ≡ node_at self.now path }
-        ensures node { IsTrue (is_some (path_of text.now)) → IfSome result (IsNode self.now) }
+        requires { IsTrue (is_some (path_of text.now)) }
+        ensures found { result ≡ node_at self.now (spelt text.now) }
+        ensures node { IfSome result (IsNode self.now) }
         ensures tree { IsTree self.now }
     {
         match self.hinted(text) {
@@ -309,8 +315,7 @@ impl Tree {
 
     /// The node that is guessed for a text, where the text is that node's.
     fn hinted(&self, text: &str) -> Option<NodeId>
-        ensures { IfSome result (λ node. IsNode self.now node
-            × ((path : Path) → path_of text.now ≡ Some path → path_at self.now node ≡ path)) }
+        ensures { IfSome result (λ node. IsNode self.now node × (path_at self.now node ≡ spelt text.now)) }
     {
         let number = self.hints.guess(text);
         let Some(object) = self.objects.get(number as usize) else {

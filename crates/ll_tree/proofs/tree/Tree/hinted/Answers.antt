@@ -3,7 +3,7 @@ use Rattle.std.proofs.Common.{◌≡◌, ◌<◌, length, true, ◌∙◌, ap, a
 use Rattle.std.specs.Str.{bytes_eq}
 use Rattle.std.specs.String.{string_bytes}
 use Rattle.std.proofs.lemmas.Slice.Eq.{bytes_eq-Decides}
-use Rattle.ll_tree.specs.Paths.{path_of}
+use Rattle.ll_tree.specs.TreeFacts.{spelt}
 use Rattle.ll_tree.proofs.Objects.{length_is, path_is}
 use Rattle.ll_tree.proofs.tree.Tree.hinted.Goals as goal
 
@@ -16,4 +16,4 @@ returns c =
     let same = (bytes_eq-Decides (string_bytes object.text) c.args.text.now).0 tests in
     let size = length_is objects c.args.self.now c.self.view_is in
     let below : c.guess-number.result < length c.args.self.now = omega (arith, size, looked.0) in
-    (below, λ path read. path_is objects c.args.self.now c.self.view_is (record { 0 = c.guess-number.result }) object below looked.1 path (ap path_of same ∙ read))
+    (below, path_is objects c.args.self.now c.self.view_is (record { 0 = c.guess-number.result }) object below looked.1 ∙ ap spelt same)

@@ -1,6 +1,6 @@
 -- The object at a node's place is that node's.
 use Rattle.std.proofs.Common.{arith}
-use Rattle.ll_tree.proofs.Objects.{within_is, kind_is, parent_is, depth_is}
+use Rattle.ll_tree.proofs.Objects.{within_is, kind_is, of_node}
 use Rattle.ll_tree.proofs.tree.Tree.object.Goals as goal
 
 pub index-requires : goal.index-requires
@@ -10,7 +10,7 @@ pub returns-clause-kind : goal.returns-clause-kind
 returns-clause-kind c = kind_is c.self.inside.objects.items c.args.self.now c.self.view_is c.args.node c.index.result.now c.requires c.index.ensures
 
 pub returns-clause-parent : goal.returns-clause-parent
-returns-clause-parent c = parent_is c.self.inside.objects.items c.args.self.now c.self.view_is c.args.node c.index.result.now c.requires c.index.ensures _ c.self.invariant
+returns-clause-parent c = (of_node c.self.inside.objects.items c.args.self.now c.self.view_is c.args.node c.index.result.now c.requires c.index.ensures _ c.self.invariant).parent
 
 pub returns-clause-depth : goal.returns-clause-depth
-returns-clause-depth c = depth_is c.self.inside.objects.items c.args.self.now c.self.view_is c.args.node c.index.result.now c.requires c.index.ensures _ c.self.invariant
+returns-clause-depth c = (of_node c.self.inside.objects.items c.args.self.now c.self.view_is c.args.node c.index.result.now c.requires c.index.ensures _ c.self.invariant).depth

@@ -1,5 +1,5 @@
 -- The root is kept alone.
-use Rattle.std.proofs.Common.{◌≡◌, ◌∷◌, [], refl}
+use Rattle.std.proofs.Common.{◌≡◌, ◌∷◌, []}
 use Rattle.ll_tree.specs.Trees.{root}
 use Rattle.ll_tree.specs.Kept.{IsSound, entries_of}
 use Rattle.ll_tree.proofs.RootAlone.{kept_root}
@@ -9,9 +9,8 @@ use Rattle.ll_tree.proofs.tree.Tree.root_only.Goals.{In_ok-push}
 -- what is kept, and that it is the root
 both_facts : (c : In_ok-push) → IsSound c.push.new.self.items c.insert.new.self.entries × (entries_of c.push.new.self.items ≡ root ∷ [])
 both_facts c =
-    let objects = rw c.in_ok-objects.ensures.items at c.in_ok-push.ensures.items in
-    let numbers = rw c.new-numbers.ensures.empty at c.in_ok-insert.ensures.entries in
-    kept_root c.in_ok-from_str.field-0 _ c.push.new.self.items c.insert.new.self.entries c.in_ok-from_str.ensures.ok c.in_ok-from_str-2.ensures.ok refl refl refl objects numbers
+    rw (rw c.in_ok-objects.ensures.items at c.in_ok-push.ensures.items, rw c.new-numbers.ensures.empty at c.in_ok-insert.ensures.entries)
+    (kept_root c.in_ok-from_str.field-0 c.in_ok-from_str-2.field-0 c.in_ok-from_str.ensures.ok c.in_ok-from_str-2.ensures.ok)
 
 pub invariant_of-result : goal.invariant_of-result
 invariant_of-result c = (both_facts c).0
