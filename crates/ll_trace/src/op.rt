@@ -213,7 +213,7 @@ macro_rules! still_without_a_path {
 #[macro_export]
 macro_rules! changes_nothing {
     () => {
-        $crate::still_on_a_path!() | $crate::still_without_a_path!()
+        $crate::still_without_a_path!() | $crate::still_on_a_path!()
     };
 }
 
