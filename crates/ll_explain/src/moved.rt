@@ -14,11 +14,11 @@ use crate::confinement::Confinement;
 use crate::layers::{Question, push_asked};
 use crate::named::{NamedNode, front_of};
 use crate::route::Route;
+use crate::words::Added;
 use ll_rules::{Errno, Move, entering, leaving};
 use ll_state::{link_move, place_of, rename_move};
 use ll_trace::PathText;
 use ll_tree::Tree;
-use std::alloc::AllocError;
 
 /// A move of the object at one path to another path, with what it asks of which directory.
 fn route_of<'p>(tree: &Tree, from: &'p PathText, to: &'p PathText, attempt: Move) -> Route<'p>
@@ -58,7 +58,7 @@ fn push_moved(
     to: &PathText,
     asked: Option<Move>,
     error: Errno,
-) -> Result<(), AllocError>
+) -> Added
     requires fit { IfSome asked (IsFitMove of.now.tree.now) }
     requires between { IfSome asked (IsBetween of.now.tree.now (spelt from.now) (spelt to.now)) }
     ensures { OnOk result (text.new.items ≡ text.old.items ++ lines of.now (to_move of.now.tree.now (stacked of.now) error asked)) }
@@ -78,7 +78,7 @@ pub(crate) fn push_renamed(
     to: &PathText,
     exchange: bool,
     error: Errno,
-) -> Result<(), AllocError>
+) -> Added
     ensures { OnOk result (text.new.items ≡ text.old.items ++ lines of.now
         (to_move of.now.tree.now (stacked of.now) error (moves.rename_move of.now.tree.now (place of.now.tree.now from.now) (place of.now.tree.now to.now) exchange))) }
 {
@@ -95,11 +95,18 @@ pub(crate) fn push_linked(
     from: &PathText,
     to: &PathText,
     error: Errno,
-) -> Result<(), AllocError>
+) -> Added
     ensures { OnOk result (text.new.items ≡ text.old.items ++ lines of.now
         (to_move of.now.tree.now (stacked of.now) error (moves.link_move of.now.tree.now (place of.now.tree.now from.now) (place of.now.tree.now to.now)))) }
 {
     let source = place_of(of.tree, from, None);
     let target = place_of(of.tree, to, None);
-    push_moved(text, of, from, to, link_move(of.tree, source, target), error)
+    push_moved(
+        text,
+        of,
+        from,
+        to,
+        link_move(of.tree, source, target),
+        error,
+    )
 }

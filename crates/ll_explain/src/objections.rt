@@ -18,17 +18,17 @@ use crate::kept::push_kept;
 use crate::layers::{Question, push_asked};
 use crate::moved::{push_linked, push_renamed};
 use crate::wants::push_wanted;
+use crate::words::Added;
 use ll_rights::{FsRight, Net};
 use ll_rules::{Errno, Layer, LayerId, LayerSet};
 use ll_semantics::wanted;
 use ll_trace::{Op, Record};
 use ll_trails::Trail;
 use ll_tree::Tree;
-use std::alloc::AllocError;
 
 /// Adds the lines for a call that may want something at a path.
 #[tactic(auto, unfolding(ll_reasons::specs::Objections::to_request))]
-fn push_request(text: &mut Vec<u8>, of: &Confinement, op: &Op) -> Result<(), AllocError>
+fn push_request(text: &mut Vec<u8>, of: &Confinement, op: &Op) -> Added
     ensures { OnOk result (text.new.items ≡ text.old.items ++ lines of.now (to_request of.now.tree.now (stacked of.now) (request of.now.tree.now (wanted op.now)))) }
 {
     match wanted(op) {
@@ -45,7 +45,7 @@ fn push_call(
     op: &Op,
     error: Errno,
     numbers: LayerSet,
-) -> Result<(), AllocError>
+) -> Added
     ensures { OnOk result (text.new.items ≡ text.old.items ++ lines of.now
         (objections_to of.now.tree.now (stacked of.now) (followed of.now.trail.now) op.now error numbers)) }
 {
@@ -75,7 +75,7 @@ pub(crate) fn push_objections(
     op: &Op,
     error: Errno,
     numbers: LayerSet,
-) -> Result<(), AllocError>
+) -> Added
     requires domain { IsDomainOf layers.now domain.now }
     requires rules { All (AreInTree tree.now) layers.now }
     ensures { OnOk result ((o : Origins) → Follows trail.now o → text.new.items ≡ text.old.items

@@ -12,9 +12,9 @@ use crate::confinement::OneLayer;
 use crate::missing::{Test, passing};
 use crate::named::NamedNode;
 use crate::parts::{Part, part_on_path, push_line};
+use crate::words::Added;
 use ll_rights::Fs;
 use ll_rules::{How, Move, Target};
-use std::alloc::AllocError;
 
 /// A move, with the texts of the paths of its objects and directories, and what it asks of the two directories.
 #[derive(Clone, Copy)]
@@ -80,11 +80,7 @@ fn part_of_other<'p>(layer: &OneLayer, route: &Route<'p>) -> Part<'p>
 
 /// Adds the line of a layer that lacks something of what a move asks of its two directories, in one list if they are
 /// one.
-pub(crate) fn push_denied(
-    text: &mut Vec<u8>,
-    layer: &OneLayer,
-    route: &Route,
-) -> Result<(), AllocError>
+pub(crate) fn push_denied(text: &mut Vec<u8>, layer: &OneLayer, route: &Route) -> Added
     requires { IsRoute layer.now.of.tree.now route.now }
     ensures { OnOk result (text.new.items ≡ text.old.items
         ++ lines layer.now.of (of_layer layer.now.number (on_directories layer.now.of.tree.now route.now.attempt (rules_of layer.now)))) }
@@ -101,11 +97,7 @@ pub(crate) fn push_denied(
 
 /// Adds the line of a layer that keeps a move from leaving its directory: where `refer` is missing, and what objects
 /// would gain.
-pub(crate) fn push_held_back(
-    text: &mut Vec<u8>,
-    layer: &OneLayer,
-    route: &Route,
-) -> Result<(), AllocError>
+pub(crate) fn push_held_back(text: &mut Vec<u8>, layer: &OneLayer, route: &Route) -> Added
     requires { IsRoute layer.now.of.tree.now route.now }
     ensures { OnOk result (text.new.items ≡ text.old.items
         ++ lines layer.now.of (of_layer layer.now.number (on_crossing layer.now.of.tree.now route.now.attempt (rules_of layer.now)))) }

@@ -9,10 +9,10 @@ ghost use Rattle.ll_explain.specs.Confined.{lines, stacked};
 use crate::confinement::Confinement;
 use crate::layers::{Question, push_asked};
 use crate::named::{NamedNode, text_for};
+use crate::words::Added;
 use ll_semantics::Wanted;
 use ll_state::{asks, place_of};
 use ll_trace::PathText;
-use std::alloc::AllocError;
 
 /// Adds the lines for what a call wants at a path.
 #[tactic(auto, unfolding(ll_reasons::specs::Objections::to_request))]
@@ -21,7 +21,7 @@ pub(crate) fn push_wanted(
     of: &Confinement,
     path: &PathText,
     wanted: Wanted,
-) -> Result<(), AllocError>
+) -> Added
     ensures { OnOk result (text.new.items ≡ text.old.items ++ lines of.now (to_request of.now.tree.now (stacked of.now) (asks of.now.tree.now (place of.now.tree.now path.now) wanted))) }
 {
     let place = place_of(of.tree, path, None);
