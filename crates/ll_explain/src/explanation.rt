@@ -8,6 +8,7 @@ ghost use Rattle.ll_trails.specs.Trails.{Follows};
 ghost use Rattle.ll_explain.specs.Explained.{text_at};
 
 use crate::conditions::push_condition;
+use crate::confinement::Confinement;
 use crate::mootness::push_mootness;
 use crate::objections::push_objections;
 use crate::words::Added;
@@ -90,17 +91,14 @@ fn push_refusing(
 {
     let (found, trail) = found_at(case, trails, place, Answer::Refused(error, numbers));
     let domain = domain_of(alloc, case, trail)?;
-    push_objections(
-        text,
-        case.trace().records(),
+    let of = Confinement {
+        records: case.trace().records(),
         trail,
-        case.tree(),
-        case.layers(),
-        &domain,
-        &found.op,
-        error,
-        numbers,
-    )?;
+        tree: case.tree(),
+        layers: case.layers(),
+        domain: &domain,
+    };
+    push_objections(text, &of, &found.op, error, numbers)?;
     Ok(())
 }
 

@@ -7,7 +7,8 @@ ghost use Rattle.ll_explain.specs.Questions.{IsAsked, objections};
 
 use crate::confinement::{Confinement, OneLayer};
 use crate::named::NamedNode;
-use crate::parts::{part_on_path, push_line};
+use crate::parts::push_line;
+use crate::paths::part_on_path;
 use crate::ports::{part_of_mounting, part_on_port};
 use crate::route::{Route, push_denied, push_held_back};
 use crate::words::Added;

@@ -1,14 +1,10 @@
 //! The lines for renames and links.
 
-ghost use Rattle.std.specs.Prelude.{◌≡◌, ◌++◌, IfSome, OnOk};
-ghost use Rattle.ll_tree.specs.Trees.{place};
+ghost use Rattle.std.specs.Prelude.{◌≡◌, ◌++◌, IfSome, OnOk, Some};
 ghost use Rattle.ll_semantics.specs.Fits.{IsFitMove};
-ghost use Rattle.ll_semantics.specs.Moves as moves;
 ghost use Rattle.ll_reasons.specs.Objections.{to_move};
-ghost use Rattle.ll_reasons.specs.Reasons.{spelt};
 ghost use Rattle.ll_explain.specs.Confined.{lines, stacked};
-ghost use Rattle.ll_explain.specs.Moved.{IsBetween};
-ghost use Rattle.ll_explain.specs.Route.{IsRoute};
+ghost use Rattle.ll_explain.specs.Route.{IsMove, IsRoute, linking, renaming};
 
 use crate::confinement::Confinement;
 use crate::layers::{Question, push_asked};
@@ -23,7 +19,7 @@ use ll_tree::Tree;
 /// A move of the object at one path to another path, with what it asks of which directory.
 fn route_of<'p>(tree: &Tree, from: &'p PathText, to: &'p PathText, attempt: Move) -> Route<'p>
     requires fit { IsFitMove tree.now attempt }
-    requires between { IsBetween tree.now (spelt from.now) (spelt to.now) attempt }
+    requires between { IsMove tree.now from.now to.now (Some attempt) }
     ensures route { IsRoute tree.now result }
     ensures attempt { result.attempt ≡ attempt }
 {
@@ -60,7 +56,7 @@ fn push_moved(
     error: Errno,
 ) -> Added
     requires fit { IfSome asked (IsFitMove of.now.tree.now) }
-    requires between { IfSome asked (IsBetween of.now.tree.now (spelt from.now) (spelt to.now)) }
+    requires between { IsMove of.now.tree.now from.now to.now asked }
     ensures { OnOk result (text.new.items ≡ text.old.items ++ lines of.now (to_move of.now.tree.now (stacked of.now) error asked)) }
 {
     let Some(attempt) = asked else {
@@ -80,7 +76,7 @@ pub(crate) fn push_renamed(
     error: Errno,
 ) -> Added
     ensures { OnOk result (text.new.items ≡ text.old.items ++ lines of.now
-        (to_move of.now.tree.now (stacked of.now) error (moves.rename_move of.now.tree.now (place of.now.tree.now from.now) (place of.now.tree.now to.now) exchange))) }
+        (to_move of.now.tree.now (stacked of.now) error (renaming of.now.tree.now from.now to.now exchange))) }
 {
     let source = place_of(of.tree, from, None);
     let target = place_of(of.tree, to, None);
@@ -97,7 +93,7 @@ pub(crate) fn push_linked(
     error: Errno,
 ) -> Added
     ensures { OnOk result (text.new.items ≡ text.old.items ++ lines of.now
-        (to_move of.now.tree.now (stacked of.now) error (moves.link_move of.now.tree.now (place of.now.tree.now from.now) (place of.now.tree.now to.now)))) }
+        (to_move of.now.tree.now (stacked of.now) error (linking of.now.tree.now from.now to.now))) }
 {
     let source = place_of(of.tree, from, None);
     let target = place_of(of.tree, to, None);

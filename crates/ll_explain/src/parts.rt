@@ -1,20 +1,15 @@
 //! What is said of one layer.
 
-ghost use Rattle.std.specs.Prelude.{◌≡◌, ◌++◌, ◌<◌, ◌-◌, ◌∷◌, [], All, IsTrue, OnOk, codes, decimal, if◌then◌else◌, is_some, map, filter, option_and_then, slice_get};
+ghost use Rattle.std.specs.Prelude.{◌≡◌, ◌++◌, ◌<◌, ◌-◌, All, IsTrue, OnOk, codes, decimal, if◌then◌else◌, is_some, map, filter, option_and_then, slice_get};
 ghost use Rattle.std.specs.List.{list_any};
-ghost use Rattle.ll_rights.specs.Rights as files;
 ghost use Rattle.ll_tree.specs.Paths.{path_of};
-ghost use Rattle.ll_tree.specs.Trees.{path_at};
-ghost use Rattle.ll_reasons.specs.Objections.{of_layer, on_path};
+ghost use Rattle.ll_reasons.specs.Objections.{of_layer};
 ghost use Rattle.ll_reasons.specs.Reasons.{spelt};
-ghost use Rattle.ll_explain.specs.Confined.{lines, rules_of};
-ghost use Rattle.ll_explain.specs.Named.{IsNamed};
+ghost use Rattle.ll_explain.specs.Confined.{lines};
 ghost use Rattle.ll_explain.specs.Parts.{IsSpelt, is_said, objection_of, part_text, port_rights_in, rights_in, said_of};
 ghost use Rattle.ll_explain.specs.Words.{behind, joined, layer_head, line_of, path_text, port_rights_text, rights_text};
 
 use crate::confinement::{Confinement, OneLayer};
-use crate::missing::{Test, passing};
-use crate::named::NamedNode;
 use crate::reasons::push_path;
 use crate::rights::push_beyond;
 use crate::words::{Added, push_number, push_numbered};
@@ -162,22 +157,6 @@ fn some_said(parts: &[Part]) -> bool
     ensures { result ≡ list_any is_said parts.now }
 {
     parts.iter().any(Part::is_said)
-}
-
-/// What a layer lacks of rights on a node.
-pub(crate) fn part_on_path<'p>(layer: &OneLayer, named: NamedNode<'p>, asked: Fs) -> Part<'p>
-    requires { IsNamed layer.now.of.tree.now named }
-    ensures said { said_of (result ∷ []) ≡ on_path (path_at layer.now.of.tree.now named.entry.node) (files.has asked) (rules_of layer.now) }
-    ensures spelt { IsSpelt result }
-{
-    let test = Test::Lacking {
-        node: named.node,
-        asked,
-    };
-    Part::Missing {
-        rights: passing(layer, test),
-        path: named.path,
-    }
 }
 
 /// The line of the record that made a layer, or 0 where there is none.

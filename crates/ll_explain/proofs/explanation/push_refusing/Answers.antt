@@ -2,7 +2,8 @@ use Rattle.std.proofs.Common.{◌∙◌, ◌++◌, ℕ, List, sym, ap, subst}
 use Rattle.ll_tree.specs.Trees.{Entry}
 use Rattle.ll_rules.specs.declared.domain.LayerId.{LayerId}
 use Rattle.ll_rules.specs.Layers.{RulesOn}
-use Rattle.ll_rules.specs.InTree.{all_in_tree}
+use Rattle.std.specs.Prelude.{All}
+use Rattle.ll_rules.specs.InTree.{AreInTree, all_in_tree}
 use Rattle.ll_rules.specs.KeptLayers.{IsDomainOf, domain_of}
 use Rattle.std.specs.List.{flat_map}
 use Rattle.ll_trace.specs.declared.record.Record.{Record}
@@ -14,12 +15,18 @@ use Rattle.ll_trails.proofs.SameObjections.{same_layers_object_to_the_same}
 use Rattle.ll_trails.specs.CaseTrails.{IsDomainAt}
 use Rattle.ll_explain.specs.Words.{layer_text}
 use Rattle.ll_explain.proofs.Explaining.{text_refusing}
+use Rattle.ll_explain.proofs.Following.{objected}
 use Rattle.ll_explain.proofs.explanation.push_refusing.Goals as goal
 
-pub push_objections-requires-clause-domain : goal.push_objections-requires-clause-domain
-push_objections-requires-clause-domain c =
+pub invariant_of-of-clause-inside : goal.invariant_of-of-clause-inside
+invariant_of-of-clause-inside c =
     let is : IsDomainAt c.args.case.now c.args.place c.found_at.result.0.now.process.0 c.in_ok-domain.domain.items = c.in_ok-domain.ensures c.args.place c.found_at.result.0.now.process.0 c.found_at.ensures.trail in
     subst (λ (ids : List LayerId). IsDomainOf c.layers.result.now ids) (sym c.deref.ensures.value) (subst (λ layers. IsDomainOf layers c.in_ok-domain.domain.items) (sym c.layers.ensures) is.places)
+
+pub invariant_of-of-clause-rules : goal.invariant_of-of-clause-rules
+invariant_of-of-clause-rules c =
+    subst (λ (tree : List Entry). All (AreInTree tree) c.layers.result.now) (sym c.tree.ensures)
+    (subst (λ (layers : List (RulesOn ℕ)). All (AreInTree c.args.case.now.tree) layers) (sym c.layers.ensures) c.trace.ensures.case.settled.inside)
 
 pub returns : goal.returns
 returns c =
@@ -30,7 +37,8 @@ returns c =
     let is : IsDomainAt c.args.case.now c.args.place r.process.0 ids = c.in_ok-domain.ensures c.args.place r.process.0 c.found_at.ensures.trail in
     let text : List Record → List (ℕ × List Objection) → List ℕ = λ records said. c.args.text.now.items ++ flat_map (layer_text records o.layers) said in
     let said : List Entry → List (RulesOn ℕ) → List LayerId → List (ℕ × List Objection) = λ tree layers domain. objections_to tree (all_in_tree tree (domain_of layers domain)) o r.op c.args.error c.args.numbers in
-    c.in_ok-push_objections.ensures o c.found_at.ensures.trail
+    objected c.tree.result.now (all_in_tree c.tree.result.now (domain_of c.layers.result.now c.deref.result.now)) c.found_at.result.1.now o c.found_at.ensures.trail c.args.error c.args.numbers
+    c.records.result.now r.op c.args.text.now.items _ c.in_ok-push_objections.ensures
     ∙ ap (λ (records : List Record). text records (said c.tree.result.now c.layers.result.now c.deref.result.now)) (c.records.ensures.value ∙ c.trace.ensures.records)
     ∙ ap (λ (tree : List Entry). text of.records (said tree c.layers.result.now c.deref.result.now)) c.tree.ensures
     ∙ ap (λ (layers : List (RulesOn ℕ)). text of.records (said of.tree layers c.deref.result.now)) c.layers.ensures
