@@ -1,8 +1,8 @@
 -- The text of a record's explanation by its answer.
-use Rattle.std.proofs.Common.{◌≡◌, ◌≢◌, ◌∙◌, ℕ, Bool, true, false, List, [], ◌∷◌, Option, Some, None, suc, arith, ◌<◌, refl, subst, sym, ap}
+use Rattle.std.proofs.Common.{◌≡◌, ◌≢◌, ◌∙◌, ℕ, true, false, List, [], ◌∷◌, Option, Some, None, suc, arith, ◌<◌, refl, subst, sym, ap}
 use Rattle.std.specs.Prelude.{◌==◌, length, slice_get}
 use Rattle.std.specs.List.{flat_map}
-use Rattle.std.proofs.lemmas.Bool.{cases_Bool, eq-eqb, ne_eqb, true≢false}
+use Rattle.std.proofs.lemmas.Bool.{cases_Bool, ne_eqb, true≢false}
 use Rattle.std.proofs.lemmas.Option.{same_Some, slice_get_within}
 use Rattle.std.proofs.Common.{inl, inr}
 use Rattle.ll_rights.specs.declared.abi.Abi.{Abi}
@@ -88,12 +88,3 @@ module _ (tree : List Entry) (abi : Abi) (records : List Record) (place : ℕ) w
 pub none_of : (numbers : List ℕ) → (length numbers == 0) ≡ true → numbers ≡ []
 none_of [] none = refl
 none_of (number ∷ numbers) none = absurd (true≢false (sym none ∙ ne_eqb (suc (length numbers)) 0 (λ is. omega (arith, is))))
-
-is_nil : List ℕ → Bool
-is_nil [] = true
-is_nil (first ∷ more) = false
-
-pub some_of : (numbers : List ℕ) → (length numbers == 0) ≡ false → numbers ≢ []
-unfolding is_nil
-some_of [] some = λ is. true≢false (sym (eq-eqb 0 0 refl) ∙ some)
-some_of (number ∷ numbers) some = λ is. true≢false (ap is_nil (sym is))

@@ -1,7 +1,6 @@
 //! The line of a moot call.
 
-ghost use Rattle.std.specs.Prelude.{◌≡◌, ◌++◌, OnOk, if◌then◌else◌, is_some};
-ghost use Rattle.std.specs.Option.{option_map};
+ghost use Rattle.std.specs.Prelude.{◌≡◌, ◌++◌, OnOk, if◌then◌else◌, is_some, option_map};
 ghost use Rattle.ll_tree.specs.Trees.{place};
 ghost use Rattle.ll_semantics.specs.Requests.{wanted};
 ghost use Rattle.ll_reasons.specs.Meant.{meant};
