@@ -1,9 +1,9 @@
 -- The text of a record's explanation by its answer.
-use Rattle.std.proofs.Common.{◌≡◌, ◌≢◌, ◌∙◌, ℕ, Bool, true, false, List, [], ◌∷◌, Option, Some, None, suc, arith, refl, sym, ap}
+use Rattle.std.proofs.Common.{◌≡◌, ◌≢◌, ◌∙◌, ℕ, true, false, List, [], ◌∷◌, Option, Some, None, suc, arith, ◌<◌, refl, subst, sym, ap}
 use Rattle.std.specs.Prelude.{◌==◌, length, slice_get}
 use Rattle.std.specs.List.{flat_map}
-use Rattle.std.proofs.lemmas.Bool.{cases_Bool, eq-eqb, ne_eqb, true≢false}
-use Rattle.std.proofs.lemmas.Option.{same_Some}
+use Rattle.std.proofs.lemmas.Bool.{cases_Bool, ne_eqb, true≢false}
+use Rattle.std.proofs.lemmas.Option.{same_Some, slice_get_within}
 use Rattle.std.proofs.Common.{inl, inr}
 use Rattle.ll_rights.specs.declared.abi.Abi.{Abi}
 use Rattle.ll_rules.specs.declared.errno.Errno.{Errno}
@@ -17,7 +17,7 @@ use Rattle.ll_semantics.specs.declared.answer.Answer.TheVariants.{Allowed, Moot,
 use Rattle.ll_semantics.specs.Answers.{answer}
 use Rattle.ll_semantics.specs.Worlds.{World, answer_in, judged}
 use Rattle.ll_semantics.specs.Situations.{world_at}
-use Rattle.ll_semantics.proofs.Worlds.{judged-at}
+use Rattle.ll_semantics.proofs.Worlds.{judged-at, length-judged}
 use Rattle.ll_reasons.specs.Conditions.{condition}
 use Rattle.ll_reasons.specs.Explanations.{domain_at, explained, explained_at, objections_to, origins_at}
 use Rattle.ll_reasons.specs.Reasons.{reason}
@@ -32,6 +32,10 @@ start_allowed tree abi w process (calls.Fork child) starts = refl
 start_allowed tree abi w process op starts = absurd (true≢false (sym starts))
 
 module _ (tree : List Entry) (abi : Abi) (records : List Record) (place : ℕ) where
+  -- what is answered stands in the trace
+  pub placed : (a : Answer) → slice_get (judged tree abi records) place ≡ Some a → place < length records
+  placed a is = subst (λ (n : ℕ). place < n) (length-judged tree abi records) (slice_get_within (judged tree abi records) place a is)
+
   -- a record that isn't allowed starts nothing
   pub starts_nothing : (r : Record) (a : Answer) → slice_get records place ≡ Some r → slice_get (judged tree abi records) place ≡ Some a → a ≢ Allowed → is_start r.op ≡ false
   starts_nothing r a at is not_allowed = elim (cases_Bool (is_start r.op)) [
@@ -84,12 +88,3 @@ module _ (tree : List Entry) (abi : Abi) (records : List Record) (place : ℕ) w
 pub none_of : (numbers : List ℕ) → (length numbers == 0) ≡ true → numbers ≡ []
 none_of [] none = refl
 none_of (number ∷ numbers) none = absurd (true≢false (sym none ∙ ne_eqb (suc (length numbers)) 0 (λ is. omega (arith, is))))
-
-is_nil : List ℕ → Bool
-is_nil [] = true
-is_nil (first ∷ more) = false
-
-pub some_of : (numbers : List ℕ) → (length numbers == 0) ≡ false → numbers ≢ []
-unfolding is_nil
-some_of [] some = λ is. true≢false (sym (eq-eqb 0 0 refl) ∙ some)
-some_of (number ∷ numbers) some = λ is. true≢false (ap is_nil (sym is))

@@ -9,7 +9,7 @@ use Rattle.ll_tree.specs.Trees.{Entry, is_dir, kind_at, path_at, place}
 use Rattle.ll_rules.specs.declared.moves.Move.{Move}
 use Rattle.ll_semantics.specs.Moves.{is_above, is_mixed, is_root, rename_into, rename_onto, rename_to, rename_move, link_to, link_move}
 use Rattle.ll_reasons.specs.Reasons.{spelt}
-use Rattle.ll_explain.specs.Moved.{IsBetween}
+use Rattle.ll_explain.specs.Route.{IsBetween}
 use Rattle.ll_explain.proofs.PlacesNamed.{Names, named}
 
 module _ (tree : List Entry) (from to : Path) where

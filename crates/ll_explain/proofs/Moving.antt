@@ -19,7 +19,7 @@ use Rattle.ll_rules.specs.Moves.{asked_of_destination, asked_of_source, destinat
 use Rattle.ll_rules.proofs.Booleans.{or_false}
 use Rattle.ll_semantics.specs.States.{Layer}
 use Rattle.ll_reasons.specs.Objections.{Objection, if_any, missing, on_crossing, on_directories, on_gain, on_other_gain, on_path, one_of}
-use Rattle.ll_explain.specs.Moved.{IsTo}
+use Rattle.ll_explain.specs.Route.{IsTo}
 use Rattle.ll_explain.specs.Parts.{said_of}
 use Rattle.ll_explain.specs.declared.parts.Part.{Part}
 use Rattle.ll_explain.specs.declared.parts.Part.TheVariants.{Gained}

@@ -7,7 +7,6 @@ pub mod Parts
 pub mod PortRights
 pub mod Kept
 pub mod Followed
-pub mod Moved
 pub mod Route
 pub mod Questions
 pub mod Explained

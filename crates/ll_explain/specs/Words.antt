@@ -3,7 +3,6 @@
 use Rattle.std.specs.Prelude.{ℕ, ◌-◌, List, [], ◌∷◌, ◌++◌, map, Option, Some, None, option_and_then, slice_get, codes, decimal}
 use Rattle.std.specs.List.{flat_map}
 use Rattle.json.specs.Print.{escape}
-use Rattle.ll_rights.specs.declared.kind.Kind.{Kind}
 use Rattle.ll_rights.specs.declared.kind.Kind.TheVariants.{Dir, Reg, Sym, Char, Block, Fifo, Sock}
 use Rattle.ll_rights.specs.Abis.{number_of}
 use Rattle.ll_rights.specs.Rights as files
@@ -98,20 +97,17 @@ condition_text other = codes "the call fails"
 
 -- ---- reasons
 
-abbrev pub kind_text : Kind → List ℕ
-kind_text Dir = codes "a directory"
-kind_text Reg = codes "a regular file"
-kind_text Sym = codes "a symbolic link"
-kind_text Char = codes "a character device"
-kind_text Block = codes "a block device"
-kind_text Fifo = codes "a named pipe"
-kind_text Sock = codes "a socket"
-
 unfoldable pub reason_text : Reason → List ℕ
 reason_text (absent path) = path_text path ++ codes " is not in the tree"
 reason_text (no_directory path) = path_text path ++ codes " is not a directory"
 reason_text (present path) = path_text path ++ codes " is in the tree already"
-reason_text (of_kind path kind) = path_text path ++ codes " is " ++ kind_text kind
+reason_text (of_kind path Dir) = path_text path ++ codes " is a directory"
+reason_text (of_kind path Reg) = path_text path ++ codes " is a regular file"
+reason_text (of_kind path Sym) = path_text path ++ codes " is a symbolic link"
+reason_text (of_kind path Char) = path_text path ++ codes " is a character device"
+reason_text (of_kind path Block) = path_text path ++ codes " is a block device"
+reason_text (of_kind path Fifo) = path_text path ++ codes " is a named pipe"
+reason_text (of_kind path Sock) = path_text path ++ codes " is a socket"
 reason_text root = codes "/ stays where it is"
 reason_text (unmoved path) = path_text path ++ codes " would go where it is"
 reason_text (beneath_itself from to) = path_text from ++ codes " would go beneath itself, to " ++ path_text to

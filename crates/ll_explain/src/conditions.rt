@@ -9,15 +9,14 @@ ghost use Rattle.ll_trails.specs.Trails.{Follows};
 ghost use Rattle.ll_explain.specs.Words.{condition_text, unknown_text};
 
 use crate::rights::{RightSet, is_within, push_beyond};
-use crate::words::{push_escaped, push_numbered};
+use crate::words::{Added, push_escaped, push_numbered};
 use ll_rights::{Abi, Fs, Net};
 use ll_rules::Errno;
 use ll_trace::{Op, Record, changes_nothing};
 use ll_trails::Trail;
-use std::alloc::AllocError;
 
 /// Adds the rights that a version doesn't know, which has some: if none of those for files is, it is one for ports.
-fn push_unknown_rights(text: &mut Vec<u8>, rights: Fs, known: Fs) -> Result<(), AllocError>
+fn push_unknown_rights(text: &mut Vec<u8>, rights: Fs, known: Fs) -> Added
     ensures { OnOk result (text.new.items ≡ text.old.items ++ unknown_text (rights_beyond rights known)) }
 {
     if is_within(rights, known) {
@@ -28,7 +27,7 @@ fn push_unknown_rights(text: &mut Vec<u8>, rights: Fs, known: Fs) -> Result<(), 
 }
 
 /// Says which rights a version doesn't know.
-fn push_unknown(text: &mut Vec<u8>, abi: Abi, rights: Fs) -> Result<(), AllocError>
+fn push_unknown(text: &mut Vec<u8>, abi: Abi, rights: Fs) -> Added
     ensures { OnOk result (text.new.items ≡ text.old.items ++ condition_text (conditions.unknown abi (unknown_rights abi rights))) }
 {
     push_numbered(text, "ABI ", abi.number(), " does not know ")?;
@@ -38,7 +37,7 @@ fn push_unknown(text: &mut Vec<u8>, abi: Abi, rights: Fs) -> Result<(), AllocErr
 
 /// Says that a version has no rules for ports.
 #[tactic(auto, unfolding(crate::specs::Words::condition_text))]
-fn push_portless(text: &mut Vec<u8>, abi: Abi) -> Result<(), AllocError>
+fn push_portless(text: &mut Vec<u8>, abi: Abi) -> Added
     ensures { OnOk result (text.new.items ≡ text.old.items ++ condition_text (conditions.portless abi)) }
 {
     push_numbered(text, "ABI ", abi.number(), " has no rules for ports")
@@ -46,14 +45,14 @@ fn push_portless(text: &mut Vec<u8>, abi: Abi) -> Result<(), AllocError>
 
 /// Says that a ruleset's number isn't held.
 #[tactic(auto, unfolding(crate::specs::Words::condition_text))]
-fn push_unheld(text: &mut Vec<u8>, rs: u64) -> Result<(), AllocError>
+fn push_unheld(text: &mut Vec<u8>, rs: u64) -> Added
     ensures { OnOk result (text.new.items ≡ text.old.items ++ condition_text (conditions.unheld rs)) }
 {
     push_numbered(text, "ruleset ", rs, " is not held")
 }
 
 /// Says which rights of a set, for files or for ports, the ruleset doesn't handle.
-fn push_unhandled<S: RightSet>(text: &mut Vec<u8>, rights: S, whole: S) -> Result<(), AllocError>
+fn push_unhandled<S: RightSet>(text: &mut Vec<u8>, rights: S, whole: S) -> Added
     ensures { OnOk result (text.new.items ≡ text.old.items ++ (codes "the ruleset does not handle " ++ S.beyond_text rights whole)) }
 {
     text.extend_from_slice(b"the ruleset does not handle ")?;
@@ -61,7 +60,7 @@ fn push_unhandled<S: RightSet>(text: &mut Vec<u8>, rights: S, whole: S) -> Resul
 }
 
 /// Says which rights are for directories, where the path is that of something else.
-fn push_only_for_directories(text: &mut Vec<u8>, rights: Fs, path: &str) -> Result<(), AllocError>
+fn push_only_for_directories(text: &mut Vec<u8>, rights: Fs, path: &str) -> Added
     ensures { OnOk result (text.new.items ≡ text.old.items ++ condition_text (conditions.only_for_directories (directory_rights rights) path.now)) }
 {
     push_escaped(text, path)?;
@@ -72,12 +71,7 @@ fn push_only_for_directories(text: &mut Vec<u8>, rights: Fs, path: &str) -> Resu
 
 /// Says why a rule for files is invalid in a ruleset that handles `whole`.
 #[tactic(auto, unfolding(crate::specs::Words::condition_text))]
-fn push_invalid_on_path(
-    text: &mut Vec<u8>,
-    path: &str,
-    fs: Fs,
-    whole: Fs,
-) -> Result<(), AllocError>
+fn push_invalid_on_path(text: &mut Vec<u8>, path: &str, fs: Fs, whole: Fs) -> Added
     ensures { OnOk result (text.new.items ≡ text.old.items ++ condition_text (conditions.invalid_on_path path.now fs whole)) }
 {
     if is_within(fs, whole) {
@@ -89,13 +83,7 @@ fn push_invalid_on_path(
 
 /// Says why a rule for a port is invalid in a ruleset that handles `whole`.
 #[tactic(auto, unfolding(crate::specs::Words::condition_text))]
-fn push_invalid_on_port(
-    text: &mut Vec<u8>,
-    abi: Abi,
-    port: u64,
-    net: Net,
-    whole: Net,
-) -> Result<(), AllocError>
+fn push_invalid_on_port(text: &mut Vec<u8>, abi: Abi, port: u64, net: Net, whole: Net) -> Added
     ensures { OnOk result (text.new.items ≡ text.old.items ++ condition_text (conditions.invalid_on_port abi port net whole)) }
 {
     if abi.number() < 4 {
@@ -137,7 +125,7 @@ pub(crate) fn push_condition(
     abi: Abi,
     op: &Op,
     error: Errno,
-) -> Result<(), AllocError>
+) -> Added
     ensures { OnOk result ((o : Origins) → Follows trail.now o → text.new.items ≡ text.old.items ++ condition_text (conditions.condition abi records.now o op.now error)) }
 {
     match (op, error) {

@@ -12,15 +12,14 @@ ghost use Rattle.ll_explain.specs.Words.{layer_text, line_of, path_opened};
 use crate::confinement::Confinement;
 use crate::parts::push_head;
 use crate::rights::word_for;
-use crate::words::{push_escaped, push_number};
+use crate::words::{Added, push_escaped, push_number};
 use ll_rights::FsRight;
 use ll_rules::LayerSet;
 use ll_trace::{Op, Record};
-use std::alloc::AllocError;
 
 /// Adds the path that the record at a place opens, if it opens one.
 #[tactic(auto, unfolding(crate::specs::Words::path_opened))]
-fn push_path_opened(text: &mut Vec<u8>, records: &[Record], place: u32) -> Result<(), AllocError>
+fn push_path_opened(text: &mut Vec<u8>, records: &[Record], place: u32) -> Added
     ensures { OnOk result (text.new.items ≡ text.old.items ++ escape (path_opened (slice_get records.now place))) }
 {
     match records.get(place as usize) {
@@ -43,12 +42,7 @@ fn line_opened(records: &[Record], place: u32) -> u64
 }
 
 /// Says which right was missing, on which path, and where it was opened.
-fn push_opened(
-    text: &mut Vec<u8>,
-    records: &[Record],
-    name: &str,
-    place: u32,
-) -> Result<(), AllocError>
+fn push_opened(text: &mut Vec<u8>, records: &[Record], name: &str, place: u32) -> Added
     ensures { OnOk result (text.new.items ≡ text.old.items ++ kept_text records.now name.now place) }
 {
     text.extend_from_slice(name.as_bytes())?;
@@ -66,7 +60,7 @@ fn push_kept_line(
     number: u64,
     right: FsRight,
     place: u32,
-) -> Result<(), AllocError>
+) -> Added
     requires number { 0 < number }
     ensures { OnOk result (text.new.items ≡ text.old.items ++ layer_text of.now.records.now of.now.trail.now.layers.items (kept_entry (fs_right right) place number)) }
 {
@@ -84,7 +78,7 @@ fn push_kept_lines(
     right: FsRight,
     numbers: LayerSet,
     place: u32,
-) -> Result<(), AllocError>
+) -> Added
     ensures { OnOk result (text.new.items ≡ text.old.items ++ lines of.now (kept_by (fs_right right) numbers (Some place))) }
 {
     if numbers.is_empty() {
@@ -105,7 +99,7 @@ pub(crate) fn push_kept(
     right: FsRight,
     numbers: LayerSet,
     fd: u64,
-) -> Result<(), AllocError>
+) -> Added
     ensures { OnOk result (text.new.items ≡ text.old.items ++ lines of.now (kept_by (fs_right right) numbers (opened of.now.trail.now.openings fd))) }
 {
     match of.trail.openings.get(fd) {

@@ -7,12 +7,13 @@ ghost use Rattle.ll_explain.specs.Questions.{IsAsked, objections};
 
 use crate::confinement::{Confinement, OneLayer};
 use crate::named::NamedNode;
-use crate::parts::{part_on_path, push_line};
+use crate::parts::push_line;
+use crate::paths::part_on_path;
 use crate::ports::{part_of_mounting, part_on_port};
 use crate::route::{Route, push_denied, push_held_back};
+use crate::words::Added;
 use ll_rights::{Fs, Net};
 use ll_rules::Errno;
-use std::alloc::AllocError;
 
 /// What each layer of a process is asked.
 #[derive(Clone, Copy)]
@@ -28,11 +29,7 @@ pub(crate) enum Question<'p> {
 }
 
 /// Adds the line of a layer, if it objects to what is asked.
-fn push_layer(
-    text: &mut Vec<u8>,
-    layer: &OneLayer,
-    question: &Question,
-) -> Result<(), AllocError>
+fn push_layer(text: &mut Vec<u8>, layer: &OneLayer, question: &Question) -> Added
     requires { IsAsked layer.now.of.tree.now question.now }
     ensures { OnOk result (text.new.items ≡ text.old.items
         ++ lines layer.now.of (of_layer layer.now.number (objections layer.now.of.tree.now question.now (rules_of layer.now)))) }
@@ -51,11 +48,7 @@ fn push_layer(
 }
 
 /// Adds the lines of the layers of a process that object to what is asked.
-pub(crate) fn push_asked(
-    text: &mut Vec<u8>,
-    of: &Confinement,
-    question: &Question,
-) -> Result<(), AllocError>
+pub(crate) fn push_asked(text: &mut Vec<u8>, of: &Confinement, question: &Question) -> Added
     requires { IsAsked of.now.tree.now question.now }
     ensures { OnOk result (text.new.items ≡ text.old.items ++ lines of.now (objecting (objections of.now.tree.now question.now) (stacked of.now))) }
 {

@@ -13,6 +13,7 @@ mod moved;
 mod named;
 mod objections;
 mod parts;
+mod paths;
 mod ports;
 mod reasons;
 mod rights;

@@ -17,15 +17,9 @@ use ll_tree::NodeId;
 #[derive(Clone, Copy)]
 pub(crate) enum Test {
     /// Is it asked, and lacking on a node?
-    Lacking {
-        node: NodeId,
-        asked: Fs,
-    },
+    Lacking { node: NodeId, asked: Fs },
     /// Would an object gain it in a directory?
-    Gaining {
-        object: NodeId,
-        directory: NodeId,
-    },
+    Gaining { object: NodeId, directory: NodeId },
 }
 
 /// The domain of one layer.

@@ -1,7 +1,6 @@
 //! The line of a moot call.
 
-ghost use Rattle.std.specs.Prelude.{◌≡◌, ◌++◌, OnOk, if◌then◌else◌, is_some};
-ghost use Rattle.std.specs.Option.{option_map};
+ghost use Rattle.std.specs.Prelude.{◌≡◌, ◌++◌, OnOk, if◌then◌else◌, is_some, option_map};
 ghost use Rattle.ll_tree.specs.Trees.{place};
 ghost use Rattle.ll_semantics.specs.Requests.{wanted};
 ghost use Rattle.ll_reasons.specs.Meant.{meant};
@@ -12,12 +11,12 @@ ghost use Rattle.ll_trails.specs.Trails.{Follows};
 ghost use Rattle.ll_explain.specs.Words.{alone, mootness_text, reason_text};
 
 use crate::reasons::push_reason;
+use crate::words::Added;
 use ll_reasons::{Why, no_object, unlinked, unmet, unrenamed};
 use ll_semantics::wanted;
 use ll_trace::{Op, PathText};
 use ll_trails::Trail;
 use ll_tree::Tree;
-use std::alloc::AllocError;
 
 /// Whether a number of the process is open.
 fn is_open(trail: &Trail, fd: u64) -> bool
@@ -59,7 +58,7 @@ fn unwanted<'t>(tree: &Tree, op: &'t Op) -> Option<Why<'t>>
 
 /// Adds the line of a reason.
 #[tactic(auto, using(crate::proofs::Appending::appended_3))]
-fn push_line(text: &mut Vec<u8>, why: &Why) -> Result<(), AllocError>
+fn push_line(text: &mut Vec<u8>, why: &Why) -> Added
     ensures { OnOk result (text.new.items ≡ text.old.items ++ alone (reason_text (meant why.now))) }
 {
     text.extend_from_slice(b"    ")?;
@@ -90,12 +89,7 @@ fn why_moot<'t>(tree: &Tree, trail: &Trail, op: &'t Op) -> Option<Why<'t>>
 
 /// Adds the line that says why a call is moot, by the origins of what its process has. Nothing is added for a call that
 /// never is.
-pub(crate) fn push_mootness(
-    text: &mut Vec<u8>,
-    tree: &Tree,
-    trail: &Trail,
-    op: &Op,
-) -> Result<(), AllocError>
+pub(crate) fn push_mootness(text: &mut Vec<u8>, tree: &Tree, trail: &Trail, op: &Op) -> Added
     ensures { OnOk result ((o : Origins) → Follows trail.now o → text.new.items ≡ text.old.items ++ mootness_text (reason tree.now o op.now)) }
 {
     match why_moot(tree, trail, op) {

@@ -1,29 +1,25 @@
 //! The lines for renames and links.
 
-ghost use Rattle.std.specs.Prelude.{◌≡◌, ◌++◌, IfSome, OnOk};
-ghost use Rattle.ll_tree.specs.Trees.{place};
+ghost use Rattle.std.specs.Prelude.{◌≡◌, ◌++◌, IfSome, OnOk, Some};
 ghost use Rattle.ll_semantics.specs.Fits.{IsFitMove};
-ghost use Rattle.ll_semantics.specs.Moves as moves;
 ghost use Rattle.ll_reasons.specs.Objections.{to_move};
-ghost use Rattle.ll_reasons.specs.Reasons.{spelt};
 ghost use Rattle.ll_explain.specs.Confined.{lines, stacked};
-ghost use Rattle.ll_explain.specs.Moved.{IsBetween};
-ghost use Rattle.ll_explain.specs.Route.{IsRoute};
+ghost use Rattle.ll_explain.specs.Route.{IsMove, IsRoute, linking, renaming};
 
 use crate::confinement::Confinement;
 use crate::layers::{Question, push_asked};
 use crate::named::{NamedNode, front_of};
 use crate::route::Route;
+use crate::words::Added;
 use ll_rules::{Errno, Move, entering, leaving};
 use ll_state::{link_move, place_of, rename_move};
 use ll_trace::PathText;
 use ll_tree::Tree;
-use std::alloc::AllocError;
 
 /// A move of the object at one path to another path, with what it asks of which directory.
 fn route_of<'p>(tree: &Tree, from: &'p PathText, to: &'p PathText, attempt: Move) -> Route<'p>
     requires fit { IsFitMove tree.now attempt }
-    requires between { IsBetween tree.now (spelt from.now) (spelt to.now) attempt }
+    requires between { IsMove tree.now from.now to.now (Some attempt) }
     ensures route { IsRoute tree.now result }
     ensures attempt { result.attempt ≡ attempt }
 {
@@ -58,9 +54,9 @@ fn push_moved(
     to: &PathText,
     asked: Option<Move>,
     error: Errno,
-) -> Result<(), AllocError>
+) -> Added
     requires fit { IfSome asked (IsFitMove of.now.tree.now) }
-    requires between { IfSome asked (IsBetween of.now.tree.now (spelt from.now) (spelt to.now)) }
+    requires between { IsMove of.now.tree.now from.now to.now asked }
     ensures { OnOk result (text.new.items ≡ text.old.items ++ lines of.now (to_move of.now.tree.now (stacked of.now) error asked)) }
 {
     let Some(attempt) = asked else {
@@ -78,9 +74,9 @@ pub(crate) fn push_renamed(
     to: &PathText,
     exchange: bool,
     error: Errno,
-) -> Result<(), AllocError>
+) -> Added
     ensures { OnOk result (text.new.items ≡ text.old.items ++ lines of.now
-        (to_move of.now.tree.now (stacked of.now) error (moves.rename_move of.now.tree.now (place of.now.tree.now from.now) (place of.now.tree.now to.now) exchange))) }
+        (to_move of.now.tree.now (stacked of.now) error (renaming of.now.tree.now from.now to.now exchange))) }
 {
     let source = place_of(of.tree, from, None);
     let target = place_of(of.tree, to, None);
@@ -95,11 +91,18 @@ pub(crate) fn push_linked(
     from: &PathText,
     to: &PathText,
     error: Errno,
-) -> Result<(), AllocError>
+) -> Added
     ensures { OnOk result (text.new.items ≡ text.old.items ++ lines of.now
-        (to_move of.now.tree.now (stacked of.now) error (moves.link_move of.now.tree.now (place of.now.tree.now from.now) (place of.now.tree.now to.now)))) }
+        (to_move of.now.tree.now (stacked of.now) error (linking of.now.tree.now from.now to.now))) }
 {
     let source = place_of(of.tree, from, None);
     let target = place_of(of.tree, to, None);
-    push_moved(text, of, from, to, link_move(of.tree, source, target), error)
+    push_moved(
+        text,
+        of,
+        from,
+        to,
+        link_move(of.tree, source, target),
+        error,
+    )
 }

@@ -1,26 +1,20 @@
 //! What is said of one layer.
 
-ghost use Rattle.std.specs.Prelude.{◌≡◌, ◌++◌, ◌<◌, ◌-◌, ◌∷◌, [], All, IsTrue, OnOk, codes, decimal, if◌then◌else◌, is_some, map, filter, option_and_then, slice_get};
+ghost use Rattle.std.specs.Prelude.{◌≡◌, ◌++◌, ◌<◌, ◌-◌, All, IsTrue, OnOk, codes, decimal, if◌then◌else◌, is_some, map, filter, option_and_then, slice_get};
 ghost use Rattle.std.specs.List.{list_any};
-ghost use Rattle.ll_rights.specs.Rights as files;
 ghost use Rattle.ll_tree.specs.Paths.{path_of};
-ghost use Rattle.ll_tree.specs.Trees.{path_at};
-ghost use Rattle.ll_reasons.specs.Objections.{of_layer, on_path};
+ghost use Rattle.ll_reasons.specs.Objections.{of_layer};
 ghost use Rattle.ll_reasons.specs.Reasons.{spelt};
-ghost use Rattle.ll_explain.specs.Confined.{lines, rules_of};
-ghost use Rattle.ll_explain.specs.Named.{IsNamed};
+ghost use Rattle.ll_explain.specs.Confined.{lines};
 ghost use Rattle.ll_explain.specs.Parts.{IsSpelt, is_said, objection_of, part_text, port_rights_in, rights_in, said_of};
 ghost use Rattle.ll_explain.specs.Words.{behind, joined, layer_head, line_of, path_text, port_rights_text, rights_text};
 
 use crate::confinement::{Confinement, OneLayer};
-use crate::missing::{Test, passing};
-use crate::named::NamedNode;
 use crate::reasons::push_path;
 use crate::rights::push_beyond;
-use crate::words::{push_number, push_numbered};
+use crate::words::{Added, push_number, push_numbered};
 use ll_rights::{Fs, Net};
 use ll_trace::Record;
-use std::alloc::AllocError;
 
 /// What a layer may object to. Where there are no rights to name it doesn't, and nothing is said.
 #[derive(Clone, Copy)]
@@ -62,7 +56,7 @@ impl<'p> Part<'p> {
 }
 
 /// Adds the names of the rights of a set.
-fn push_rights(text: &mut Vec<u8>, rights: Fs) -> Result<(), AllocError>
+fn push_rights(text: &mut Vec<u8>, rights: Fs) -> Added
     ensures { OnOk result (text.new.items ≡ text.old.items ++ rights_text (rights_in rights)) }
 {
     push_beyond(text, rights, Fs::NONE)?;
@@ -70,7 +64,7 @@ fn push_rights(text: &mut Vec<u8>, rights: Fs) -> Result<(), AllocError>
 }
 
 /// Adds the names of the rights for ports of a set.
-fn push_port_rights(text: &mut Vec<u8>, rights: Net) -> Result<(), AllocError>
+fn push_port_rights(text: &mut Vec<u8>, rights: Net) -> Added
     ensures { OnOk result (text.new.items ≡ text.old.items ++ port_rights_text (port_rights_in rights)) }
 {
     push_beyond(text, rights, Net::NONE)?;
@@ -78,7 +72,7 @@ fn push_port_rights(text: &mut Vec<u8>, rights: Net) -> Result<(), AllocError>
 }
 
 /// Adds names of rights, and the path on which they are missing.
-fn push_rights_on(text: &mut Vec<u8>, rights: Fs, path: &str) -> Result<(), AllocError>
+fn push_rights_on(text: &mut Vec<u8>, rights: Fs, path: &str) -> Added
     requires { IsTrue (is_some (path_of path.now)) }
     ensures { OnOk result (text.new.items ≡ text.old.items ++ (rights_text (rights_in rights) ++ codes " on " ++ path_text (spelt path.now))) }
 {
@@ -89,7 +83,7 @@ fn push_rights_on(text: &mut Vec<u8>, rights: Fs, path: &str) -> Result<(), Allo
 }
 
 /// Adds names of rights, and the port on which they are missing.
-fn push_rights_on_port(text: &mut Vec<u8>, rights: Net, port: u16) -> Result<(), AllocError>
+fn push_rights_on_port(text: &mut Vec<u8>, rights: Net, port: u16) -> Added
     ensures { OnOk result (text.new.items ≡ text.old.items ++ (port_rights_text (port_rights_in rights) ++ codes " on port " ++ decimal port)) }
 {
     push_port_rights(text, rights)?;
@@ -99,12 +93,7 @@ fn push_rights_on_port(text: &mut Vec<u8>, rights: Net, port: u16) -> Result<(),
 }
 
 /// Says which rights an object would gain in a directory.
-fn push_gain(
-    text: &mut Vec<u8>,
-    object: &str,
-    rights: Fs,
-    directory: &str,
-) -> Result<(), AllocError>
+fn push_gain(text: &mut Vec<u8>, object: &str, rights: Fs, directory: &str) -> Added
     requires object { IsTrue (is_some (path_of object.now)) }
     requires directory { IsTrue (is_some (path_of directory.now)) }
     ensures { OnOk result (text.new.items ≡ text.old.items ++ (path_text (spelt object.now) ++ codes " would gain " ++ rights_text (rights_in rights) ++ codes " in " ++ path_text (spelt directory.now))) }
@@ -119,7 +108,7 @@ fn push_gain(
 
 /// Says a part.
 #[tactic(auto, unfolding(crate::specs::Parts::part_text, crate::specs::Words::objection_text))]
-fn push_part(text: &mut Vec<u8>, part: &Part) -> Result<(), AllocError>
+fn push_part(text: &mut Vec<u8>, part: &Part) -> Added
     requires { IsSpelt part.now }
     ensures { OnOk result (text.new.items ≡ text.old.items ++ part_text part.now) }
 {
@@ -137,7 +126,7 @@ fn push_part(text: &mut Vec<u8>, part: &Part) -> Result<(), AllocError>
 
 /// Says a part behind those that are said already.
 #[tactic(auto, unfolding(crate::specs::Words::behind))]
-fn push_next(text: &mut Vec<u8>, part: &Part, is_first: bool) -> Result<(), AllocError>
+fn push_next(text: &mut Vec<u8>, part: &Part, is_first: bool) -> Added
     requires { IsSpelt part.now }
     ensures { OnOk result (text.new.items ≡ text.old.items ++ (if is_first then part_text part.now else behind (codes "; ") (part_text part.now))) }
 {
@@ -149,7 +138,7 @@ fn push_next(text: &mut Vec<u8>, part: &Part, is_first: bool) -> Result<(), Allo
 }
 
 /// Says the parts for which there is something to say, one behind another.
-fn push_parts(text: &mut Vec<u8>, parts: &[Part]) -> Result<(), AllocError>
+fn push_parts(text: &mut Vec<u8>, parts: &[Part]) -> Added
     requires { All IsSpelt parts.now }
     ensures { OnOk result (text.new.items ≡ text.old.items ++ joined (codes "; ") (map part_text (filter is_said parts.now))) }
 {
@@ -170,22 +159,6 @@ fn some_said(parts: &[Part]) -> bool
     parts.iter().any(Part::is_said)
 }
 
-/// What a layer lacks of rights on a node.
-pub(crate) fn part_on_path<'p>(layer: &OneLayer, named: NamedNode<'p>, asked: Fs) -> Part<'p>
-    requires { IsNamed layer.now.of.tree.now named }
-    ensures said { said_of (result ∷ []) ≡ on_path (path_at layer.now.of.tree.now named.entry.node) (files.has asked) (rules_of layer.now) }
-    ensures spelt { IsSpelt result }
-{
-    let test = Test::Lacking {
-        node: named.node,
-        asked,
-    };
-    Part::Missing {
-        rights: passing(layer, test),
-        path: named.path,
-    }
-}
-
 /// The line of the record that made a layer, or 0 where there is none.
 fn line_at(records: &[Record], layers: &[u32], number: u64) -> u64
     requires { 0 < number }
@@ -201,11 +174,7 @@ fn line_at(records: &[Record], layers: &[u32], number: u64) -> u64
 }
 
 /// Begins the line of a layer, which says where the layer comes from.
-pub(crate) fn push_head(
-    text: &mut Vec<u8>,
-    of: &Confinement,
-    number: u64,
-) -> Result<(), AllocError>
+pub(crate) fn push_head(text: &mut Vec<u8>, of: &Confinement, number: u64) -> Added
     requires { 0 < number }
     ensures { OnOk result (text.new.items ≡ text.old.items ++ layer_head of.now.records.now of.now.trail.now.layers.items number) }
 {
@@ -217,11 +186,7 @@ pub(crate) fn push_head(
 }
 
 /// Adds the line of a layer, where something is said of it.
-pub(crate) fn push_line(
-    text: &mut Vec<u8>,
-    layer: &OneLayer,
-    parts: &[Part],
-) -> Result<(), AllocError>
+pub(crate) fn push_line(text: &mut Vec<u8>, layer: &OneLayer, parts: &[Part]) -> Added
     requires { All IsSpelt parts.now }
     ensures { OnOk result (text.new.items ≡ text.old.items ++ lines layer.now.of (of_layer layer.now.number (said_of parts.now))) }
 {

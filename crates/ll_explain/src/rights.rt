@@ -9,8 +9,8 @@ ghost use Rattle.ll_reasons.specs.Conditions.{port_rights_beyond, rights_beyond}
 ghost use Rattle.ll_explain.specs.Tables.{files_within, listed_alike, ports_within};
 ghost use Rattle.ll_explain.specs.Words.{behind, listed, port_rights_text, rights_text, word_for};
 
+use crate::words::Added;
 use ll_rights::{Fs, FsRight, Net, NetRight};
-use std::alloc::AllocError;
 
 /// A set of access rights, for files or for ports.
 pub(crate) trait RightSet: Copy {
@@ -121,7 +121,7 @@ pub(crate) fn word_for(name: &str) -> &str
 
 /// Adds a name, behind a comma if it isn't the first.
 #[tactic(auto, unfolding(crate::specs::Words::behind))]
-fn push_name(text: &mut Vec<u8>, name: &str, is_first: bool) -> Result<(), AllocError>
+fn push_name(text: &mut Vec<u8>, name: &str, is_first: bool) -> Added
     ensures { OnOk result (text.new.items ≡ text.old.items ++ (if is_first then name.now else behind (codes ", ") name.now)) }
 {
     if !is_first {
@@ -138,11 +138,7 @@ fn is_beyond<S: RightSet>(rights: S, whole: S, right: S::Right) -> bool
 }
 
 /// Adds the names of the rights that a set has and another hasn't, in the order of the table.
-pub(crate) fn push_beyond<S: RightSet>(
-    text: &mut Vec<u8>,
-    rights: S,
-    whole: S,
-) -> Result<(), AllocError>
+pub(crate) fn push_beyond<S: RightSet>(text: &mut Vec<u8>, rights: S, whole: S) -> Added
     ensures { OnOk result (text.new.items ≡ text.old.items ++ S.beyond_text rights whole) }
 {
     let mut is_first = true;

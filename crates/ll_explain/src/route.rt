@@ -1,20 +1,18 @@
 //! What one layer objects to in a rename or a link.
 
 ghost use Rattle.std.specs.Prelude.{◌≡◌, ◌++◌, ◌∷◌, [], OnOk};
-ghost use Rattle.ll_tree.specs.Trees.{kind_at, path_at};
-ghost use Rattle.ll_reasons.specs.Objections.{of_layer, on_crossing, on_directories, on_gain, on_other_gain};
+ghost use Rattle.ll_reasons.specs.Objections.{of_layer, on_crossing, on_directories, on_other_gain};
 ghost use Rattle.ll_explain.specs.Confined.{lines, rules_of};
-ghost use Rattle.ll_explain.specs.Named.{IsNamed};
 ghost use Rattle.ll_explain.specs.Parts.{IsSpelt, said_of};
 ghost use Rattle.ll_explain.specs.Route.{IsRoute};
 
 use crate::confinement::OneLayer;
-use crate::missing::{Test, passing};
 use crate::named::NamedNode;
-use crate::parts::{Part, part_on_path, push_line};
+use crate::parts::{Part, push_line};
+use crate::paths::{part_gained, part_on_path};
+use crate::words::Added;
 use ll_rights::Fs;
 use ll_rules::{How, Move, Target};
-use std::alloc::AllocError;
 
 /// A move, with the texts of the paths of its objects and directories, and what it asks of the two directories.
 #[derive(Clone, Copy)]
@@ -33,25 +31,6 @@ pub(crate) struct Route<'p> {
     pub(crate) destination: NamedNode<'p>,
     /// The rights that are asked there.
     pub(crate) entering: Fs,
-}
-
-/// What an object would gain in a directory under a layer.
-fn part_gained<'p>(layer: &OneLayer, object: NamedNode<'p>, directory: NamedNode<'p>) -> Part<'p>
-    requires object { IsNamed layer.now.of.tree.now object }
-    requires directory { IsNamed layer.now.of.tree.now directory }
-    ensures said { said_of (result ∷ []) ≡ on_gain (kind_at layer.now.of.tree.now object.entry.node) (path_at layer.now.of.tree.now object.entry.node)
-        (path_at layer.now.of.tree.now directory.entry.node) (rules_of layer.now) }
-    ensures spelt { IsSpelt result }
-{
-    let test = Test::Gaining {
-        object: object.node,
-        directory: directory.node,
-    };
-    Part::Gained {
-        object: object.path,
-        rights: passing(layer, test),
-        directory: directory.path,
-    }
 }
 
 /// What the object that is there already would gain in an exchange, by the directory that it goes to; nothing in
@@ -80,11 +59,7 @@ fn part_of_other<'p>(layer: &OneLayer, route: &Route<'p>) -> Part<'p>
 
 /// Adds the line of a layer that lacks something of what a move asks of its two directories, in one list if they are
 /// one.
-pub(crate) fn push_denied(
-    text: &mut Vec<u8>,
-    layer: &OneLayer,
-    route: &Route,
-) -> Result<(), AllocError>
+pub(crate) fn push_denied(text: &mut Vec<u8>, layer: &OneLayer, route: &Route) -> Added
     requires { IsRoute layer.now.of.tree.now route.now }
     ensures { OnOk result (text.new.items ≡ text.old.items
         ++ lines layer.now.of (of_layer layer.now.number (on_directories layer.now.of.tree.now route.now.attempt (rules_of layer.now)))) }
@@ -101,11 +76,7 @@ pub(crate) fn push_denied(
 
 /// Adds the line of a layer that keeps a move from leaving its directory: where `refer` is missing, and what objects
 /// would gain.
-pub(crate) fn push_held_back(
-    text: &mut Vec<u8>,
-    layer: &OneLayer,
-    route: &Route,
-) -> Result<(), AllocError>
+pub(crate) fn push_held_back(text: &mut Vec<u8>, layer: &OneLayer, route: &Route) -> Added
     requires { IsRoute layer.now.of.tree.now route.now }
     ensures { OnOk result (text.new.items ≡ text.old.items
         ++ lines layer.now.of (of_layer layer.now.number (on_crossing layer.now.of.tree.now route.now.attempt (rules_of layer.now)))) }

@@ -2,26 +2,21 @@
 
 ghost use Rattle.std.specs.Prelude.{◌≡◌, ◌++◌, OnOk};
 ghost use Rattle.ll_tree.specs.Trees.{place};
-ghost use Rattle.ll_semantics.specs.Requests.{asks};
+ghost use Rattle.ll_semantics.specs.Requests.{asks, request, wanted};
 ghost use Rattle.ll_reasons.specs.Objections.{to_request};
 ghost use Rattle.ll_explain.specs.Confined.{lines, stacked};
 
 use crate::confinement::Confinement;
 use crate::layers::{Question, push_asked};
 use crate::named::{NamedNode, text_for};
-use ll_semantics::Wanted;
+use crate::words::Added;
+use ll_semantics::{Wanted, wanted};
 use ll_state::{asks, place_of};
-use ll_trace::PathText;
-use std::alloc::AllocError;
+use ll_trace::{Op, PathText};
 
 /// Adds the lines for what a call wants at a path.
 #[tactic(auto, unfolding(ll_reasons::specs::Objections::to_request))]
-pub(crate) fn push_wanted(
-    text: &mut Vec<u8>,
-    of: &Confinement,
-    path: &PathText,
-    wanted: Wanted,
-) -> Result<(), AllocError>
+fn push_wanted(text: &mut Vec<u8>, of: &Confinement, path: &PathText, wanted: Wanted) -> Added
     ensures { OnOk result (text.new.items ≡ text.old.items ++ lines of.now (to_request of.now.tree.now (stacked of.now) (asks of.now.tree.now (place of.now.tree.now path.now) wanted))) }
 {
     let place = place_of(of.tree, path, None);
@@ -33,4 +28,15 @@ pub(crate) fn push_wanted(
         path: text_for(place, wanted, path),
     };
     push_asked(text, of, &Question::OnNode(asked, request.rights))
+}
+
+/// Adds the lines for a call that may want something at a path.
+#[tactic(auto, unfolding(ll_reasons::specs::Objections::to_request))]
+pub(crate) fn push_request(text: &mut Vec<u8>, of: &Confinement, op: &Op) -> Added
+    ensures { OnOk result (text.new.items ≡ text.old.items ++ lines of.now (to_request of.now.tree.now (stacked of.now) (request of.now.tree.now (wanted op.now)))) }
+{
+    match wanted(op) {
+        None => Ok(()),
+        Some((path, wanted)) => push_wanted(text, of, path, wanted),
+    }
 }

@@ -3,14 +3,15 @@
 ghost use Rattle.std.specs.Prelude.{◌≡◌, ◌++◌, ◌<◌, OnOk, decimal};
 ghost use Rattle.json.specs.Print.{escape, escape_byte, escape_letter};
 ghost use Rattle.std.specs.Char.{digit_char};
-ghost use Rattle.ll_explain.specs.Words.{kind_text};
 
 use itoa::Buffer;
-use ll_rights::Kind;
-use std::alloc::{AllocError, Global};
+use std::alloc::AllocError;
+
+/// What adding to a text gives: nothing, or that memory ran out.
+pub(crate) type Added = Result<(), AllocError>;
 
 /// Adds a number in decimal digits.
-pub(crate) fn push_number(text: &mut Vec<u8>, number: u64) -> Result<(), AllocError>
+pub(crate) fn push_number(text: &mut Vec<u8>, number: u64) -> Added
     ensures { OnOk result (text.new.items ≡ text.old.items ++ decimal number) }
 {
     let mut buffer = Buffer::new();
@@ -46,7 +47,7 @@ fn digit(number: u8) -> u8
 
 /// Adds a byte as it is in a JSON text.
 #[tactic(auto, unfolding(json::specs::Print::escape_byte))]
-fn push_escaped_byte(text: &mut Vec<u8>, byte: u8) -> Result<(), AllocError>
+fn push_escaped_byte(text: &mut Vec<u8>, byte: u8) -> Added
     ensures { OnOk result (text.new.items ≡ text.old.items ++ escape_byte byte) }
 {
     let letter = escape_letter(byte);
@@ -61,7 +62,7 @@ fn push_escaped_byte(text: &mut Vec<u8>, byte: u8) -> Result<(), AllocError>
 }
 
 /// Adds a path, escaped as JSON escapes texts.
-pub(crate) fn push_escaped(text: &mut Vec<u8>, path: &str) -> Result<(), AllocError>
+pub(crate) fn push_escaped(text: &mut Vec<u8>, path: &str) -> Added
     ensures { OnOk result (text.new.items ≡ text.old.items ++ escape path.now) }
 {
     for byte in path.bytes() {
@@ -70,28 +71,8 @@ pub(crate) fn push_escaped(text: &mut Vec<u8>, path: &str) -> Result<(), AllocEr
     Ok(())
 }
 
-/// What an object of a kind is.
-pub(crate) fn kind_name(kind: Kind) -> &'static str
-    ensures { result.now ≡ kind_text kind }
-{
-    match kind {
-        Kind::Dir => "a directory",
-        Kind::Reg => "a regular file",
-        Kind::Sym => "a symbolic link",
-        Kind::Char => "a character device",
-        Kind::Block => "a block device",
-        Kind::Fifo => "a named pipe",
-        Kind::Sock => "a socket",
-    }
-}
-
 /// Adds a number between two texts.
-pub(crate) fn push_numbered(
-    text: &mut Vec<u8>,
-    before: &str,
-    number: u64,
-    after: &str,
-) -> Result<(), AllocError>
+pub(crate) fn push_numbered(text: &mut Vec<u8>, before: &str, number: u64, after: &str) -> Added
     ensures { OnOk result (text.new.items ≡ text.old.items ++ (before.now ++ decimal number ++ after.now)) }
 {
     text.extend_from_slice(before.as_bytes())?;

@@ -1,6 +1,7 @@
 use Rattle.std.proofs.Common.{◌∙◌, ap, refl, sym}
 use Rattle.ll_tree.specs.Paths.{front}
 use Rattle.ll_reasons.specs.Reasons.{spelt}
+use Rattle.ll_explain.specs.Route.{IsBetween}
 use Rattle.ll_explain.proofs.Moving.{goes_to}
 use Rattle.ll_explain.proofs.moved.route_of.Goals as goal
 
@@ -8,7 +9,7 @@ pub returns-clause-route : goal.returns-clause-route
 returns-clause-route c =
     let tree = c.args.tree.now in
     let fit = c.requires.fit in
-    let between = c.requires.between in record {
+    let between : IsBetween tree (spelt c.args.from.now) (spelt c.args.to.now) c.args.attempt = c.requires.between in record {
       is_tree = c.leaving-source.ensures.tree;
       object = record { inside = fit.moved; shape = rw c.as_str.ensures.text c.as_str.ensures.shape; path = ap spelt c.as_str.ensures.text ∙ sym between.moved };
       moved = refl;

@@ -1,9 +1,11 @@
-use Rattle.ll_rules.specs.InTree.{all_in_tree}
-use Rattle.ll_rules.specs.KeptLayers.{domain_of}
-use Rattle.ll_explain.proofs.Following.{objected}
+use Rattle.std.proofs.Common.{refl}
+use Rattle.ll_rights.specs.NetRights.{bind_tcp, connect_tcp, only}
 use Rattle.ll_explain.proofs.objections.push_objections.Goals as goal
 
-pub returns : goal.returns
-returns c = λ o follows.
-    objected c.args.tree.now (all_in_tree c.args.tree.now (domain_of c.args.layers.now c.args.domain.now)) c.args.trail.now o follows c.args.error c.args.numbers
-    c.args.records.now c.args.op.now c.args.text.now.items _ c.in_ok-push_call.ensures
+pub push_asked-requires-in-Bind : goal.push_asked-requires-in-Bind
+unfolding only
+push_asked-requires-in-Bind c = record { one = bind_tcp; same = refl }
+
+pub push_asked-requires-in-Connect : goal.push_asked-requires-in-Connect
+unfolding only
+push_asked-requires-in-Connect c = record { one = connect_tcp; same = refl }

@@ -1,5 +1,4 @@
-use Rattle.std.proofs.Common.{◌∙◌, ◌++◌, ◌&&◌, not, codes, cond, drop, ap, sym}
-use Rattle.std.specs.Prelude.{filter}
+use Rattle.std.proofs.Common.{◌∙◌, ◌++◌, codes, cond, ap, sym}
 use Rattle.ll_explain.specs.Words.{behind, listed, word_for}
 use Rattle.ll_explain.proofs.Listing.{written_all, written_with, written_without}
 use Rattle.ll_explain.proofs.rights.push_beyond.Goals as goal

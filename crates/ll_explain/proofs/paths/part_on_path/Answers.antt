@@ -1,7 +1,7 @@
 use Rattle.ll_tree.specs.Trees.{path_at}
 use Rattle.ll_explain.specs.Confined.{rules_of}
 use Rattle.ll_explain.proofs.Saying.{said_on_path}
-use Rattle.ll_explain.proofs.parts.part_on_path.Goals as goal
+use Rattle.ll_explain.proofs.paths.part_on_path.Goals as goal
 
 pub returns-clause-said : goal.returns-clause-said
 returns-clause-said c =
