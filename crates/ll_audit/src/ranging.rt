@@ -1,12 +1,12 @@
 //! An audit over several versions.
 
 ghost use Rattle.std.specs.Prelude.{◌≡◌, ◌∷◌, [], IfOk, IfErr, if◌then◌else◌, map};
+ghost use Rattle.ll_options.specs.Crews.{IsCrew};
+ghost use Rattle.ll_options.specs.Versions.{is_in};
 ghost use Rattle.ll_report.specs.Found.{found_under};
 ghost use Rattle.ll_report.specs.Rows.{told_of};
-ghost use Rattle.ll_options.specs.Crews.{IsCrew};
 ghost use Rattle.ll_audit.specs.Causes.{IsWant};
 ghost use Rattle.ll_audit.specs.ShownReports.{IsReportOver, findings, taken};
-ghost use Rattle.ll_options.specs.Versions.{is_in};
 
 use crate::auditing::answers_of;
 use crate::fault::Fault;

@@ -47,16 +47,12 @@ impl Keys {
     }
 }
 
-/// The memory that the process has now, in bytes: `VmRSS` of proc_pid_status(5).
+/// The memory that the process has now, in bytes: the second number of `/proc/self/statm` (proc(5)) is in pages.
 fn resident<R: Files + AllocGlobal>(rt: &R) -> Result<u64> {
-    let text = fs::read_to_string(rt, "/proc/self/status")?;
-    let words = text
-        .lines()
-        .find_map(|line| line.strip_prefix("VmRSS:"))
-        .context("/proc/self/status has no VmRSS")?;
-    let number = words.trim().strip_suffix(" kB").context("VmRSS in kB")?;
-    let kib: u64 = number.parse()?;
-    Ok(kib.saturating_mul(1024))
+    let text = fs::read_to_string(rt, "/proc/self/statm")?;
+    let mut numbers = text.split_ascii_whitespace().skip(1);
+    let pages: u64 = numbers.next().context("/proc/self/statm")?.parse()?;
+    Ok(pages.saturating_mul(4096))
 }
 
 fn shared_map(alloc: Global, keys: Keys) -> Result<SharedMap<u64>> {

@@ -112,3 +112,6 @@ bytes_eq-text_of a b a_is b_is =
     (λ same. ap text_of same)
     (bytes_eq-Decides (text_of a) (text_of b)) in
     same_from_decides (bytes_eq (text_of a) (text_of b)) (path_eq a b) by_text (slice_eq-Decides bytes_eq-Decides a b (path_eq a b) refl)
+
+-- each way back
+pub ruleset texts_and_paths = (text_of-path_of, is_path-path_of, path_of-text_of)

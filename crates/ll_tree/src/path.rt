@@ -50,6 +50,7 @@ pub fn front_text(text: &str) -> &str
 }
 
 /// A text that is read as a path is the text of that path, and each path is read back from its text.
+#[tactic(auto, using(crate::proofs::PathLaws::texts_and_paths))]
 pub fn path_texts()
     ensures text_again { (text : List ℕ) (path : Path) → path_of text ≡ Some path → text_of path ≡ text }
     ensures read_is_path { (text : List ℕ) (path : Path) → path_of text ≡ Some path → IsTrue (is_path path) }
