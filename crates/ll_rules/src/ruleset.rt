@@ -307,9 +307,9 @@ impl Ruleset {
         ensures in_tree { AreInTree tree.now self.new }
     {
         let node = self.node_for(tree, place, files)?;
-        if self.layer.grant_on(node, files).is_err() {
+        let Ok(()) = self.layer.grant_on(node, files) else {
             return Err(RuleFault::Memory);
-        }
+        };
         Ok(())
     }
 
@@ -339,9 +339,9 @@ impl Ruleset {
         ensures err { OnErr result (self.new ≡ self.old) }
     {
         let number = self.port_for(abi, port, network)?;
-        if self.layer.grant_on_port(number, network).is_err() {
+        let Ok(()) = self.layer.grant_on_port(number, network) else {
             return Err(RuleFault::Memory);
-        }
+        };
         Ok(())
     }
 

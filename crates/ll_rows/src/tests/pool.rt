@@ -105,14 +105,6 @@ fn an_empty_trace_has_no_answers(rt: HostRuntime) -> Result<(), Fail> {
 }
 
 #[test]
-fn a_child_is_judged_apart_where_the_cut_says_so(rt: HostRuntime) -> Result<(), Fail> {
-    let case = case_with(rt.alloc(), Forks::TheFirst, 2)?;
-    assert_eq!(rt; made(&rt, rt.alloc(), &case, 1, &[false, true])?.len(), 2);
-    assert_eq!(rt; made(&rt, rt.alloc(), &case, 1, &[])?.len(), 1);
-    Ok(())
-}
-
-#[test]
 fn children_that_find_the_queue_full_are_judged_with_their_parent(
     rt: HostRuntime,
 ) -> Result<(), Fail> {
@@ -125,17 +117,20 @@ fn children_that_find_the_queue_full_are_judged_with_their_parent(
     Ok(())
 }
 
-/// More roots than the queue holds, and a long line of descendants, cut at each process and not at all.
+/// A child that is judged apart where the cut says so, more roots than the queue holds, and a long line of descendants,
+/// cut at each process and not at all.
 #[test]
-fn many_processes_are_all_judged(rt: HostRuntime) -> Result<(), Fail> {
+fn all_processes_are_judged_in_so_many_pieces(rt: HostRuntime) -> Result<(), Fail> {
     let every = vec![in rt.alloc(); true; 8192]?;
-    for (forks, processes, cut, pieces) in [
-        (Forks::Nobody, 1100, [].as_slice(), 1100),
-        (Forks::TheOneBefore, 8192, every.as_slice(), 8192),
-        (Forks::TheOneBefore, 8192, [].as_slice(), 1),
+    for (forks, processes, workers, cut, pieces) in [
+        (Forks::TheFirst, 2, 1, [false, true].as_slice(), 2),
+        (Forks::TheFirst, 2, 1, [].as_slice(), 1),
+        (Forks::Nobody, 1100, 8, [].as_slice(), 1100),
+        (Forks::TheOneBefore, 8192, 8, every.as_slice(), 8192),
+        (Forks::TheOneBefore, 8192, 8, [].as_slice(), 1),
     ] {
         let case = case_with(rt.alloc(), forks, processes)?;
-        assert_eq!(rt; made(&rt, rt.alloc(), &case, 8, cut)?.len(), pieces);
+        assert_eq!(rt; made(&rt, rt.alloc(), &case, workers, cut)?.len(), pieces);
     }
     Ok(())
 }

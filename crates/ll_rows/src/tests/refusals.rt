@@ -104,26 +104,23 @@ fn expect_unchanged(rt: &impl Abort, alloc: Global, case: &Case) -> Result<(), F
 
 #[test]
 fn case_without_memory(rt: HostRuntime) -> Result<(), Fail> {
-    let alloc = rt.alloc();
-    let case = case_again(alloc)?;
-    expect_unchanged(&rt, alloc, &case)
+    let case = case_again(rt.alloc())?;
+    expect_unchanged(&rt, rt.alloc(), &case)
 }
 
-/// The roots are the two processes that the trace starts with.
+/// The roots are the two processes that the trace starts with, and the case is judged as before.
 fn expect_roots(rt: &impl Abort, alloc: Global, case: &Case) -> Result<(), Fail> {
     let jobs = roots_again(alloc, case)?;
     assert_eq!(rt; jobs.len(), 2);
     assert_eq!(rt; jobs[0].process(), ProcessId(0));
     assert_eq!(rt; jobs[1].process(), ProcessId(1));
-    Ok(())
+    expect_unchanged(rt, alloc, case)
 }
 
 #[test]
 fn roots_without_memory(rt: HostRuntime) -> Result<(), Fail> {
-    let alloc = rt.alloc();
-    let case = case_again(alloc)?;
-    expect_roots(&rt, alloc, &case)?;
-    expect_unchanged(&rt, alloc, &case)
+    let case = case_again(rt.alloc())?;
+    expect_roots(&rt, rt.alloc(), &case)
 }
 
 /// The job of process 1, and a hand with even numbers that holds the job of process 0.
@@ -195,7 +192,7 @@ fn judged_again<'c>(
     }
 }
 
-/// The processes are shared out between the piece and the hand as the hand wants.
+/// The processes are shared out between the piece and the hand as the hand wants, and the case is judged as before.
 fn expect_shared(rt: &impl Abort, alloc: Global, case: &Case) -> Result<(), Fail> {
     let (piece, keeper) = judged_again(rt, alloc, case)?;
     expect_piece(rt, &piece, ProcessId(1));
@@ -208,15 +205,13 @@ fn expect_shared(rt: &impl Abort, alloc: Global, case: &Case) -> Result<(), Fail
     for (job, process) in keeper.jobs.iter().zip(KEPT) {
         assert_eq!(rt; job.process(), process);
     }
-    Ok(())
+    expect_unchanged(rt, alloc, case)
 }
 
 #[test]
 fn judge_without_memory(rt: HostRuntime) -> Result<(), Fail> {
-    let alloc = rt.alloc();
-    let case = case_again(alloc)?;
-    expect_shared(&rt, alloc, &case)?;
-    expect_unchanged(&rt, alloc, &case)
+    let case = case_again(rt.alloc())?;
+    expect_shared(&rt, rt.alloc(), &case)
 }
 
 fn collected_again(rt: &impl Abort, alloc: Global, case: &Case) -> Result<Vec<Answer>, Fail> {
