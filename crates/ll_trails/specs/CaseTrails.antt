@@ -13,7 +13,7 @@ use Rattle.ll_rulebook.specs.Settled.{met_by}
 use Rattle.ll_process.specs.Cases.{Matter}
 use Rattle.ll_reasons.specs.Explanations.{domain_at, origins_at}
 use Rattle.ll_reasons.specs.Made.{enforced_at}
-use Rattle.ll_reasons.specs.Origins.{sources_at}
+use Rattle.ll_reasons.specs.Origins.{sources_at, no_sources}
 use Rattle.ll_trails.specs.declared.trail.Trail.{Trail}
 use Rattle.ll_trails.specs.declared.trail.Trails.{Trails}
 use Rattle.ll_trails.specs.Trails.{Follows, AreTrails}
@@ -21,6 +21,10 @@ use Rattle.ll_trails.specs.Trails.{Follows, AreTrails}
 -- what is kept says where all that the processes of a case have before the record at a place comes from
 abbrev pub AreTrailsAt : Matter → ℕ → Trails → Type 0
 AreTrailsAt of place trails = AreTrails trails.trails.items (sources_at of.tree of.abi of.records place)
+
+-- what is kept of no process is what is kept before the first record, whichever the case
+abbrev pub TrailsBegin : Type 0
+TrailsBegin = (of : Matter) (trails : Trails) → AreTrails trails.trails.items no_sources → AreTrailsAt of 0 trails
 
 -- an answer is that to the record at a place
 abbrev pub IsAnswerAt : Matter → ℕ → Answer → Type 0

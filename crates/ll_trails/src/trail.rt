@@ -101,9 +101,8 @@ impl Trails {
     pub fn new(alloc: Global) -> Trails
         ensures { AreTrails result.trails.items no_sources }
     {
-        Trails {
-            trails: Vec::new(alloc),
-        }
+        let trails = Vec::new(alloc);
+        Trails { trails }
     }
 
     /// One process more.
