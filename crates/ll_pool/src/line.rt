@@ -7,7 +7,8 @@ use crate::known::Known;
 use crate::rule::{Fair, Gives, Naming, Parting, Takes};
 use crossbeam_queue::{Pass, RuledArrayQueue};
 use ll_process::Job;
-use std::alloc::{AllocError, Global};
+use ll_rules::NoMemory;
+use std::alloc::Global;
 use std::sync::Wait;
 
 /// How many jobs the queue holds. That the right to know the whole has as many parts is chance: their
@@ -21,11 +22,11 @@ pub(crate) type Line<'c, N> = RuledArrayQueue<Job<'c>, Known, Fair<N>>;
 pub(crate) type Ticket<'c> = Pass<Job<'c>, Known>;
 
 /// An empty queue, and the first pass to it.
-pub(crate) fn open<'c, N: Naming>(alloc: Global) -> Result<(Line<'c, N>, Ticket<'c>), AllocError>
+pub(crate) fn open<'c, N: Naming>(alloc: Global) -> Result<(Line<'c, N>, Ticket<'c>), NoMemory>
     ensures queue { IfOk result (λ made. IsPassOf made.0 made.1) }
     ensures knows { IfOk result (λ made. view made.1 ≡ known N.case 1024 [] []) }
 {
-    Line::ruled(alloc, ROOM)
+    Ok(Line::ruled(alloc, ROOM)?)
 }
 
 /// Another pass, which gets one part of this one.

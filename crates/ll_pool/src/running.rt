@@ -1,5 +1,5 @@
 //! Judging all processes of a case by workers.
-ghost use Rattle.std.specs.Prelude.{◌≡◌, ◌≤◌, ◌<◌, ◌+◌, ◌-◌, ◌^◌, ℕ, IfOk, count_by, min};
+ghost use Rattle.std.specs.Prelude.{◌≡◌, ◌≤◌, ◌<◌, ◌+◌, ◌-◌, ◌^◌, ℕ, IfOk, count_by, drop, length, min, take};
 ghost use Rattle.ll_trace.specs.Processes.{process_count, times};
 ghost use Rattle.ll_pool.specs.declared.running.PoolFault.TheVariants.{Memory};
 ghost use Rattle.ll_pool.specs.Gathered.{AllOf, processes_in};
@@ -13,9 +13,9 @@ use crate::member::Member;
 use crate::pool::Pool;
 use crate::rule::Naming;
 use crate::worker::Worked;
-use ll_process::{Case, Piece};
+use ll_process::{Case, Job, Piece};
 use ll_rules::NoMemory;
-use std::alloc::{AllocError, Global};
+use std::alloc::Global;
 use std::marker::Brand;
 use std::sync::Wait;
 use std::thread::Threads;
@@ -33,14 +33,6 @@ impl From<NoMemory> for PoolFault {
     ghost from_gives = { λ _ e. e ≡ Memory };
 
     fn from(_failed: NoMemory) -> PoolFault {
-        PoolFault::Memory
-    }
-}
-
-impl From<AllocError> for PoolFault {
-    ghost from_gives = { λ _ e. e ≡ Memory };
-
-    fn from(_failed: AllocError) -> PoolFault {
         PoolFault::Memory
     }
 }
@@ -75,6 +67,14 @@ fn most_jobs(roots: usize, cut: &[bool]) -> usize
     roots.saturating_add(cut.iter().filter(|&&here| here).count())
 }
 
+/// The jobs behind those for which the queue has room.
+fn beyond_room<'c>(jobs: &mut Vec<Job<'c>>) -> Result<Vec<Job<'c>>, NoMemory>
+    ensures items { IfOk result (λ rest. jobs.new.items ≡ take (min (length jobs.old.items) 1024) jobs.old.items) }
+    ensures tail { IfOk result (λ rest. rest.items ≡ drop (min (length jobs.old.items) 1024) jobs.old.items) }
+{
+    Ok(jobs.split_off(jobs.len().min(ROOM))?)
+}
+
 /// `run` on the case that `N` names.
 fn run_named<'s, 'c, N: Naming + Send + Sync, R: Threads + Wait + Sync, G: Gate + Sync>(
     rt: &'s R,
@@ -92,7 +92,7 @@ fn run_named<'s, 'c, N: Naming + Send + Sync, R: Threads + Wait + Sync, G: Gate 
 {
     let mut first = case.roots(alloc)?;
     let crew = workers.min(most_jobs(first.len(), cut));
-    let rest = first.split_off(first.len().min(ROOM))?;
+    let rest = beyond_room(&mut first)?;
     let (line, pass) = open::<N>(alloc)?;
     let pool: Pool<'s, 'c, N, R, G> = Pool {
         rt,

@@ -61,13 +61,6 @@ affected-begun w process p (leaves after) child is = absurd (cc)
 affected-begun w process p (leaves_rulesets rulesets after) child is = absurd (cc)
 affected-begun w process p (begins s) child is = (let same : s ≡ child = cc in ap (λ (t : State). with_state w.processes w.count t p) same)
 
-affected-count : (w : World) (process : ℕ) (e : Effect) → begun_by e ≡ None → (affected w process e).count ≡ w.count
-unfolding begun_by
-affected-count w process nothing none = refl
-affected-count w process (leaves s) none = refl
-affected-count w process (leaves_rulesets rulesets s) none = refl
-affected-count w process (begins child) none = absurd (cc)
-
 affected-rulesets : (w : World) (process : ℕ) (e : Effect) → (affected w process e).rulesets ≡ rulesets_by e w.rulesets
 unfolding rulesets_by
 affected-rulesets w process nothing = refl
@@ -160,15 +153,6 @@ unfolding step answer_in answer effect is_starting
 count-step tree abi w process (Start nnp admin) = refl
 count-step tree abi w process (Fork child) = refl
 count-step tree abi w process op = count_kept (answer tree abi w.rulesets op (w.processes process)) (affected w process (effect tree w.rulesets op (w.processes process))) w refl
-
-pub count-unbegun : (tree : List Entry) (abi : Abi) (w : World) (process : ℕ) (op : Op) → started tree w.rulesets op (w.processes process) ≡ None → (step tree abi w process op).count ≡ w.count
-unfolding step answer_in started
-count-unbegun tree abi w process op none =
-    let asked : Answer = answer tree abi w.rulesets op (w.processes process) in
-    let does : Effect = effect tree w.rulesets op (w.processes process) in
-    if_allowed-map (λ (v : World). v.count) asked (affected w process does) w
-    ∙ ap (λ (n : ℕ). if_allowed asked n w.count) (affected-count w process does none)
-    ∙ if_allowed-same asked w.count
 
 count-world_after : (tree : List Entry) (abi : Abi) (w : World) (rs : List Record) → (world_after tree abi w rs).count ≡ w.count + process_count rs
 unfolding world_after process_count

@@ -2,10 +2,9 @@
 
 ghost use Rattle.std.specs.Prelude.{◌≡◌, ◌+◌, ◌-◌, ◌^◌, ◌<◌, ◌≤◌, ℕ, Option, Some, IfOk, IfSome, find, option_map};
 ghost use Rattle.std.specs.Str.{bytes_eq};
-ghost use Rattle.ll_source.specs.declared.source.SourceFault.TheVariants.{Memory};
 ghost use Rattle.ll_source.specs.Files.{Files, bytes_of, files_of};
 
-use std::alloc::{AllocError, Global};
+use std::alloc::Global;
 
 /// Why a source gives no bytes.
 #[derive(Clone, Copy, Debug, PartialEq, Eq)]
@@ -14,14 +13,6 @@ pub enum SourceFault {
     Unread,
     /// Out of memory for its bytes.
     Memory,
-}
-
-impl From<AllocError> for SourceFault {
-    ghost from_gives = { λ _ fault. fault ≡ Memory };
-
-    fn from(_refused: AllocError) -> SourceFault {
-        SourceFault::Memory
-    }
 }
 
 /// Files by their names, and a count of those that could not be read.
@@ -80,7 +71,10 @@ impl Source for MemorySource<'_> {
 
     fn bytes_of(&mut self, alloc: Global, name: &str) -> Result<Vec<u8>, SourceFault> {
         match first_named(self.files, name) {
-            Some(bytes) => Ok(Vec::from_slice(alloc, bytes)?),
+            Some(bytes) => match Vec::from_slice(alloc, bytes) {
+                Ok(copy) => Ok(copy),
+                Err(_refused) => Err(SourceFault::Memory),
+            },
             None => {
                 self.failures += 1;
                 Err(SourceFault::Unread)
