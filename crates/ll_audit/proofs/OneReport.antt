@@ -41,9 +41,9 @@ with_all_lines abi tree trace report is = record {
   records = is.records;
   reads_tree = is.reads_tree;
   reads_trace = is.reads_trace;
-  report_on = record {
-    text = (is.report_by.under_one refl).text ∙ is_report_text (text_at is.tree abi is.records) (lines_of is.records (judged is.tree abi is.records));
-    refused = (is.report_by.under_one refl).refused;
+  so = record {
+    text = (is.so.under_one refl).text ∙ is_report_text (text_at is.tree abi is.records) (lines_of is.records (judged is.tree abi is.records));
+    refused = (is.so.under_one refl).refused;
   };
 }
 
@@ -85,12 +85,12 @@ module _ (abi : Abi) (tree trace : List ℕ) (report other : Report) (first : Is
 
   pub same_bytes : report.bytes.items ≡ other.bytes.items
   same_bytes =
-      first.report_on.text
+      first.so.text
       ∙ ap₂ (λ (entries : List Entry) (records : List Record). report_text (lines_of records (judged entries abi records))) same_tree same_records
-      ∙ sym second.report_on.text
+      ∙ sym second.so.text
 
   pub same_refused : report.refused ≡ other.refused
   same_refused =
-      first.report_on.refused
+      first.so.refused
       ∙ ap₂ (λ (entries : List Entry) (records : List Record). refused_among records (judged entries abi records)) same_tree same_records
-      ∙ sym second.report_on.refused
+      ∙ sym second.so.refused

@@ -21,13 +21,17 @@ pub record IsReportOn (tree : List Entry) (abi : Abi) (records : List Record) (r
   pub text : report.bytes.items ≡ report_text (lines_of records (judged tree abi records))
   pub refused : report.refused ≡ refused_among records (judged tree abi records)
 
--- the bytes of both files read, and this is the report on what they say
-pub record IsReport (abi : Abi) (tree_bytes trace_bytes : List ℕ) (report : Report) : Type 0 where
+-- the bytes of both files read, and this is so of what they say
+pub record BothRead (tree_bytes trace_bytes : List ℕ) (So : List Entry → List Record → Type 0) : Type 0 where
   pub tree : List Entry
   pub records : List Record
   pub reads_tree : IsTreeOf tree_bytes tree
   pub reads_trace : IsTrace trace_bytes records
-  pub report_on : IsReportOn tree abi records report
+  pub so : So tree records
+
+-- the report on what both files say
+abbrev pub IsReport : Abi → List ℕ → List ℕ → Report → Type 0
+IsReport abi tree_bytes trace_bytes report = BothRead tree_bytes trace_bytes (λ tree records. IsReportOn tree abi records report)
 
 -- some tree is what the bytes read as
 abbrev pub ReadsAsTree : List ℕ → Type 0

@@ -4,9 +4,7 @@ use Rattle.std.specs.Prelude.{◌≡◌, ◌≢◌, ℕ, List, map}
 use Rattle.ll_rights.specs.declared.abi.Abi.{Abi}
 use Rattle.ll_rights.specs.Abis.{number_of}
 use Rattle.ll_tree.specs.Trees.{Entry}
-use Rattle.ll_tree.specs.TreeReading.{IsTreeOf}
 use Rattle.ll_trace.specs.declared.record.Record.{Record}
-use Rattle.ll_trace.specs.Records.{IsTrace}
 use Rattle.ll_trace.specs.BestEffort.{records_at_best_effort}
 use Rattle.ll_report.specs.declared.report.Report.{Report}
 use Rattle.ll_report.specs.Found.{Found, found_under}
@@ -16,6 +14,7 @@ use Rattle.ll_options.specs.declared.options.Effort.{Effort}
 use Rattle.ll_options.specs.declared.options.Effort.TheVariants.{AsRecorded, Best}
 use Rattle.ll_options.specs.declared.options.Options.{Options}
 use Rattle.ll_options.specs.Versions.{versions_in}
+use Rattle.ll_audit.specs.Audits.{BothRead}
 
 -- the records as they are taken: as they were recorded, or as a program calls that uses what its kernel supports
 abbrev pub taken : Effort → Abi → List Record → List Record
@@ -38,10 +37,6 @@ pub record IsReportBy (options : Options) (tree : List Entry) (records : List Re
       → IsShownReportOn options.shown tree options.abis.oldest (taken options.effort options.abis.oldest records) report
   pub over_several : number_of options.abis.oldest ≢ number_of options.abis.newest → IsReportOver options tree records report
 
--- the bytes of both files read, and this is the report that the options ask for on what they say
-pub record IsReportWith (options : Options) (tree_bytes trace_bytes : List ℕ) (report : Report) : Type 0 where
-  pub tree : List Entry
-  pub records : List Record
-  pub reads_tree : IsTreeOf tree_bytes tree
-  pub reads_trace : IsTrace trace_bytes records
-  pub report_by : IsReportBy options tree records report
+-- the report that the options ask for on what both files say
+abbrev pub IsReportWith : Options → List ℕ → List ℕ → Report → Type 0
+IsReportWith options tree_bytes trace_bytes report = BothRead tree_bytes trace_bytes (λ tree records. IsReportBy options tree records report)

@@ -1,22 +1,22 @@
 //! The audit of a trace against a tree.
 
-ghost use Rattle.std.specs.Prelude.{◌≡◌, ◌++◌, IfOk, IfErr};
+ghost use Rattle.std.specs.Prelude.{◌≡◌, IfOk, IfErr};
 ghost use Rattle.ll_tree.specs.TreeReading.{IsTreeOf};
 ghost use Rattle.ll_trace.specs.Records.{IsTrace};
-ghost use Rattle.ll_semantics.specs.Worlds.{judged};
 ghost use Rattle.ll_report.specs.Shown.{IsShownReportOn};
 ghost use Rattle.ll_options.specs.Crews.{IsCrew};
 ghost use Rattle.ll_audit.specs.Audits.{IsFaultOf, IsReport};
 ghost use Rattle.ll_audit.specs.ShownReports.{IsReportBy, IsReportWith, taken};
 ghost use Rattle.ll_audit.specs.Causes.{IsTraceFault, IsTreeFault, IsWant};
 
+use crate::crew::Crew;
 use crate::cut::{Cut, cuts_of};
 use crate::fault::Fault;
 use crate::inputs::Inputs;
 use crate::ranging::report_over;
 use ll_options::{ALL_LINES, AbiRange, Effort, Options, Shown};
-use ll_pool::{CollectFault, Gate, collect, run};
-use ll_process::{Answer, Case};
+use ll_pool::Gate;
+use ll_process::Case;
 use ll_report::Report;
 use ll_rights::Abi;
 use ll_trace::Trace;
@@ -193,53 +193,33 @@ fn report_by<R: Threads + Wait + Sync, G: Gate + Sync>(
 {
     let Files { tree, trace } = files;
     let cuts = cuts_of(alloc, &trace, cut)?;
+    let crew = Crew {
+        rt,
+        alloc,
+        workers,
+        cuts: &cuts,
+        gate,
+    };
     match options.abis.single() {
         Some(abi) => {
             let trace = taken(trace, options.effort, abi);
             let case = Case::new(alloc, tree, trace, abi)?;
-            report_on(rt, alloc, &case, workers, &cuts, gate, options.shown)
+            report_on(&crew, &case, options.shown)
         }
-        None => report_over(rt, alloc, tree, trace, options, workers, &cuts, gate),
+        None => report_over(&crew, tree, trace, options),
     }
 }
 
 /// The report on a case, as much as is shown of it.
 fn report_on<R: Threads + Wait + Sync, G: Gate + Sync>(
-    rt: &R,
-    alloc: Global,
+    crew: &Crew<'_, R, G>,
     case: &Case,
-    workers: u64,
-    cuts: &[bool],
-    gate: &G,
     shown: Shown,
 ) -> Result<Report, Fault>
-    requires { IsCrew workers }
+    requires { IsCrew crew.now.workers }
     ensures report { IfOk result (IsShownReportOn shown case.now.tree case.now.abi case.now.records) }
     ensures fault { IfErr result IsWant }
 {
-    let answers = answers_of(rt, alloc, case, workers, cuts, gate)?;
-    Ok(Report::of(alloc, case, &answers, shown)?)
-}
-
-/// The answers to all records, judged by this many workers.
-pub(crate) fn answers_of<R: Threads + Wait + Sync, G: Gate + Sync>(
-    rt: &R,
-    alloc: Global,
-    case: &Case,
-    workers: u64,
-    cuts: &[bool],
-    gate: &G,
-) -> Result<Vec<Answer>, Fault>
-    requires { IsCrew workers }
-    ensures answers { IfOk result
-        (λ answers. answers.items ≡ judged case.now.tree case.now.abi case.now.records) }
-    ensures fault { IfErr result IsWant }
-{
-    let pieces = run(rt, alloc, case, workers as usize, cuts, gate)?;
-    match collect(alloc, case, pieces) {
-        Ok(answers) => Ok(answers),
-        Err(CollectFault::Memory) => Err(Fault::Memory),
-        Err(CollectFault::Missing(_absent)) => unreachable!(),
-        Err(CollectFault::Double(_doubled)) => unreachable!(),
-    }
+    let answers = crew.answers(case)?;
+    Ok(Report::of(crew.alloc, case, &answers, shown)?)
 }

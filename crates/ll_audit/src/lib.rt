@@ -2,6 +2,7 @@
 #![tactic(auto)]
 
 mod auditing;
+mod crew;
 mod cut;
 mod fault;
 mod idle;

@@ -8,7 +8,7 @@ ghost use Rattle.ll_report.specs.Rows.{told_of};
 ghost use Rattle.ll_audit.specs.Causes.{IsWant};
 ghost use Rattle.ll_audit.specs.ShownReports.{IsReportOver, findings, taken};
 
-use crate::auditing::answers_of;
+use crate::crew::Crew;
 use crate::fault::Fault;
 use ll_options::{Effort, Options};
 use ll_pool::Gate;
@@ -17,7 +17,7 @@ use ll_report::{Finding, Report};
 use ll_rights::Abi;
 use ll_trace::{Located, Trace};
 use ll_tree::Tree;
-use std::alloc::{AllocError, Global};
+use std::alloc::AllocError;
 use std::sync::Wait;
 use std::thread::Threads;
 
@@ -33,15 +33,11 @@ impl Audited {
     /// Audits under a version too, which is older than those before, if it is asked for.
     fn under<R: Threads + Wait + Sync, G: Gate + Sync>(
         self,
-        rt: &R,
-        alloc: Global,
+        crew: &Crew<'_, R, G>,
         options: &Options,
-        workers: u64,
-        cuts: &[bool],
-        gate: &G,
         abi: Abi,
     ) -> Result<Audited, Fault>
-        requires { IsCrew workers }
+        requires { IsCrew crew.now.workers }
         ensures tree { IfOk result (λ next. next.located.tree ≡ self.located.tree) }
         ensures trace { IfOk result (λ next. next.located.trace
             ≡ (if is_in options.now.abis abi then taken options.now.effort abi self.located.trace else self.located.trace)) }
@@ -54,9 +50,9 @@ impl Audited {
             return Ok(self);
         }
         let Audited { located, findings } = self;
-        let case = Case::of_located(alloc, as_taken(located, options.effort, abi), abi)?;
-        let answers = answers_of(rt, alloc, &case, workers, cuts, gate)?;
-        let finding = Finding::of(alloc, &case, answers, options.shown, findings.first())?;
+        let case = Case::of_located(crew.alloc, as_taken(located, options.effort, abi), abi)?;
+        let answers = crew.answers(&case)?;
+        let finding = Finding::of(crew.alloc, &case, answers, options.shown, findings.first())?;
         Ok(Audited {
             located: case.into_located(),
             findings: in_front(finding, findings)?,
@@ -66,14 +62,10 @@ impl Audited {
     /// Audits under all versions that are asked for, the newest first.
     fn under_all<R: Threads + Wait + Sync, G: Gate + Sync>(
         self,
-        rt: &R,
-        alloc: Global,
+        crew: &Crew<'_, R, G>,
         options: &Options,
-        workers: u64,
-        cuts: &[bool],
-        gate: &G,
     ) -> Result<Audited, Fault>
-        requires crew { IsCrew workers }
+        requires crew { IsCrew crew.now.workers }
         requires none_yet { self.findings.items ≡ [] }
         ensures findings { IfOk result (λ all. all.findings.items ≡ findings options.now self.located.tree self.located.trace) }
         ensures records { IfOk result (λ all. map told_of all.located.trace ≡ map told_of self.located.trace) }
@@ -83,7 +75,7 @@ impl Audited {
         let mut audited = self;
         for place in (0..versions.len()).rev() {
             let abi = versions[place];
-            audited = audited.under(rt, alloc, options, workers, cuts, gate, abi)?;
+            audited = audited.under(crew, options, abi)?;
         }
         Ok(audited)
     }
@@ -110,28 +102,24 @@ fn in_front(finding: Finding, mut newer: Vec<Finding>) -> Result<Vec<Finding>, A
 
 /// The report over the versions that are asked for.
 pub(crate) fn report_over<R: Threads + Wait + Sync, G: Gate + Sync>(
-    rt: &R,
-    alloc: Global,
+    crew: &Crew<'_, R, G>,
     tree: Tree,
     trace: Trace,
     options: &Options,
-    workers: u64,
-    cuts: &[bool],
-    gate: &G,
 ) -> Result<Report, Fault>
-    requires { IsCrew workers }
+    requires { IsCrew crew.now.workers }
     ensures report { IfOk result (IsReportOver options.now tree trace) }
     ensures fault { IfErr result IsWant }
 {
-    let located = Located::of(alloc, tree, trace)?;
+    let located = Located::of(crew.alloc, tree, trace)?;
     let none = Audited {
         located,
-        findings: Vec::new(alloc),
+        findings: Vec::new(crew.alloc),
     };
-    let all = none.under_all(rt, alloc, options, workers, cuts, gate)?;
+    let all = none.under_all(crew, options)?;
     let oldest = options.abis.oldest.number();
     let report = Report::over(
-        alloc,
+        crew.alloc,
         options.shown,
         oldest,
         &all.findings,
