@@ -14,7 +14,7 @@ ghost use Rattle.ll_rules.specs.Checks.{refusing, refusing_port, refusing_mount}
 ghost use Rattle.ll_rules.specs.Moves.{move_verdict};
 
 /// To be the same is an equivalence, and rules that are the same stay so with one rule more.
-#[tactic(auto, using(crate::proofs::SameLayers::rules_alike))]
+#[tactic(auto, using(crate::proofs::SameLayers::rules_alike), unfolding(crate::specs::KeptLayers::granted_on, crate::specs::Layers::granted_on_port))]
 pub fn same_rules()
     ensures reflexive { (a : RulesOn Path) → SameRules a a }
     ensures symmetric { (a b : RulesOn Path) → SameRules a b → SameRules b a }
