@@ -7,5 +7,4 @@ pub mod Texts
 pub mod Found
 pub mod Alike
 pub mod Spans
-pub mod SaidUnder
 pub mod Rows

@@ -5,6 +5,7 @@ use Rattle.std.specs.List.{list_any, range_with_len}
 use Rattle.ll_trace.specs.declared.record.Record.{Record}
 use Rattle.ll_options.specs.declared.shown.Shown.{Shown}
 use Rattle.ll_trace.specs.Operations.{op_name}
+use Rattle.ll_report.specs.declared.spans.Form.{Form}
 use Rattle.ll_report.specs.declared.spans.Form.TheVariants.{Answers, Explanations}
 use Rattle.ll_report.specs.Found.{Found, answer_at, explanation_at}
 use Rattle.ll_report.specs.Lines.{verdict_of}
@@ -22,6 +23,14 @@ answers_said founds place = map (λ found. verdict_text (verdict_of (answer_at f
 
 abbrev pub explanations_said : List Found → ℕ → List (List ℕ)
 explanations_said founds place = map (λ found. explanation_at found place) founds
+
+-- the one or the other, as the form says, under one version and under each
+abbrev pub said_by : Form → ℕ → Found → List ℕ
+said_by Answers place found = verdict_text (verdict_of (answer_at found place))
+said_by Explanations place found = explanation_at found place
+
+abbrev pub said_under : Form → List Found → ℕ → List (List ℕ)
+said_under form founds place = map (said_by form place) founds
 
 -- some version refuses the record at a place
 abbrev pub is_refused_under_some : List Found → ℕ → Bool

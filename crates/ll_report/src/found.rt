@@ -5,7 +5,7 @@ ghost use Rattle.std.specs.List.{range_with_len};
 ghost use Rattle.ll_semantics.specs.Worlds.{judged};
 ghost use Rattle.ll_explain.specs.Explained.{text_at};
 ghost use Rattle.ll_report.specs.Found.{answer_at, explanation_at, found_under};
-ghost use Rattle.ll_report.specs.SaidUnder.{said_by};
+ghost use Rattle.ll_report.specs.Rows.{said_by};
 
 use crate::report::push_verdict;
 use crate::spans::Form;

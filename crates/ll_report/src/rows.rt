@@ -4,11 +4,10 @@ ghost use Rattle.std.specs.Prelude.{◌≡◌, ◌+◌, ◌++◌, ◌<◌, ◌^�
 ghost use Rattle.std.specs.List.{range_with_len};
 ghost use Rattle.ll_report.specs.Alike.{IsSaid};
 ghost use Rattle.ll_report.specs.Found.{answer_at};
-ghost use Rattle.ll_report.specs.declared.spans.Form.TheVariants.{Explanations};
-ghost use Rattle.ll_report.specs.Spans.{versions_text};
-ghost use Rattle.ll_report.specs.SaidUnder.{said_under};
 ghost use Rattle.ll_report.specs.Shown.{behind_line};
-ghost use Rattle.ll_report.specs.Rows.{answers_said, explanations_said, is_refused_under_some, is_row_left_out, refused_under_some, row_text, rows_from, rows_text, told_of, total_under_text, totals_from};
+ghost use Rattle.ll_report.specs.Spans.{versions_text};
+ghost use Rattle.ll_report.specs.declared.spans.Form.TheVariants.{Explanations};
+ghost use Rattle.ll_report.specs.Rows.{answers_said, explanations_said, is_refused_under_some, is_row_left_out, refused_under_some, row_text, rows_from, rows_text, said_under, told_of, total_under_text, totals_from};
 
 use crate::alike::{common_answer, common_explanation};
 use crate::blocks::is_hidden;

@@ -1,5 +1,5 @@
 use Rattle.std.proofs.Common.{ℕ, Vec, Global}
-use Rattle.ll_report.specs.SaidUnder.{said_by}
+use Rattle.ll_report.specs.Rows.{said_by}
 use Rattle.ll_report.proofs.RowsLeft.{all_made, one_made}
 use Rattle.ll_report.proofs.rows.said_under.Goals as goal
 

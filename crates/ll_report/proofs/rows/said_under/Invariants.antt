@@ -1,5 +1,5 @@
 use Rattle.std.proofs.Common.{◌≡◌, ◌++◌, drop, map}
-use Rattle.ll_report.specs.SaidUnder.{said_under}
+use Rattle.ll_report.specs.Rows.{said_under}
 use Rattle.ll_report.proofs.rows.said_under.Given as goal
 
 -- what is said under the versions so far, and under those that are left, is all
