@@ -1,10 +1,9 @@
 -- The access rights for the network: their table, and sets of them.
 -- Source: the kernel's userspace document on Landlock, "Network flags".
-use Rattle.std.specs.Prelude.{ℕ, ◌^◌, bit_or, Bool, not, ◌&&◌, ◌||◌, List, [], ◌∷◌, ◌++◌, codes, ◌==◌}
+use Rattle.std.specs.Prelude.{ℕ, bit_or, Bool, List, [], ◌∷◌, ◌++◌, codes}
 use Rattle.std.specs.List.{list_any, list_all}
 use Rattle.ll_rights.specs.declared.net.Net.{Net}
-use Rattle.ll_rights.specs.Bits.{has_place}
-use Rattle.ll_rights.specs.Sets.{Row, not_for_files, unnamed, first_named}
+use Rattle.ll_rights.specs.Sets.{Row, not_for_files, unnamed, first_named, holds, word_of, are_same, none_of, each_within, some_lacking}
 
 -- An access right for TCP ports. `other` stands for every name that is none of the rest.
 pub data NetRight : Type 0 where
@@ -41,7 +40,7 @@ right_named text = first_named row other all_rights text
 
 -- whether a set has a right
 unfoldable pub has : Net → NetRight → Bool
-has set right = has_place (bit_of other) set.0 (bit_of right)
+has set right = holds row other set.0 right
 
 -- whether some right passes a test
 unfoldable pub some_right : (NetRight → Bool) → Bool
@@ -53,19 +52,19 @@ every_right test = list_all test all_rights
 
 -- whether a set has no right
 abbrev pub is_empty : Net → Bool
-is_empty set = not (some_right (has set))
+is_empty set = none_of some_right (has set)
 
 -- whether each right of a set is in another
 abbrev pub is_within : Net → Net → Bool
-is_within set whole = every_right (λ right. not (has set right) || has whole right)
+is_within set whole = each_within every_right (has set) (has whole)
 
 -- whether some right is wanted and handled and not granted
 abbrev pub is_lacking : (NetRight → Bool) → (NetRight → Bool) → (NetRight → Bool) → Bool
-is_lacking wanted handled granted = some_right (λ right. wanted right && handled right && not (granted right))
+is_lacking = some_lacking some_right
 
 -- whether two rights are the same
 abbrev pub is_right : NetRight → NetRight → Bool
-is_right a b = bit_of a == bit_of b
+is_right = are_same row
 
 -- the set without any right
 abbrev pub no_right : Net
@@ -73,7 +72,7 @@ no_right = record { 0 = 0 }
 
 -- the set that has one right alone
 unfoldable pub only : NetRight → Net
-only right = record { 0 = 2 ^ bit_of right }
+only right = record { 0 = word_of row right }
 
 -- the set that has what either of two has
 unfoldable pub united : Net → Net → Net
