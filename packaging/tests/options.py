@@ -10,8 +10,8 @@ from landaudit_record import cli
 from .places import TOP
 
 COMMAND = TOP / "crates" / "ll_command" / "src" / "command.rt"
-#: A function that makes an option of its name, with its body.
-MAKER = re.compile(r"^fn (\w+)<'a>\([^)]*\bname: &'a str\b(?:.(?!^}))*?\.long\(name\)", re.MULTILINE | re.DOTALL)
+#: A function that makes an argument of the command from a name, and its text.
+MAKER = re.compile(r"^fn (\w+)<'a>\([^)]*\bname: &'a str\b(.*?)^}", re.MULTILINE | re.DOTALL)
 #: clap adds these by itself, the latter where the command has a version.
 OWN = {"-h", "--help"}
 OF_VERSION = {"-V", "--version"}
@@ -20,12 +20,20 @@ OF_VERSION = {"-V", "--version"}
 def of_landaudit() -> set[str]:
     """The options of landaudit, read from the source of its command line."""
     source = COMMAND.read_text(encoding="utf-8")
-    makers = "|".join(MAKER.findall(source))
+    makers = "|".join(_makers_of_options(source))
     named = re.findall(rf'\b(?:{makers})\(\s*\w+,\s*"([\w-]+)"', source)
     named += re.findall(r'\.long\("([\w-]+)"\)', source)
     short = re.findall(r"\.short\('(\w)'\)", source)
     own = OWN | OF_VERSION if re.search(r"\.version\(", source) else OWN
     return own | {f"--{name}" for name in named} | {f"-{name}" for name in short}
+
+
+def _makers_of_options(source: str) -> set[str]:
+    """The functions that make an option of a name, by themselves or by another that does."""
+    texts = dict(MAKER.findall(source))
+    makers = {name for name, text in texts.items() if ".long(name)" in text}
+    called = re.compile(rf"\b(?:{'|'.join(makers)})\(\w+, name\b")
+    return makers | {name for name, text in texts.items() if called.search(text)}
 
 
 def subcommands() -> dict[str, set[str]]:
