@@ -5,7 +5,7 @@ use Rattle.std.proofs.lemmas.List.Elements.{filter_agree}
 use Rattle.ll_rights.specs.declared.fs.Fs.{Fs}
 use Rattle.ll_rights.specs.declared.kind.Kind.{Kind}
 use Rattle.ll_rights.specs.Rights as files
-use Rattle.ll_tree.specs.Paths.{Path}
+use Rattle.ll_lines.specs.Paths.{Path}
 use Rattle.ll_tree.specs.Trees.{is_dir}
 use Rattle.std.proofs.Common.{Bor, ℕ, List}
 use Rattle.ll_rules.specs.Layers.{handles, granted}

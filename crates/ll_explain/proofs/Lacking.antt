@@ -5,7 +5,7 @@ use Rattle.std.proofs.lemmas.Bool.{cases_Bool, cases_eq, eq-eqb, ne_eqb}
 use Rattle.ll_rights.specs.declared.fs.Fs.{Fs}
 use Rattle.ll_rights.specs.Rights as files
 use Rattle.ll_rights.proofs.Sets.{fs_has-only, fs_has-united}
-use Rattle.ll_tree.specs.Paths.{Path}
+use Rattle.ll_lines.specs.Paths.{Path}
 use Rattle.ll_rules.specs.Layers.{RulesOn, handles, granted}
 use Rattle.ll_rules.specs.Checks.{lacks, numbers_from, numbers_where}
 use Rattle.ll_rules.proofs.Booleans.{or_false, list_any-agree}

@@ -4,7 +4,7 @@ use Rattle.std.specs.Prelude.{IfSome}
 use Rattle.ll_tree.specs.declared.place.NodeId.{NodeId}
 use Rattle.ll_tree.specs.declared.place.Place.{Place}
 use Rattle.ll_tree.specs.declared.place.Place.TheVariants.{Node, Gap, Nowhere}
-use Rattle.ll_tree.specs.Paths.{Path, front}
+use Rattle.ll_lines.specs.Paths.{Path, front}
 use Rattle.ll_tree.specs.Trees.{Entry, is_dir, kind_at, path_at, place}
 use Rattle.ll_rules.specs.declared.moves.Move.{Move}
 use Rattle.ll_semantics.specs.Moves.{is_above, is_mixed, is_root, rename_into, rename_onto, rename_to, rename_move, link_to, link_move}

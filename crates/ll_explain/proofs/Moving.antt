@@ -7,7 +7,7 @@ use Rattle.ll_rights.specs.declared.fs.Fs.{Fs}
 use Rattle.ll_rights.specs.Rights as files
 use Rattle.ll_rights.proofs.Sets.{fs_has-only, fs_has-united}
 use Rattle.ll_tree.specs.declared.place.NodeId.{NodeId}
-use Rattle.ll_tree.specs.Paths.{Path, front, path_eq}
+use Rattle.ll_lines.specs.Paths.{Path, front, path_eq}
 use Rattle.ll_tree.specs.Trees.{Entry, kind_at, path_at}
 use Rattle.ll_rules.specs.declared.moves.How.{How}
 use Rattle.ll_rules.specs.declared.moves.How.TheVariants.{Rename, Exchange, Link}

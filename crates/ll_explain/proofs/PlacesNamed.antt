@@ -10,7 +10,7 @@ use Rattle.ll_rights.specs.declared.kind.Kind.TheVariants.{Dir, Reg, Sym, Sock}
 use Rattle.ll_tree.specs.declared.place.NodeId.{NodeId}
 use Rattle.ll_tree.specs.declared.place.Place.{Place}
 use Rattle.ll_tree.specs.declared.place.Place.TheVariants.{Node, Gap, Nowhere}
-use Rattle.ll_tree.specs.Paths.{Path, front, path_of}
+use Rattle.ll_lines.specs.Paths.{Path, front, path_of}
 use Rattle.ll_tree.specs.Trees.{Entry, is_dir, kind_at, path_at, position_of, node_at, parent_of, parent_at, gap_in, place_or_gap, place_of, place}
 use Rattle.ll_tree.proofs.Positions.{at_position}
 use Rattle.ll_trace.specs.declared.op.Mode.{Mode}

@@ -11,7 +11,7 @@ use Rattle.ll_rights.specs.declared.fs.Fs.{Fs}
 use Rattle.ll_rights.specs.Rights as files
 use Rattle.ll_rights.specs.NetRights as network
 use Rattle.ll_tree.specs.Trees.{Entry}
-use Rattle.ll_tree.specs.Paths.{Path}
+use Rattle.ll_lines.specs.Paths.{Path}
 use Rattle.ll_trace.specs.declared.record.Record.{Record}
 use Rattle.ll_rules.proofs.Booleans.{and_true}
 use Rattle.ll_reasons.specs.Conditions.{rights_beyond}

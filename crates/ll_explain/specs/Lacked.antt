@@ -4,7 +4,7 @@ use Rattle.std.specs.Prelude.{Bool, List, not, ◌&&◌, ◌||◌}
 use Rattle.ll_rights.specs.declared.fs.Fs.{Fs}
 use Rattle.ll_rights.specs.declared.kind.Kind.{Kind}
 use Rattle.ll_rights.specs.Rights.{FsRight, has, is_file_right}
-use Rattle.ll_tree.specs.Paths.{Path}
+use Rattle.ll_lines.specs.Paths.{Path}
 use Rattle.ll_tree.specs.Trees.{Entry, IsNode, is_dir, kind_at, path_at}
 use Rattle.ll_rules.specs.Layers.{granted, handles}
 use Rattle.ll_semantics.specs.States.{Layer}

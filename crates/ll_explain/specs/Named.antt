@@ -3,7 +3,7 @@
 use Rattle.std.specs.Prelude.{◌≡◌, List, IsTrue, is_some}
 use Rattle.ll_tree.specs.declared.place.Place.{Place}
 use Rattle.ll_tree.specs.declared.place.Place.TheVariants.{Node}
-use Rattle.ll_tree.specs.Paths.{Path, front, path_of}
+use Rattle.ll_lines.specs.Paths.{Path, front, path_of}
 use Rattle.ll_tree.specs.Trees.{Entry, IsNode, path_at}
 use Rattle.ll_semantics.specs.declared.request.Wanted.{Wanted}
 use Rattle.ll_semantics.specs.declared.request.Wanted.TheVariants.{Open, OnFile}

@@ -5,7 +5,7 @@ use Rattle.ll_rights.specs.declared.fs.Fs.{Fs}
 use Rattle.ll_rights.specs.declared.net.Net.{Net}
 use Rattle.ll_rights.specs.Rights as files
 use Rattle.ll_rights.specs.NetRights as network
-use Rattle.ll_tree.specs.Paths.{path_of}
+use Rattle.ll_lines.specs.Paths.{path_of}
 use Rattle.ll_reasons.specs.Objections.{Objection, missing, closed, gained, mounting}
 use Rattle.ll_reasons.specs.Reasons.{spelt}
 use Rattle.ll_explain.specs.Words.{objection_text}

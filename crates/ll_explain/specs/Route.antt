@@ -2,7 +2,7 @@
 -- Source: rename(2); link(2); path_resolution(7).
 use Rattle.std.specs.Prelude.{◌≡◌, ℕ, Bool, List, Option, IfSome, IsTrue, is_some}
 use Rattle.ll_rights.specs.Rights.{FsRight, has}
-use Rattle.ll_tree.specs.Paths.{Path, front, path_of}
+use Rattle.ll_lines.specs.Paths.{Path, front, path_of}
 use Rattle.ll_tree.specs.Trees.{Entry, kind_at, path_at, place}
 use Rattle.ll_tree.specs.TreeFacts.{IsTree}
 use Rattle.ll_rules.specs.InTree.{IsTargetIn}

@@ -1,7 +1,7 @@
 //! Nodes with the texts of their paths.
 
 ghost use Rattle.std.specs.Prelude.{◌≡◌, IsTrue, is_some};
-ghost use Rattle.ll_tree.specs.Paths.{front, path_of};
+ghost use Rattle.ll_lines.specs.Paths.{front, path_of};
 ghost use Rattle.ll_reasons.specs.Reasons.{spelt};
 ghost use Rattle.ll_explain.specs.Named.{named_by};
 

@@ -2,7 +2,7 @@
 
 ghost use Rattle.std.specs.Prelude.{◌≡◌, ◌++◌, ◌<◌, ◌-◌, All, IsTrue, OnOk, codes, decimal, if◌then◌else◌, is_some, map, filter, option_and_then, slice_get};
 ghost use Rattle.std.specs.List.{list_any};
-ghost use Rattle.ll_tree.specs.Paths.{path_of};
+ghost use Rattle.ll_lines.specs.Paths.{path_of};
 ghost use Rattle.ll_reasons.specs.Objections.{of_layer};
 ghost use Rattle.ll_reasons.specs.Reasons.{spelt};
 ghost use Rattle.ll_explain.specs.Confined.{lines};

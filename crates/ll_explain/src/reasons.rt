@@ -1,7 +1,7 @@
 //! The words for calls that the policy isn't asked about.
 
 ghost use Rattle.std.specs.Prelude.{◌≡◌, ◌++◌, IsTrue, OnOk, is_some};
-ghost use Rattle.ll_tree.specs.Paths.{path_of};
+ghost use Rattle.ll_lines.specs.Paths.{path_of};
 ghost use Rattle.ll_reasons.specs.Meant.{meant};
 ghost use Rattle.ll_reasons.specs.Reasons.{mixed, of_kind, spelt};
 ghost use Rattle.ll_explain.specs.Words.{path_text, reason_text};

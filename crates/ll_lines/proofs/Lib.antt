@@ -5,3 +5,6 @@ pub mod ValueLemmas
 pub mod MembersLemmas
 pub mod ReadingLemmas
 pub mod OneWay
+pub mod PathText
+pub mod PathLaws
+pub mod Fronts

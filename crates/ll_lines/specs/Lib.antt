@@ -7,3 +7,5 @@ pub mod Values
 pub mod Reading
 pub mod LineByLine
 pub mod OneWay
+pub mod Paths
+pub mod PathTexts

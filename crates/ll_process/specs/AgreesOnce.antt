@@ -4,7 +4,7 @@ use Rattle.std.specs.Prelude.{ℕ, List, [], ◌∷◌}
 use Rattle.std.specs.List.{AllZip}
 use Rattle.std.specs.Coded.{×_prop, Unit-prop}
 use Rattle.std.proofs.Props.{props}
-use Rattle.ll_tree.specs.Paths.{Path}
+use Rattle.ll_lines.specs.Paths.{Path}
 use Rattle.ll_rules.specs.Layers.{RulesOn}
 use Rattle.ll_rules.specs.KeptLayers.{SameRules}
 use Rattle.ll_state.specs.declared.own_state.OwnState.{OwnState}

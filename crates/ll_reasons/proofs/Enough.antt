@@ -12,7 +12,7 @@ use Rattle.ll_rights.specs.Rights as files
 use Rattle.ll_rights.specs.NetRights as network
 use Rattle.ll_rights.proofs.Sets.{fs_has-only, fs_has-united, net_has-only, net_has-united}
 use Rattle.ll_rules.proofs.RightSets.{has_nothing}
-use Rattle.ll_tree.specs.Paths.{Path, path_eq, is_prefix}
+use Rattle.ll_lines.specs.Paths.{Path, path_eq, is_prefix}
 use Rattle.ll_tree.specs.Trees.{Entry, kind_at}
 use Rattle.ll_tree.proofs.Positions.{same_path}
 use Rattle.ll_rules.specs.declared.moves.Move.{Move}

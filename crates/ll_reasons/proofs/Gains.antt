@@ -8,7 +8,7 @@ use Rattle.std.specs.Prelude.{bytes_eq}
 use Rattle.ll_rights.specs.declared.kind.Kind.{Kind}
 use Rattle.ll_rights.specs.Rights.{FsRight, refer, is_right, is_file_right}
 use Rattle.ll_rights.specs.Rights as files
-use Rattle.ll_tree.specs.Paths.{Path, is_prefix, front}
+use Rattle.ll_lines.specs.Paths.{Path, is_prefix, front}
 use Rattle.ll_tree.specs.Trees.{Entry, path_at, kind_at, is_dir}
 use Rattle.ll_rules.specs.declared.moves.Move.{Move}
 use Rattle.ll_rules.specs.declared.moves.Target.{Target}

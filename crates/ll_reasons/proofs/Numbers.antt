@@ -8,7 +8,7 @@ use Rattle.ll_rights.specs.declared.kind.Kind.{Kind}
 use Rattle.ll_rights.specs.Rights.{FsRight, refer, truncate, ioctl_dev, is_right}
 use Rattle.ll_rights.specs.Rights as files
 use Rattle.ll_rights.specs.NetRights as network
-use Rattle.ll_tree.specs.Paths.{Path, path_eq}
+use Rattle.ll_lines.specs.Paths.{Path, path_eq}
 use Rattle.ll_tree.specs.Trees.{Entry, path_at, kind_at}
 use Rattle.ll_tree.proofs.Positions.{same_path}
 use Rattle.ll_rules.specs.declared.errno.Errno.{Errno}

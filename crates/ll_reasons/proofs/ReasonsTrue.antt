@@ -13,7 +13,7 @@ use Rattle.ll_rules.specs.Moves.{move_verdict}
 use Rattle.ll_tree.specs.declared.place.NodeId.{NodeId}
 use Rattle.ll_tree.specs.declared.place.Place.{Place}
 use Rattle.ll_tree.specs.declared.place.Place.TheVariants.{Node, Gap, Nowhere}
-use Rattle.ll_tree.specs.Paths.{Path, front, is_prefix, path_of}
+use Rattle.ll_lines.specs.Paths.{Path, front, is_prefix, path_of}
 use Rattle.ll_tree.specs.Trees.{Entry, path_at, kind_at, is_dir, node_at, position_of, gap_in, place_or_gap, place_of, place}
 use Rattle.ll_tree.proofs.Positions.{at_position}
 use Rattle.ll_trace.specs.declared.op.Op.{Op}

@@ -12,7 +12,7 @@ use Rattle.ll_rules.specs.declared.moves.Verdict.TheVariants as verdicts
 use Rattle.ll_rules.specs.Checks.{numbers_where}
 use Rattle.ll_rules.specs.Moves.{move_verdict, refused_by, denies, holds_back, source_of, destination_of}
 use Rattle.ll_rules.specs.Rulesets.{RuleRefusal, with_error, without_object, has_ports}
-use Rattle.ll_tree.specs.Paths.{path_eq}
+use Rattle.ll_lines.specs.Paths.{path_eq}
 use Rattle.ll_tree.specs.Trees.{Entry}
 use Rattle.ll_trace.specs.declared.op.Sort.{Sort}
 use Rattle.ll_trace.specs.declared.op.Sort.TheVariants.{Regular, Device, Other}

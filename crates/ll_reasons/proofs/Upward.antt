@@ -2,7 +2,7 @@
 use Rattle.std.proofs.Common.{◌≡◌, ℕ, suc, ◌<◌, true, false, List, [], ◌∷◌, length, Option, Some, None, refl, sym, ap, ◌∙◌, arith}
 use Rattle.std.specs.Prelude.{◌≢◌}
 use Rattle.ll_tree.specs.declared.place.NodeId.{NodeId}
-use Rattle.ll_tree.specs.Paths.{Name, Path, front}
+use Rattle.ll_lines.specs.Paths.{Name, Path, front}
 use Rattle.ll_tree.specs.Trees.{Entry, is_dir, kind_at, node_at}
 use Rattle.ll_reasons.specs.Reasons.{absent, beside, ends_at, no_directory, nowhere, or_above}
 

@@ -5,7 +5,7 @@ use Rattle.ll_rights.specs.declared.kind.Kind.{Kind}
 use Rattle.ll_tree.specs.declared.place.NodeId.{NodeId}
 use Rattle.ll_tree.specs.declared.place.Place.{Place}
 use Rattle.ll_tree.specs.declared.place.Place.TheVariants.{Node, Gap, Nowhere}
-use Rattle.ll_tree.specs.Paths.{Path, front, path_of}
+use Rattle.ll_lines.specs.Paths.{Path, front, path_of}
 use Rattle.ll_tree.specs.Trees.{Entry, kind_at, is_dir, node_at, place}
 use Rattle.ll_trace.specs.declared.op.Op.{Op}
 use Rattle.ll_trace.specs.declared.op.Op.TheVariants as calls

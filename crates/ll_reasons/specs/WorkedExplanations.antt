@@ -5,7 +5,7 @@ use Rattle.ll_rights.specs.declared.abi.Abi.{Abi}
 use Rattle.ll_rights.specs.Rights.{execute, write_file, read_dir, refer, truncate}
 use Rattle.ll_rights.specs.NetRights.{bind_tcp, connect_tcp}
 use Rattle.ll_rules.specs.declared.errno.Errno.TheVariants.{Acces, Inval}
-use Rattle.ll_tree.specs.Paths.{Path}
+use Rattle.ll_lines.specs.Paths.{Path}
 use Rattle.ll_tree.specs.WorkedTree.{worked_tree}
 use Rattle.ll_rules.specs.WorkedRules.{a, b, a_f}
 use Rattle.ll_trace.specs.declared.record.Record.{Record}

@@ -7,7 +7,7 @@ ghost use Rattle.ll_rights.specs.declared.kind.Kind.{Kind};
 ghost use Rattle.ll_rights.specs.declared.net.Net.{Net};
 ghost use Rattle.ll_rights.specs.Rights as files;
 ghost use Rattle.ll_rights.specs.NetRights as network;
-ghost use Rattle.ll_tree.specs.Paths.{Path};
+ghost use Rattle.ll_lines.specs.Paths.{Path};
 ghost use Rattle.ll_tree.specs.Trees.{Entry, is_dir};
 ghost use Rattle.ll_rules.specs.declared.moves.Move.{Move};
 ghost use Rattle.ll_rules.specs.Layers.{handles, granted, granted_on_port};

@@ -1,7 +1,7 @@
 //! Texts that spell paths.
 
 ghost use Rattle.std.specs.Prelude.{◌≡◌, ◌≢◌, [], IfNone, IfSome, IsTrue, is_some};
-ghost use Rattle.ll_tree.specs.Paths.{front, path_of};
+ghost use Rattle.ll_lines.specs.Paths.{front, path_of};
 ghost use Rattle.ll_tree.specs.Trees.{IsNode, node_at};
 ghost use Rattle.ll_reasons.specs.Reasons.{spelt};
 
@@ -17,7 +17,7 @@ pub struct SpeltPath<'t> {
 
 impl<'t> Model for SpeltPath<'t> {
     ghost use Rattle.std.specs.Prelude.{IsTrue, is_some};
-    ghost use Rattle.ll_tree.specs.Paths.{Path, path_of};
+    ghost use Rattle.ll_lines.specs.Paths.{Path, path_of};
     ghost use Rattle.ll_reasons.specs.Reasons.{spelt};
 
     ghost Value = { Path };

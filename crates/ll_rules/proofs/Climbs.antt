@@ -7,7 +7,7 @@ use Rattle.std.proofs.lemmas.List.Elements.{All-head, All-tail}
 use Rattle.ll_rights.specs.declared.fs.Fs.{Fs}
 use Rattle.ll_rights.specs.Rights.{FsRight, has}
 use Rattle.ll_tree.specs.declared.place.NodeId.{NodeId}
-use Rattle.ll_tree.specs.Paths.{Path, front, is_prefix, path_eq}
+use Rattle.ll_lines.specs.Paths.{Path, front, is_prefix, path_eq}
 use Rattle.ll_tree.specs.Trees.{Entry, IsNode, path_at}
 use Rattle.ll_tree.specs.TreeFacts.{IsTree, StandsIn}
 use Rattle.ll_tree.proofs.Climbing.{path_eq-nodes}

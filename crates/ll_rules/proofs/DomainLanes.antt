@@ -16,7 +16,7 @@ use Rattle.ll_rights.specs.Rights.{FsRight, has, some_right, all_rights, named_r
 use Rattle.ll_rights.specs.NetRights as network
 use Rattle.ll_rights.proofs.Sets.{fs_is_empty}
 use Rattle.ll_tree.specs.declared.place.NodeId.{NodeId}
-use Rattle.ll_tree.specs.Paths.{Path, front}
+use Rattle.ll_lines.specs.Paths.{Path, front}
 use Rattle.ll_tree.specs.Trees.{Entry, IsNode, path_at, parent_at, parent_of}
 use Rattle.ll_tree.specs.TreeFacts.{IsTree, StandsIn, depth_at}
 use Rattle.ll_rules.specs.declared.domain.LayerId.{LayerId}

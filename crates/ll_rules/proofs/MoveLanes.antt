@@ -6,7 +6,7 @@ use Rattle.ll_rights.specs.Rights as files
 use Rattle.ll_rights.specs.Rights.{FsRight, has, some_right, all_rights, is_right, is_file_right, is_lacking, refer, only}
 use Rattle.ll_rights.specs.NetRights as network
 use Rattle.ll_tree.specs.declared.place.NodeId.{NodeId}
-use Rattle.ll_tree.specs.Paths.{Path, front}
+use Rattle.ll_lines.specs.Paths.{Path, front}
 use Rattle.ll_tree.specs.Trees.{Entry, IsNode, path_at, kind_at, is_dir}
 use Rattle.ll_tree.specs.TreeFacts.{IsTree, depth_at}
 use Rattle.ll_rules.specs.declared.moves.Move.{Move}

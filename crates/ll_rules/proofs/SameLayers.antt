@@ -7,7 +7,7 @@ use Rattle.ll_rights.specs.declared.kind.Kind.{Kind}
 use Rattle.ll_rights.specs.Rights as files
 use Rattle.ll_rights.specs.Rights.{FsRight, has, refer, is_file_right, is_right}
 use Rattle.ll_rights.specs.NetRights as network
-use Rattle.ll_tree.specs.Paths.{Path, front, path_eq}
+use Rattle.ll_lines.specs.Paths.{Path, front, path_eq}
 use Rattle.ll_tree.specs.Trees.{Entry, path_at, kind_at, is_dir}
 use Rattle.ll_rules.specs.declared.moves.Move.{Move}
 use Rattle.ll_rules.specs.declared.moves.How.{How}

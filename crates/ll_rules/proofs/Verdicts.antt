@@ -2,7 +2,7 @@
 use Rattle.std.proofs.Common.{◌≡◌, ℕ, true, false, List, [], ◌∷◌, length, refl, sym}
 use Rattle.std.specs.Prelude.{◌==◌}
 use Rattle.std.proofs.lemmas.Bool.{false≢true}
-use Rattle.ll_tree.specs.Paths.{Path, path_eq}
+use Rattle.ll_lines.specs.Paths.{Path, path_eq}
 use Rattle.ll_tree.specs.Trees.{Entry}
 use Rattle.ll_rules.specs.declared.errno.Errno.{Errno}
 use Rattle.ll_rules.specs.declared.errno.Errno.TheVariants.{Acces, XDev}

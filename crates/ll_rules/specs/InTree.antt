@@ -4,7 +4,7 @@ use Rattle.std.specs.Prelude.{ℕ, ◌<◌, List, map, length, All}
 use Rattle.std.proofs.Props.{props}
 use Rattle.ll_rights.specs.declared.fs.Fs.{Fs}
 use Rattle.ll_tree.specs.declared.place.NodeId.{NodeId}
-use Rattle.ll_tree.specs.Paths.{Path}
+use Rattle.ll_lines.specs.Paths.{Path}
 use Rattle.ll_tree.specs.Trees.{Entry, path_at, IsNode}
 use Rattle.ll_rules.specs.Layers.{RulesOn}
 use Rattle.ll_tree.specs.declared.place.Place.{Place}

@@ -8,7 +8,7 @@ use Rattle.ll_rights.specs.Rights.{FsRight}
 use Rattle.ll_rights.specs.Rights as files
 use Rattle.ll_rights.specs.NetRights as network
 use Rattle.ll_tree.specs.declared.place.NodeId.{NodeId}
-use Rattle.ll_tree.specs.Paths.{Path, path_eq}
+use Rattle.ll_lines.specs.Paths.{Path, path_eq}
 use Rattle.ll_rules.specs.Layers.{RulesOn, with_port_rule, granted_on_port, without_rules}
 use Rattle.ll_rules.specs.declared.domain.LayerId.{LayerId}
 

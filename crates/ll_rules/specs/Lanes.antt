@@ -5,7 +5,7 @@ use Rattle.ll_rights.specs.declared.fs.Fs.{Fs}
 use Rattle.ll_rights.specs.Rights as files
 use Rattle.ll_rights.specs.Rights.{FsRight, has, other, bit_of}
 use Rattle.ll_rights.specs.NetRights as network
-use Rattle.ll_tree.specs.Paths.{Path}
+use Rattle.ll_lines.specs.Paths.{Path}
 use Rattle.ll_tree.specs.Trees.{Entry}
 use Rattle.ll_rules.specs.Layers.{RulesOn, without_rules, handles, granted}
 use Rattle.ll_rules.specs.InTree.{in_tree}

@@ -7,7 +7,7 @@ use Rattle.ll_rights.specs.declared.net.Net.{Net}
 use Rattle.ll_rights.specs.Rights.{FsRight, refer}
 use Rattle.ll_rights.specs.Rights as files
 use Rattle.ll_rights.specs.NetRights as network
-use Rattle.ll_tree.specs.Paths.{Path, is_prefix}
+use Rattle.ll_lines.specs.Paths.{Path, is_prefix}
 
 -- A ruleset, or the layer that it became: what it handles, and its rules. A rule for files is a place and
 -- the rights that it grants there; places are paths, or the numbers of the nodes that stand for paths.

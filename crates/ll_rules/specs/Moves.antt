@@ -5,7 +5,7 @@ use Rattle.std.specs.List.{list_any}
 use Rattle.ll_rights.specs.declared.kind.Kind.{Kind}
 use Rattle.ll_rights.specs.Rights.{FsRight, refer, is_right, is_file_right, is_lacking}
 use Rattle.ll_rights.specs.Kinds.{make_right_of, remove_right_of}
-use Rattle.ll_tree.specs.Paths.{Path, front, path_eq}
+use Rattle.ll_lines.specs.Paths.{Path, front, path_eq}
 use Rattle.ll_tree.specs.Trees.{Entry, path_at, kind_at, is_dir}
 use Rattle.ll_rules.specs.declared.errno.Errno.{Errno}
 use Rattle.ll_rules.specs.declared.errno.Errno.TheVariants.{Acces, XDev}

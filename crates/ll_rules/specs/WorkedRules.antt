@@ -8,7 +8,7 @@ use Rattle.ll_rights.specs.Rights.{FsRight}
 use Rattle.ll_rights.specs.NetRights as network
 use Rattle.ll_rights.specs.NetRights.{NetRight}
 use Rattle.ll_tree.specs.declared.place.NodeId.{NodeId}
-use Rattle.ll_tree.specs.Paths.{Path}
+use Rattle.ll_lines.specs.Paths.{Path}
 use Rattle.ll_tree.specs.WorkedTree.{worked_tree}
 use Rattle.ll_rules.specs.declared.moves.Move.{Move}
 use Rattle.ll_rules.specs.declared.moves.Target.TheVariants.{New, Over}

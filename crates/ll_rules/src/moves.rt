@@ -3,7 +3,7 @@
 ghost use Rattle.std.specs.Prelude.{◌≡◌, ◌+◌, ◌*◌, ◌≤◌, length, All};
 ghost use Rattle.std.specs.List.{list_any};
 ghost use Rattle.ll_rights.specs.Rights.{FsRight, has, is_right};
-ghost use Rattle.ll_tree.specs.Paths.{front};
+ghost use Rattle.ll_lines.specs.Paths.{front};
 ghost use Rattle.ll_tree.specs.Trees.{IsNode, path_at, kind_at};
 ghost use Rattle.ll_tree.specs.TreeFacts.{IsTree};
 ghost use Rattle.ll_rules.specs.InTree.{AreInTree, all_in_tree, IsTargetIn};
@@ -68,7 +68,7 @@ pub struct Asked {
 }
 
 /// The directory that an object is in; the root is in itself.
-#[tactic(auto, unfolding(ll_tree::specs::Paths::front))]
+#[tactic(auto, unfolding(ll_lines::specs::Paths::front))]
 fn directory_of(tree: &Tree, object: NodeId) -> NodeId
     requires { IsNode tree.now object }
     ensures path { path_at tree.now result ≡ front (path_at tree.now object) }

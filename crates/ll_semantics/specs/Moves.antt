@@ -4,7 +4,7 @@ use Rattle.std.specs.Prelude.{List, Bool, not, ◌==◌, if◌then◌else◌, Op
 use Rattle.ll_tree.specs.declared.place.NodeId.{NodeId}
 use Rattle.ll_tree.specs.declared.place.Place.{Place}
 use Rattle.ll_tree.specs.declared.place.Place.TheVariants.{Node, Gap, Nowhere}
-use Rattle.ll_tree.specs.Paths.{is_prefix}
+use Rattle.ll_lines.specs.Paths.{is_prefix}
 use Rattle.ll_tree.specs.Trees.{Entry, path_at, kind_at, is_dir}
 use Rattle.ll_rules.specs.declared.moves.Move.{Move}
 use Rattle.ll_rules.specs.declared.moves.Target.{Target}

@@ -1,7 +1,7 @@
 -- The state that a process has by itself: its flags, the rulesets it holds, its domain and its open descriptors.
 -- Source: landlock_restrict_self(2); landlock(7), "Inheritance"; the kernel's userspace document on Landlock, "Inheritance" and "Truncating files".
 use Rattle.std.specs.Prelude.{ℕ, List, [], Bool, Option, None}
-use Rattle.ll_tree.specs.Paths.{Path}
+use Rattle.ll_lines.specs.Paths.{Path}
 use Rattle.ll_rules.specs.Layers.{RulesOn}
 use Rattle.ll_semantics.specs.declared.descriptor.Descriptor.{Descriptor}
 

@@ -4,7 +4,7 @@ use Rattle.std.specs.Prelude.{IfSome}
 use Rattle.ll_tree.specs.declared.place.NodeId.{NodeId}
 use Rattle.ll_tree.specs.declared.place.Place.{Place}
 use Rattle.ll_tree.specs.declared.place.Place.TheVariants as places
-use Rattle.ll_tree.specs.Paths.{Path, front, path_of}
+use Rattle.ll_lines.specs.Paths.{Path, front, path_of}
 use Rattle.ll_tree.specs.Trees.{Entry, IsNode, is_dir, kind_at, node_at, gap_in, place_or_gap, place_of, place}
 use Rattle.ll_tree.specs.TreeFacts.{IsPlace}
 use Rattle.ll_tree.proofs.Finding.{node_at-IsNode}

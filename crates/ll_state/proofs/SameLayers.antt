@@ -8,7 +8,7 @@ use Rattle.ll_rights.specs.Rights.{truncate, ioctl_dev, only}
 use Rattle.ll_tree.specs.declared.place.NodeId.{NodeId}
 use Rattle.ll_tree.specs.declared.place.Place.{Place}
 use Rattle.ll_tree.specs.declared.place.Place.TheVariants.{Node, Gap, Nowhere}
-use Rattle.ll_tree.specs.Paths.{Path}
+use Rattle.ll_lines.specs.Paths.{Path}
 use Rattle.ll_tree.specs.Trees.{Entry, path_at, kind_at}
 use Rattle.ll_rules.specs.declared.errno.Errno.TheVariants.{Acces, Perm}
 use Rattle.ll_rules.specs.declared.moves.Move.{Move}

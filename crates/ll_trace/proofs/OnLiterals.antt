@@ -6,7 +6,7 @@ use Rattle.ll_rights.specs.Rights as files
 use Rattle.ll_rights.specs.NetRights as network
 use Rattle.ll_lines.specs.Lines.{lines}
 use Rattle.ll_lines.specs.Members.{value_at, text_at, number_at, truth_at, flag_at, items_at, text_in, fold_texts}
-use Rattle.ll_tree.specs.Paths.{is_name, names_in, after_slash, path_of}
+use Rattle.ll_lines.specs.Paths.{is_name, names_in, after_slash, path_of}
 use Rattle.ll_lines.specs.LineByLine.{read_lines}
 use Rattle.ll_trace.specs.Members.{path_in, path_at, fs_at, net_at, mode_at, sort_at, made_kind_at, port_at}
 use Rattle.ll_trace.specs.Operations.{paths_of, are_spelt, operations, operation_named, operation_at}

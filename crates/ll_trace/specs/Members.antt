@@ -12,7 +12,7 @@ use Rattle.ll_lines.specs.declared.fault.Cause.{Cause}
 use Rattle.ll_lines.specs.declared.fault.Cause.TheVariants.{Field, BadPath}
 use Rattle.ll_lines.specs.Fault.{◌>>=◌}
 use Rattle.ll_lines.specs.Members.{text_at, number_at}
-use Rattle.ll_tree.specs.Paths.{path_of}
+use Rattle.ll_lines.specs.Paths.{path_of}
 use Rattle.ll_trace.specs.Forms.{word_at, texts_at}
 use Rattle.ll_trace.specs.declared.op.Mode.{Mode}
 use Rattle.ll_trace.specs.declared.op.Mode.TheVariants.{Read, Write, Both}

@@ -1,7 +1,7 @@
 //! The paths of records.
 
 ghost use Rattle.std.specs.Prelude.{◌≡◌, IsTrue, is_some};
-ghost use Rattle.ll_tree.specs.Paths.{path_of};
+ghost use Rattle.ll_lines.specs.Paths.{path_of};
 ghost use Rattle.ll_lines.specs.Readers.{Gives};
 ghost use Rattle.ll_trace.specs.Members.{path_in};
 
@@ -24,7 +24,7 @@ impl Model for PathText {
     ghost view = { λ path. string_bytes path.text };
 
     ghost use Rattle.std.specs.Prelude.{IsTrue, is_some};
-    ghost use Rattle.ll_tree.specs.Paths.{path_of};
+    ghost use Rattle.ll_lines.specs.Paths.{path_of};
 
     ghost invariant = { λ path. IsTrue (is_some (path_of (string_bytes path.text))) };
 }

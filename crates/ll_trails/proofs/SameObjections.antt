@@ -9,7 +9,7 @@ use Rattle.ll_rights.specs.declared.net.Net.{Net}
 use Rattle.ll_rights.specs.Rights.{FsRight, refer, is_file_right}
 use Rattle.ll_rights.specs.Rights as files
 use Rattle.ll_rights.specs.NetRights as network
-use Rattle.ll_tree.specs.Paths.{Path}
+use Rattle.ll_lines.specs.Paths.{Path}
 use Rattle.ll_tree.specs.Trees.{Entry, path_at, kind_at, is_dir}
 use Rattle.ll_rules.specs.declared.errno.Errno.{Errno}
 use Rattle.ll_rules.specs.declared.errno.Errno.TheVariants.{XDev}

@@ -4,7 +4,7 @@ use Rattle.std.specs.Bool.{Decides}
 use Rattle.std.specs.Str.{bytes_eq}
 use Rattle.std.proofs.lemmas.Bool.Decides.{same_from_decides, Decides-eqb, Decides-like}
 use Rattle.ll_tree.specs.declared.place.NodeId.{NodeId}
-use Rattle.ll_tree.specs.Paths.{Path, front, is_prefix, path_eq}
+use Rattle.ll_lines.specs.Paths.{Path, front, is_prefix, path_eq}
 use Rattle.ll_tree.specs.Trees.{Entry, IsNode, path_at}
 use Rattle.ll_tree.specs.TreeFacts.{IsTree, depth_at}
 use Rattle.ll_tree.proofs.Positions.{path_eq-Decides}

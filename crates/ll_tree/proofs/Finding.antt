@@ -8,11 +8,11 @@ use Rattle.std.specs.declared.string.String.{String}
 use Rattle.ll_tree.specs.declared.tree.Object.{Object}
 use Rattle.ll_tree.specs.declared.place.NodeId.{NodeId}
 use Rattle.ll_tree.specs.declared.place.Place.TheVariants as places
-use Rattle.ll_tree.specs.Paths.{Path, path_of}
+use Rattle.ll_lines.specs.Paths.{Path, path_of}
 use Rattle.ll_tree.specs.Trees.{Entry, IsNode, path_at, position_of, node_at, place_or_gap, place_of, place}
 use Rattle.ll_tree.specs.TreeFacts.{spelt, IsTree}
 use Rattle.ll_tree.specs.Kept.{number_of, entries_of, IsSound}
-use Rattle.ll_tree.proofs.PathLaws.{text_of-path_of, is_path-path_of}
+use Rattle.ll_lines.proofs.PathLaws.{text_of-path_of, is_path-path_of}
 use Rattle.ll_tree.proofs.Positions.{at_position}
 use Rattle.ll_tree.proofs.Standing.{node, position_is}
 

@@ -10,13 +10,13 @@ use Rattle.ll_rights.specs.declared.kind.Kind.{Kind}
 use Rattle.ll_rights.specs.declared.kind.Kind.TheVariants.{Dir}
 use Rattle.ll_tree.specs.declared.place.NodeId.{NodeId}
 use Rattle.ll_tree.specs.declared.place.Place.TheVariants as places
-use Rattle.ll_tree.specs.Paths.{Path, is_name, path_of, front}
-use Rattle.ll_tree.specs.PathTexts.{is_path, text_of}
+use Rattle.ll_lines.specs.Paths.{Path, is_name, path_of, front}
+use Rattle.ll_lines.specs.PathTexts.{is_path, text_of}
 use Rattle.ll_tree.specs.Trees.{Entry, root, IsNode, is_dir, is_dir_in, path_at, kind_at, position_of, node_at, parent_of, parent_at, gap_in, place_or_gap, place_of, place}
 use Rattle.ll_tree.specs.TreeFacts.{spelt, named, IsTree, depth_at}
 use Rattle.ll_tree.proofs.Positions.{path_in, at_position, position_of-some, position_of-kept, is_dir_in-from_place}
 use Rattle.ll_tree.proofs.Standing.{node, is_root, parent_of-root, parent_of-other, parent_found, empty_or_not, is_dir-Dir}
-use Rattle.ll_tree.proofs.PathLaws.{is_path-path_of}
+use Rattle.ll_lines.proofs.PathLaws.{is_path-path_of}
 use Rattle.ll_tree.proofs.Finding.{spelt_is, place_is, node_at-position}
 
 -- what holds where an entry can be added in a directory
@@ -86,7 +86,7 @@ module _ (tree : List Entry) (new : Entry) (up : NodeId) (listed : IsTree tree) 
       let size = length_push tree new in
       record {
         begins = (let some = listed.begins.0 in omega arith, get_or_append_left tree (new ∷ []) root 0 listed.begins.0 ∙ listed.begins.1);
-        paths = λ here within. each_push (λ n e. IsTrue (Rattle.ll_tree.specs.PathTexts.is_path e.path)) tree new root (λ n inside. listed.paths (node n) inside) fits.is_path here.0 within;
+        paths = λ here within. each_push (λ n e. IsTrue (Rattle.ll_lines.specs.PathTexts.is_path e.path)) tree new root (λ n inside. listed.paths (node n) inside) fits.is_path here.0 within;
         distinct = λ a b a_within b_within same. ap node (each_push (λ n e. (m : ℕ) → m < length both → e.path ≡ path_in both m → n ≡ m) tree new root
             (λ n inside. each_push (λ m e. path_in tree n ≡ e.path → n ≡ m) tree new root
             (λ m m_inside is. ap (λ (here : NodeId). here.0) (listed.distinct (node n) (node m) inside m_inside is)) (λ is. absurd (other_path (node n) inside is)))
@@ -146,7 +146,7 @@ length-join (name ∷ next ∷ names) =
 
 -- a path of at most 4,096 bytes has no more names
 pub depth_small : (tree : List Entry) (here : NodeId) → IsTree tree → IsNode tree here → depth_at tree here ≤ 4096
-unfolding depth_at Rattle.ll_tree.specs.PathTexts.is_path text_of
+unfolding depth_at Rattle.ll_lines.specs.PathTexts.is_path text_of
 depth_small tree here listed within =
     let path = path_at tree here in
     let short = leb-true (length (text_of path)) 4096 (and_parts (list_all is_name path) (leb (length (text_of path)) 4096) (listed.paths here within)).1 in

@@ -12,12 +12,12 @@ use Rattle.std.proofs.lemmas.Map.Text.{btree_map_updates_text}
 use Rattle.ll_tree.specs.declared.place.NodeId.{NodeId}
 use Rattle.ll_tree.specs.declared.place.Place.TheVariants as places
 use Rattle.ll_tree.specs.declared.tree.Object.{Object}
-use Rattle.ll_tree.specs.Paths.{Path, path_eq, path_of}
-use Rattle.ll_tree.specs.PathTexts.{is_path, text_of}
+use Rattle.ll_lines.specs.Paths.{Path, path_eq, path_of}
+use Rattle.ll_lines.specs.PathTexts.{is_path, text_of}
 use Rattle.ll_tree.specs.Trees.{Entry, position_of, place}
 use Rattle.ll_tree.specs.TreeFacts.{spelt, named, IsTree, depth_at}
 use Rattle.ll_tree.specs.Kept.{entry_of, number_of, entries_of, IsOf, IsSound}
-use Rattle.ll_tree.proofs.PathLaws.{text_of-path_of, bytes_eq-text_of}
+use Rattle.ll_lines.proofs.PathLaws.{text_of-path_of, bytes_eq-text_of}
 use Rattle.ll_tree.proofs.Positions.{position_of-push}
 use Rattle.ll_tree.proofs.Standing.{node}
 use Rattle.ll_tree.proofs.Finding.{spelt_is}

@@ -1,9 +1,6 @@
-pub mod PathText
-pub mod PathLaws
 pub mod Positions
 pub mod Standing
 pub mod Objects
-pub mod Fronts
 pub mod Finding
 pub mod Climbing
 pub mod Growing

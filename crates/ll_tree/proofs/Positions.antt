@@ -5,7 +5,7 @@ use Rattle.std.proofs.lemmas.Bool.{cases_Bool, and_parts}
 use Rattle.std.proofs.lemmas.Option.{none-some, same_Some}
 use Rattle.std.proofs.lemmas.Slice.Eq.{slice_eq-Decides, bytes_eq-Decides}
 use Rattle.std.specs.Bool.{Decides}
-use Rattle.ll_tree.specs.Paths.{Path, path_eq}
+use Rattle.ll_lines.specs.Paths.{Path, path_eq}
 use Rattle.ll_tree.specs.Trees.{Entry, root, is_dir, is_dir_in, position_of}
 use Rattle.std.proofs.lemmas.List.{get_or_default}
 use Rattle.std.proofs.lemmas.List.Folds.{Any-from_list_any, list_any_at}

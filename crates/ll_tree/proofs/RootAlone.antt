@@ -8,12 +8,12 @@ use Rattle.std.specs.declared.string.String.{String}
 use Rattle.std.proofs.lemmas.Map.Text.{is_eq-slice_cmp}
 use Rattle.ll_rights.specs.declared.kind.Kind.TheVariants.{Dir}
 use Rattle.ll_tree.specs.declared.tree.Object.{Object}
-use Rattle.ll_tree.specs.Paths.{Path, path_eq, path_of, after_slash, names_in}
-use Rattle.ll_tree.specs.PathTexts.{is_path, text_of}
+use Rattle.ll_lines.specs.Paths.{Path, path_eq, path_of, after_slash, names_in}
+use Rattle.ll_lines.specs.PathTexts.{is_path, text_of}
 use Rattle.ll_tree.specs.Trees.{root, path_at, position_of, parent_of, parent_at}
 use Rattle.ll_tree.specs.TreeFacts.{named, IsTree, depth_at}
 use Rattle.ll_tree.specs.Kept.{entry_of, number_of, entries_of, IsOf, IsSound}
-use Rattle.ll_tree.proofs.PathLaws.{bytes_eq-text_of}
+use Rattle.ll_lines.proofs.PathLaws.{bytes_eq-text_of}
 use Rattle.ll_tree.proofs.Standing.{node}
 
 root_tree : IsTree (root ∷ [])

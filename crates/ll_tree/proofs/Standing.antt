@@ -8,7 +8,7 @@ use Rattle.std.proofs.lemmas.Option.{none-some, same_Some}
 use Rattle.ll_rights.specs.declared.kind.Kind.{Kind}
 use Rattle.ll_rights.specs.declared.kind.Kind.TheVariants.{Dir}
 use Rattle.ll_tree.specs.declared.place.NodeId.{NodeId}
-use Rattle.ll_tree.specs.Paths.{Path, front}
+use Rattle.ll_lines.specs.Paths.{Path, front}
 use Rattle.ll_tree.specs.Trees.{Entry, root, IsNode, is_dir, path_at, kind_at, position_of, node_at, parent_of, parent_at}
 use Rattle.ll_tree.specs.TreeFacts.{IsTree, StandsIn}
 use Rattle.ll_tree.proofs.Positions.{path_in, at_position, position_of-some, place_of_dir}

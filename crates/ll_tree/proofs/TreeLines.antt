@@ -10,7 +10,7 @@ use Rattle.ll_lines.specs.declared.fault.ReadFault.{ReadFault}
 use Rattle.ll_tree.specs.declared.place.NodeId.{NodeId}
 use Rattle.ll_tree.specs.declared.place.Place.{Place}
 use Rattle.ll_tree.specs.declared.place.Place.TheVariants as places
-use Rattle.ll_tree.specs.Paths.{Path, path_of, path_eq, front}
+use Rattle.ll_lines.specs.Paths.{Path, path_of, path_eq, front}
 use Rattle.ll_tree.specs.Trees.{Entry, root, is_dir, is_dir_in, kind_at, position_of, node_at, gap_in, place_or_gap, place_of, place}
 use Rattle.ll_tree.specs.TreeFacts.{spelt, named, IsTree}
 use Rattle.ll_lines.specs.LineByLine.{with_entry, add_unless, reading, GivesReading}

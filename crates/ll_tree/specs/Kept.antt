@@ -8,8 +8,8 @@ use Rattle.std.specs.BTreeMap.{is_at}
 use Rattle.std.specs.Cmp.Lexicographic.{slice_cmp}
 use Rattle.std.specs.Ordering.{nat_cmp}
 use Rattle.ll_tree.specs.declared.tree.Object.{Object}
-use Rattle.ll_tree.specs.Paths.{Path}
-use Rattle.ll_tree.specs.PathTexts.{is_path, text_of}
+use Rattle.ll_lines.specs.Paths.{Path}
+use Rattle.ll_lines.specs.PathTexts.{is_path, text_of}
 use Rattle.ll_tree.specs.Trees.{Entry, position_of, parent_at}
 use Rattle.ll_tree.specs.TreeFacts.{IsTree, depth_at, named}
 

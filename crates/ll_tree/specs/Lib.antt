@@ -1,5 +1,3 @@
-pub mod Paths
-pub mod PathTexts
 pub mod Trees
 pub mod TreeFacts
 pub mod Kept

@@ -11,7 +11,7 @@ use Rattle.ll_lines.specs.declared.fault.Cause.TheVariants.{Field, BadPath, Twic
 use Rattle.ll_lines.specs.Fault.{◌>>=◌}
 use Rattle.ll_lines.specs.Members.{value_at, text_at}
 use Rattle.ll_lines.specs.Reading.{Format, IsGood}
-use Rattle.ll_tree.specs.Paths.{Path, path_of, path_eq, front}
+use Rattle.ll_lines.specs.Paths.{Path, path_of, path_eq, front}
 use Rattle.ll_tree.specs.Trees.{Entry, root, is_dir_in}
 
 -- the kind that a name stands for

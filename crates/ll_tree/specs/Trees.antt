@@ -8,7 +8,7 @@ use Rattle.ll_rights.specs.declared.kind.Kind.TheVariants.{Dir}
 use Rattle.ll_tree.specs.declared.place.NodeId.{NodeId}
 use Rattle.ll_tree.specs.declared.place.Place.{Place}
 use Rattle.ll_tree.specs.declared.place.Place.TheVariants as places
-use Rattle.ll_tree.specs.Paths.{Path, front, path_eq, path_of}
+use Rattle.ll_lines.specs.Paths.{Path, front, path_eq, path_of}
 
 -- an object of the tree
 pub record Entry : Type 0 where

@@ -2,7 +2,7 @@
 
 ghost use Rattle.std.specs.Prelude.{◌≡◌, ◌⊎◌, ℕ, List, [], ◌∷◌, ◌++◌, codes, Some, None};
 ghost use Rattle.ll_lines.specs.declared.fault.ReadFault.{ReadFault as Fault};
-ghost use Rattle.ll_tree.specs.Paths.{path_of};
+ghost use Rattle.ll_lines.specs.Paths.{path_of};
 ghost use Rattle.ll_lines.specs.Reading.{IsBad};
 ghost use Rattle.ll_tree.specs.Trees.{Entry, place};
 ghost use Rattle.ll_tree.specs.TreeReading.{IsTreeOf, tree_format};
@@ -41,7 +41,7 @@ pub fn worked_files()
 {}
 
 /// What texts name in the tree of the small file.
-#[tactic(auto, unfolding(crate::specs::Paths::path_of, crate::specs::Paths::after_slash, crate::specs::Paths::names_in, crate::specs::Paths::is_name, crate::specs::Paths::front, crate::specs::Paths::path_eq, crate::specs::Trees::kind_at, crate::specs::Trees::position_of, crate::specs::Trees::node_at, crate::specs::Trees::gap_in, crate::specs::Trees::place_or_gap, crate::specs::Trees::place_of, crate::specs::Trees::place))]
+#[tactic(auto, unfolding(ll_lines::specs::Paths::path_of, ll_lines::specs::Paths::after_slash, ll_lines::specs::Paths::names_in, ll_lines::specs::Paths::is_name, ll_lines::specs::Paths::front, ll_lines::specs::Paths::path_eq, crate::specs::Trees::kind_at, crate::specs::Trees::position_of, crate::specs::Trees::node_at, crate::specs::Trees::gap_in, crate::specs::Trees::place_or_gap, crate::specs::Trees::place_of, crate::specs::Trees::place))]
 pub fn worked_places()
     ensures root { place worked_tree (codes "/") ≡ Place.Node (record { 0 = 0 }) }
     ensures node { place worked_tree (codes "/dev/tty") ≡ Place.Node (record { 0 = 7 }) }

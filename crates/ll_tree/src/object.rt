@@ -3,14 +3,13 @@
 ghost use Rattle.std.specs.Prelude.{◌≡◌, IsTrue, IfOk, is_some};
 ghost use Rattle.ll_lines.specs.Readers.{Reads};
 ghost use Rattle.ll_lines.specs.Values.{value_data};
-ghost use Rattle.ll_tree.specs.Paths.{path_of};
+ghost use Rattle.ll_lines.specs.Paths.{path_of};
 ghost use Rattle.ll_tree.specs.TreeFacts.{named};
 ghost use Rattle.ll_tree.specs.TreeReading.{kind_named, entry_in};
 
-use crate::path::path_ok;
 use json::Value;
-use ll_lines::Cause;
 use ll_lines::members::text_of;
+use ll_lines::{Cause, path_ok};
 use ll_rights::Kind;
 
 /// The kind that a name stands for.

@@ -1,5 +1,5 @@
 use Rattle.std.proofs.Common.{◌∙◌, ap, refl, sym}
-use Rattle.ll_tree.specs.Paths.{front}
+use Rattle.ll_lines.specs.Paths.{front}
 use Rattle.ll_reasons.specs.Reasons.{spelt}
 use Rattle.ll_explain.specs.Route.{IsBetween}
 use Rattle.ll_explain.proofs.Moving.{goes_to}

@@ -1,6 +1,6 @@
 use Rattle.std.proofs.Common.{◌∙◌, ap}
 use Rattle.std.specs.Prelude.{IsTrue, is_some}
-use Rattle.ll_tree.specs.Paths.{front, path_of}
+use Rattle.ll_lines.specs.Paths.{front, path_of}
 use Rattle.ll_reasons.specs.Reasons.{spelt}
 use Rattle.ll_explain.proofs.PlacesNamed.{front_spelt}
 use Rattle.ll_explain.proofs.named.front_of.Goals as goal

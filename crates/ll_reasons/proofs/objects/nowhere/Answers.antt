@@ -1,5 +1,5 @@
 use Rattle.std.proofs.Common.{◌≡◌, ◌<◌, ◌∙◌, true, false, None, length, sym, ap, subst, rules}
-use Rattle.ll_tree.specs.Paths.{Path, front}
+use Rattle.ll_lines.specs.Paths.{Path, front}
 use Rattle.ll_tree.specs.Trees.{is_dir, kind_at, node_at}
 use Rattle.ll_reasons.specs.Meant.{meant}
 use Rattle.ll_reasons.specs.Reasons.{nowhere}

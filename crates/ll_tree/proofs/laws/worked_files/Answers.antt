@@ -7,7 +7,7 @@ use Rattle.json.specs.Lex.{lex, punctuate}
 use Rattle.json.specs.Text.{content}
 use Rattle.ll_lines.specs.Lines.{lines}
 use Rattle.ll_lines.specs.Members.{value_at, text_at}
-use Rattle.ll_tree.specs.Paths.{path_of, after_slash, names_in, is_name, front, path_eq}
+use Rattle.ll_lines.specs.Paths.{path_of, after_slash, names_in, is_name, front, path_eq}
 use Rattle.ll_tree.specs.Trees.{is_dir_in}
 use Rattle.ll_lines.specs.LineByLine.{read_lines}
 use Rattle.ll_tree.specs.TreeReading.{entry_on, entry_in, kind_named, is_listed, fault_in}

@@ -1,5 +1,5 @@
 use Rattle.std.proofs.Common.{◌∙◌, ap, sym, arith}
-use Rattle.ll_tree.specs.Paths.{front}
+use Rattle.ll_lines.specs.Paths.{front}
 use Rattle.ll_reasons.proofs.SpeltTexts.{front_shape, front_spelt, long_path, short_root}
 use Rattle.ll_reasons.proofs.spelt_path.SpeltPath.front.Goals as goal
 

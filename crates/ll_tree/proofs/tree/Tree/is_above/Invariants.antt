@@ -1,6 +1,6 @@
 -- The climb looks at nodes whose answer is that of the lower one, each listed before the one below it.
 use Rattle.std.proofs.Common.{◌≡◌}
-use Rattle.ll_tree.specs.Paths.{is_prefix}
+use Rattle.ll_lines.specs.Paths.{is_prefix}
 use Rattle.ll_tree.specs.Trees.{path_at, IsNode}
 use Rattle.ll_tree.proofs.tree.Tree.is_above.Given as goal
 

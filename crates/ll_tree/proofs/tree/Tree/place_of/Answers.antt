@@ -1,7 +1,7 @@
 -- The place by what is found of a path, and of what is above it.
 use Rattle.std.proofs.Common.{◌≡◌, ◌∙◌, Some, [], ap}
 use Rattle.std.specs.Prelude.{is_some, unwrap_or}
-use Rattle.ll_tree.specs.Paths.{Path, front, path_of}
+use Rattle.ll_lines.specs.Paths.{Path, front, path_of}
 use Rattle.ll_tree.specs.Trees.{node_at, gap_in, place_or_gap}
 use Rattle.ll_tree.specs.TreeFacts.{spelt}
 use Rattle.ll_tree.proofs.Finding.{spelt_is, place_is}

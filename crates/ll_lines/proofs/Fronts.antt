@@ -4,9 +4,9 @@ use Rattle.std.specs.Prelude.{◌≢◌, codes}
 use Rattle.std.specs.List.{list_all, All, join_with_byte}
 use Rattle.std.proofs.lemmas.Bool.{cases_lt, le-leb, leb-true, false≢true, and_parts}
 use Rattle.std.proofs.lemmas.List.{append_assoc, length-append, get_or_at, get_or-append_right, take_at}
-use Rattle.ll_tree.specs.Paths.{Path, Name, is_slash, is_name, path_of, names_in, after_slash, front}
-use Rattle.ll_tree.specs.PathTexts.{is_path, text_of}
-use Rattle.ll_tree.proofs.PathLaws.{name_parts, text_of-path_of, is_path-path_of, path_of-text_of}
+use Rattle.ll_lines.specs.Paths.{Path, Name, is_slash, is_name, path_of, names_in, after_slash, front}
+use Rattle.ll_lines.specs.PathTexts.{is_path, text_of}
+use Rattle.ll_lines.proofs.PathLaws.{name_parts, text_of-path_of, is_path-path_of, path_of-text_of}
 
 last_name : Path → Name
 last_name [] = []

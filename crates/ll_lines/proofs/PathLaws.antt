@@ -10,9 +10,9 @@ use Rattle.std.proofs.lemmas.Slice.Eq.{slice_eq-Decides, bytes_eq-Decides}
 use Rattle.std.proofs.lemmas.Option.{cond_some, none-some, same_Some}
 use Rattle.std.proofs.lemmas.List.Splits.{join_with_byte-slice_split, slice_split_none, slice_split_at}
 use Rattle.std.proofs.lemmas.List.Sums.{AllPass-from_list_all}
-use Rattle.ll_tree.specs.Paths.{Path, Name, is_slash, is_name, is_name_byte, path_eq, names_in, after_slash, path_of}
-use Rattle.ll_tree.specs.PathTexts.{is_path, text_of}
-use Rattle.ll_tree.proofs.PathText.{path_of-slash}
+use Rattle.ll_lines.specs.Paths.{Path, Name, is_slash, is_name, is_name_byte, path_eq, names_in, after_slash, path_of}
+use Rattle.ll_lines.specs.PathTexts.{is_path, text_of}
+use Rattle.ll_lines.proofs.PathText.{path_of-slash}
 
 -- what is read of a text, and that it is short
 read_parts : (text : List ℕ) (path : Path) → path_of text ≡ Some path → (length text ≤ 4096) × (after_slash text ≡ Some path)

@@ -4,7 +4,7 @@ use Rattle.std.specs.Prelude.{◌≢◌, is_some}
 use Rattle.std.specs.List.{list_all, slice_split}
 use Rattle.std.proofs.lemmas.Bool.{le-leb}
 use Rattle.std.proofs.lemmas.Bool.Decides.{nat_tests}
-use Rattle.ll_tree.specs.Paths.{is_slash, is_name, names_in, after_slash, path_of}
+use Rattle.ll_lines.specs.Paths.{is_slash, is_name, names_in, after_slash, path_of}
 
 -- a text of at most 4,096 bytes
 pub path_of-short : (text : List ℕ) → length text ≤ 4096 → path_of text ≡ after_slash text

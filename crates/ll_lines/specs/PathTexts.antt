@@ -2,7 +2,7 @@
 -- Source: docs/FORMATS.md, "Paths".
 use Rattle.std.specs.Prelude.{ℕ, ◌∷◌, List, Bool, ◌&&◌, nat_le, length}
 use Rattle.std.specs.List.{list_all, join_with_byte}
-use Rattle.ll_tree.specs.Paths.{Path, is_name}
+use Rattle.ll_lines.specs.Paths.{Path, is_name}
 
 -- a path's text has each name after one slash; the root's is the slash alone
 unfoldable pub text_of : Path → List ℕ

@@ -2,8 +2,8 @@
 
 ghost use Rattle.std.specs.Prelude.{◌≡◌, ℕ, List, Some, true, is_some, IsTrue};
 ghost use Rattle.std.specs.List.{list_all};
-ghost use Rattle.ll_tree.specs.Paths.{Path, is_name_byte, is_name, path_of, front};
-ghost use Rattle.ll_tree.specs.PathTexts.{is_path, text_of};
+ghost use Rattle.ll_lines.specs.Paths.{Path, is_name_byte, is_name, path_of, front};
+ghost use Rattle.ll_lines.specs.PathTexts.{is_path, text_of};
 
 /// The longest path, in bytes.
 const LONGEST_PATH: usize = 4096;

@@ -2,10 +2,10 @@
 use Rattle.std.proofs.Common.{◌≡◌, take, Some, None, ap, ◌∙◌, arith, lit<}
 use Rattle.std.proofs.lemmas.Grind.{common_steps}
 use Rattle.std.proofs.lemmas.Str.Pattern.{rfind_char}
-use Rattle.ll_tree.specs.Paths.{path_of}
-use Rattle.ll_tree.proofs.Fronts.{front_read, no_slash_no_path}
-use Rattle.ll_tree.proofs.path.front_text.Goals as goal
-use Rattle.ll_tree.proofs.path.front_text.Goals.{in_default-via-in-Some+else-end-gt0, in_default-via-in_default}
+use Rattle.ll_lines.specs.Paths.{path_of}
+use Rattle.ll_lines.proofs.Fronts.{front_read, no_slash_no_path}
+use Rattle.ll_lines.proofs.path.front_text.Goals as goal
+use Rattle.ll_lines.proofs.path.front_text.Goals.{in_default-via-in-Some+else-end-gt0, in_default-via-in_default}
 
 pub returns-in-Some : goal.returns-in-Some
 returns-in-Some c = λ path read.
