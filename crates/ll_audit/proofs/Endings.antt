@@ -8,7 +8,7 @@ use Rattle.ll_endings.specs.declared.lines.Failure.TheVariants as failure
 use Rattle.ll_endings.specs.declared.outcome.Ending.{Ending}
 use Rattle.ll_endings.specs.declared.outcome.Outcome.{Outcome}
 use Rattle.ll_endings.specs.declared.outcome.Outcome.TheVariants as outcome
-use Rattle.ll_command.specs.Command.{AskForText, Request, Text, request_of}
+use Rattle.ll_command.specs.Command.{Request, Text, request_of}
 use Rattle.ll_endings.specs.FaultLines.{failure_status}
 use Rattle.ll_source.specs.Files.{Files}
 use Rattle.ll_audit.specs.Fronts.{EndsWithoutRun, HasFailure, HasReason, HasWrongWords, IsOutcomeOf, IsWhy, Reports, StaysQuiet, TellsWhy, WritesNothing, WritesReport}

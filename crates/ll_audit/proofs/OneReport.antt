@@ -1,13 +1,12 @@
 -- Reports on the same bytes.
-use Rattle.std.proofs.Common.{◌≡◌, ◌∙◌, ◌∷◌, ℕ, Bool, true, false, List, Some, None, cond, refl, subst, sym, ap, ap₂}
+use Rattle.std.proofs.Common.{◌≡◌, ◌∙◌, ℕ, Bool, true, false, List, Some, None, cond, refl, subst, sym, ap₂}
 use Rattle.std.specs.Prelude.{◌==◌, if◌then◌else◌}
 use Rattle.std.proofs.lemmas.Bool.{eqb-true}
 use Rattle.std.proofs.lemmas.Option.{same_Some}
 use Rattle.ll_rights.specs.Abis.{number_of}
 use Rattle.ll_rights.specs.declared.abi.Abi.{Abi}
-use Rattle.ll_tree.specs.TreeReading.{IsTreeOf, tree_format}
-use Rattle.ll_tree.specs.Trees.{Entry, root}
-use Rattle.ll_lines.proofs.ReadingLemmas.{reading-good}
+use Rattle.ll_tree.specs.Trees.{Entry}
+use Rattle.ll_tree.proofs.TreeLines.{in_one_way}
 use Rattle.ll_trace.specs.declared.record.Record.{Record}
 use Rattle.ll_trace.proofs.LawLemmas.{one_trace}
 use Rattle.ll_explain.specs.Explained.{text_at}
@@ -23,12 +22,6 @@ use Rattle.ll_options.specs.declared.options.Options.{Options}
 use Rattle.ll_audit.specs.Audits.{IsReport}
 use Rattle.ll_options.specs.declared.abis.AbiRange.{AbiRange}
 use Rattle.ll_audit.specs.ShownReports.{IsReportBy, IsReportWith, taken}
-
-one_tree : (bytes : List ℕ) (tree other : List Entry) → IsTreeOf bytes tree → IsTreeOf bytes other → tree ≡ other
-one_tree bytes tree other first second =
-    let same = sym (reading-good tree_format bytes first.0 first.2) ∙ reading-good tree_format bytes second.0 second.2 in
-    let entries : first.0 ≡ second.0 = cc in
-    first.1 ∙ ap (λ es. root ∷ es) entries ∙ sym second.1
 
 -- the options of the plain report: rulesets as they were recorded, all lines, and no explanations
 abbrev pub plain : Abi → Options
@@ -78,7 +71,7 @@ module _ (options : Options) (tree : List Entry) (records : List Record) (abi : 
 
 module _ (abi : Abi) (tree trace : List ℕ) (report other : Report) (first : IsReport abi tree trace report) (second : IsReport abi tree trace other) where
   same_tree : first.tree ≡ second.tree
-  same_tree = one_tree tree first.tree second.tree first.reads_tree second.reads_tree
+  same_tree = in_one_way.one tree first.tree second.tree first.reads_tree second.reads_tree
 
   same_records : first.records ≡ second.records
   same_records = one_trace trace first.records second.records first.reads_trace second.reads_trace

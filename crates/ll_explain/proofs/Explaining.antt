@@ -17,7 +17,7 @@ use Rattle.ll_semantics.specs.declared.answer.Answer.TheVariants.{Allowed, Moot,
 use Rattle.ll_semantics.specs.Answers.{answer}
 use Rattle.ll_semantics.specs.Worlds.{World, answer_in, judged}
 use Rattle.ll_semantics.specs.Situations.{world_at}
-use Rattle.ll_semantics.proofs.Worlds.{judged-at, length-judged}
+use Rattle.ll_semantics.proofs.Steps.{judged-at, length-judged}
 use Rattle.ll_reasons.specs.Conditions.{condition}
 use Rattle.ll_reasons.specs.Explanations.{domain_at, explained, explained_at, objections_to, origins_at}
 use Rattle.ll_reasons.specs.Reasons.{reason}

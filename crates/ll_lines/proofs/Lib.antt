@@ -1,10 +1,6 @@
 pub mod MemoryLemmas
 pub mod LinesLemmas
-pub mod PartsLemmas
 pub mod ValueLemmas
 pub mod MembersLemmas
 pub mod ReadingLemmas
-pub mod OneWay
-pub mod PathText
 pub mod PathLaws
-pub mod Fronts

@@ -1,18 +1,54 @@
--- A path and its text give each other back.
-use Rattle.std.proofs.Common.{◌≡◌, ℕ, ◌≤◌, ◌∷◌, [], List, true, false, ◌&&◌, length, Some, None, cond, eqb, leb, refl, sym, ap, ◌∙◌, subst, arith, get_or}
-use Rattle.std.specs.Prelude.{◌≢◌, not, codes}
+-- A path and its text give each other back, and the text of the path without its last name ends before the last
+-- slash.
+use Rattle.std.proofs.Common.{◌≡◌, ℕ, ◌≤◌, ◌∷◌, [], List, true, false, length, Some, None, cond, eqb, refl, ap, ◌∙◌, arith, ◌&&◌, leb, sym, subst, get_or, suc, ◌<◌, ◌+◌, ◌-◌, ◌++◌, ⊎_elim, take}
+use Rattle.std.specs.Prelude.{◌≢◌, is_some, not, codes}
 use Rattle.std.specs.List.{list_all, slice_split, All, join_with_byte}
-use Rattle.std.proofs.lemmas.Bool.{le-leb, leb-true, false≢true, and_parts}
+use Rattle.std.proofs.lemmas.Bool.{le-leb, leb-true, false≢true, and_parts, cases_lt}
+use Rattle.std.proofs.lemmas.Bool.Decides.{nat_tests, Decides-like, same_from_decides}
+use Rattle.ll_lines.specs.Paths.{is_slash, is_name, names_in, after_slash, path_of, Path, Name, is_name_byte, path_eq, front}
+use Rattle.ll_lines.specs.PathTexts.{is_path, text_of}
 use Rattle.std.specs.Str.{bytes_eq}
 use Rattle.std.specs.Bool.{Decides}
-use Rattle.std.proofs.lemmas.Bool.Decides.{nat_tests, Decides-like, same_from_decides}
 use Rattle.std.proofs.lemmas.Slice.Eq.{slice_eq-Decides, bytes_eq-Decides}
 use Rattle.std.proofs.lemmas.Option.{cond_some, none-some, same_Some}
 use Rattle.std.proofs.lemmas.List.Splits.{join_with_byte-slice_split, slice_split_none, slice_split_at}
 use Rattle.std.proofs.lemmas.List.Sums.{AllPass-from_list_all}
-use Rattle.ll_lines.specs.Paths.{Path, Name, is_slash, is_name, is_name_byte, path_eq, names_in, after_slash, path_of}
-use Rattle.ll_lines.specs.PathTexts.{is_path, text_of}
-use Rattle.ll_lines.proofs.PathText.{path_of-slash}
+use Rattle.std.proofs.lemmas.List.{append_assoc, length-append, get_or_at, get_or-append_right, take_at}
+
+-- ---- what `path_of` answers, by the first byte of the text and its names
+
+-- a text of at most 4,096 bytes
+pub path_of-short : (text : List ℕ) → length text ≤ 4096 → path_of text ≡ after_slash text
+unfolding path_of
+path_of-short text fits = rw (le-leb (length text) 4096 fits) refl
+
+-- a text that doesn't begin with a slash is no path
+pub path_of-other : (text : List ℕ) → length text ≤ 4096 → ((rest : List ℕ) → text ≢ 47 ∷ rest) → path_of text ≡ None
+unfolding after_slash
+path_of-other [] fits other = path_of-short [] fits
+path_of-other (byte ∷ bytes) fits other =
+    let differs : byte ≢ 47 = λ same. other bytes (ap (λ b. b ∷ bytes) same) in
+    let test : eqb byte 47 ≡ false = grind (arith, nat_tests) in
+    path_of-short (byte ∷ bytes) fits ∙ rw test refl
+
+-- a text of at most 4,096 bytes that begins with a slash
+pub path_of-slash : (text names : List ℕ) → length text ≤ 4096 → text ≡ 47 ∷ names → path_of text ≡ names_in names
+unfolding after_slash
+path_of-slash text names fits is = path_of-short text fits ∙ rw is refl
+
+-- the slash alone is the root
+pub path_of-root : (text names : List ℕ) → length text ≤ 4096 → text ≡ 47 ∷ names → names ≡ [] → path_of text ≡ Some []
+unfolding names_in
+path_of-root text names fits is empty = path_of-slash text names fits is ∙ ap names_in empty
+
+-- names that aren't empty are read where each is a name
+pub is_some-names_in : (names : List ℕ) → names ≢ [] → is_some (names_in names) ≡ list_all is_name (slice_split is_slash names)
+unfolding names_in
+is_some-names_in [] some = absurd (some refl)
+is_some-names_in (byte ∷ bytes) some =
+    elim (list_all is_name (slice_split is_slash (byte ∷ bytes))) as (λ b. is_some (cond b (Some (slice_split is_slash (byte ∷ bytes))) None) ≡ b) [ true ↦ refl | false ↦ refl ]
+
+-- ---- texts and paths
 
 -- what is read of a text, and that it is short
 read_parts : (text : List ℕ) (path : Path) → path_of text ≡ Some path → (length text ≤ 4096) × (after_slash text ≡ Some path)
@@ -115,3 +151,86 @@ bytes_eq-text_of a b a_is b_is =
 
 -- each way back
 pub ruleset texts_and_paths = (text_of-path_of, is_path-path_of, path_of-text_of)
+
+-- ---- the text without the last name
+
+last_name : Path → Name
+last_name [] = []
+last_name (name ∷ []) = name
+last_name (name ∷ next ∷ names) = last_name (next ∷ names)
+
+-- the names before the last one, and the last one after a slash
+join_last : (name next : Name) (names : Path) → join_with_byte 47 (name ∷ next ∷ names) ≡ join_with_byte 47 (front (name ∷ next ∷ names)) ++ 47 ∷ last_name (next ∷ names)
+unfolding front last_name
+join_last name next [] = refl
+join_last name next (third ∷ names) =
+    ap (λ rest. name ++ 47 ∷ rest) (join_last next third names) ∙ sym (append_assoc name (47 ∷ join_with_byte 47 (front (next ∷ third ∷ names))) (47 ∷ last_name (third ∷ names)))
+
+last_is_name : (name : Name) (names : Path) → list_all is_name (name ∷ names) ≡ true → is_name (last_name (name ∷ names)) ≡ true
+unfolding last_name
+last_is_name name [] are = (and_parts (is_name name) true are).0
+last_is_name name (next ∷ names) are = last_is_name next names (and_parts (is_name name) (list_all is_name (next ∷ names)) are).1
+
+-- the names before the last one are names
+front_names : (path : Path) → list_all is_name path ≡ true → list_all is_name (front path) ≡ true
+unfolding front
+front_names [] are = refl
+front_names (name ∷ []) are = refl
+front_names (name ∷ next ∷ names) are =
+    let parts = and_parts (is_name name) (list_all is_name (next ∷ names)) are in
+    rw parts.0 (front_names (next ∷ names) parts.1)
+
+-- a list in which 47 is last at a place, and is followed by no other 47
+last_slash : (text fore rest : List ℕ) (place : ℕ) → text ≡ fore ++ 47 ∷ rest → All (λ byte. is_slash byte ≡ false) rest → place < length text → get_or text place 0 ≡ 47 → ((i : ℕ) → place < i → i < length text → get_or text i 0 ≢ 47) → place ≡ length fore
+last_slash text fore rest place is clear within slash after =
+    let size : length text ≡ length fore + suc (length rest) = ap length is ∙ length-append fore (47 ∷ rest) in
+    let there : get_or text (length fore) 0 ≡ 47 = ap (λ t. get_or t (length fore) 0) is ∙ get_or_at fore 47 rest 0 (length fore) refl in
+    ⊎_elim
+    (λ (before : place < length fore). absurd (after (length fore) before (omega arith) there))
+    (λ (later : length fore ≤ place). ⊎_elim
+    (λ (behind : length fore < place).
+    let byte = place - suc (length fore) in
+    let at : place - length fore ≡ suc byte = omega arith in
+    let found : get_or rest byte 0 ≡ 47 = sym (ap (λ t. get_or t place 0) is ∙ get_or-append_right fore (47 ∷ rest) (length fore) place 0 refl later ∙ ap (λ n. get_or (47 ∷ rest) n 0) at) ∙ slash in
+    let other : is_slash (get_or rest byte 0) ≡ false = clear byte 0 (omega arith) in
+    absurd (false≢true (sym other ∙ rw found refl)))
+    (λ (same : place ≤ length fore). omega arith)
+    (cases_lt (length fore) place))
+    (cases_lt place (length fore))
+
+-- The last slash of a path's text is first, and there is at most one name, or it is after the text of the
+-- names before the last one.
+pub front_read : (text : List ℕ) (path : Path) (place : ℕ) → path_of text ≡ Some path → place < length text → get_or text place 0 ≡ 47 → ((i : ℕ) → place < i → i < length text → get_or text i 0 ≢ 47)
+    → (place ≡ 0 → path_of (codes "/") ≡ Some (front path)) × (0 < place → path_of (take place text) ≡ Some (front path))
+unfolding front text_of path_of after_slash names_in is_path
+front_read text [] place read within slash after =
+    let is : 47 ∷ [] ≡ text = text_of-path_of text [] read in
+    let one : length text ≡ 1 = ap length (sym is) in
+    (λ _. refl, λ later. absurd (omega arith))
+front_read text (name ∷ []) place read within slash after =
+    let is : 47 ∷ name ≡ text = text_of-path_of text (name ∷ []) read in
+    let are = and_parts (list_all is_name (name ∷ [])) (leb (length (text_of (name ∷ []))) 4096) (is_path-path_of text (name ∷ []) read) in
+    let first : place ≡ 0 = last_slash text [] name place (sym is) (name_parts name (and_parts (is_name name) true are.0).0).1 within slash after in
+    (λ _. refl, λ later. absurd (omega arith))
+front_read text (name ∷ next ∷ names) place read within slash after =
+    let path : Path = name ∷ next ∷ names in
+    let last = last_name (next ∷ names) in
+    let is : text ≡ text_of (front path) ++ 47 ∷ last = sym (text_of-path_of text path read) ∙ ap (λ rest. 47 ∷ rest) (join_last name next names) in
+    let are = and_parts (list_all is_name path) (leb (length (text_of path)) 4096) (is_path-path_of text path read) in
+    let others = and_parts (is_name name) (list_all is_name (next ∷ names)) are.0 in
+    let end : place ≡ length (text_of (front path)) = last_slash text (text_of (front path)) last place is (name_parts last (last_is_name next names others.1)).1 within slash after in
+    let size : length text ≡ length (text_of (front path)) + suc (length last) = ap length is ∙ length-append (text_of (front path)) (47 ∷ last) in
+    let fits : length (text_of path) ≤ 4096 = leb-true (length (text_of path)) 4096 are.1 in
+    let whole : length (text_of path) ≡ length text = ap length (text_of-path_of text path read) in
+    let short : leb (length (text_of (front path))) 4096 ≡ true = le-leb (length (text_of (front path))) 4096 (omega arith) in
+    let taken : take place text ≡ text_of (front path) = ap (take place) is ∙ take_at (text_of (front path)) (47 ∷ last) place (sym end) in
+    let named : is_path (front path) ≡ true = rw (front_names path are.0, short) refl in
+    (λ first. absurd (omega arith), λ later. ap path_of taken ∙ path_of-text_of (front path) named)
+
+-- a text without a slash is no path
+pub no_slash_no_path : (text : List ℕ) (path : Path) → path_of text ≡ Some path → ((i : ℕ) → i < length text → get_or text i 0 ≢ 47) → ⊥
+unfolding text_of
+no_slash_no_path text path read none =
+    let is : 47 ∷ join_with_byte 47 path ≡ text = text_of-path_of text path read in
+    let some : 0 < length text = subst (λ t. 0 < length t) is (omega arith) in
+    none 0 some (ap (λ t. get_or t 0 0) (sym is))

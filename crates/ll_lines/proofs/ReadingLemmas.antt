@@ -7,6 +7,7 @@ use Rattle.ll_lines.specs.declared.fault.Cause.TheVariants.{Memory}
 use Rattle.ll_lines.specs.Readers.{Fails}
 use Rattle.ll_lines.specs.Lines.{Line, filled_lines}
 use Rattle.ll_lines.specs.Reading.{Format, entries_of, first_fault, IsGood, IsBad}
+use Rattle.ll_lines.specs.OneWay.{ReadsInOneWay}
 use Rattle.ll_lines.specs.LineByLine.{with_line, read_lines, reading, MeetsFault}
 use Rattle.ll_lines.proofs.MemoryLemmas.{unless-map, unless-other}
 
@@ -206,3 +207,26 @@ good_iff_reading format bytes entries = (reading-good format bytes entries, good
 
 pub bad_iff_reading : {Entry : Type 0} (format : Format Entry) (bytes : List ℕ) (fault : ReadFault) → IsBad format bytes fault ↔ (reading format bytes ≡ Err fault)
 bad_iff_reading format bytes fault = (reading-bad format bytes fault, bad_from_reading format bytes fault)
+
+-- ---- files of a format are read in one way, whatever is made of the entries of a good one
+
+-- what is made of the entries of a good file
+pub record Made {Entry X : Type 0} (format : Format Entry) (make : List Entry → X) (bytes : List ℕ) (x : X) : Type 0 where
+  pub entries : List Entry
+  pub good : IsGood format bytes entries
+  pub is : x ≡ make entries
+
+pub in_one_way : {Entry X : Type 0} (format : Format Entry) (Is : List ℕ → X → Type 0) (make : List Entry → X)
+    → ((bytes : List ℕ) (entries : List Entry) → IsGood format bytes entries → Is bytes (make entries))
+    → ((bytes : List ℕ) (x : X) → Is bytes x → Made format make bytes x) → ReadsInOneWay format Is
+in_one_way format Is make makes made = record {
+  either = λ bytes. elim (good_or_else_bad format bytes) [ inl good ↦ inl (make good.0, makes bytes good.0 good.1) | inr bad ↦ inr bad ];
+  not_both = λ bytes x fault is bad. let of = made bytes x is in good_or_bad format bytes of.entries fault of.good bad;
+  one = λ bytes x other first second.
+      let a = made bytes x first in
+      let b = made bytes other second in
+      let reads = sym (reading-good format bytes a.entries a.good) ∙ reading-good format bytes b.entries b.good in
+      let same : a.entries ≡ b.entries = cc in
+      a.is ∙ ap make same ∙ sym b.is;
+  one_fault = one_fault format;
+}

@@ -10,7 +10,7 @@ use Rattle.ll_process.specs.declared.piece.Piece.{Piece}
 use Rattle.ll_trace.specs.Processes.{kids, numbers}
 use Rattle.ll_process.specs.Cases.{Matter}
 use Rattle.ll_process.specs.Jobs.{SharesOut, processes_of, AllOf as AllJobsOf}
-use Rattle.ll_process.proofs.Counting.{weighed}
+use Rattle.ll_process.proofs.Descents.{weighed}
 use Rattle.ll_pool.specs.declared.known.Known.{Known}
 use Rattle.ll_pool.specs.Gathered.{AllOf, processes_in}
 use Rattle.ll_pool.specs.Rule.{known, after_taking}

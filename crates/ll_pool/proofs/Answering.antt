@@ -15,11 +15,11 @@ use Rattle.ll_process.specs.declared.piece.Piece.{Piece}
 use Rattle.ll_trace.specs.Processes.{own_records, numbers, times, process_count}
 use Rattle.ll_process.specs.Judging.{answer_at, answers_of}
 use Rattle.ll_process.specs.Cases.{Matter, IsCase, answers_in as answers_to}
-use Rattle.ll_semantics.proofs.Worlds.{length-judged}
+use Rattle.ll_semantics.proofs.Steps.{length-judged}
 use Rattle.ll_trace.proofs.Numbers.{numbered_below, count-all}
 use Rattle.ll_trace.proofs.OwnRecords.{own_place, own_record, stands_at}
 use Rattle.ll_pool.specs.Gathered.{AllOf, processes_in, answers_in, placed}
-use Rattle.ll_trace.proofs.Times.{times-append, times-cons, times-nil, times-same, times-other}
+use Rattle.ll_trace.proofs.EachOnce.{times-append, times-cons, times-nil, times-same, times-other}
 use Rattle.ll_pool.proofs.Placing.{length-placed}
 
 -- ---- places

@@ -10,7 +10,7 @@ use Rattle.ll_trace.specs.declared.record.ProcessId.{ProcessId}
 use Rattle.ll_process.specs.declared.piece.Piece.{Piece}
 use Rattle.ll_trace.specs.Processes.{numbers, times, process_count}
 use Rattle.ll_process.specs.Cases.{Matter}
-use Rattle.ll_trace.proofs.Times.{times-append, times-nil, times-other, times-same}
+use Rattle.ll_trace.proofs.EachOnce.{times-append, times-nil, times-other, times-same}
 use Rattle.ll_pool.specs.Gathered.{processes_in, IsTally}
 
 -- what was seen before, and these processes

@@ -11,7 +11,7 @@ use Rattle.ll_process.specs.declared.piece.Piece.{Piece}
 use Rattle.ll_trace.specs.Processes.{children, kids, roots, numbers}
 use Rattle.ll_process.specs.Cases.{Matter}
 use Rattle.ll_process.specs.Jobs.{processes_of, AllOf as AllJobsOf, SharesOut}
-use Rattle.ll_process.proofs.Counting.{weighed}
+use Rattle.ll_process.proofs.Descents.{weighed}
 use Rattle.ll_pool.specs.Gathered.{AllOf, processes_in}
 
 pub record AreShared (of : Matter) (jobs : List Job) (pieces : List Piece) : Type 0 where

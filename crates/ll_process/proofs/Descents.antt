@@ -1,20 +1,58 @@
 -- How far the judging of a process and its descendants has come.
-use Rattle.std.proofs.Common.{◌≡◌, ◌⊎◌, ℕ, zero, suc, ◌+◌, ◌<◌, List, [], ◌∷◌, ◌++◌, Some, map, refl, ap, ◌∙◌, subst, inl, inr, arith}
-use Rattle.std.specs.Prelude.{slice_get, sum_by}
-use Rattle.std.specs.List.{flat_map}
-use Rattle.std.proofs.lemmas.List.{append-nil, map-append}
+use Rattle.std.proofs.Common.{◌≡◌, ℕ, ◌+◌, cond, eqb, List, ◌∷◌, ◌++◌, arith, ◌<◌, [], sym, ap, ◌∙◌, append_assoc, ◌⊎◌, zero, suc, Some, map, refl, subst, inl, inr}
+use Rattle.std.specs.Prelude.{sum_by, slice_get}
 use Rattle.std.proofs.lemmas.List.Sums.{sum_by-append, sum_by-cons, sum_by_push}
-use Rattle.std.proofs.lemmas.List.Elements.{All-nil, All-push, All-pop}
+use Rattle.ll_trace.specs.declared.record.Record.{Record}
+use Rattle.ll_trace.specs.Processes.{kids, times, process_count, children, numbers}
+use Rattle.ll_trace.proofs.EachOnce.{equal_weights, times-append}
+use Rattle.ll_process.specs.Jobs.{SharesOut, KeepsMore, processes_of, AllOf, HandedOut, weight, weight_of}
+use Rattle.std.proofs.lemmas.List.{append-nil, map-append}
+use Rattle.std.proofs.lemmas.List.Elements.{All-append, All-nil, All-push, All-pop}
+use Rattle.std.specs.List.{flat_map}
 use Rattle.std.proofs.lemmas.Grind.{flat_map-append}
 use Rattle.std.proofs.lemmas.Option.{none-some, same_Some}
 use Rattle.ll_trace.specs.declared.record.ProcessId.{ProcessId}
 use Rattle.ll_semantics.specs.declared.answer.Answer.{Answer}
 use Rattle.ll_process.specs.declared.job.Job.{Job}
-use Rattle.ll_trace.specs.Processes.{children, kids, numbers, process_count}
 use Rattle.ll_process.specs.Cases.{Matter, answers_in}
-use Rattle.ll_process.specs.Jobs.{processes_of, AllOf, HandedOut, SharesOut}
-use Rattle.ll_process.specs.Weights.{weight, weight_of}
-use Rattle.ll_process.proofs.Counting.{counted}
+
+-- ---- what is shared out, by counts and by weights
+
+pub counted : (records : List Record) (first : ℕ) (judged before after : List ℕ)
+    → ((weight : ℕ → ℕ) → sum_by weight judged + sum_by weight after ≡ sum_by weight (first ∷ kids records judged) + sum_by weight before)
+    → SharesOut records first judged before after
+unfolding times
+counted records first judged before after weighs = record { shared = λ p. weighs (λ other. cond (eqb other p) 1 0) }
+
+pub weighed : (records : List Record) (first : ℕ) (judged before after : List ℕ) → SharesOut records first judged before after
+    → (weight : ℕ → ℕ) → sum_by weight judged + sum_by weight after ≡ sum_by weight (first ∷ kids records judged) + sum_by weight before
+weighed records first judged before after shares weight =
+    omega (
+      arith,
+      equal_weights (judged ++ after) ((first ∷ kids records judged) ++ before)
+          (λ p. omega (arith, shares.shared p, times-append p judged after, times-append p (first ∷ kids records judged) before)) weight,
+      sum_by-append weight judged after,
+      sum_by-append weight (first ∷ kids records judged) before,
+    )
+
+-- ---- lists of processes that only grow
+
+module _ (records : List Record) where
+  pub keeps_same : (before after : List ℕ) → after ≡ before → KeepsMore records before after
+  keeps_same before after same = record {
+    newly = [];
+    grown = same ∙ sym (append-nil before);
+    there = All-nil (λ (p : ℕ). p < process_count records);
+  }
+
+  pub keeps_on : (before kept after : List ℕ) → KeepsMore records before kept → KeepsMore records kept after → KeepsMore records before after
+  keeps_on before kept after one two = record {
+    newly = one.newly ++ two.newly;
+    grown = two.grown ∙ ap (λ xs. xs ++ two.newly) one.grown ∙ append_assoc before one.newly two.newly;
+    there = All-append (λ (p : ℕ). p < process_count records) one.newly two.newly one.there two.there;
+  }
+
+-- ---- how far it has come
 
 module _ (of : Matter) where
   -- all processes of a list are processes of the case

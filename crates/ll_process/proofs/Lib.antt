@@ -1,11 +1,7 @@
 pub mod Walks
-pub mod Forks
 pub mod Weighing
 pub mod OwnSteps
-pub mod ChildJobs
 pub mod Walked
-pub mod Counting
-pub mod KeptMore
 pub mod Descents
 pub mod Roots
 pub mod Crossing

@@ -20,11 +20,9 @@ use Rattle.ll_trace.specs.Processes.{is_start, process_count, root_of, root_at, 
 use Rattle.ll_process.specs.Judging.{state_left}
 use Rattle.ll_process.specs.Cases.{Matter, IsCase, BeginsAs, AgreesIn}
 use Rattle.ll_process.specs.Jobs.{processes_of, AllOf}
-use Rattle.ll_semantics.proofs.Worlds.{world_at-more}
+use Rattle.ll_semantics.proofs.Steps.{world_at-more, step-new, count-world_at}
 use Rattle.ll_trace.proofs.OwnRecords.{stands_at}
-use Rattle.ll_trace.proofs.Starting.{start-starts, is_start-from}
-use Rattle.ll_semantics.proofs.Steps.{step-new, count-world_at}
-use Rattle.ll_trace.proofs.Numbers.{StartedAt, started_at-is, started_once, numbered_below, count-all}
+use Rattle.ll_trace.proofs.Numbers.{start-starts, is_start-from, StartedAt, started_at-is, started_once, numbered_below, count-all}
 
 -- ---- one start record
 

@@ -13,8 +13,7 @@ use Rattle.ll_trace.specs.Processes.{own_records, forked_at, children, process_c
 use Rattle.ll_process.specs.Judging.{answer_at, answers_of}
 use Rattle.ll_process.specs.Cases.{Matter, IsCase, BeginsAs, AgreesIn, answers_in}
 use Rattle.ll_process.specs.Own.{IsOwn, Meets, Leaves}
-use Rattle.ll_process.specs.Jobs.{processes_of, AllOf, HandedOut, KeepsMore}
-use Rattle.ll_process.specs.Weights.{weight, weight_of}
+use Rattle.ll_process.specs.Jobs.{processes_of, AllOf, HandedOut, KeepsMore, weight, weight_of}
 use Rattle.ll_trace.proofs.Numbers.{start_of, started_at-from}
 use Rattle.ll_trace.proofs.OwnRecords.{own_record}
 use Rattle.ll_process.proofs.Walks.{met_first, met_next}

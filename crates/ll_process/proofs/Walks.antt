@@ -13,8 +13,7 @@ use Rattle.ll_semantics.specs.Situations.{world_at}
 use Rattle.ll_semantics.specs.Situations.{state_after}
 use Rattle.ll_trace.specs.Processes.{is_start, process_count, own_records, IsNumbered}
 use Rattle.ll_process.specs.Judging.{place_met, state_met, state_left, answer_at}
-use Rattle.ll_semantics.proofs.Worlds.{world_at-more, judged-at}
-use Rattle.ll_semantics.proofs.Steps.{step-other, step-own, count-world_at, answer-start, state_after-start}
+use Rattle.ll_semantics.proofs.Steps.{world_at-more, judged-at, step-other, step-own, count-world_at, answer-start, state_after-start}
 use Rattle.ll_trace.proofs.Numbers.{count-le, count-started, StartedAt, numbered_below, not_own_before}
 use Rattle.ll_trace.proofs.OwnRecords.{stands_at, own_record, own_rising, first_own, next_own}
 

@@ -1,6 +1,6 @@
 -- What was judged, what a hand kept and what is still to do, by processes.
 -- Source: the kernel's userspace document on Landlock, "Inheritance": each child begins with what its parent has.
-use Rattle.std.specs.Prelude.{◌≡◌, ℕ, ◌+◌, ◌<◌, ◌∷◌, ◌++◌, List, map, sum_by, All}
+use Rattle.std.specs.Prelude.{◌≡◌, ℕ, ◌+◌, ◌<◌, ◌∷◌, ◌++◌, List, map, sum_by, All, ◌-◌, ◌^◌}
 use Rattle.ll_trace.specs.declared.record.Record.{Record}
 use Rattle.ll_process.specs.declared.job.Job.{Job}
 use Rattle.ll_process.specs.Cases.{Matter}
@@ -29,3 +29,10 @@ pub record KeepsMore (records : List Record) (kept_before kept_after : List ℕ)
   pub newly : List ℕ
   pub grown : kept_after ≡ kept_before ++ newly
   pub there : All (λ process. process < process_count records) newly
+
+-- what is still to do, as a number: a process weighs more than all that its descendants weigh together, with n in all
+abbrev pub weight : ℕ → ℕ → ℕ
+weight n process = 2 ^ (n - process)
+
+unfoldable pub weight_of : ℕ → List ℕ → ℕ
+weight_of n processes = sum_by (weight n) processes

@@ -1,6 +1,5 @@
 pub mod Orders
 pub mod Judging
-pub mod Weights
 pub mod Cases
 pub mod Jobs
 pub mod Own

@@ -3,8 +3,7 @@
 ghost use Rattle.std.specs.Prelude.{◌≡◌, ◌<◌, ◌+◌, ◌++◌, ◌∷◌, [], Some, OnOk, IfOk, slice_get};
 ghost use Rattle.ll_trace.specs.Processes.{process_count, numbers, children};
 ghost use Rattle.ll_process.specs.Cases.{answers_in};
-ghost use Rattle.ll_process.specs.Jobs.{processes_of, AllOf, HandedOut, KeepsMore, SharesOut};
-ghost use Rattle.ll_process.specs.Weights.{weight, weight_of};
+ghost use Rattle.ll_process.specs.Jobs.{processes_of, AllOf, HandedOut, KeepsMore, SharesOut, weight, weight_of};
 
 use crate::adding::append;
 use crate::case::Case;

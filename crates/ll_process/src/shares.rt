@@ -5,6 +5,7 @@ ghost use Rattle.ll_trace.specs.Processes.{IsNumbered, process_count, times, roo
 
 /// Processes that are the roots of a trace together with the children of their own members, each as
 /// often, are all processes of the trace, each once.
+#[tactic(auto, using(ll_trace::proofs::EachOnce::each_once))]
 pub fn each_process_once()
     ensures { (records : List Record) (processes : List ℕ) → IsNumbered records
         → ((process : ℕ) → times process processes ≡ times process (roots records) + times process (kids records processes))

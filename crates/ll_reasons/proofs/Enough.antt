@@ -7,7 +7,7 @@ use Rattle.std.proofs.lemmas.Slice.Eq.{bytes_eq-Decides}
 use Rattle.std.specs.Prelude.{bytes_eq}
 use Rattle.ll_rights.specs.declared.fs.Fs.{Fs}
 use Rattle.ll_rights.specs.declared.net.Net.{Net}
-use Rattle.ll_rights.specs.Rights.{FsRight, refer, is_right, is_file_right}
+use Rattle.ll_rights.specs.Rights.{FsRight, refer, is_right}
 use Rattle.ll_rights.specs.Rights as files
 use Rattle.ll_rights.specs.NetRights as network
 use Rattle.ll_rights.proofs.Sets.{fs_has-only, fs_has-united, net_has-only, net_has-united}

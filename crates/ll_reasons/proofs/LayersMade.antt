@@ -17,7 +17,7 @@ use Rattle.ll_semantics.specs.Effects.{effect}
 use Rattle.ll_semantics.specs.Notes.{enforced}
 use Rattle.ll_semantics.specs.Worlds.{World, answer_in, judged}
 use Rattle.ll_semantics.specs.Situations.{change, state_by, world_at}
-use Rattle.ll_semantics.proofs.Worlds.{judged-at}
+use Rattle.ll_semantics.proofs.Steps.{judged-at}
 use Rattle.ll_reasons.specs.Origins.{Origins, no_origins, traced}
 use Rattle.ll_reasons.specs.Made.{enforced_by, enforced_at, is_restrict, IsAllowed, IsEarlier}
 use Rattle.ll_reasons.specs.Explanations.{domain_at, origins_at}

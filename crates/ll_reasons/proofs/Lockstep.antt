@@ -15,8 +15,7 @@ use Rattle.ll_semantics.specs.Effects.{effect}
 use Rattle.ll_semantics.specs.Worlds.{World, if_allowed, with_state, answer_in, step, judged, empty_world}
 use Rattle.ll_semantics.specs.Situations.{change, state_after, world_after, world_at}
 use Rattle.ll_trace.specs.Processes.{is_starting}
-use Rattle.ll_semantics.proofs.Steps.{with_state-same, step-unbegun, started-none, count-step}
-use Rattle.ll_semantics.proofs.Worlds.{judged-at, world_after-more}
+use Rattle.ll_semantics.proofs.Steps.{with_state-same, step-unbegun, started-none, count-step, judged-at, world_after-more}
 use Rattle.ll_reasons.specs.Origins.{Origins, no_origins, traced, Sources, no_sources, with_origins, sources_by, sources_after, sources_at}
 use Rattle.ll_reasons.specs.Explanations.{origins_at}
 

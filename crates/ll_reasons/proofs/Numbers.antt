@@ -38,7 +38,7 @@ use Rattle.ll_reasons.specs.Origins.{Origins}
 use Rattle.ll_trace.specs.declared.record.Record.{Record}
 use Rattle.ll_semantics.specs.Worlds.{World, answer_in, judged}
 use Rattle.ll_semantics.specs.Situations.{world_at}
-use Rattle.ll_semantics.proofs.Worlds.{judged-at}
+use Rattle.ll_semantics.proofs.Steps.{judged-at}
 use Rattle.std.specs.Prelude.{slice_get}
 use Rattle.std.proofs.lemmas.Option.{same_Some}
 use Rattle.ll_reasons.specs.Explanations.{kept_by, objections_to, objections, explained, domain_at, origins_at, explained_at}

@@ -3,8 +3,7 @@ use Rattle.std.proofs.Common.{◌≡◌, ℕ, ◌<◌, ◌≤◌, Bool, true, fa
 use Rattle.std.specs.Prelude.{IsTrue, is_some, ◌≢◌}
 use Rattle.ll_lines.specs.Paths.{Path, front, path_of, after_slash, names_in}
 use Rattle.ll_lines.specs.PathTexts.{text_of}
-use Rattle.ll_lines.proofs.PathLaws.{text_of-path_of}
-use Rattle.ll_lines.proofs.PathText.{path_of-short}
+use Rattle.ll_lines.proofs.PathLaws.{text_of-path_of, path_of-short}
 use Rattle.ll_reasons.specs.Reasons.{path_or_root, spelt}
 
 read_as : (read : Option Path) → IsTrue (is_some read) → read ≡ Some (path_or_root read)

@@ -4,7 +4,7 @@ use Rattle.std.proofs.lemmas.Option.{slice_get-get_or}
 use Rattle.ll_process.specs.Cases.{Matter}
 use Rattle.ll_explain.specs.Explained.{text_at}
 use Rattle.ll_semantics.specs.Worlds.{judged}
-use Rattle.ll_semantics.proofs.Worlds.{length-judged}
+use Rattle.ll_semantics.proofs.Steps.{length-judged}
 use Rattle.ll_semantics.specs.declared.answer.Answer.{Answer}
 use Rattle.ll_trace.specs.declared.record.Record.{Record}
 use Rattle.ll_trails.specs.CaseTrails.{IsAnswerAt}

@@ -10,12 +10,11 @@ use Rattle.ll_trace.specs.declared.record.Record.{Record}
 use Rattle.ll_trace.specs.declared.record.ProcessId.{ProcessId}
 use Rattle.ll_process.specs.declared.job.Job.{Job}
 use Rattle.ll_process.specs.declared.piece.Piece.{Piece}
-use Rattle.ll_trace.specs.Processes.{IsNumbered, process_count, children, kids, roots, numbers, times}
-use Rattle.ll_process.specs.Weights.{weight, weight_of}
+use Rattle.ll_trace.specs.Processes.{IsNumbered, process_count, children, kids, numbers, times}
+use Rattle.ll_process.specs.Jobs.{weight, weight_of, processes_of, AllOf as AllJobsOf, SharesOut}
 use Rattle.ll_process.specs.Cases.{Matter}
-use Rattle.ll_process.specs.Jobs.{processes_of, AllOf as AllJobsOf, SharesOut}
 use Rattle.ll_process.proofs.Weighing.{weight_of-children}
-use Rattle.ll_process.proofs.Counting.{weighed}
+use Rattle.ll_process.proofs.Descents.{weighed}
 use Rattle.ll_trace.proofs.EachOnce.{each_once_weighed}
 use Rattle.ll_pool.specs.Gathered.{processes_in}
 use Rattle.ll_pool.proofs.Sharing.{AreShared, no_kids, processes_in-push, kids-append}

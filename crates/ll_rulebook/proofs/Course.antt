@@ -22,13 +22,11 @@ use Rattle.ll_semantics.specs.Notes.{NoteFits, IsFrozen, enforced}
 use Rattle.ll_semantics.specs.Worlds.{World, step}
 use Rattle.ll_semantics.specs.Situations.{world_after, world_at}
 use Rattle.ll_rulebook.specs.declared.pass.Pass.{Pass}
-use Rattle.ll_rulebook.specs.Tables.{held_by}
-use Rattle.ll_rulebook.specs.Stores.{Extends}
+use Rattle.ll_rulebook.specs.Stores.{held_by, Extends}
 use Rattle.ll_rulebook.specs.Settled.{met_by}
 use Rattle.ll_rulebook.specs.Passes.{Settles, HasSettled}
 use Rattle.ll_trace.proofs.Numbers.{slice_get-push}
-use Rattle.ll_semantics.proofs.Steps.{count-world_at}
-use Rattle.ll_semantics.proofs.Worlds.{world_at-more}
+use Rattle.ll_semantics.proofs.Steps.{count-world_at, world_at-more}
 
 -- before the first record
 pub settled_none : (tree : List Entry) (abi : Abi) (records : List Record) (pass : Pass) → pass.tree.now ≡ tree → pass.abi ≡ abi →

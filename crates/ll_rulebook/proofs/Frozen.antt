@@ -1,13 +1,18 @@
--- A ruleset that names a layer stays that layer, whatever is added or frozen, and what the store tells of it.
-use Rattle.std.proofs.Common.{◌≡◌, ℕ, ◌<◌, List, [], ◌∷◌, ◌++◌, length, Option, Some, Result, get_or, refl, sym, ◌∙◌, ap, arith, subst, All, OnOk, OnErr}
+-- What a list has at each place after one write; what the processes hold after one of them holds or closes a ruleset; and
+-- a ruleset that names a layer stays that layer.
+use Rattle.std.proofs.Common.{◌≡◌, ℕ, suc, zero, ◌<◌, List, [], ◌∷◌, ◌++◌, length, Some, cond, refl, arith, eqb, subst, All, ◌+◌, Option, get_or, inl, inr, nat_cmp, length-set, length-append, Result, sym, ◌∙◌, ap, OnOk, OnErr}
 use Rattle.std.proofs.Math.ListN.{set}
-use Rattle.std.specs.List.{slice_get}
+use Rattle.std.proofs.Math.Dec.{eqb-suc-zero, eqb-zero-suc, eqb-suc-suc}
+use Rattle.std.specs.List.{slice_get, AllZip}
+use Rattle.std.proofs.lemmas.Option.{get_or_from_slice_get, slice_get_within, same_Some, slice_get_read, slice_get-map}
+use Rattle.std.specs.FinMap.{FinMap, get}
+use Rattle.std.proofs.lemmas.Bool.{cases_eq, eq-eqb, ne_eqb}
+use Rattle.ll_rulebook.specs.Stores.{held_by, NowHolds, Stock, AddsRule, Extends, Freezes}
+use Rattle.ll_trace.proofs.Numbers.{slice_get-push}
 use Rattle.std.specs.Option.{MatchOption}
 use Rattle.std.specs.Result.{IsOkUnless}
-use Rattle.std.proofs.lemmas.Bool.{ne_eqb, eq-eqb}
 use Rattle.std.proofs.lemmas.List.{length-map, map-set, set-get_or}
 use Rattle.std.proofs.lemmas.List.Elements.{All-push, All-set, All-weaker}
-use Rattle.std.proofs.lemmas.Option.{slice_get_within, slice_get-map, slice_get_read}
 use Rattle.std.proofs.lemmas.Result.{on_ok_weaker, on_err_weaker}
 use Rattle.ll_rules.specs.declared.domain.LayerId.{LayerId}
 use Rattle.ll_rules.specs.declared.errno.RuleFault.{RuleFault}
@@ -16,9 +21,81 @@ use Rattle.ll_rules.specs.Layers.{RulesOn}
 use Rattle.ll_rules.specs.InTree.{AreInTree}
 use Rattle.ll_rulebook.specs.declared.store.Stored.{Stored}
 use Rattle.ll_rulebook.specs.Kept.{IsFrozenTo, AreFrozen, stock_of, rulesets_of}
-use Rattle.ll_rulebook.specs.Stores.{Stock, AddsRule, Extends, Freezes}
-use Rattle.ll_trace.proofs.Numbers.{slice_get-push}
-use Rattle.ll_rulebook.proofs.Places.{all_there}
+
+pub slice_get-set : {X : Type 0} (xs : List X) (i j : ℕ) (x : X) → i < length xs → slice_get (set xs i x) j ≡ cond (eqb j i) (Some x) (slice_get xs j)
+slice_get-set [] i j x within = absurd (omega arith)
+slice_get-set (first ∷ xs) zero zero x within = refl
+slice_get-set (first ∷ xs) zero (suc j) x within = rw eqb-suc-zero refl
+slice_get-set (first ∷ xs) (suc i) zero x within = rw eqb-zero-suc refl
+slice_get-set (first ∷ xs) (suc i) (suc j) x within = rw eqb-suc-suc (slice_get-set xs i j x (omega arith))
+
+-- what holds of all holds of what is at a place
+pub all_there : {X : Type 0} (P : X → Type 0) (xs : List X) (i : ℕ) (x : X) → All P xs → slice_get xs i ≡ Some x → P x
+all_there P xs i x all at = subst P (get_or_from_slice_get xs i x x at) (all i x (slice_get_within xs i x at))
+
+module _ {A B : Type 0} (R : A → B → Type 0) where
+  pub zip_push : (xs : List A) (ys : List B) (x : A) (y : B) → AllZip R xs ys → R x y → AllZip R (xs ++ x ∷ []) (ys ++ y ∷ [])
+  zip_push [] [] x y all one = (one, tt)
+  zip_push [] (b ∷ ys) x y all one = absurd all
+  zip_push (a ∷ xs) [] x y all one = absurd all
+  zip_push (a ∷ xs) (b ∷ ys) x y all one = (all.0, zip_push xs ys x y all.1 one)
+
+  pub zip_set : (xs : List A) (ys : List B) (i : ℕ) (x : A) (y : B) → AllZip R xs ys → R x y → AllZip R (set xs i x) (set ys i y)
+  zip_set [] [] i x y all one = tt
+  zip_set [] (b ∷ ys) i x y all one = absurd all
+  zip_set (a ∷ xs) [] i x y all one = absurd all
+  zip_set (a ∷ xs) (b ∷ ys) zero x y all one = (one, all.1)
+  zip_set (a ∷ xs) (b ∷ ys) (suc i) x y all one = (all.0, zip_set xs ys i x y all.1 one)
+
+  -- what is at a place of the one has its other at this place
+  pub zip_at : (xs : List A) (ys : List B) (i : ℕ) (x : A) → AllZip R xs ys → slice_get xs i ≡ Some x → (y : B) × (slice_get ys i ≡ Some y) × R x y
+  zip_at [] ys i x all at = cc
+  zip_at (a ∷ xs) [] i x all at = absurd all
+  zip_at (a ∷ xs) (b ∷ ys) zero x all at = (b, refl, subst (λ (c : A). R c b) (same_Some a x at) all.0)
+  zip_at (a ∷ xs) (b ∷ ys) (suc i) x all at = zip_at xs ys i x all.1 at
+
+-- ---- what the processes hold
+
+pub place_is : (tables : List (FinMap nat_cmp ℕ)) (process number : ℕ) (held : FinMap nat_cmp ℕ) → process < length tables → held ≡ get_or tables process held →
+    get held number ≡ held_by tables process number
+unfolding held_by
+place_is tables process number held within read = rw (slice_get_read tables (length tables) process held refl within read) refl
+
+-- one process's table is this now
+pub holds_after : (tables : List (FinMap nat_cmp ℕ)) (process : ℕ) (table : FinMap nat_cmp ℕ) (held : ℕ → Option ℕ) → process < length tables →
+    ((q : ℕ) → get table q ≡ held q) → NowHolds tables (set tables process table) (length tables) process held
+unfolding held_by
+holds_after tables process table held within same = record {
+  counted = length-set tables process table;
+  holds = λ p q. elim (cases_eq p process) [
+    | inl own ↦ rw (slice_get-set tables process p table within, eq-eqb p process own) (same q)
+    | inr other ↦ rw (slice_get-set tables process p table within, ne_eqb p process other) refl
+  ];
+}
+
+-- one process more, whose table is this
+pub begins_after : (tables : List (FinMap nat_cmp ℕ)) (table : FinMap nat_cmp ℕ) (held : ℕ → Option ℕ) →
+    ((q : ℕ) → get table q ≡ held q) → NowHolds tables (tables ++ table ∷ []) (length tables + 1) (length tables) held
+unfolding held_by
+begins_after tables table held same = record {
+  counted = length-append tables (table ∷ []);
+  holds = λ p q. elim (cases_eq p (length tables)) [
+    | inl new ↦ rw (slice_get-push tables p table, eq-eqb p (length tables) new) (same q)
+    | inr old ↦ rw (slice_get-push tables p table, ne_eqb p (length tables) old) refl
+  ];
+}
+
+-- all as it was
+pub holds_same : (tables : List (FinMap nat_cmp ℕ)) (process : ℕ) → NowHolds tables tables (length tables) process (held_by tables process)
+holds_same tables process = record {
+  counted = refl;
+  holds = λ p q. elim (cases_eq p process) [
+    | inl own ↦ rw (eq-eqb p process own, own) refl
+    | inr other ↦ rw (ne_eqb p process other) refl
+  ];
+}
+
+-- ---- layers
 
 pub extends_same : (layers : List (RulesOn ℕ)) → Extends layers layers
 extends_same layers = record { more = []; is_more = search Rattle.std.proofs.Common.rules; one = omega arith }

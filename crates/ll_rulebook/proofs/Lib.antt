@@ -1,5 +1,3 @@
-pub mod Places
-pub mod HeldNumbers
 pub mod Frozen
 pub mod Settling
 pub mod Calls

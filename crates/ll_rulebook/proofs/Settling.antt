@@ -35,16 +35,13 @@ use Rattle.ll_semantics.specs.Effects.{Effect, nothing, leaves, leaves_rulesets,
 use Rattle.ll_semantics.specs.Situations.{answered}
 use Rattle.ll_semantics.specs.Notes.{NoteFits, IsFrozen, is_on_rulesets, enforced}
 use Rattle.ll_semantics.specs.Worlds.{World, with_state, affected, answer_in, step, if_allowed}
-use Rattle.ll_semantics.proofs.Unchanged.{world_kept}
+use Rattle.ll_semantics.proofs.Steps.{world_kept}
 use Rattle.ll_rulebook.specs.declared.pass.Pass.{Pass}
 use Rattle.ll_rulebook.specs.declared.tables.Tables.{Tables}
-use Rattle.ll_rulebook.specs.Tables.{held_by, NowHolds, Holds}
-use Rattle.ll_rulebook.specs.Stores.{Stock, with_created, with_changed, Becomes, AddsRule, Extends, Freezes, IsAnswerTo}
+use Rattle.ll_rulebook.specs.Stores.{held_by, NowHolds, Holds, Stock, with_created, with_changed, Becomes, AddsRule, Extends, Freezes, IsAnswerTo}
 use Rattle.ll_rulebook.specs.Settled.{met_by}
 use Rattle.ll_rulebook.specs.Passes.{IsSame, IsSound, Agrees, Creates, Settles}
-use Rattle.ll_rulebook.proofs.Frozen.{extends_same}
-use Rattle.ll_rulebook.proofs.HeldNumbers.{holds_same}
-use Rattle.ll_rulebook.proofs.Places.{zip_push, zip_set, zip_at}
+use Rattle.ll_rulebook.proofs.Frozen.{extends_same, holds_same, zip_push, zip_set, zip_at}
 
 -- a call that adds a rule to a ruleset that its process holds under a number, if nothing refuses it
 pub record AddsTo (tree : List Entry) (abi : Abi) (op : Op) (rs : ℕ) (refusal : RulesOn ℕ → Option RuleRefusal) (f : Layer → Layer) : Type 0 where

@@ -1,4 +1,3 @@
-pub mod Tables
 pub mod Stores
 pub mod Kept
 pub mod Settled

@@ -20,8 +20,7 @@ use Rattle.ll_semantics.specs.Notes.{NoteFits, is_on_rulesets}
 use Rattle.ll_semantics.specs.Worlds.{World, step}
 use Rattle.ll_semantics.specs.Situations.{world_at}
 use Rattle.ll_rulebook.specs.declared.pass.Pass.{Pass}
-use Rattle.ll_rulebook.specs.Tables.{held_by}
-use Rattle.ll_rulebook.specs.Stores.{Extends}
+use Rattle.ll_rulebook.specs.Stores.{held_by, Extends}
 use Rattle.ll_rulebook.specs.Settled.{met_by, FitUpTo}
 
 -- a ruleset with rules on nodes of a tree is the same as one with rules on paths

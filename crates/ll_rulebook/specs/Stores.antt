@@ -1,6 +1,8 @@
--- The rulesets of a trace and the layers that they were frozen to, and what becomes of both.
--- Source: the kernel's userspace document on Landlock, "Defining and enforcing a security policy".
-use Rattle.std.specs.Prelude.{◌≡◌, ℕ, ◌≤◌, List, [], ◌∷◌, ◌++◌, length, Option, Some, Result, Ok, Err, OnOk, OnErr, MatchOption, IsOkUnless, All, slice_get, slice_set}
+-- The rulesets of a trace and the layers that they were frozen to, what becomes of both, and which rulesets each process
+-- holds, under which numbers.
+-- Source: landlock_create_ruleset(2); the kernel's userspace document on Landlock, "Defining and enforcing a security
+-- policy" and "Inheritance".
+use Rattle.std.specs.Prelude.{◌≡◌, ℕ, ◌≤◌, List, [], ◌∷◌, ◌++◌, length, Option, Some, Result, Ok, Err, OnOk, OnErr, MatchOption, IsOkUnless, All, slice_get, slice_set, ◌+◌, ◌==◌, if◌then◌else◌, None, nat_eq}
 use Rattle.ll_rights.specs.declared.abi.Abi.{Abi}
 use Rattle.ll_rights.specs.declared.fs.Fs.{Fs}
 use Rattle.ll_rights.specs.declared.net.Net.{Net}
@@ -18,6 +20,9 @@ use Rattle.ll_rules.specs.KeptLayers.{SameRules, GrantsOnPort}
 use Rattle.ll_rules.specs.InTree.{in_tree, AreInTree}
 use Rattle.ll_rules.specs.RuleFaults.{add_path_fault, add_port_fault}
 use Rattle.ll_rules.specs.Rulesets.{with_rule_at}
+use Rattle.std.specs.Map.{update}
+use Rattle.std.specs.Ordering.{nat_cmp}
+use Rattle.std.specs.FinMap.{FinMap, get}
 
 -- the rulesets in the order in which they were created, and the layers in the order in which they were frozen
 pub record Stock : Type 0 where
@@ -74,3 +79,24 @@ IsAnswerTo (Ok done) note = note ≡ Answered Allowed
 IsAnswerTo (Err (faults.Errno error)) note = note ≡ Answered (fails error)
 IsAnswerTo (Err faults.Moot) note = note ≡ Answered Moot
 IsAnswerTo (Err faults.Memory) note = ⊥
+
+abbrev pub at_number : Option (FinMap nat_cmp ℕ) → ℕ → Option ℕ
+at_number None number = None
+at_number (Some held) number = get held number
+
+-- the place of the ruleset that a process holds under a number
+unfoldable pub held_by : List (FinMap nat_cmp ℕ) → ℕ → ℕ → Option ℕ
+held_by tables process number = at_number (slice_get tables process) number
+
+-- There are so many processes now, of which one holds these; each other one holds what it held.
+pub record NowHolds (old new : List (FinMap nat_cmp ℕ)) (count process : ℕ) (held : ℕ → Option ℕ) : Type 0 where
+  pub counted : length new ≡ count
+  pub holds : (p q : ℕ) → held_by new p q ≡ (if p == process then held q else held_by old p q)
+
+-- under one number a process now holds what is there, or nothing
+abbrev pub Holds : List (FinMap nat_cmp ℕ) → List (FinMap nat_cmp ℕ) → ℕ → ℕ → Option ℕ → Type 0
+Holds old new process number place = NowHolds old new (length old) process (update nat_eq (held_by old process) number place)
+
+-- one process more, which holds these
+abbrev pub Begins : List (FinMap nat_cmp ℕ) → List (FinMap nat_cmp ℕ) → (ℕ → Option ℕ) → Type 0
+Begins old new held = NowHolds old new (length old + 1) (length old) held

@@ -5,8 +5,7 @@ ghost use Rattle.ll_rules.specs.Layers.{without_rules};
 ghost use Rattle.ll_semantics.specs.Answers.{fails};
 ghost use Rattle.ll_trace.specs.Entries.{is_start};
 ghost use Rattle.ll_trace.specs.RecordFacts.{AreRecords};
-ghost use Rattle.ll_rulebook.specs.Stores.{IsAnswerTo};
-ghost use Rattle.ll_rulebook.specs.Tables.{held_by};
+ghost use Rattle.ll_rulebook.specs.Stores.{IsAnswerTo, held_by};
 
 use crate::store::Store;
 use crate::tables::Tables;

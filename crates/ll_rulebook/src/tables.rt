@@ -1,7 +1,7 @@
 //! The rulesets that each process holds.
 
 ghost use Rattle.std.specs.Prelude.{◌≡◌, ◌<◌, ◌+◌, [], Some, None, length, OnOk};
-ghost use Rattle.ll_rulebook.specs.Tables.{held_by, Holds, Begins};
+ghost use Rattle.ll_rulebook.specs.Stores.{held_by, Holds, Begins};
 
 use ll_shared::SharedMap;
 use std::alloc::{AllocError, Global};

@@ -10,7 +10,7 @@ use Rattle.ll_tree.specs.declared.place.NodeId.{NodeId}
 use Rattle.ll_lines.specs.Paths.{Path, front, is_prefix, path_eq}
 use Rattle.ll_tree.specs.Trees.{Entry, IsNode, path_at}
 use Rattle.ll_tree.specs.TreeFacts.{IsTree, StandsIn}
-use Rattle.ll_tree.proofs.Climbing.{path_eq-nodes}
+use Rattle.ll_tree.proofs.Positions.{path_eq-nodes}
 use Rattle.ll_rules.specs.Layers.{RulesOn, granted}
 use Rattle.ll_rules.specs.KeptLayers.{granted_on, granted_on_node}
 use Rattle.ll_rules.specs.InTree.{in_tree, rule_on_path, node, AreInTree}

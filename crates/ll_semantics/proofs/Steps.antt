@@ -1,5 +1,5 @@
 -- What one call does to a world: to the state of its own process, to the one it starts, and to all others.
-use Rattle.std.proofs.Common.{◌≡◌, ◌≢◌, ℕ, ◌+◌, true, false, cond, List, [], ◌∷◌, take, Some, None, refl, sym, ap, ◌∙◌, inl, inr, arith}
+use Rattle.std.proofs.Common.{◌≡◌, ◌≢◌, ℕ, ◌+◌, true, false, cond, List, [], ◌∷◌, take, Some, None, refl, sym, ap, ◌∙◌, inl, inr, arith, zero, suc, length, add-one}
 use Rattle.std.proofs.lemmas.Bool.{cases_eq, eq-eqb, ne_eqb}
 use Rattle.ll_rights.specs.declared.abi.Abi.{Abi}
 use Rattle.ll_tree.specs.Trees.{Entry}
@@ -12,9 +12,10 @@ use Rattle.ll_semantics.specs.States.{State, Layer}
 use Rattle.ll_semantics.specs.Answers.{answer}
 use Rattle.ll_semantics.specs.Effects.{Effect, nothing, leaves, leaves_rulesets, begins, effect}
 use Rattle.ll_semantics.specs.Situations.{state_by, rulesets_by, begun_by, change, rules, started, state_after, rulesets_after, world_after, world_at}
-use Rattle.ll_semantics.specs.Worlds.{World, if_allowed, with_state, affected, answer_in, step, empty_world}
+use Rattle.ll_semantics.specs.Worlds.{World, if_allowed, with_state, affected, answer_in, step, empty_world, judged_from, judged}
 use Rattle.ll_trace.specs.Processes.{is_start, is_fork, is_starting, process_count}
 use Rattle.ll_trace.proofs.Numbers.{process_count-cons}
+use Rattle.std.specs.Prelude.{slice_get}
 
 -- ---- one state is set
 
@@ -193,3 +194,52 @@ pub started-fork : (tree : List Entry) (rulesets : List Layer) (op : Op) (s : St
 unfolding started begun_by effect is_fork
 started-fork tree rulesets (Fork child) s holds = refl
 started-fork tree rulesets op s holds = cc
+
+-- ---- a call that isn't answered allowed
+
+kept_unless : {A : Type 0} (a : Answer) (after before : A) → a ≢ Allowed → if_allowed a after before ≡ before
+kept_unless Allowed after before other = absurd (other refl)
+kept_unless Moot after before other = refl
+kept_unless (Refused error numbers) after before other = refl
+
+pub world_kept : (tree : List Entry) (abi : Abi) (w : World) (process : ℕ) (op : Op) → answer_in tree abi w process op ≢ Allowed → step tree abi w process op ≡ w
+unfolding step
+world_kept tree abi w process op other =
+    kept_unless (answer_in tree abi w process op) (affected w process (effect tree w.rulesets op (w.processes process))) w other
+
+pub begins_allowed : (tree : List Entry) (abi : Abi) (w : World) (process : ℕ) (op : Op) (child : State) → effect tree w.rulesets op (w.processes process) ≡ begins child → answer_in tree abi w process op ≡ Allowed
+unfolding answer_in started begun_by
+begins_allowed tree abi w process op child is =
+    begun_is_allowed tree abi w.rulesets op (w.processes process) child (ap (λ (e : Effect). begun_by e) is)
+
+-- ---- the fold, record by record
+
+pub length-judged_from : (tree : List Entry) (abi : Abi) (w : World) (rs : List Record) → length (judged_from tree abi w rs) ≡ length rs
+unfolding judged_from
+length-judged_from tree abi w [] = refl
+length-judged_from tree abi w (r ∷ rs) = ap suc (length-judged_from tree abi (step tree abi w r.process.0 r.op) rs)
+
+pub judged_from-at : (tree : List Entry) (abi : Abi) (w : World) (rs : List Record) (k : ℕ) (r : Record) → slice_get rs k ≡ Some r → slice_get (judged_from tree abi w rs) k ≡ Some (answer_in tree abi (world_after tree abi w (take k rs)) r.process.0 r.op)
+unfolding judged_from world_after
+judged_from-at tree abi w [] k r at = cc
+judged_from-at tree abi w (x ∷ rs) zero r at = cc
+judged_from-at tree abi w (x ∷ rs) (suc k) r at = judged_from-at tree abi (step tree abi w x.process.0 x.op) rs k r at
+
+pub world_after-more : (tree : List Entry) (abi : Abi) (w : World) (rs : List Record) (k : ℕ) (r : Record) → slice_get rs k ≡ Some r → world_after tree abi w (take (suc k) rs) ≡ step tree abi (world_after tree abi w (take k rs)) r.process.0 r.op
+unfolding world_after
+world_after-more tree abi w [] k r at = cc
+world_after-more tree abi w (x ∷ rs) zero r at = cc
+world_after-more tree abi w (x ∷ rs) (suc k) r at = world_after-more tree abi (step tree abi w x.process.0 x.op) rs k r at
+
+pub world_at-more : (tree : List Entry) (abi : Abi) (records : List Record) (k : ℕ) (r : Record) → slice_get records k ≡ Some r → world_at tree abi records (k + 1) ≡ step tree abi (world_at tree abi records k) r.process.0 r.op
+unfolding world_at
+world_at-more tree abi records k r at = rw add-one (world_after-more tree abi empty_world records k r at)
+
+-- each answer of a trace is that of the world before its record
+pub judged-at : (tree : List Entry) (abi : Abi) (records : List Record) (k : ℕ) (r : Record) → slice_get records k ≡ Some r → slice_get (judged tree abi records) k ≡ Some (answer_in tree abi (world_at tree abi records k) r.process.0 r.op)
+unfolding judged world_at
+judged-at tree abi records k r at = judged_from-at tree abi empty_world records k r at
+
+pub length-judged : (tree : List Entry) (abi : Abi) (records : List Record) → length (judged tree abi records) ≡ length records
+unfolding judged
+length-judged tree abi records = length-judged_from tree abi empty_world records

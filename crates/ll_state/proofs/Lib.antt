@@ -1,4 +1,2 @@
 pub mod SameLayers
-pub mod Restricting
 pub mod Judging
-pub mod Places

@@ -13,7 +13,7 @@ use ll_trace::{Mode, PathText};
 use ll_tree::{NodeId, Place, Tree};
 
 /// The place that a path leads to, which may be known.
-#[tactic(auto, using(crate::proofs::Places::place_inside))]
+#[tactic(auto, using(crate::proofs::Judging::place_inside))]
 pub fn place_of(tree: &Tree, path: &PathText, known: Option<Place>) -> Place
     requires { IfSome known (λ one. one ≡ place tree.now path.now) }
     ensures place { result ≡ place tree.now path.now }

@@ -1,12 +1,8 @@
 pub mod KeptLemmas
-pub mod Starting
 pub mod Numbers
-pub mod Numbering
-pub mod Starts
-pub mod Times
 pub mod OwnRecords
 pub mod EachOnce
-pub mod Limits
+pub mod Numbering
 pub mod RecordLemmas
 pub mod PartLemmas
 pub mod TableLemmas

@@ -27,6 +27,7 @@ ghost use Rattle.ll_trace.specs.SingleUse.{IsStrictTrace};
 
 /// A file reads as one trace and has no fault, or has one first fault, with its line and its cause, and reads
 /// as none.
+#[tactic(auto, using(crate::proofs::LawLemmas::in_one_way))]
 pub fn files_read_as_one_trace()
     ensures { ReadsInOneWay trace_file IsTrace }
 {}
@@ -56,6 +57,7 @@ pub fn processes_are_numbered()
 
 /// A set of rights that is read from a list of names has just the rights that some name of the list
 /// stands for.
+#[tactic(auto, using(crate::proofs::SetLemmas::fs_by_names, crate::proofs::SetLemmas::net_by_names))]
 pub fn sets_are_their_names()
     ensures fs { (names : Items) (set : Fs) (right : files.FsRight)
         → fold_texts with_fs files.no_right names ≡ Ok set → files.has set right
@@ -66,6 +68,7 @@ pub fn sets_are_their_names()
 {}
 
 /// A line that reads as an entry says its operation by the operation's name, in its member `op`.
+#[tactic(auto, using(crate::proofs::SaidByName::line_says))]
 pub fn lines_say_operations_by_name()
     ensures { (line : Line) (entry : Entry) → entry_at line ≡ Ok entry
         → SaysOperation line (op_name entry.op) }

@@ -11,7 +11,7 @@ use Rattle.ll_trace.proofs.Numbers.{count-more, no_count}
 use Rattle.ll_semantics.specs.declared.answer.Answer.{Answer}
 use Rattle.ll_semantics.specs.Worlds.{answer_in, judged}
 use Rattle.ll_semantics.specs.Situations.{world_at}
-use Rattle.ll_semantics.proofs.Worlds.{judged-at}
+use Rattle.ll_semantics.proofs.Steps.{judged-at}
 use Rattle.ll_process.specs.Cases.{Matter}
 use Rattle.ll_reasons.specs.Origins.{no_sources, sources_by, sources_at, sources_after}
 use Rattle.ll_reasons.proofs.Lockstep.{sources_at-more, count-sources_by}

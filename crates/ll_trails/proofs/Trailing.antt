@@ -7,7 +7,7 @@ use Rattle.ll_trace.specs.declared.op.Op.{Op}
 use Rattle.ll_trace.specs.declared.op.Op.TheVariants as calls
 use Rattle.ll_semantics.specs.declared.answer.Answer.{Answer}
 use Rattle.ll_semantics.specs.Worlds.{if_allowed}
-use Rattle.ll_rulebook.proofs.Places.{slice_get-set}
+use Rattle.ll_rulebook.proofs.Frozen.{slice_get-set}
 use Rattle.ll_trace.proofs.Numbers.{slice_get-push}
 use Rattle.ll_reasons.specs.Origins.{Origins, Sources, with_origins, with_next, traced, sources_by}
 use Rattle.ll_trails.specs.declared.trail.Trail.{Trail}

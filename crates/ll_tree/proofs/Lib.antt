@@ -1,9 +1,3 @@
 pub mod Positions
-pub mod Standing
-pub mod Objects
-pub mod Finding
-pub mod Climbing
-pub mod Growing
 pub mod Keeping
-pub mod RootAlone
 pub mod TreeLines

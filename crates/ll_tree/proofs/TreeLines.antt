@@ -15,12 +15,11 @@ use Rattle.ll_tree.specs.Trees.{Entry, root, is_dir, is_dir_in, kind_at, positio
 use Rattle.ll_tree.specs.TreeFacts.{spelt, named, IsTree}
 use Rattle.ll_lines.specs.LineByLine.{with_entry, add_unless, reading, GivesReading}
 use Rattle.ll_lines.specs.Reading.{IsBad}
+use Rattle.ll_lines.specs.OneWay.{ReadsInOneWay}
 use Rattle.ll_tree.specs.TreeReading.{is_listed, fault_in, tree_format, IsTreeOf}
-use Rattle.ll_tree.specs.TreeByLine.{below_root, IsRooted}
-use Rattle.ll_lines.proofs.ReadingLemmas.{good_from_reading, bad_from_fault}
-use Rattle.ll_tree.proofs.Finding.{spelt_is}
-use Rattle.ll_tree.proofs.Positions.{at_position, place_of_dir, is_dir_in-from_place}
-use Rattle.ll_tree.proofs.Standing.{node, position_is}
+use Rattle.ll_tree.specs.Kept.{below_root, IsRooted}
+use Rattle.ll_lines.proofs.ReadingLemmas.{good_from_reading, bad_from_fault, in_one_way as format_in_one_way}
+use Rattle.ll_tree.proofs.Positions.{spelt_is, at_position, place_of_dir, is_dir_in-from_place, node, position_is}
 
 -- a tree is the root and what is below it
 pub rooted : (tree : List Entry) → IsTree tree → root ∷ below_root tree ≡ tree
@@ -110,3 +109,7 @@ is_tree_of bytes (Err fault) reads is = tt
 pub is_bad : (bytes : List ℕ) (outcome : Result (List Entry) ReadFault) → GivesReading below_root outcome (reading tree_format bytes) → IfErr outcome (λ fault. fault.cause ≢ Memory → IsBad tree_format bytes fault)
 is_bad bytes (Ok tree) reads = tt
 is_bad bytes (Err fault) reads = λ other. bad_from_fault tree_format bytes fault reads other
+
+-- a tree file is read in one way
+pub in_one_way : ReadsInOneWay tree_format IsTreeOf
+in_one_way = format_in_one_way tree_format IsTreeOf (λ entries. root ∷ entries) (λ bytes entries good. (entries, refl, good)) (λ bytes tree is. record { entries = is.0; good = is.2; is = is.1 })

@@ -1,6 +1,6 @@
 -- What a tree in memory keeps, read as the list of its entries, and the facts that hold of it.
 -- Source: docs/FORMATS.md, "The tree file".
-use Rattle.std.specs.Prelude.{◌≡◌, ℕ, ◌<◌, ◌≤◌, List, Option, IsTrue, length, map, slice_index_or}
+use Rattle.std.specs.Prelude.{◌≡◌, ℕ, ◌<◌, ◌≤◌, List, Option, IsTrue, length, map, slice_index_or, ◌∷◌, drop, Result}
 use Rattle.std.specs.String.{string_bytes}
 use Rattle.std.specs.declared.string.String.{String}
 use Rattle.std.specs.Map.{lookup}
@@ -10,8 +10,13 @@ use Rattle.std.specs.Ordering.{nat_cmp}
 use Rattle.ll_tree.specs.declared.tree.Object.{Object}
 use Rattle.ll_lines.specs.Paths.{Path}
 use Rattle.ll_lines.specs.PathTexts.{is_path, text_of}
-use Rattle.ll_tree.specs.Trees.{Entry, position_of, parent_at}
+use Rattle.ll_tree.specs.Trees.{Entry, position_of, parent_at, root}
 use Rattle.ll_tree.specs.TreeFacts.{IsTree, depth_at, named}
+use Rattle.serde_json.specs.Data.{Data}
+use Rattle.ll_lines.specs.declared.fault.Cause.{Cause}
+use Rattle.ll_lines.specs.Fault.{◌>>=◌}
+use Rattle.ll_lines.specs.LineByLine.{with_entry}
+use Rattle.ll_tree.specs.TreeReading.{entry_in, tree_format}
 
 -- an object's kind, with the path that its text spells
 unfoldable pub entry_of : Object → Entry
@@ -36,3 +41,16 @@ pub record IsSound {A : Type 0} (objects : List Object) (numbers : List (String 
   pub small : length objects ≤ 65536
   pub found : (path : Path) → IsTrue (is_path path) → number_of numbers (text_of path) ≡ position_of path (entries_of objects)
   pub each : (number : ℕ) (other : Object) → number < length objects → IsOf (entries_of objects) number (slice_index_or objects number other)
+
+-- the entries with the object that a value describes, or its fault
+abbrev pub with_value : List Entry → Data → Result (List Entry) Cause
+with_value earlier value = do
+  entry ← entry_in value
+  with_entry tree_format earlier entry
+
+-- the entries of a tree without the root
+abbrev pub below_root : List Entry → List Entry
+below_root tree = drop 1 tree
+
+abbrev pub IsRooted : List Entry → Type 0
+IsRooted tree = tree ≡ root ∷ below_root tree

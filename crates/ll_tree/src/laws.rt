@@ -1,10 +1,9 @@
 //! What holds of the definitions: of every tree file, and of a small one.
 
-ghost use Rattle.std.specs.Prelude.{◌≡◌, ◌⊎◌, ℕ, List, [], ◌∷◌, ◌++◌, codes, Some, None};
-ghost use Rattle.ll_lines.specs.declared.fault.ReadFault.{ReadFault as Fault};
+ghost use Rattle.std.specs.Prelude.{◌≡◌, [], ◌∷◌, ◌++◌, codes, Some, None};
 ghost use Rattle.ll_lines.specs.Paths.{path_of};
-ghost use Rattle.ll_lines.specs.Reading.{IsBad};
-ghost use Rattle.ll_tree.specs.Trees.{Entry, place};
+ghost use Rattle.ll_lines.specs.OneWay.{ReadsInOneWay};
+ghost use Rattle.ll_tree.specs.Trees.{place};
 ghost use Rattle.ll_tree.specs.TreeReading.{IsTreeOf, tree_format};
 ghost use Rattle.ll_tree.specs.WorkedTree.{line, worked_file, worked_entries, worked_tree, ReadsAs, IsRefused};
 
@@ -12,15 +11,9 @@ use crate::place::Place;
 use ll_lines::Cause;
 
 /// A tree file is one tree, or has one first fault, and never both.
+#[tactic(auto, using(crate::proofs::TreeLines::in_one_way))]
 pub fn a_tree_file_reads_in_one_way()
-    ensures either { (bytes : List ℕ) → ((tree : List Entry) × IsTreeOf bytes tree)
-        ⊎ ((fault : Fault) × IsBad tree_format bytes fault) }
-    ensures not_both { (bytes : List ℕ) (tree : List Entry) (fault : Fault)
-        → IsTreeOf bytes tree → IsBad tree_format bytes fault → ⊥ }
-    ensures one_tree { (bytes : List ℕ) (tree other : List Entry)
-        → IsTreeOf bytes tree → IsTreeOf bytes other → tree ≡ other }
-    ensures one_fault { (bytes : List ℕ) (fault other : Fault)
-        → IsBad tree_format bytes fault → IsBad tree_format bytes other → fault ≡ other }
+    ensures { ReadsInOneWay tree_format IsTreeOf }
 {}
 
 /// What a small tree file and some faulty ones read as.

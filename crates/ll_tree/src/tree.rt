@@ -8,7 +8,7 @@ ghost use Rattle.ll_lines.specs.LineView.{line_view};
 ghost use Rattle.ll_lines.specs.Reading.{IsBad};
 ghost use Rattle.ll_lines.specs.LineByLine.{GivesReading, reading, with_line, with_entry};
 ghost use Rattle.ll_tree.specs.TreeReading.{IsTreeOf, tree_format};
-ghost use Rattle.ll_tree.specs.TreeByLine.{IsRooted, below_root, with_value};
+ghost use Rattle.ll_tree.specs.Kept.{IsRooted, below_root, with_value};
 ghost use Rattle.ll_lines.specs.Paths.{Path, path_of, is_prefix};
 ghost use Rattle.ll_tree.specs.Trees.{Entry, root, IsNode, is_dir, path_at, kind_at, parent_at, node_at, gap_in, place};
 ghost use Rattle.ll_tree.specs.TreeFacts.{spelt, named, IsTree, IsPlace, StandsIn, depth_at};
@@ -228,7 +228,7 @@ impl Tree {
     }
 
     /// The directory that a node is in, and None for the root.
-    #[tactic(auto, using(crate::proofs::Standing::if_none, crate::proofs::Standing::if_some))]
+    #[tactic(auto, using(crate::proofs::Positions::if_none, crate::proofs::Positions::if_some))]
     pub fn parent(&self, node: NodeId) -> Option<NodeId>
         requires { IsNode self.now node }
         ensures exact { result ≡ parent_at self.now node }
@@ -265,7 +265,7 @@ impl Tree {
     }
 
     /// The place that a text names: a node, the gap in a directory that has no such name, or nowhere.
-    #[tactic(auto, using(crate::proofs::Finding::place_other))]
+    #[tactic(auto, using(crate::proofs::Positions::place_other))]
     pub fn resolve(&self, text: &str) -> Place
         ensures place { result ≡ place self.now text.now }
         ensures inside { IsPlace self.now result }

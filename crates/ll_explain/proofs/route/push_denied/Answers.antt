@@ -1,5 +1,5 @@
 use Rattle.std.proofs.Common.{◌∙◌, ◌∷◌, [], sym}
-use Rattle.ll_tree.proofs.Climbing.{path_eq-nodes}
+use Rattle.ll_tree.proofs.Positions.{path_eq-nodes}
 use Rattle.ll_explain.specs.Confined.{rules_of}
 use Rattle.ll_explain.specs.Parts.{said_of}
 use Rattle.ll_explain.proofs.Moving.{between_two, same_eq, within_one}

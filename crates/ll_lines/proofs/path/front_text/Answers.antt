@@ -3,7 +3,7 @@ use Rattle.std.proofs.Common.{◌≡◌, take, Some, None, ap, ◌∙◌, arith,
 use Rattle.std.proofs.lemmas.Grind.{common_steps}
 use Rattle.std.proofs.lemmas.Str.Pattern.{rfind_char}
 use Rattle.ll_lines.specs.Paths.{path_of}
-use Rattle.ll_lines.proofs.Fronts.{front_read, no_slash_no_path}
+use Rattle.ll_lines.proofs.PathLaws.{front_read, no_slash_no_path}
 use Rattle.ll_lines.proofs.path.front_text.Goals as goal
 use Rattle.ll_lines.proofs.path.front_text.Goals.{in_default-via-in-Some+else-end-gt0, in_default-via-in_default}
 

@@ -5,7 +5,7 @@ use Rattle.std.proofs.lemmas.Iterator.Splits.{YieldsList-from_str_split}
 use Rattle.std.proofs.lemmas.Iterator.Search.{all_from_yields_List}
 use Rattle.std.proofs.lemmas.Str.Pattern.{strip_prefix_char}
 use Rattle.ll_lines.specs.Paths.{is_name}
-use Rattle.ll_lines.proofs.PathText.{path_of-other, path_of-root, path_of-slash, is_some-names_in}
+use Rattle.ll_lines.proofs.PathLaws.{path_of-other, path_of-root, path_of-slash, is_some-names_in}
 use Rattle.ll_lines.proofs.path.path_ok.Goals as goal
 
 pub returns-in-None : goal.returns-in-None

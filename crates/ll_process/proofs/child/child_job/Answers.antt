@@ -1,5 +1,5 @@
 -- The child's job keeps its type's own facts.
-use Rattle.ll_process.proofs.ChildJobs.{child_there, child_begins}
+use Rattle.ll_process.proofs.OwnSteps.{child_there, child_begins}
 use Rattle.ll_process.proofs.child.child_job.Goals as goal
 
 pub invariant_of-result : goal.invariant_of-result

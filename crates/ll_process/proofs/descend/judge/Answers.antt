@@ -1,8 +1,7 @@
 -- The first process's job alone is to do, one process more is judged, and in the end nothing is still to do.
 use Rattle.std.proofs.Common.{◌≡◌, [], refl, arith}
 use Rattle.std.proofs.lemmas.Grind.{common_steps}
-use Rattle.ll_process.proofs.KeptMore.{keeps_on, keeps_same}
-use Rattle.ll_process.proofs.Descents.{taken, weighs_less, descended_none, descended_more, shares_out}
+use Rattle.ll_process.proofs.Descents.{keeps_on, keeps_same, taken, weighs_less, descended_none, descended_more, shares_out}
 use Rattle.ll_process.proofs.descend.judge.Goals as goal
 
 pub loop-next-init : goal.loop-next-init

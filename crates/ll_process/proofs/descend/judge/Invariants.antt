@@ -1,6 +1,5 @@
 use Rattle.ll_trace.specs.Processes.{process_count}
-use Rattle.ll_process.specs.Jobs.{KeepsMore, processes_of}
-use Rattle.ll_process.specs.Weights.{weight_of}
+use Rattle.ll_process.specs.Jobs.{KeepsMore, processes_of, weight_of}
 use Rattle.ll_process.proofs.Descents.{Descended}
 use Rattle.ll_process.proofs.descend.judge.Given as goal
 

@@ -1,6 +1,6 @@
 -- The job of a start record keeps its type's own facts.
 use Rattle.std.proofs.Common.{sym}
-use Rattle.ll_trace.proofs.Starting.{is_start-from, is_start-not}
+use Rattle.ll_trace.proofs.Numbers.{is_start-from, is_start-not}
 use Rattle.ll_process.proofs.Roots.{root_there, root_begins, root_at-start, root_at-other}
 use Rattle.ll_process.proofs.starting.root_job.Goals as goal
 

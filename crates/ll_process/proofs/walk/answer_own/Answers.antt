@@ -3,7 +3,7 @@ use Rattle.std.proofs.Common.{ap, sym, ◌∙◌}
 use Rattle.std.proofs.lemmas.Option.{same_Some}
 use Rattle.ll_trace.specs.declared.record.Record.{Record}
 use Rattle.ll_trace.specs.Processes.{is_start}
-use Rattle.ll_trace.proofs.Starting.{is_start-from, is_start-not}
+use Rattle.ll_trace.proofs.Numbers.{is_start-from, is_start-not}
 use Rattle.ll_process.proofs.OwnSteps.{own_process, start_answer, start_leaves, met_answers, met_leaving, note_fits, is_met}
 use Rattle.ll_process.proofs.walk.answer_own.Goals as goal
 

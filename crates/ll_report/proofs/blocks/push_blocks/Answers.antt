@@ -1,6 +1,6 @@
 use Rattle.std.proofs.Common.{◌<◌, ◌≤◌, ◌∙◌, ap, get_or, length, List, subst}
 use Rattle.ll_explain.specs.Explained.{text_at}
-use Rattle.ll_semantics.proofs.Worlds.{length-judged}
+use Rattle.ll_semantics.proofs.Steps.{length-judged}
 use Rattle.ll_trace.specs.declared.record.Record.{Record}
 use Rattle.ll_report.proofs.BlocksLeft.{all_written, one_more}
 use Rattle.ll_report.proofs.Explaining.{answer_at, at_case, as_many, block_by}

@@ -2,7 +2,7 @@ use Rattle.std.proofs.Common.{◌≡◌, ◌∙◌, ◌∷◌, ◌++◌, ℕ, Li
 use Rattle.std.specs.List.{range_with_len}
 use Rattle.std.proofs.lemmas.List.FromFn.{map-range_with_len_more}
 use Rattle.ll_explain.specs.Explained.{text_at}
-use Rattle.ll_semantics.proofs.Worlds.{length-judged}
+use Rattle.ll_semantics.proofs.Steps.{length-judged}
 use Rattle.ll_trails.proofs.AtPlaces.{begins_at}
 use Rattle.ll_report.proofs.Explaining.{among, given_at}
 use Rattle.ll_report.proofs.found.explanations_of.Goals as goal

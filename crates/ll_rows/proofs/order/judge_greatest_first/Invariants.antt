@@ -1,6 +1,5 @@
 use Rattle.ll_trace.specs.Processes.{process_count}
-use Rattle.ll_process.specs.Jobs.{processes_of}
-use Rattle.ll_process.specs.Weights.{weight_of}
+use Rattle.ll_process.specs.Jobs.{processes_of, weight_of}
 use Rattle.ll_pool.proofs.Sharing.{AreShared}
 use Rattle.ll_rows.proofs.order.judge_greatest_first.Given as goal
 

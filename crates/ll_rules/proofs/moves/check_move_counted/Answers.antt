@@ -1,6 +1,6 @@
 use Rattle.std.proofs.Common.{◌≡◌, ◌∙◌, ◌≤◌, ◌+◌, ◌*◌, ap, sym, arith, not, List, length}
 use Rattle.std.proofs.lemmas.Bool.{false≢true}
-use Rattle.ll_tree.proofs.Climbing.{path_eq-nodes}
+use Rattle.ll_tree.proofs.Positions.{path_eq-nodes}
 use Rattle.ll_rules.specs.declared.domain.LayerId.{LayerId}
 use Rattle.ll_rules.specs.KeptLayers.{domain_of}
 use Rattle.ll_rules.specs.InTree.{all_in_tree}

@@ -1,5 +1,5 @@
 use Rattle.std.proofs.Common.{arith}
-use Rattle.ll_trace.proofs.Limits.{few_records}
+use Rattle.ll_trace.proofs.Numbering.{few_records}
 use Rattle.ll_trace.proofs.TableLemmas.{indexes_one_more, known_at}
 use Rattle.ll_trace.proofs.tables.index.Goals as goal
 

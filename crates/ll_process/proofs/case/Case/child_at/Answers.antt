@@ -1,7 +1,6 @@
 use Rattle.std.proofs.Common.{◌∙◌, sym, ap}
 use Rattle.ll_trace.specs.Processes.{started_at}
-use Rattle.ll_trace.proofs.Starting.{fork-starts, is_fork-from, is_fork-not}
-use Rattle.ll_trace.proofs.Numbers.{forked_at-from, forked_at-none, started_at-from}
+use Rattle.ll_trace.proofs.Numbers.{fork-starts, is_fork-from, is_fork-not, forked_at-from, forked_at-none, started_at-from}
 use Rattle.ll_process.proofs.case.Case.child_at.Goals as goal
 
 pub returns-in-Fork-clause-child : goal.returns-in-Fork-clause-child

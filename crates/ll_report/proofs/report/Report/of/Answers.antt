@@ -1,6 +1,6 @@
 use Rattle.std.proofs.Common.{◌∙◌, ap, ◌++◌, length}
 use Rattle.ll_explain.specs.Explained.{text_at}
-use Rattle.ll_semantics.proofs.Worlds.{length-judged}
+use Rattle.ll_semantics.proofs.Steps.{length-judged}
 use Rattle.ll_report.specs.Lines.{lines_of, refused_among}
 use Rattle.ll_report.specs.Shown.{blocks_from, shown_text}
 use Rattle.ll_report.proofs.LinesLeft.{refused_count, whole_text}

@@ -3,7 +3,7 @@ use Rattle.std.proofs.lemmas.Result.{IfOk-weaker}
 use Rattle.ll_rules.specs.InTree.{AreInTree}
 use Rattle.ll_rulebook.proofs.Settling.{settles_unheld, settles_rule}
 use Rattle.ll_rulebook.proofs.Calls.{port_adds, port_stays}
-use Rattle.ll_rulebook.proofs.Places.{all_there}
+use Rattle.ll_rulebook.proofs.Frozen.{all_there}
 use Rattle.ll_rulebook.proofs.pass.Pass.add_port.Goals as goal
 
 pub returns-in_default : goal.returns-in_default

@@ -6,7 +6,7 @@ use Rattle.ll_semantics.specs.Answers.{answer}
 use Rattle.ll_semantics.specs.Effects.{effect, with_held}
 use Rattle.ll_semantics.specs.Situations.{answered}
 use Rattle.ll_semantics.specs.Notes.{NoteFits, is_on_rulesets}
-use Rattle.ll_rulebook.specs.Tables.{held_by}
+use Rattle.ll_rulebook.specs.Stores.{held_by}
 use Rattle.ll_rulebook.proofs.Settling.{settles_refused, settles_tables, renamed, held_there}
 use Rattle.ll_rulebook.proofs.pass.Pass.close_rs.Goals as goal
 

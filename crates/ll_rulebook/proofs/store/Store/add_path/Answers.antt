@@ -1,8 +1,7 @@
 use Rattle.ll_rules.specs.InTree.{AreInTree}
 use Rattle.ll_rules.specs.RuleFaults.{add_path_fault}
 use Rattle.ll_rulebook.specs.Stores.{IsPathAdded}
-use Rattle.ll_rulebook.proofs.Frozen.{adds_rule, ruleset_there}
-use Rattle.ll_rulebook.proofs.Places.{all_there}
+use Rattle.ll_rulebook.proofs.Frozen.{adds_rule, ruleset_there, all_there}
 use Rattle.ll_rulebook.proofs.store.Store.add_path.Goals as goal
 
 pub add_path-requires-clause-within : goal.add_path-requires-clause-within

@@ -1,5 +1,5 @@
 use Rattle.std.proofs.Common.{None, cond, eqb, ap, ◌∙◌}
-use Rattle.ll_rulebook.proofs.HeldNumbers.{holds_after, place_is}
+use Rattle.ll_rulebook.proofs.Frozen.{holds_after, place_is}
 use Rattle.ll_rulebook.proofs.tables.Tables.close.Goals as goal
 
 pub returns : goal.returns

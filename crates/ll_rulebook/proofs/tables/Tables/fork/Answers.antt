@@ -1,7 +1,7 @@
 use Rattle.std.proofs.Common.{ℕ, ◌∙◌, ap, nat_cmp}
 use Rattle.std.specs.FinMap.{FinMap, get}
-use Rattle.ll_rulebook.specs.Tables.{held_by}
-use Rattle.ll_rulebook.proofs.HeldNumbers.{begins_after, place_is}
+use Rattle.ll_rulebook.specs.Stores.{held_by}
+use Rattle.ll_rulebook.proofs.Frozen.{begins_after, place_is}
 use Rattle.ll_rulebook.proofs.tables.Tables.fork.Goals as goal
 
 pub returns : goal.returns

@@ -1,5 +1,5 @@
 use Rattle.std.proofs.Common.{◌∙◌}
-use Rattle.ll_rulebook.proofs.HeldNumbers.{place_is}
+use Rattle.ll_rulebook.proofs.Frozen.{place_is}
 use Rattle.ll_rulebook.proofs.tables.Tables.place.Goals as goal
 
 pub returns : goal.returns

@@ -1,6 +1,6 @@
 use Rattle.std.proofs.Common.{None, nat_cmp}
 use Rattle.std.specs.FinMap.{get-empty}
-use Rattle.ll_rulebook.proofs.HeldNumbers.{begins_after}
+use Rattle.ll_rulebook.proofs.Frozen.{begins_after}
 use Rattle.ll_rulebook.proofs.tables.Tables.start.Goals as goal
 
 pub returns : goal.returns

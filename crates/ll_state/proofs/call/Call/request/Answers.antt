@@ -1,5 +1,5 @@
 -- The place that is known is that of the path at which the call wants something.
-use Rattle.ll_state.proofs.Places.{place_wanted}
+use Rattle.ll_state.proofs.Judging.{place_wanted}
 use Rattle.ll_state.proofs.call.Call.request.Goals as goal
 
 pub place_of-requires : goal.place_of-requires

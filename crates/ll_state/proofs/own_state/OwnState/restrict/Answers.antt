@@ -4,7 +4,7 @@ use Rattle.std.specs.Prelude.{◌≢◌}
 use Rattle.std.proofs.lemmas.Bool.{false≢true}
 use Rattle.ll_rules.specs.declared.domain.LayerId.{LayerId}
 use Rattle.ll_semantics.specs.Notes.{IsFrozen}
-use Rattle.ll_state.proofs.Restricting.{kept_may, restrict_denied, restrict_unheld, restrict_full, restrict_allowed, length-domain, Agrees-with_layer}
+use Rattle.ll_state.proofs.SameLayers.{kept_may, restrict_denied, restrict_unheld, restrict_full, restrict_allowed, length-domain, Agrees-with_layer}
 use Rattle.ll_state.proofs.own_state.OwnState.restrict.Goals as goal
 
 pub returns-then-not-may_restrict : goal.returns-then-not-may_restrict

@@ -1,5 +1,5 @@
 use Rattle.std.proofs.Common.{arith}
-use Rattle.ll_trace.proofs.Limits.{few_processes}
+use Rattle.ll_trace.proofs.Numbering.{few_processes}
 use Rattle.ll_trace.proofs.trace.Trace.processes.Goals as goal
 
 pub overflow_cast-result : goal.overflow_cast-result

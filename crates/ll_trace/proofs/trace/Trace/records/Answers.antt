@@ -1,5 +1,5 @@
 use Rattle.std.proofs.Common.{length, ap, arith}
-use Rattle.ll_trace.proofs.Limits.{few_records}
+use Rattle.ll_trace.proofs.Numbering.{few_records}
 use Rattle.ll_trace.proofs.trace.Trace.records.Goals as goal
 
 pub returns-clause-few : goal.returns-clause-few

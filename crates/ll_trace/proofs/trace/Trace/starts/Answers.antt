@@ -1,6 +1,6 @@
 use Rattle.std.proofs.Common.{Ok, Err, length, sym, ap, arith}
-use Rattle.ll_trace.proofs.Limits.{few_processes}
-use Rattle.ll_trace.proofs.Starts.{start_found}
+use Rattle.ll_trace.proofs.Numbering.{few_processes}
+use Rattle.ll_trace.proofs.TableLemmas.{start_found}
 use Rattle.ll_trace.proofs.trace.Trace.starts.Goals as goal
 
 pub overflow_cast-result : goal.overflow_cast-result

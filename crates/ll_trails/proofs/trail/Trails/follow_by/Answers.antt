@@ -1,7 +1,7 @@
 use Rattle.std.proofs.Common.{◌<◌, length, refl, rules}
 use Rattle.ll_reasons.specs.Origins.{Origins, no_origins, traced}
 use Rattle.std.proofs.lemmas.Option.{slice_get_read}
-use Rattle.ll_trace.proofs.Starting.{is_start-not}
+use Rattle.ll_trace.proofs.Numbers.{is_start-not}
 use Rattle.ll_trails.proofs.Trailing.{trails_changed, trails_kept, sources_by_other}
 use Rattle.ll_trails.specs.Trails.{Follows}
 use Rattle.ll_trails.proofs.trail.Trails.follow_by.Goals as goal

@@ -3,8 +3,7 @@ use Rattle.std.proofs.Common.{◌≡◌, ◌+◌, ◌++◌, subst, ◌∷◌, []
 use Rattle.ll_tree.specs.declared.tree.Object.{Object}
 use Rattle.ll_tree.specs.TreeFacts.{named, IsTree}
 use Rattle.ll_tree.specs.Kept.{IsSound, entries_of}
-use Rattle.ll_tree.proofs.Growing.{gap_node, depth_small}
-use Rattle.ll_tree.proofs.Keeping.{pushed}
+use Rattle.ll_tree.proofs.Keeping.{gap_node, depth_small, pushed}
 use Rattle.ll_tree.proofs.tree.Tree.add.Goals as goal
 use Rattle.ll_tree.proofs.tree.Tree.add.Goals.{After-push_reserved}
 

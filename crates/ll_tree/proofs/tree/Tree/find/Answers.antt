@@ -2,8 +2,7 @@
 use Rattle.std.proofs.Common.{◌≡◌, ◌∙◌, subst, rules}
 use Rattle.std.specs.Option.{option_map, option_copied}
 use Rattle.ll_tree.specs.TreeFacts.{spelt, IsTree}
-use Rattle.ll_tree.proofs.Standing.{node}
-use Rattle.ll_tree.proofs.Finding.{found_is, node_at-IsNode, guessed_is}
+use Rattle.ll_tree.proofs.Positions.{node, found_is, node_at-IsNode, guessed_is}
 use Rattle.ll_tree.proofs.tree.Tree.find.Goals as goal
 
 pub returns-in-Some-clause-found : goal.returns-in-Some-clause-found

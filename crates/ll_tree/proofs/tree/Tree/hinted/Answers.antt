@@ -4,7 +4,7 @@ use Rattle.std.specs.Str.{bytes_eq}
 use Rattle.std.specs.String.{string_bytes}
 use Rattle.std.proofs.lemmas.Slice.Eq.{bytes_eq-Decides}
 use Rattle.ll_tree.specs.TreeFacts.{spelt}
-use Rattle.ll_tree.proofs.Objects.{length_is, path_is}
+use Rattle.ll_tree.proofs.Keeping.{length_is, path_is}
 use Rattle.ll_tree.proofs.tree.Tree.hinted.Goals as goal
 
 pub returns : goal.returns

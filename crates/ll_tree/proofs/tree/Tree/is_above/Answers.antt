@@ -1,7 +1,7 @@
 -- A step up keeps the answer, and at most as deep as the upper node it is whether the two are the same.
 use Rattle.std.proofs.Common.{◌≡◌, ◌<◌, ◌≤◌, eqb, ◌∙◌, rules, arith}
 use Rattle.ll_tree.specs.TreeFacts.{depth_at}
-use Rattle.ll_tree.proofs.Climbing.{climb_step, climb_end, root_depth}
+use Rattle.ll_tree.proofs.Positions.{climb_step, climb_end, root_depth}
 use Rattle.ll_tree.proofs.tree.Tree.is_above.Goals as goal
 use Rattle.ll_tree.proofs.tree.Tree.is_above.Goals.{in-Some+then-depth, in_default}
 

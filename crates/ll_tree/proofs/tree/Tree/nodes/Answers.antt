@@ -1,6 +1,6 @@
 -- As many objects are kept as there are entries.
 use Rattle.std.proofs.Common.{arith}
-use Rattle.ll_tree.proofs.Objects.{length_is}
+use Rattle.ll_tree.proofs.Keeping.{length_is}
 use Rattle.ll_tree.proofs.tree.Tree.nodes.Goals as goal
 
 pub returns-clause-count : goal.returns-clause-count

@@ -1,6 +1,6 @@
 -- The object at a node's place is that node's.
 use Rattle.std.proofs.Common.{arith}
-use Rattle.ll_tree.proofs.Objects.{within_is, kind_is, of_node}
+use Rattle.ll_tree.proofs.Keeping.{within_is, kind_is, of_node}
 use Rattle.ll_tree.proofs.tree.Tree.object.Goals as goal
 
 pub index-requires : goal.index-requires

@@ -4,7 +4,7 @@ use Rattle.std.specs.Prelude.{is_some, unwrap_or}
 use Rattle.ll_lines.specs.Paths.{Path, front, path_of}
 use Rattle.ll_tree.specs.Trees.{node_at, gap_in, place_or_gap}
 use Rattle.ll_tree.specs.TreeFacts.{spelt}
-use Rattle.ll_tree.proofs.Finding.{spelt_is, place_is}
+use Rattle.ll_tree.proofs.Positions.{spelt_is, place_is}
 use Rattle.ll_tree.proofs.tree.Tree.place_of.Goals as goal
 
 pub find-requires-in-None : goal.find-requires-in-None

@@ -2,7 +2,7 @@
 use Rattle.ll_lines.specs.LineView.{line_view}
 use Rattle.ll_lines.specs.LineByLine.{reading}
 use Rattle.ll_tree.specs.TreeReading.{tree_format}
-use Rattle.ll_tree.specs.TreeByLine.{below_root}
+use Rattle.ll_tree.specs.Kept.{below_root}
 use Rattle.ll_lines.proofs.ReadingLemmas.{meets_fault}
 use Rattle.ll_tree.proofs.tree.Tree.read_lines.Goals as goal
 

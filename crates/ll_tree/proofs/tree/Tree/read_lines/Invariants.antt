@@ -1,7 +1,7 @@
 -- What is read so far and the lines that are left give the reading of the file.
 use Rattle.std.proofs.Common.{◌≡◌}
 use Rattle.ll_lines.specs.LineByLine.{read_lines, reading}
-use Rattle.ll_tree.specs.TreeByLine.{IsRooted, below_root}
+use Rattle.ll_tree.specs.Kept.{IsRooted, below_root}
 use Rattle.ll_tree.specs.TreeReading.{tree_format}
 use Rattle.ll_tree.proofs.tree.Tree.read_lines.Given as goal
 

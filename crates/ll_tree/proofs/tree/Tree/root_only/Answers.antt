@@ -2,7 +2,7 @@
 use Rattle.std.proofs.Common.{◌≡◌, ◌∷◌, []}
 use Rattle.ll_tree.specs.Trees.{root}
 use Rattle.ll_tree.specs.Kept.{IsSound, entries_of}
-use Rattle.ll_tree.proofs.RootAlone.{kept_root}
+use Rattle.ll_tree.proofs.Keeping.{kept_root}
 use Rattle.ll_tree.proofs.tree.Tree.root_only.Goals as goal
 use Rattle.ll_tree.proofs.tree.Tree.root_only.Goals.{In_ok-push}
 
