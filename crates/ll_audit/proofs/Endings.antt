@@ -11,7 +11,8 @@ use Rattle.ll_endings.specs.declared.outcome.Outcome.TheVariants as outcome
 use Rattle.ll_command.specs.Command.{Request, Text, request_of}
 use Rattle.ll_endings.specs.FaultLines.{failure_status}
 use Rattle.ll_source.specs.Files.{Files}
-use Rattle.ll_audit.specs.Fronts.{EndsWithoutRun, HasFailure, HasReason, HasWrongWords, IsOutcomeOf, IsWhy, Reports, StaysQuiet, TellsWhy, WritesNothing, WritesReport}
+use Rattle.ll_audit.specs.Fronts.{EndsWithoutRun, HasFailure, HasReason, HasWrongWords, IsOutcomeOf, IsWhy, Reports, StaysQuiet, TellsWhy, WritesNothing}
+use Rattle.ll_audit.specs.Fronts.{WritesReport}
 use Rattle.ll_endings.specs.Outcomes.{Complains, EndsWith}
 use Rattle.ll_command.proofs.CommandLine.{asks_for_no_run}
 
@@ -71,7 +72,8 @@ four_wrong : (status : ℕ) → status ≡ 4 → (status ≡ 2) ⊎ (status ≡ 
 four_wrong status a (inl b) = omega (arith, a, b)
 four_wrong status a (inr b) = omega (arith, a, b)
 
-module _ {Output Errors : Type 0} (contents : Output → Option (List ℕ)) (lines : Errors → Option (List ℕ)) (ending : Ending) (old new : Output) (errors_old errors_new : Errors) where
+module _ {Output Errors : Type 0} (contents : Output → Option (List ℕ)) (lines : Errors
+    → Option (List ℕ)) (ending : Ending) (old new : Output) (errors_old errors_new : Errors) where
   pub bounded : (of : Outcome) → EndsWith contents lines of ending old new errors_old errors_new → ending.status ≤ 4
   bounded (outcome.Report report) (inl (why, _)) = high_bounded ending.status (inr why.0)
   bounded (outcome.Report report) (inr written) = low_bounded ending.status (reporting report.refused ending.status written.0)
@@ -90,7 +92,8 @@ module _ {Output Errors : Type 0} (contents : Output → Option (List ℕ)) (lin
   stays_quiet (outcome.Misuse misuse) ends low = absurd (low_two ending.status low ends.0)
   stays_quiet (outcome.Failure of) ends low = absurd (low_high ending.status low (failing of ending.status ends.0.0))
 
-module _ {Output Errors : Type 0} (contents : Output → Option (List ℕ)) (lines : Errors → Option (List ℕ)) (words : List Text) (files : Option Files) (before after : ℕ) (ending : Ending) (old new : Output) (errors_old errors_new : Errors) where
+module _ {Output Errors : Type 0} (contents : Output → Option (List ℕ)) (lines : Errors
+    → Option (List ℕ)) (words : List Text) (files : Option Files) (before after : ℕ) (ending : Ending) (old new : Output) (errors_old errors_new : Errors) where
   pub writes_report : (of : Outcome) → IsOutcomeOf words files before after of → EndsWith contents lines of ending old new errors_old errors_new
       → WritesReport words files ending.status (contents old) (contents new)
   writes_report (outcome.Report report) has (inl (why, _)) low request asked = absurd (low_high ending.status low (inr why.0))

@@ -61,7 +61,8 @@ module _ (options : Options) (tree : List Entry) (records : List Record) (abi : 
         over_several = λ differs. absurd (differs only.1);
       }
 
-  pub is_under_one : (t : List Entry) (a : Abi) (rs : List Record) → t ≡ tree → a ≡ abi → rs ≡ taken options.effort abi records → IsShownReportOn options.shown t a rs report
+  pub is_under_one : (t : List Entry) (a : Abi) (rs : List Record) → t ≡ tree → a ≡ abi → rs ≡ taken options.effort abi records
+      → IsShownReportOn options.shown t a rs report
       → IsReportBy options tree records report
   is_under_one t a rs same_tree same_abi same_records is =
       under_single

@@ -1,5 +1,6 @@
 -- An audit from version to version, the newest first.
-use Rattle.std.proofs.Common.{◌≡◌, ◌∙◌, ℕ, zero, suc, ◌<◌, ◌≤◌, Bool, true, false, not, ◌&&◌, leb, leb-true, List, [], ◌∷◌, cond, drop, get_or, length, map, refl, sym, subst, ap, ap₂, arith, ◌-◌}
+use Rattle.std.proofs.Common.{◌≡◌, ◌∙◌, ℕ, zero, suc, ◌<◌, ◌≤◌, Bool, true, false, not, ◌&&◌, leb, leb-true, List, [], ◌∷◌, cond, drop, get_or, length, map}
+use Rattle.std.proofs.Common.{refl, sym, subst, ap, ap₂, arith, ◌-◌}
 use Rattle.std.specs.Prelude.{codes, filter, if◌then◌else◌}
 use Rattle.ll_rights.specs.declared.abi.Abi.{Abi}
 use Rattle.ll_rights.specs.Abis.{all_versions, number_of}
@@ -39,9 +40,11 @@ op_name-kept abi (calls.Create rs fs net) =
     either (files.is_empty (supported_fs abi fs) && network.is_empty (supported_net abi net) && not (files.is_empty fs && network.is_empty net))
     (calls.CreateEmpty rs) (calls.Create rs (supported_fs abi fs) (supported_net abi net)) (codes "create") refl refl
 op_name-kept abi (calls.AddPath rs path fs) =
-    either (files.is_empty (supported_fs abi fs) && not (files.is_empty fs)) (calls.LeaveOut PathBeneath) (calls.AddPath rs path (supported_fs abi fs)) (codes "add_path") refl refl
+    either (files.is_empty (supported_fs abi fs) && not (files.is_empty fs)) (calls.LeaveOut PathBeneath) (calls.AddPath rs path (supported_fs abi fs))
+    (codes "add_path") refl refl
 op_name-kept abi (calls.AddPort rs port net) =
-    either (network.is_empty (supported_net abi net) && not (network.is_empty net)) (calls.LeaveOut NetPort) (calls.AddPort rs port (supported_net abi net)) (codes "add_port") refl refl
+    either (network.is_empty (supported_net abi net) && not (network.is_empty net)) (calls.LeaveOut NetPort) (calls.AddPort rs port (supported_net abi net))
+    (codes "add_port") refl refl
 op_name-kept abi op = refl
 
 told-at_best_effort : (abi : Abi) (records : List Record) → map told_of (records_at_best_effort abi records) ≡ map told_of records
@@ -125,7 +128,8 @@ module _ (options : Options) (tree : List Entry) (records : List Record) where
   pub one_down : (done : List Abi) (abi : Abi) (audited next : Audited) → IsBefore done abi → IsDownTo done audited
       → next.located.tree ≡ audited.located.tree
       → next.located.trace ≡ (if is_in options.abis abi then taken options.effort abi audited.located.trace else audited.located.trace)
-      → next.findings.items ≡ (if is_in options.abis abi then found_under options.shown audited.located.tree (taken options.effort abi audited.located.trace) abi ∷ audited.findings.items
+      → next.findings.items ≡ (if is_in options.abis abi
+      then found_under options.shown audited.located.tree (taken options.effort abi audited.located.trace) abi ∷ audited.findings.items
       else audited.findings.items)
       → IsDownTo (abi ∷ done) next
   one_down done abi audited next before is kept trace findings =
@@ -136,7 +140,8 @@ module _ (options : Options) (tree : List Entry) (records : List Record) where
       own = ap₂ (λ (t : List Entry) (rs : List Record). found_under options.shown t rs abi) is.same_tree (is.again abi before)
 
       go : (b : Bool) → next.located.trace ≡ (if b then taken options.effort abi audited.located.trace else audited.located.trace)
-          → next.findings.items ≡ (if b then found_under options.shown audited.located.tree (taken options.effort abi audited.located.trace) abi ∷ audited.findings.items else audited.findings.items)
+          → next.findings.items ≡ (if b then found_under options.shown audited.located.tree (taken options.effort abi audited.located.trace) abi
+          ∷ audited.findings.items else audited.findings.items)
           → ((older : Abi) → IsBefore (abi ∷ done) older → taken options.effort older next.located.trace ≡ taken options.effort older records)
           × (map told_of next.located.trace ≡ map told_of records)
           × (next.findings.items ≡ map found (cond b (abi ∷ filter (is_in options.abis) done) (filter (is_in options.abis) done)))
@@ -164,17 +169,20 @@ module _ (options : Options) (tree : List Entry) (records : List Record) where
   pub next_down : (versions : List Abi) (place : ℕ) (other : Abi) (audited next : Audited) → versions ≡ all_versions → 0 < place → place ≤ length versions
       → IsDownTo (drop place versions) audited
       → next.located.tree ≡ audited.located.tree
-      → next.located.trace ≡ (if is_in options.abis (get_or versions (place - 1) other) then taken options.effort (get_or versions (place - 1) other) audited.located.trace
+      → next.located.trace
+      ≡ (if is_in options.abis (get_or versions (place - 1) other) then taken options.effort (get_or versions (place - 1) other) audited.located.trace
       else audited.located.trace)
       → next.findings.items ≡ (if is_in options.abis (get_or versions (place - 1) other)
-      then found_under options.shown audited.located.tree (taken options.effort (get_or versions (place - 1) other) audited.located.trace) (get_or versions (place - 1) other) ∷ audited.findings.items
+      then found_under options.shown audited.located.tree (taken options.effort (get_or versions (place - 1) other) audited.located.trace)
+      (get_or versions (place - 1) other) ∷ audited.findings.items
       else audited.findings.items)
       → IsDownTo (drop (place - 1) versions) next
   next_down versions place other audited next same some within is kept trace more =
       let abi : Abi = get_or versions (place - 1) other in
       let below : place ≡ suc (place - 1) = omega (arith, some) in
       let before : IsBefore (drop (suc (place - 1)) versions) abi =
-      subst (λ (vs : List Abi). place - 1 < length vs → IsBefore (drop (suc (place - 1)) vs) (get_or vs (place - 1) other)) (sym same) (before_newer (place - 1) other)
+      subst (λ (vs : List Abi). place - 1 < length vs
+      → IsBefore (drop (suc (place - 1)) vs) (get_or vs (place - 1) other)) (sym same) (before_newer (place - 1) other)
       (omega (arith, some, within)) in
       subst (λ (done : List Abi). IsDownTo done next) (sym (drop-cons versions (place - 1) other (omega (arith, some, within))))
       (one_down (drop (suc (place - 1)) versions) abi audited next before (subst (λ (k : ℕ). IsDownTo (drop k versions) audited) below is) kept trace more)
@@ -189,10 +197,9 @@ module _ (options : Options) (tree : List Entry) (records : List Record) where
   -- there are few versions
   pub few_found : length (findings options tree records) ≤ 64
   unfolding versions_in
-  few_found =
-      omega (
-        arith,
-        length-map (versions_in options.abis) found,
-        no_longer (is_in options.abis) all_versions,
-        few_versions,
-      )
+  few_found = omega (
+    arith,
+    length-map (versions_in options.abis) found,
+    no_longer (is_in options.abis) all_versions,
+    few_versions,
+  )

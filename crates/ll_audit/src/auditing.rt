@@ -217,7 +217,8 @@ fn report_on<R: Threads + Wait + Sync, G: Gate + Sync>(
     shown: Shown,
 ) -> Result<Report, Fault>
     requires { IsCrew crew.now.workers }
-    ensures report { IfOk result (IsShownReportOn shown case.now.tree case.now.abi case.now.records) }
+    ensures report { IfOk result
+        (IsShownReportOn shown case.now.tree case.now.abi case.now.records) }
     ensures fault { IfErr result IsWant }
 {
     let answers = crew.answers(case)?;

@@ -26,7 +26,8 @@ impl<'a, R: Threads + Wait + Sync, G: Gate + Sync> Crew<'a, R, G> {
     /// The answers to all records of a case.
     pub(crate) fn answers(&self, case: &Case) -> Result<Vec<Answer>, Fault>
         requires { IsCrew self.now.workers }
-        ensures answers { IfOk result (λ answers. answers.items ≡ judged case.now.tree case.now.abi case.now.records) }
+        ensures answers { IfOk result
+            (λ answers. answers.items ≡ judged case.now.tree case.now.abi case.now.records) }
         ensures fault { IfErr result IsWant }
     {
         let workers = self.workers as usize;

@@ -23,7 +23,9 @@ pub fn the_report_has_the_words_of_the_trace()
 /// and wherever the work was cut, and tell of as many refusals.
 pub fn the_same_bytes_have_one_report()
     ensures bytes { (abi : Version) (tree trace : List ℕ) (report other : Made)
-        → IsReport abi tree trace report → IsReport abi tree trace other → report.bytes.items ≡ other.bytes.items }
+        → IsReport abi tree trace report → IsReport abi tree trace other
+        → report.bytes.items ≡ other.bytes.items }
     ensures refused { (abi : Version) (tree trace : List ℕ) (report other : Made)
-        → IsReport abi tree trace report → IsReport abi tree trace other → report.refused ≡ other.refused }
+        → IsReport abi tree trace report → IsReport abi tree trace other
+        → report.refused ≡ other.refused }
 {}

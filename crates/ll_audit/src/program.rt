@@ -70,7 +70,8 @@ pub fn front_ending<R: Threads + Wait + Sync, S: Source, O: Write, E: Write, G: 
         result.status out.old out.new }
     ensures quiet { StaysQuiet result.status err.old err.new }
     ensures why { TellsWhy (map string_bytes words.now) (S.files source.old)
-        (S.failed source.old) (S.failed source.new) result (E.contents err.old) (E.contents err.new) }
+        (S.failed source.old) (S.failed source.new) result
+        (E.contents err.old) (E.contents err.new) }
 {
     outcome_of(rt, alloc, words, source, gate).write_to(out, err)
 }

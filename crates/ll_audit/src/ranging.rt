@@ -40,9 +40,11 @@ impl Audited {
         requires { IsCrew crew.now.workers }
         ensures tree { IfOk result (λ next. next.located.tree ≡ self.located.tree) }
         ensures trace { IfOk result (λ next. next.located.trace
-            ≡ (if is_in options.now.abis abi then taken options.now.effort abi self.located.trace else self.located.trace)) }
+            ≡ (if is_in options.now.abis abi then taken options.now.effort abi self.located.trace
+            else self.located.trace)) }
         ensures findings { IfOk result (λ next. next.findings.items ≡ (if is_in options.now.abis abi
-            then found_under options.now.shown self.located.tree (taken options.now.effort abi self.located.trace) abi ∷ self.findings.items
+            then found_under options.now.shown self.located.tree
+            (taken options.now.effort abi self.located.trace) abi ∷ self.findings.items
             else self.findings.items)) }
         ensures fault { IfErr result IsWant }
     {
@@ -67,8 +69,10 @@ impl Audited {
     ) -> Result<Audited, Fault>
         requires crew { IsCrew crew.now.workers }
         requires none_yet { self.findings.items ≡ [] }
-        ensures findings { IfOk result (λ all. all.findings.items ≡ findings options.now self.located.tree self.located.trace) }
-        ensures records { IfOk result (λ all. map told_of all.located.trace ≡ map told_of self.located.trace) }
+        ensures findings { IfOk result (λ all. all.findings.items
+            ≡ findings options.now self.located.tree self.located.trace) }
+        ensures records { IfOk result
+            (λ all. map told_of all.located.trace ≡ map told_of self.located.trace) }
         ensures fault { IfErr result IsWant }
     {
         let versions = Abi::all();

@@ -1,5 +1,6 @@
 -- What the words of a command line come to.
-use Rattle.std.proofs.Common.{◌≡◌, ◌∙◌, ℕ, Bool, true, false, List, [], ◌∷◌, Option, Some, None, Result, Ok, Err, MatchResult, refl, ap, sym, subst, inl, inr, arith}
+use Rattle.std.proofs.Common.{◌≡◌, ◌∙◌, ℕ, Bool, true, false, List, [], ◌∷◌, Option, Some, None, Result, Ok, Err, MatchResult, refl, ap, sym, subst, inl, inr}
+use Rattle.std.proofs.Common.{arith}
 use Rattle.std.specs.Prelude.{IfOk}
 use Rattle.std.specs.Str.Parse.{ParsesUnsigned}
 use Rattle.clap.specs.declared.builder.value_parser.ValueParser.TheVariants.{Unsigned}
@@ -8,7 +9,8 @@ use Rattle.clap.specs.declared.error.kind.ErrorKind.{ErrorKind}
 use Rattle.clap.specs.declared.parser.matches.ArgMatches.{ArgMatches}
 use Rattle.clap.specs.Matches.{ReadsOne}
 use Rattle.clap.specs.ValueTests.{is_unsigned_in}
-use Rattle.clap.specs.Words.{App, FailsBy, HasKind, HasMatchesOf, IsAmong, Kinds, Row, Text, fault_of, found_of, is_simple, is_simple_and_free, kind_of, matches_of, rows_of}
+use Rattle.clap.specs.Words.{App, FailsBy, HasKind, HasMatchesOf, IsAmong, Kinds, Row, Text, fault_of, found_of, is_simple, is_simple_and_free, kind_of}
+use Rattle.clap.specs.Words.{matches_of, rows_of}
 use Rattle.clap.proofs.OnLiterals.{clap_on_literals}
 use Rattle.clap.proofs.ValueTestLemmas.{accepts-Accepts, Accepts-accepts}
 use Rattle.clap.specs.declared.error.kind.ErrorKind.TheVariants.{DisplayHelp, DisplayVersion, ValueValidation}
@@ -90,14 +92,16 @@ request_of-fault words kind among = by_kinds (faults words) among
     by_kinds (k ∷ ks) h = refl
 
 -- matches that are misused have a fault of their own
-pub misuse_is_wrong : (words : List Text) (rows : List Row) → fault_of command words ≡ [] → rows ≡ matches_of command words → is_misuse rows ≡ true → AreWrong words
+pub misuse_is_wrong : (words : List Text) (rows : List Row) → fault_of command words ≡ [] → rows ≡ matches_of command words
+    → is_misuse rows ≡ true → AreWrong words
 unfolding faults
 misuse_is_wrong words rows none same misused =
     let only : faults words ≡ ValueValidation ∷ [] = rw (none, sym same, misused) refl in
     (ValueValidation, subst (IsAmong ValueValidation) (sym only) (inl refl), λ is. cc, λ is. cc)
 
 -- and the others none
-pub no_misuse : (words : List Text) (rows : List Row) → fault_of command words ≡ [] → rows ≡ matches_of command words → is_misuse rows ≡ false → faults words ≡ []
+pub no_misuse : (words : List Text) (rows : List Row) → fault_of command words ≡ [] → rows ≡ matches_of command words
+    → is_misuse rows ≡ false → faults words ≡ []
 unfolding faults
 no_misuse words rows none same used = rw (none, sym same, used) refl
 

@@ -1,5 +1,6 @@
 -- Words without a fault have a value that passes for each argument, and so name a run.
-use Rattle.std.proofs.Common.{◌≡◌, ◌∙◌, ◌<◌, ◌≤◌, ◌⊎◌, ◌||◌, ◌&&◌, ℕ, Bool, true, false, cond, not, zero, suc, List, [], ◌∷◌, ◌++◌, length, Option, Some, None, refl, ap, sym, subst, inl, inr, arith, option_and_then, is_some, length-append, lt-ltb, option_map}
+use Rattle.std.proofs.Common.{◌≡◌, ◌∙◌, ◌<◌, ◌≤◌, ◌⊎◌, ◌||◌, ◌&&◌, ℕ, Bool, true, false, cond, not, zero, suc, List, [], ◌∷◌, ◌++◌, length, Option, Some, None}
+use Rattle.std.proofs.Common.{refl, ap, sym, subst, inl, inr, arith, option_and_then, is_some, length-append, lt-ltb, option_map}
 use Rattle.std.specs.Prelude.{IsSome, ◌↔◌, codes, fold, find, slice_get, drop, encode_utf8}
 use Rattle.std.specs.List.{list_any}
 use Rattle.std.specs.Option.{option_map_or}
@@ -12,14 +13,17 @@ use Rattle.clap.specs.declared.builder.value_parser.ValueParser.TheVariants.{Uns
 use Rattle.clap.proofs.ValueTestLemmas.{accepts-Accepts, Accepts-accepts}
 use Rattle.ll_options.specs.declared.abis.AbiRange.{AbiRange}
 use Rattle.ll_command.proofs.CommandLine.{no_misuse, request_of-matches}
-use Rattle.ll_command.specs.Command.{Request, command, crew_of, faults, is_misuse, number_at, range_in, request_if, request_in, request_of, options_in, with_misuse}
+use Rattle.ll_command.specs.Command.{Request, command, crew_of, faults, is_misuse, number_at, range_in, request_if, request_in, request_of, options_in}
+use Rattle.ll_command.specs.Command.{with_misuse}
 use Rattle.clap.specs.declared.builder.action.ArgAction.{ArgAction}
 use Rattle.clap.specs.declared.builder.action.ArgAction.TheVariants.{Help, Set, SetTrue, Version}
 use Rattle.clap.specs.declared.parser.matches.ValueSource.{ValueSource}
 use Rattle.clap.specs.declared.parser.matches.ValueSource.TheVariants.{CommandLine, DefaultValue}
 use Rattle.clap.specs.declared.builder.value_parser.Reading.{Reading}
 use Rattle.clap.specs.Facts.{explicit_source, parser_of_value, unwrap_or_range}
-use Rattle.clap.specs.Faults.{action_fault, fault_of, bundle_fault, bundle_step_fault, check_fault, default_fault, defaults_fault, flag_word_fault, flags_fault, given_default_fault, long_fault, option_fault, other_fault, positional_fault, react_fault, repeat_fault, settle_fault, short_fault, step_fault, stray_fault, turn_fault, use_fault, values_fault, walk_fault, word_fault}
+use Rattle.clap.specs.Faults.{action_fault, fault_of, bundle_fault, bundle_step_fault, check_fault, default_fault, defaults_fault, flag_word_fault, flags_fault}
+use Rattle.clap.specs.Faults.{given_default_fault, long_fault, option_fault, other_fault, positional_fault, react_fault, repeat_fault, settle_fault}
+use Rattle.clap.specs.Faults.{short_fault, step_fault, stray_fault, turn_fault, use_fault, values_fault, walk_fault, word_fault}
 use Rattle.clap.specs.Kinds.{Kinds, or_else, range_kinds, request_kinds, value_kinds}
 use Rattle.clap.specs.Lexer.{long_of, short_of}
 use Rattle.clap.specs.Simple.{Shape, argument_words, built, matches_of, names_of}
@@ -27,7 +31,12 @@ use Rattle.clap.specs.Takes.{is_given}
 use Rattle.clap.specs.ValueTests.{accepts, is_unsigned_in}
 use Rattle.clap.specs.Values.{read_as, refused_kind}
 use Rattle.clap.specs.declared.error.kind.ErrorKind.TheVariants.{DisplayHelp, DisplayVersion, InvalidValue, MissingRequiredArgument, TooManyValues}
-use Rattle.clap.specs.Walk.{Held, Names, Outcome, Row, Rule, Step, Text, Waiting, Walk, action_of, after_flag, after_step, arg_by_id, arg_by_index, arg_by_long, arg_by_short, attached_value, bundle_met, bundle_step, default_rows, done, finished, first_of, flag_met, has_row, idle, is_empty, is_pending, long_met, long_or_other, most_values, more_values, next, nothing_held, one_of, option, option_met, option_word, plain, plain_word, positional, reacted, reading_by, refused, row_text, settled, settled_rows, short_met, short_or_plain, subcommand, subcommand_met, subcommand_or_other, takes_several, takes_values, to_positional, trailing, used, used_as, value, values_or_missing, waits, walk, walk_from, walked, walked_from, with_default, with_values, without, word_met}
+use Rattle.clap.specs.Walk.{Held, Names, Outcome, Row, Rule, Step, Text, Waiting, Walk, action_of, after_flag, after_step, arg_by_id, arg_by_index, arg_by_long}
+use Rattle.clap.specs.Walk.{arg_by_short, attached_value, bundle_met, bundle_step, default_rows, done, finished, first_of, flag_met, has_row, idle, is_empty}
+use Rattle.clap.specs.Walk.{is_pending, long_met, long_or_other, most_values, more_values, next, nothing_held, one_of, option, option_met, option_word, plain}
+use Rattle.clap.specs.Walk.{plain_word, positional, reacted, reading_by, refused, row_text, settled, settled_rows, short_met, short_or_plain, subcommand}
+use Rattle.clap.specs.Walk.{subcommand_met, subcommand_or_other, takes_several, takes_values, to_positional, trailing, used, used_as, value, values_or_missing}
+use Rattle.clap.specs.Walk.{waits, walk, walk_from, walked, walked_from, with_default, with_values, without, word_met}
 
 -- ---- what a row holds
 
@@ -236,7 +245,8 @@ module _ (shape : Shape) (known : AreKnown shape.rules shape.rules) where
   short_fits (Some rule) rest h next_held next_fault is later none fit = go (takes_values rule) none
     where
       go : (b : Bool)
-          → cond b (option_fault rules again rule (attached_value rest) h) (or_else (react_fault rules again rule [] h) (next_fault (reacted rules rule [] h))) ≡ []
+          → cond b (option_fault rules again rule (attached_value rest) h) (or_else (react_fault rules again rule [] h) (next_fault (reacted rules rule [] h)))
+          ≡ []
           → AllFit rules (cond b (option_met rules rule (attached_value rest) h) (next_held (reacted rules rule [] h))).0.rows
       go true fails = option_fits rule (attached_value rest) h (is rule refl) fails fit
       go false fails =
@@ -375,7 +385,8 @@ module _ (shape : Shape) (known : AreKnown shape.rules shape.rules) where
       → defaults_fault (settled rules (walk rules names nothing_held words).held).rows rules ≡ []
       → AllFit rules (finished rules (walk rules names nothing_held words).held)
   finished_fits names words walks settles defaults =
-      defaults_fit rules _ known defaults (settle_fits (walk rules names nothing_held words).held settles (walk_fits names (walk_from nothing_held) words walks tt))
+      defaults_fit rules _ known defaults
+      (settle_fits (walk rules names nothing_held words).held settles (walk_fits names (walk_from nothing_held) words walks tt))
 
 -- ---- what is found among the rows
 
@@ -521,8 +532,19 @@ are_known : AreKnown top.rules top.rules
 unfolding command
 are_known =
     let sets = inl (refl, omega arith) in
-    let flags = inr (inl (refl, omega arith)) in
-    ((refl, sets), ((refl, sets), ((refl, sets), ((refl, flags), ((refl, flags), ((refl, flags), ((refl, flags), ((refl, sets), ((refl, sets), ((refl, inr (inr (inl refl))), ((refl, inr (inr (inr refl))), tt)))))))))))
+    let flag = inr (inl (refl, omega arith)) in (
+      (refl, sets),
+      (
+        (refl, sets),
+        (
+          (refl, sets),
+          (
+            (refl, flag),
+            ((refl, flag), ((refl, flag), ((refl, flag), ((refl, sets), ((refl, sets), ((refl, inr (inr (inl refl))), ((refl, inr (inr (inr refl))), tt))))))),
+          ),
+        ),
+      ),
+    )
 
 -- the rows of words in which nothing is wrong
 record IsWhole (rows : List Row) : Type 0 where
@@ -592,7 +614,8 @@ number_found low high name rows text fits one passes =
     (digits_value 10 (without_leading_plus text), rw (one, wide) refl, accepted.2, accepted.3)
 
 -- what isn't misused names a range
-range_found : (rows : List Row) (text : Text) → is_misuse rows ≡ false → first_of (codes "abi") rows ≡ Some text → (abis : AbiRange) × (range_in text ≡ Some abis)
+range_found : (rows : List Row) (text : Text) → is_misuse rows ≡ false → first_of (codes "abi") rows ≡ Some text
+    → (abis : AbiRange) × (range_in text ≡ Some abis)
 range_found rows text used first = there (range_in text) refl
   where
     there : (found : Option AbiRange) → range_in text ≡ found → (abis : AbiRange) × (range_in text ≡ Some abis)

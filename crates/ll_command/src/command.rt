@@ -283,7 +283,8 @@ fn text<'a>(matches: &ArgMatches<'a>, name: &str) -> Option<&'a str>
 
 /// Whether the matches give an argument this text.
 fn is_text(matches: &ArgMatches<'_>, name: &str, wanted: &str) -> bool
-    ensures { result ≡ spec.is_text wanted.now (first_of name.now (rows_of (found_of matches.now))) }
+    ensures { result
+        ≡ spec.is_text wanted.now (first_of name.now (rows_of (found_of matches.now))) }
 {
     match text(matches, name) {
         Some(text) => text == wanted,

@@ -11,63 +11,104 @@ ghost use Rattle.ll_command.specs.Command.{Text, faults, newer_digit, request_of
 #[tactic(auto, unfolding(clap::proofs::OnLiterals::clap_on_literals, crate::specs::Command::command, crate::specs::Command::faults, crate::specs::Command::request_in, crate::specs::Command::request_of, ll_rights::specs::Abis::all_versions))]
 pub fn command_lines()
     // Without `--workers` and `--grain` there is one worker, and the grain is 64.
-    ensures short { request_of (codes "landaudit" ∷ codes "--abi" ∷ codes "4" ∷ codes "t" ∷ codes "r" ∷ [])
+    ensures short { request_of
+        (codes "landaudit" ∷ codes "--abi" ∷ codes "4" ∷ codes "t" ∷ codes "r" ∷ [])
         ≡ Some (record {
-          options = record { abis = record { oldest = V4; newest = V4 }; effort = AsRecorded; shown = ALL_LINES };
+          options =
+              record {
+                abis = record { oldest = V4; newest = V4 };
+                effort = AsRecorded;
+                shown = ALL_LINES;
+              };
           workers = 1;
           grain = 64;
           tree = codes "t";
           trace = codes "r";
         }) }
-    ensures long { request_of (codes "landaudit" ∷ codes "--abi=5" ∷ codes "t" ∷ codes "--workers" ∷ codes "64"
+    ensures long { request_of
+        (codes "landaudit" ∷ codes "--abi=5" ∷ codes "t" ∷ codes "--workers" ∷ codes "64"
         ∷ codes "r" ∷ codes "--grain=0" ∷ [])
         ≡ Some (record {
-          options = record { abis = record { oldest = V5; newest = V5 }; effort = AsRecorded; shown = ALL_LINES };
+          options =
+              record {
+                abis = record { oldest = V5; newest = V5 };
+                effort = AsRecorded;
+                shown = ALL_LINES;
+              };
           workers = 64;
           grain = 0;
           tree = codes "t";
           trace = codes "r";
         }) }
-    ensures best_effort { option_map (λ asked. asked.options) (request_of (codes "landaudit" ∷ codes "--best-effort" ∷ codes "--abi"
-        ∷ codes "1" ∷ codes "t" ∷ codes "r" ∷ [])) ≡ Some (record { abis = record { oldest = V1; newest = V1 }; effort = Best; shown = ALL_LINES }) }
-    ensures refused { option_map (λ asked. asked.options.shown) (request_of (codes "landaudit" ∷ codes "--abi" ∷ codes "4" ∷ codes "--refused"
-        ∷ codes "t" ∷ codes "r" ∷ [])) ≡ Some (record { explanations = false; refused_alone = true; differing_alone = false }) }
-    ensures explained { option_map (λ asked. asked.options.shown) (request_of (codes "landaudit" ∷ codes "--abi" ∷ codes "4" ∷ codes "t"
-        ∷ codes "r" ∷ codes "--explain" ∷ [])) ≡ Some (record { explanations = true; refused_alone = false; differing_alone = false }) }
-    ensures range { option_map (λ asked. asked.options.abis) (request_of (codes "landaudit" ∷ codes "--abi" ∷ codes "1-5" ∷ codes "t"
+    ensures best_effort { option_map (λ asked. asked.options)
+        (request_of (codes "landaudit" ∷ codes "--best-effort" ∷ codes "--abi"
+        ∷ codes "1" ∷ codes "t" ∷ codes "r" ∷ []))
+        ≡ Some (record {
+          abis = record { oldest = V1; newest = V1 };
+          effort = Best;
+          shown = ALL_LINES;
+        }) }
+    ensures refused { option_map (λ asked. asked.options.shown)
+        (request_of (codes "landaudit" ∷ codes "--abi" ∷ codes "4" ∷ codes "--refused"
+        ∷ codes "t" ∷ codes "r" ∷ []))
+        ≡ Some (record { explanations = false; refused_alone = true; differing_alone = false }) }
+    ensures explained { option_map (λ asked. asked.options.shown)
+        (request_of (codes "landaudit" ∷ codes "--abi" ∷ codes "4" ∷ codes "t"
+        ∷ codes "r" ∷ codes "--explain" ∷ []))
+        ≡ Some (record { explanations = true; refused_alone = false; differing_alone = false }) }
+    ensures range { option_map (λ asked. asked.options.abis)
+        (request_of (codes "landaudit" ∷ codes "--abi" ∷ codes "1-5" ∷ codes "t"
         ∷ codes "r" ∷ [])) ≡ Some (record { oldest = V1; newest = V5 }) }
-    ensures differing { option_map (λ asked. asked.options.shown) (request_of (codes "landaudit" ∷ codes "--abi" ∷ codes "1-5" ∷ codes "--differs"
-        ∷ codes "t" ∷ codes "r" ∷ [])) ≡ Some (record { explanations = false; refused_alone = false; differing_alone = true }) }
+    ensures differing { option_map (λ asked. asked.options.shown)
+        (request_of (codes "landaudit" ∷ codes "--abi" ∷ codes "1-5" ∷ codes "--differs"
+        ∷ codes "t" ∷ codes "r" ∷ []))
+        ≡ Some (record { explanations = false; refused_alone = false; differing_alone = true }) }
     // The versions are one, or a range with the older first.
-    ensures no_version_zero { faults (codes "landaudit" ∷ codes "--abi" ∷ codes "0-3" ∷ codes "t" ∷ codes "r" ∷ []) ≡ kind.ValueValidation ∷ [] }
-    ensures no_falling_range { faults (codes "landaudit" ∷ codes "--abi" ∷ codes "5-1" ∷ codes "t" ∷ codes "r" ∷ []) ≡ kind.ValueValidation ∷ [] }
-    ensures no_newer_version { faults (codes "landaudit" ∷ codes "--abi" ∷ (codes "1-" ++ newer_digit ∷ []) ∷ codes "t"
+    ensures no_version_zero { faults (codes "landaudit" ∷ codes "--abi" ∷ codes "0-3" ∷ codes "t"
         ∷ codes "r" ∷ []) ≡ kind.ValueValidation ∷ [] }
-    ensures no_open_range { faults (codes "landaudit" ∷ codes "--abi" ∷ codes "1-" ∷ codes "t" ∷ codes "r" ∷ []) ≡ kind.ValueValidation ∷ [] }
-    ensures no_hyphen_alone { faults (codes "landaudit" ∷ codes "--abi" ∷ codes "-" ∷ codes "t" ∷ codes "r" ∷ []) ≡ kind.ValueValidation ∷ [] }
-    ensures no_letters { faults (codes "landaudit" ∷ codes "--abi" ∷ codes "a-b" ∷ codes "t" ∷ codes "r" ∷ []) ≡ kind.ValueValidation ∷ [] }
-    ensures no_second_range { faults (codes "landaudit" ∷ codes "--abi" ∷ codes "1" ∷ codes "--abi" ∷ codes "2" ∷ codes "t" ∷ codes "r" ∷ [])
+    ensures no_falling_range { faults (codes "landaudit" ∷ codes "--abi" ∷ codes "5-1" ∷ codes "t"
+        ∷ codes "r" ∷ []) ≡ kind.ValueValidation ∷ [] }
+    ensures no_newer_version { faults
+        (codes "landaudit" ∷ codes "--abi" ∷ (codes "1-" ++ newer_digit ∷ []) ∷ codes "t"
+        ∷ codes "r" ∷ []) ≡ kind.ValueValidation ∷ [] }
+    ensures no_open_range { faults (codes "landaudit" ∷ codes "--abi" ∷ codes "1-" ∷ codes "t"
+        ∷ codes "r" ∷ []) ≡ kind.ValueValidation ∷ [] }
+    ensures no_hyphen_alone { faults (codes "landaudit" ∷ codes "--abi" ∷ codes "-" ∷ codes "t"
+        ∷ codes "r" ∷ []) ≡ kind.ValueValidation ∷ [] }
+    ensures no_letters { faults (codes "landaudit" ∷ codes "--abi" ∷ codes "a-b" ∷ codes "t"
+        ∷ codes "r" ∷ []) ≡ kind.ValueValidation ∷ [] }
+    ensures no_second_range { faults (codes "landaudit" ∷ codes "--abi" ∷ codes "1" ∷ codes "--abi"
+        ∷ codes "2" ∷ codes "t" ∷ codes "r" ∷ [])
         ≡ kind.ArgumentConflict ∷ [] }
     // One of the files may be standard input.
-    ensures from_standard_input { option_map (λ asked. asked.trace) (request_of (codes "landaudit" ∷ codes "--abi" ∷ codes "4" ∷ codes "t"
+    ensures from_standard_input { option_map (λ asked. asked.trace)
+        (request_of (codes "landaudit" ∷ codes "--abi" ∷ codes "4" ∷ codes "t"
         ∷ codes "-" ∷ [])) ≡ Some (codes "-") }
-    ensures not_both { faults (codes "landaudit" ∷ codes "--abi" ∷ codes "4" ∷ codes "-" ∷ codes "-" ∷ []) ≡ kind.ValueValidation ∷ [] }
+    ensures not_both { faults (codes "landaudit" ∷ codes "--abi" ∷ codes "4" ∷ codes "-" ∷ codes "-"
+        ∷ []) ≡ kind.ValueValidation ∷ [] }
     // A flag has no value, and is given at most once.
-    ensures no_value { faults (codes "landaudit" ∷ codes "--abi" ∷ codes "4" ∷ codes "--refused=true" ∷ codes "t" ∷ codes "r" ∷ [])
+    ensures no_value { faults (codes "landaudit" ∷ codes "--abi" ∷ codes "4"
+        ∷ codes "--refused=true" ∷ codes "t" ∷ codes "r" ∷ [])
         ≡ kind.TooManyValues ∷ [] }
-    ensures no_second { faults (codes "landaudit" ∷ codes "--abi" ∷ codes "4" ∷ codes "--refused" ∷ codes "--refused" ∷ codes "t"
+    ensures no_second { faults (codes "landaudit" ∷ codes "--abi" ∷ codes "4" ∷ codes "--refused"
+        ∷ codes "--refused" ∷ codes "t"
         ∷ codes "r" ∷ []) ≡ kind.ArgumentConflict ∷ [] }
-    ensures no_such_version { faults (codes "landaudit" ∷ codes "--abi" ∷ (newer_digit ∷ []) ∷ codes "t" ∷ codes "r" ∷ [])
+    ensures no_such_version { faults
+        (codes "landaudit" ∷ codes "--abi" ∷ (newer_digit ∷ []) ∷ codes "t" ∷ codes "r" ∷ [])
         ≡ kind.ValueValidation ∷ [] }
-    ensures no_worker { faults (codes "landaudit" ∷ codes "--abi" ∷ codes "4" ∷ codes "--workers" ∷ codes "0"
+    ensures no_worker { faults
+        (codes "landaudit" ∷ codes "--abi" ∷ codes "4" ∷ codes "--workers" ∷ codes "0"
         ∷ codes "t" ∷ codes "r" ∷ []) ≡ kind.ValueValidation ∷ [] }
     ensures no_trace { faults (codes "landaudit" ∷ codes "--abi" ∷ codes "4" ∷ codes "t" ∷ [])
         ≡ kind.MissingRequiredArgument ∷ [] }
     ensures no_word { faults (codes "landaudit" ∷ []) ≡ kind.MissingRequiredArgument ∷ [] }
     ensures help { faults (codes "landaudit" ∷ codes "--help" ∷ []) ≡ kind.DisplayHelp ∷ [] }
-    ensures version { faults (codes "landaudit" ∷ codes "--version" ∷ []) ≡ kind.DisplayVersion ∷ [] }
-    ensures short_version { faults (codes "landaudit" ∷ codes "-V" ∷ []) ≡ kind.DisplayVersion ∷ [] }
-    ensures help_last { faults (codes "landaudit" ∷ codes "--abi" ∷ codes "4" ∷ codes "t" ∷ codes "r" ∷ codes "--help" ∷ [])
+    ensures version { faults (codes "landaudit" ∷ codes "--version" ∷ [])
+        ≡ kind.DisplayVersion ∷ [] }
+    ensures short_version { faults (codes "landaudit" ∷ codes "-V" ∷ [])
+        ≡ kind.DisplayVersion ∷ [] }
+    ensures help_last { faults (codes "landaudit" ∷ codes "--abi" ∷ codes "4" ∷ codes "t"
+        ∷ codes "r" ∷ codes "--help" ∷ [])
         ≡ kind.DisplayHelp ∷ [] }
 {}
 

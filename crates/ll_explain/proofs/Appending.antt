@@ -10,7 +10,9 @@ pub appended_4 : (start first second third fourth a b c d : List ℕ) → first 
 appended_4 start first second third fourth a b c d is_first is_second is_third is_fourth =
     is_fourth ∙ ap (λ t. t ++ d) (appended_3 start first second third a b c is_first is_second is_third) ∙ append_assoc start (a ++ b ++ c) d
 
-pub appended_5 : (start first second third fourth fifth a b c d e : List ℕ) → first ≡ start ++ a → second ≡ first ++ b → third ≡ second ++ c → fourth ≡ third ++ d → fifth ≡ fourth ++ e →
+pub appended_5 : (start first second third fourth fifth a b c d e : List ℕ) → first ≡ start ++ a → second ≡ first ++ b → third ≡ second ++ c
+    → fourth ≡ third ++ d → fifth ≡ fourth ++ e →
     fifth ≡ start ++ (a ++ b ++ c ++ d ++ e)
 appended_5 start first second third fourth fifth a b c d e is_first is_second is_third is_fourth is_fifth =
-    is_fifth ∙ ap (λ t. t ++ e) (appended_4 start first second third fourth a b c d is_first is_second is_third is_fourth) ∙ append_assoc start (a ++ b ++ c ++ d) e
+    is_fifth ∙ ap (λ t. t ++ e) (appended_4 start first second third fourth a b c d is_first is_second is_third is_fourth)
+    ∙ append_assoc start (a ++ b ++ c ++ d) e

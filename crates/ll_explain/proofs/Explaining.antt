@@ -37,10 +37,12 @@ module _ (tree : List Entry) (abi : Abi) (records : List Record) (place : ℕ) w
   placed a is = subst (λ (n : ℕ). place < n) (length-judged tree abi records) (slice_get_within (judged tree abi records) place a is)
 
   -- a record that isn't allowed starts nothing
-  pub starts_nothing : (r : Record) (a : Answer) → slice_get records place ≡ Some r → slice_get (judged tree abi records) place ≡ Some a → a ≢ Allowed → is_start r.op ≡ false
+  pub starts_nothing : (r : Record) (a : Answer) → slice_get records place ≡ Some r → slice_get (judged tree abi records) place ≡ Some a
+      → a ≢ Allowed → is_start r.op ≡ false
   starts_nothing r a at is not_allowed = elim (cases_Bool (is_start r.op)) [
     | inl starts ↦
-        let told : answer_in tree abi (world_at tree abi records place) r.process.0 r.op ≡ a = same_Some _ a (sym (judged-at tree abi records place r at) ∙ is) in
+        let told : answer_in tree abi (world_at tree abi records place) r.process.0 r.op ≡ a =
+        same_Some _ a (sym (judged-at tree abi records place r at) ∙ is) in
         absurd (not_allowed (sym told ∙ start_allowed tree abi (world_at tree abi records place) r.process.0 r.op starts))
     | inr goes ↦ goes
   ]
@@ -78,7 +80,8 @@ module _ (tree : List Entry) (abi : Abi) (records : List Record) (place : ℕ) w
   refusing r error [] some = absurd (some refl)
   refusing r error (number ∷ numbers) some = refl
 
-  pub text_refusing : (r : Record) (error : Errno) (numbers : List ℕ) → slice_get records place ≡ Some r → slice_get (judged tree abi records) place ≡ Some (Refused error numbers) → numbers ≢ []
+  pub text_refusing : (r : Record) (error : Errno) (numbers : List ℕ) → slice_get records place ≡ Some r
+      → slice_get (judged tree abi records) place ≡ Some (Refused error numbers) → numbers ≢ []
       → text_at tree abi records place
       ≡ flat_map (layer_text records (origins_at tree abi records place r.process.0).layers)
       (objections_to tree (domain_at tree abi records place r.process.0) (origins_at tree abi records place r.process.0) r.op error numbers)

@@ -34,7 +34,8 @@ won false on counted false = refl
 
 module _ (layer : Layer) (kind : Kind) (object directory : Path) where
   pub gainable-by : (one : files.FsRight) (lacking holder file_right lacking_there : Bool) →
-      lacking ≡ lacks layer object (files.only one) → holder ≡ is_dir kind → file_right ≡ files.is_file_right one → lacking_there ≡ lacks layer directory (files.only one) →
+      lacking ≡ lacks layer object (files.only one) → holder ≡ is_dir kind → file_right ≡ files.is_file_right one
+      → lacking_there ≡ lacks layer directory (files.only one) →
       (lacking && (holder || file_right) && not lacking_there) ≡ gainable layer kind object directory one
   unfolding gainable
   gainable-by one lacking holder file_right lacking_there here is counts there =
@@ -50,4 +51,5 @@ module _ (layer : Layer) (kind : Kind) (object directory : Path) where
       ∙ ap (λ p. if_any (rights_in set) (gained p (rights_in set) (spelt into.now))) is
       ∙ ap (λ p. if_any (rights_in set) (gained object (rights_in set) p)) goes
       ∙ ap (λ rights. if_any rights (gained object rights directory))
-      (filter_agree (files.has set) (λ right. granted layer directory right && (handles layer right && (is_dir kind || files.is_file_right right)) && not (granted layer object right)) same files.all_rights)
+      (filter_agree (files.has set) (λ right. granted layer directory right && (handles layer right && (is_dir kind || files.is_file_right right))
+      && not (granted layer object right)) same files.all_rights)

@@ -13,7 +13,8 @@ use Rattle.ll_explain.specs.Kept.{kept_entry, kept_text}
 use Rattle.ll_explain.specs.Words.{joined, layer_head, layer_text, objection_text, word_for}
 
 module _ (records : List Record) (layers : List ℕ) (right : files.FsRight) (place : ℕ) where
-  pub kept_line : (number : ℕ) → layer_text records layers (kept_entry right place number) ≡ layer_head records layers number ++ kept_text records (word_for (files.name_of right)) place ++ codes "\n"
+  pub kept_line : (number : ℕ) → layer_text records layers (kept_entry right place number)
+      ≡ layer_head records layers number ++ kept_text records (word_for (files.name_of right)) place ++ codes "\n"
   unfolding layer_text kept_entry kept_text objection_text joined
   kept_line number = ap (λ text. layer_head records layers number ++ text ++ codes "\n") (append-nil (kept_text records (word_for (files.name_of right)) place))
 
@@ -24,12 +25,14 @@ module _ (records : List Record) (layers : List ℕ) (right : files.FsRight) (pl
   map-append [] ys = refl
   map-append (x ∷ xs) ys = ap (λ zs. kept_entry right place x ∷ zs) (map-append xs ys)
 
-  pub lines_next : (test : ℕ → Bool) (index : ℕ) (b : Bool) → test (suc index) ≡ b → lines_upto test (suc index) ≡ lines_upto test index ++ cond b (layer_text records layers (kept_entry right place (suc index))) []
+  pub lines_next : (test : ℕ → Bool) (index : ℕ) (b : Bool) → test (suc index) ≡ b
+      → lines_upto test (suc index) ≡ lines_upto test index ++ cond b (layer_text records layers (kept_entry right place (suc index))) []
   unfolding passing_upto lines_upto
   lines_next test index true is =
       rw is (ap (flat_map (layer_text records layers)) (map-append (passing_upto test index) (suc index ∷ []))
       ∙ flat_map-append (layer_text records layers) (map (kept_entry right place) (passing_upto test index)) (kept_entry right place (suc index) ∷ [])
-      ∙ ap (λ t. flat_map (layer_text records layers) (map (kept_entry right place) (passing_upto test index)) ++ t) (append-nil (layer_text records layers (kept_entry right place (suc index)))))
+      ∙ ap (λ t. flat_map (layer_text records layers) (map (kept_entry right place) (passing_upto test index)) ++ t)
+      (append-nil (layer_text records layers (kept_entry right place (suc index)))))
   lines_next test index false is =
       rw is (ap (λ ns. flat_map (layer_text records layers) (map (kept_entry right place) ns)) (append-nil (passing_upto test index))
       ∙ sym (append-nil (flat_map (layer_text records layers) (map (kept_entry right place) (passing_upto test index)))))
@@ -45,13 +48,15 @@ module _ (records : List Record) (layers : List ℕ) (right : files.FsRight) (pl
       ∙ append_assoc start (lines_upto test index) (layer_text records layers (kept_entry right place (suc index)))
       ∙ ap (λ t. start ++ t) (sym (lines_next test index true passes) ∙ ap (lines_upto test) (sym next))
 
-  pub lines_without : (test : ℕ → Bool) (index : ℕ) (start text : List ℕ) → test (index + 1) ≡ false → text ≡ start ++ lines_upto test index → text ≡ start ++ lines_upto test (index + 1)
+  pub lines_without : (test : ℕ → Bool) (index : ℕ) (start text : List ℕ) → test (index + 1) ≡ false → text ≡ start ++ lines_upto test index
+      → text ≡ start ++ lines_upto test (index + 1)
   lines_without test index start text is so_far =
       let next : index + 1 ≡ suc index = omega arith in
       let fails : test (suc index) ≡ false = ap test (sym next) ∙ is in
       so_far ∙ ap (λ t. start ++ t) (sym (append-nil (lines_upto test index)) ∙ sym (lines_next test index false fails) ∙ ap (lines_upto test) (sym next))
 
-  pub lines_all : (numbers : List ℕ) (test : ℕ → Bool) (index : ℕ) (start text : List ℕ) → index ≡ 16 → passing_upto test 16 ≡ numbers → text ≡ start ++ lines_upto test index →
+  pub lines_all : (numbers : List ℕ) (test : ℕ → Bool) (index : ℕ) (start text : List ℕ) → index ≡ 16 → passing_upto test 16 ≡ numbers
+      → text ≡ start ++ lines_upto test index →
       text ≡ start ++ flat_map (layer_text records layers) (kept_by right numbers (Some place))
   unfolding lines_upto kept_entry
   lines_all numbers test index start text last whole so_far =
@@ -61,6 +66,7 @@ module _ (records : List Record) (layers : List ℕ) (right : files.FsRight) (pl
   unfolding lines_upto passing_upto
   lines_none test start = sym (append-nil start)
 
-  pub lines_unsaid : (numbers start : List ℕ) → (length numbers == 0) ≡ true → start ≡ start ++ flat_map (layer_text records layers) (kept_by right numbers (Some place))
+  pub lines_unsaid : (numbers start : List ℕ) → (length numbers == 0) ≡ true
+      → start ≡ start ++ flat_map (layer_text records layers) (kept_by right numbers (Some place))
   lines_unsaid [] start is = sym (append-nil start)
   lines_unsaid (number ∷ numbers) start is = let none : suc (length numbers) ≡ 0 = eqb-true (suc (length numbers)) 0 is in absurd (omega (arith, none))

@@ -25,19 +25,22 @@ unfolding files.some_right files.all_rights files.named_rights
 only_one files.other test = or_false (test files.other)
 only_one one test = or_false (test one)
 
-pub lacks-only : (layer : RulesOn Path) (path : Path) (one : files.FsRight) → lacks layer path (files.only one) ≡ (handles layer one && not (granted layer path one))
+pub lacks-only : (layer : RulesOn Path) (path : Path) (one : files.FsRight)
+    → lacks layer path (files.only one) ≡ (handles layer one && not (granted layer path one))
 unfolding files.some_right
 lacks-only layer path one =
     list_any-agree (λ right. files.has (files.only one) right && handles layer right && not (granted layer path right))
     (λ right. files.is_right right one && (handles layer right && not (granted layer path right)))
-    (λ right. ap (λ b. b && handles layer right && not (granted layer path right)) (fs_has-only right one) ∙ and_assoc (files.is_right right one) (handles layer right) (not (granted layer path right))) files.all_rights
+    (λ right. ap (λ b. b && handles layer right && not (granted layer path right)) (fs_has-only right one)
+    ∙ and_assoc (files.is_right right one) (handles layer right) (not (granted layer path right))) files.all_rights
     ∙ only_one one (λ right. handles layer right && not (granted layer path right)) where
       and_assoc : (a b c : Bool) → (a && b && c) ≡ (a && (b && c))
       and_assoc true b c = refl
       and_assoc false b c = refl
 
 -- the test of a right, by its own set
-pub lacked-by : (layer : RulesOn Path) (path : Path) (asked : Fs) (one : files.FsRight) (b l : Bool) → files.has asked one ≡ b → l ≡ lacks layer path (files.only one) → (if b then l else false) ≡ lacked layer path asked one
+pub lacked-by : (layer : RulesOn Path) (path : Path) (asked : Fs) (one : files.FsRight) (b l : Bool) → files.has asked one ≡ b
+    → l ≡ lacks layer path (files.only one) → (if b then l else false) ≡ lacked layer path asked one
 unfolding lacked
 lacked-by layer path asked one true l has is = is ∙ lacks-only layer path one ∙ ap (λ b. b && handles layer one && not (granted layer path one)) (sym has)
 lacked-by layer path asked one false l has is = ap (λ b. b && handles layer one && not (granted layer path one)) (sym has)
@@ -65,25 +68,30 @@ none right = refl
 pub none_before : (test : files.FsRight → Bool) (set : Fs) → ((right : files.FsRight) → files.has set right ≡ false) → AreBefore test set 0
 none_before test set none = record { before = λ right there. absurd (omega arith); behind = λ right there. none right }
 
-pub one_more : (test : files.FsRight → Bool) (set : Fs) (place : ℕ) (one : files.FsRight) → files.bit_of one ≡ place → test one ≡ true → AreBefore test set place → AreBefore test (files.united set (files.only one)) (place + 1)
+pub one_more : (test : files.FsRight → Bool) (set : Fs) (place : ℕ) (one : files.FsRight) → files.bit_of one ≡ place → test one ≡ true
+    → AreBefore test set place → AreBefore test (files.united set (files.only one)) (place + 1)
 one_more test set place one at passes are = record {
-  before = λ right there. fs_has-united set (files.only one) right ∙ ap (λ b. files.has set right || b) (fs_has-only right one) ∙ elim (cases_eq (files.bit_of right) (files.bit_of one)) [
-    | inl same ↦
-        let is : files.is_right right one ≡ true = eq-eqb (files.bit_of right) (files.bit_of one) same in
-        let it : right ≡ one = same_right right one is in
-        rw (is, it, passes) (or_true (files.has set one))
-    | inr other ↦ rw (ne_eqb (files.bit_of right) (files.bit_of one) other) (or_false (files.has set right) ∙ are.before right (omega (arith, at, there, other)))
-  ];
+  before = λ right there. fs_has-united set (files.only one) right ∙ ap (λ b. files.has set right || b) (fs_has-only right one)
+      ∙ elim (cases_eq (files.bit_of right) (files.bit_of one)) [
+        | inl same ↦
+            let is : files.is_right right one ≡ true = eq-eqb (files.bit_of right) (files.bit_of one) same in
+            let it : right ≡ one = same_right right one is in
+            rw (is, it, passes) (or_true (files.has set one))
+        | inr other ↦
+            rw (ne_eqb (files.bit_of right) (files.bit_of one) other) (or_false (files.has set right) ∙ are.before right (omega (arith, at, there, other)))
+      ];
   behind = λ right there.
       let other : files.bit_of right ≡ files.bit_of one → ⊥ = λ same. absurd (omega (arith, at, there, same)) in
-      fs_has-united set (files.only one) right ∙ ap (λ b. files.has set right || b) (fs_has-only right one ∙ ne_eqb (files.bit_of right) (files.bit_of one) other)
+      fs_has-united set (files.only one) right
+      ∙ ap (λ b. files.has set right || b) (fs_has-only right one ∙ ne_eqb (files.bit_of right) (files.bit_of one) other)
       ∙ or_false (files.has set right) ∙ are.behind right (omega (arith, there));
 } where
   or_true : (b : Bool) → (b || true) ≡ true
   or_true true = refl
   or_true false = refl
 
-pub none_more : (test : files.FsRight → Bool) (set : Fs) (place : ℕ) (one : files.FsRight) → files.bit_of one ≡ place → test one ≡ false → AreBefore test set place → AreBefore test set (place + 1)
+pub none_more : (test : files.FsRight → Bool) (set : Fs) (place : ℕ) (one : files.FsRight) → files.bit_of one ≡ place → test one ≡ false
+    → AreBefore test set place → AreBefore test set (place + 1)
 none_more test set place one at fails are = record {
   before = λ right there. elim (cases_eq (files.bit_of right) (files.bit_of one)) [
     | inl same ↦
@@ -94,5 +102,6 @@ none_more test set place one at fails are = record {
   behind = λ right there. are.behind right (omega (arith, there));
 }
 
-pub all_before : (test : files.FsRight → Bool) (set : Fs) (place : ℕ) → length files.all_rights ≤ place → AreBefore test set place → (right : files.FsRight) → files.has set right ≡ test right
+pub all_before : (test : files.FsRight → Bool) (set : Fs) (place : ℕ) → length files.all_rights ≤ place → AreBefore test set place → (right : files.FsRight)
+    → files.has set right ≡ test right
 all_before test set place end are right = are.before right (omega (arith, below right, end))

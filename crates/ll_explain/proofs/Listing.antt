@@ -16,7 +16,8 @@ module _ {X : Type 0} (test : X → Bool) (text_of : X → List ℕ) (separator 
   left true items = joined separator (map text_of (filter test items))
   left false items = flat_map (behind separator) (map text_of (filter test items))
 
-  passed : (first : Bool) (x : X) (items : List X) → test x ≡ true → left first (x ∷ items) ≡ cond first (text_of x) (behind separator (text_of x)) ++ left false items
+  passed : (first : Bool) (x : X) (items : List X) → test x ≡ true
+      → left first (x ∷ items) ≡ cond first (text_of x) (behind separator (text_of x)) ++ left false items
   unfolding left joined
   passed true x items is = rw is refl
   passed false x items is = rw is refl
@@ -31,7 +32,8 @@ module _ {X : Type 0} (test : X → Bool) (text_of : X → List ℕ) (separator 
 
   -- one text more is written
   pub written_with : (text after whole : List ℕ) (first : Bool) (items : List X) (k : ℕ) (x : X) → k < length items → x ≡ get_or items k x → test x ≡ true →
-      text ++ left first (drop k items) ≡ whole → after ≡ text ++ cond first (text_of x) (behind separator (text_of x)) → after ++ left false (drop (k + 1) items) ≡ whole
+      text ++ left first (drop k items) ≡ whole → after ≡ text ++ cond first (text_of x) (behind separator (text_of x))
+      → after ++ left false (drop (k + 1) items) ≡ whole
   written_with text after whole first items k x there is passes so_far written =
       let more = cond first (text_of x) (behind separator (text_of x)) in
       let rest = left false (drop (k + 1) items) in
@@ -50,7 +52,8 @@ module _ {X : Type 0} (test : X → Bool) (text_of : X → List ℕ) (separator 
   none_left false = refl
 
   -- all is written
-  pub written_all : (start text : List ℕ) (first : Bool) (items : List X) (k : ℕ) → length items ≤ k → text ++ left first (drop k items) ≡ start ++ left true items →
+  pub written_all : (start text : List ℕ) (first : Bool) (items : List X) (k : ℕ) → length items ≤ k
+      → text ++ left first (drop k items) ≡ start ++ left true items →
       text ≡ start ++ joined separator (map text_of (filter test items))
   unfolding left
   written_all start text first items k end is =
@@ -73,11 +76,13 @@ module _ {R : Type 0} (has whole : R → Bool) where
       ap within (drop_more rights k x there ∙ ap (λ y. y ∷ drop (k + 1) rights) (sym is))
       ∙ not_beyond (has x) (whole x) (within (drop (k + 1) rights)) ∙ ap (λ b. not b && within (drop (k + 1) rights)) beyond
 
-  pub within_next : (rights : List R) (k : ℕ) (x : R) (all : Bool) → k < length rights → x ≡ get_or rights k x → (has x && not (whole x)) ≡ false → within (drop k rights) ≡ all →
+  pub within_next : (rights : List R) (k : ℕ) (x : R) (all : Bool) → k < length rights → x ≡ get_or rights k x → (has x && not (whole x)) ≡ false
+      → within (drop k rights) ≡ all →
       within (drop (k + 1) rights) ≡ all
   within_next rights k x all there is beyond so_far = sym (here rights k x false there is beyond) ∙ so_far
 
-  pub within_not : (rights : List R) (k : ℕ) (x : R) (all : Bool) → k < length rights → x ≡ get_or rights k x → (has x && not (whole x)) ≡ true → within (drop k rights) ≡ all → false ≡ all
+  pub within_not : (rights : List R) (k : ℕ) (x : R) (all : Bool) → k < length rights → x ≡ get_or rights k x → (has x && not (whole x)) ≡ true
+      → within (drop k rights) ≡ all → false ≡ all
   within_not rights k x all there is beyond so_far = sym (here rights k x true there is beyond) ∙ so_far
 
   pub within_all : (rights : List R) (k : ℕ) (all : Bool) → length rights ≤ k → within (drop k rights) ≡ all → true ≡ all

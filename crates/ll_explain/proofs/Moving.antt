@@ -40,7 +40,8 @@ said_four : (a b g o : Part) (first second third fourth : List Objection) →
     said_of (a ∷ b ∷ g ∷ o ∷ []) ≡ first ++ second ++ third ++ fourth
 said_four a b g o first second third fourth is also gains other =
     said_more a (b ∷ g ∷ o ∷ []) ∙ ap (λ os. os ++ said_of (b ∷ g ∷ o ∷ [])) is
-    ∙ ap (λ os. first ++ os) (said_more b (g ∷ o ∷ []) ∙ ap (λ os. os ++ said_of (g ∷ o ∷ [])) also ∙ ap (λ os. second ++ os) (said_two g o third fourth gains other))
+    ∙ ap (λ os. first ++ os) (said_more b (g ∷ o ∷ []) ∙ ap (λ os. os ++ said_of (g ∷ o ∷ [])) also
+    ∙ ap (λ os. second ++ os) (said_two g o third fourth gains other))
     ∙ sym (append_assoc first second (third ++ fourth)) ∙ sym (append_assoc (first ++ second) third fourth)
 
 refer_asked : (right : files.FsRight) → files.has (files.only files.refer) right ≡ one_of (files.refer ∷ []) right
@@ -48,15 +49,19 @@ refer_asked right = fs_has-only right files.refer ∙ sym (or_false (files.is_ri
 
 module _ (layer : Layer) where
   -- tests that agree name the same rights
-  on_path-agree : (path : Path) (asked other : files.FsRight → Bool) → ((right : files.FsRight) → asked right ≡ other right) → on_path path asked layer ≡ on_path path other layer
+  on_path-agree : (path : Path) (asked other : files.FsRight → Bool) → ((right : files.FsRight) → asked right ≡ other right)
+      → on_path path asked layer ≡ on_path path other layer
   unfolding on_path
   on_path-agree path asked other same =
       ap (λ rights. if_any rights (missing rights path))
-      (filter_agree (λ right. asked right && handles layer right && not (granted layer path right)) (λ right. other right && handles layer right && not (granted layer path right))
+      (filter_agree (λ right. asked right && handles layer right && not (granted layer path right))
+      (λ right. other right && handles layer right && not (granted layer path right))
       (λ right. ap (λ b. b && handles layer right && not (granted layer path right)) (same right)) files.all_rights)
 
-  on_refer : (here path : Path) (said : List Objection) → here ≡ path → said ≡ on_path here (files.has (files.only files.refer)) layer → said ≡ on_path path (one_of (files.refer ∷ [])) layer
-  on_refer here path said at is = is ∙ ap (λ p. on_path p (files.has (files.only files.refer)) layer) at ∙ on_path-agree path (files.has (files.only files.refer)) (one_of (files.refer ∷ [])) refer_asked
+  on_refer : (here path : Path) (said : List Objection) → here ≡ path → said ≡ on_path here (files.has (files.only files.refer)) layer
+      → said ≡ on_path path (one_of (files.refer ∷ [])) layer
+  on_refer here path said at is = is ∙ ap (λ p. on_path p (files.has (files.only files.refer)) layer)
+      at ∙ on_path-agree path (files.has (files.only files.refer)) (one_of (files.refer ∷ [])) refer_asked
 
 module _ (tree : List Entry) (move : Move) where
   abbrev leave : List files.FsRight
@@ -66,7 +71,8 @@ module _ (tree : List Entry) (move : Move) where
   enter = asked_of_destination (kind_at tree move.moved) (kind_there tree move.target)
 
 module _ (layer : Layer) (tree : List Entry) (move : Move) (here there : NodeId) (from to : Fs) (at : path_at tree here ≡ source_of tree move)
-    (leaves : (right : files.FsRight) → files.has from right ≡ one_of (leave tree move) right) (enters : (right : files.FsRight) → files.has to right ≡ one_of (enter tree move) right) where
+    (leaves : (right : files.FsRight) → files.has from right ≡ one_of (leave tree move) right) (enters : (right : files.FsRight)
+    → files.has to right ≡ one_of (enter tree move) right) where
   both : (right : files.FsRight) → files.has (files.united from to) right ≡ one_of (leave tree move ++ enter tree move) right
   both right =
       fs_has-united from to right ∙ ap (λ b. b || files.has to right) (leaves right) ∙ ap (λ b. one_of (leave tree move) right || b) (enters right)
@@ -86,17 +92,20 @@ module _ (layer : Layer) (tree : List Entry) (move : Move) (here there : NodeId)
   between_two a b goes is also two =
       said_two a b (on_path (source_of tree move) (one_of (leave tree move)) layer) (on_path (destination_of tree move.target) (one_of (enter tree move)) layer)
       (is ∙ ap (λ p. on_path p (files.has from) layer) at ∙ on_path-agree layer (source_of tree move) (files.has from) (one_of (leave tree move)) leaves)
-      (also ∙ ap (λ p. on_path p (files.has to) layer) goes ∙ on_path-agree layer (destination_of tree move.target) (files.has to) (one_of (enter tree move)) enters)
+      (also ∙ ap (λ p. on_path p (files.has to) layer) goes
+      ∙ on_path-agree layer (destination_of tree move.target) (files.has to) (one_of (enter tree move)) enters)
       ∙ rw two refl
 
 module _ (layer : Layer) (tree : List Entry) (move : Move) where
   pub crossing_said : (a b g o : Part) (here there : Path) → here ≡ source_of tree move → there ≡ destination_of tree move.target →
       said_of (a ∷ []) ≡ on_path here (files.has (files.only files.refer)) layer → said_of (b ∷ []) ≡ on_path there (files.has (files.only files.refer)) layer →
-      said_of (g ∷ []) ≡ on_gain (kind_at tree move.moved) (path_at tree move.moved) there layer → said_of (o ∷ []) ≡ on_other_gain tree move move.how move.target layer →
+      said_of (g ∷ []) ≡ on_gain (kind_at tree move.moved) (path_at tree move.moved) there layer
+      → said_of (o ∷ []) ≡ on_other_gain tree move move.how move.target layer →
       said_of (a ∷ b ∷ g ∷ o ∷ []) ≡ on_crossing tree move layer
   unfolding on_crossing
   crossing_said a b g o here there at goes is also gains other =
-      said_four a b g o _ _ _ _ (on_refer layer here (source_of tree move) (said_of (a ∷ [])) at is) (on_refer layer there (destination_of tree move.target) (said_of (b ∷ [])) goes also)
+      said_four a b g o _ _ _ _ (on_refer layer here (source_of tree move) (said_of (a ∷ [])) at is)
+      (on_refer layer there (destination_of tree move.target) (said_of (b ∷ [])) goes also)
       (gains ∙ ap (λ p. on_gain (kind_at tree move.moved) (path_at tree move.moved) p layer) goes) other
 
 -- paths that are the same are told apart or not as these
@@ -111,7 +120,8 @@ module _ (tree : List Entry) (move : Move) (layer : Layer) (said : List Objectio
   unfolding on_other_gain
   other_over how target there here is goes at gains = rw (is, goes) (gains ∙ ap (λ p. on_gain (kind_at tree there) (path_at tree there) p layer) at)
 
-  pub other_new : (how : How) (target : Target) (directory : NodeId) → how ≡ Exchange → target ≡ New directory → said ≡ [] → said ≡ on_other_gain tree move how target layer
+  pub other_new : (how : How) (target : Target) (directory : NodeId) → how ≡ Exchange → target ≡ New directory → said ≡ []
+      → said ≡ on_other_gain tree move how target layer
   unfolding on_other_gain
   other_new how target directory is goes none = rw (is, goes) none
 

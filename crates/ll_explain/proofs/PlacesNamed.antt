@@ -26,7 +26,8 @@ use Rattle.ll_explain.specs.Named.{named_by}
 node_at-path : (tree : List Entry) (path : Path) (here : NodeId) → node_at tree path ≡ Some here → path_at tree here ≡ path
 unfolding node_at path_at
 node_at-path tree path here is = go (position_of path tree) refl is where
-  go : (found : Option ℕ) → position_of path tree ≡ found → option_map (λ n. let one : NodeId = record { 0 = n } in one) found ≡ Some here → path_at tree here ≡ path
+  go : (found : Option ℕ) → position_of path tree ≡ found → option_map (λ n. let one : NodeId = record { 0 = n } in one) found ≡ Some here
+      → path_at tree here ≡ path
   go None at is = absurd (none-some here is)
   go (Some n) at is = ap (path_at tree) (sym (same_Some _ here is)) ∙ (at_position path tree n at).1
 
@@ -62,7 +63,8 @@ named tree text = go (path_of text) where
 IsOn : List Entry → Path → Option Request → Type 0
 IsOn tree path request = IfSome request (λ request. path ≡ path_at tree request.node)
 
-opened : (tree : List Entry) (path : Path) (here : NodeId) (kind : Kind) (mode : Mode) (create trunc : Bool) → path ≡ path_at tree here → IsOn tree path (open_kind kind here mode create trunc)
+opened : (tree : List Entry) (path : Path) (here : NodeId) (kind : Kind) (mode : Mode) (create trunc : Bool) → path ≡ path_at tree here
+    → IsOn tree path (open_kind kind here mode create trunc)
 unfolding open_kind IsOn
 opened tree path here Dir Read true trunc is = tt
 opened tree path here Dir Read false true is = tt
@@ -72,27 +74,32 @@ opened tree path here Sym mode create trunc is = tt
 opened tree path here Sock mode create trunc is = tt
 opened tree path here kind mode create trunc is = is
 
-on_file : (tree : List Entry) (path : Path) (here : NodeId) (kind : Kind) (rights : Fs) → path ≡ path_at tree here → IsOn tree path (regular_kind kind here rights)
+on_file : (tree : List Entry) (path : Path) (here : NodeId) (kind : Kind) (rights : Fs) → path ≡ path_at tree here
+    → IsOn tree path (regular_kind kind here rights)
 unfolding regular_kind IsOn
 on_file tree path here Reg rights is = is
 on_file tree path here kind rights is = tt
 
 -- the directory that an object is removed from
-remove_at : (tree : List Entry) (path : Path) (kind : Kind) (found : Option NodeId) → parent_of tree path ≡ found → IsOn tree (front path) (remove_from kind found)
+remove_at : (tree : List Entry) (path : Path) (kind : Kind) (found : Option NodeId) → parent_of tree path ≡ found
+    → IsOn tree (front path) (remove_from kind found)
 unfolding remove_from parent_of IsOn
 remove_at tree path kind None at = tt
 remove_at tree [] kind (Some up) at = absurd (none-some up at)
 remove_at tree (name ∷ names) kind (Some up) at = sym (node_at-path tree (front (name ∷ names)) up at)
 
-removed : (tree : List Entry) (path : Path) (here : NodeId) (kind : Kind) → path ≡ path_at tree here → IsOn tree (front path) (remove_from kind (parent_at tree here))
+removed : (tree : List Entry) (path : Path) (here : NodeId) (kind : Kind) → path ≡ path_at tree here
+    → IsOn tree (front path) (remove_from kind (parent_at tree here))
 unfolding parent_at
 removed tree path here kind is = remove_at tree path kind (parent_of tree (path_at tree here)) (ap (parent_of tree) is)
 
-either : (tree : List Entry) (path : Path) (b : Bool) (one other : Option Request) → IsOn tree path one → IsOn tree path other → IsOn tree path (cond b one other)
+either : (tree : List Entry) (path : Path) (b : Bool) (one other : Option Request) → IsOn tree path one → IsOn tree path other
+    → IsOn tree path (cond b one other)
 either tree path true one other is also = is
 either tree path false one other is also = also
 
-asked_at : (tree : List Entry) (path : Path) (there : Place) (wanted : Wanted) → Names tree path there → IsOn tree (named_by there wanted path) (asks tree there wanted)
+asked_at : (tree : List Entry) (path : Path) (there : Place) (wanted : Wanted) → Names tree path there
+    → IsOn tree (named_by there wanted path) (asks tree there wanted)
 unfolding asks IsOn
 asked_at tree path (Node here) (Open mode create trunc) is = opened tree path here (kind_at tree here) mode create trunc is
 asked_at tree path (Node here) (OnFile rights) is = on_file tree path here (kind_at tree here) rights is
@@ -105,15 +112,18 @@ asked_at tree path (Gap up) (Make rights) is = is
 asked_at tree path (Gap up) wanted is = tt
 asked_at tree path Nowhere wanted is = tt
 
-pub asked_named : (tree : List Entry) (text : List ℕ) (there : Place) (wanted : Wanted) (request : Request) → there ≡ place tree text → Some request ≡ asks tree there wanted →
+pub asked_named : (tree : List Entry) (text : List ℕ) (there : Place) (wanted : Wanted) (request : Request) → there ≡ place tree text
+    → Some request ≡ asks tree there wanted →
     named_by there wanted (spelt text) ≡ path_at tree request.node
 unfolding IsOn
 asked_named tree text there wanted request is asked =
-    subst (λ (found : Option Request). IsOn tree (named_by there wanted (spelt text)) found) (sym asked) (asked_at tree (spelt text) there wanted (subst (Names tree (spelt text)) (sym is) (named tree text)))
+    subst (λ (found : Option Request). IsOn tree (named_by there wanted (spelt text)) found) (sym asked)
+    (asked_at tree (spelt text) there wanted (subst (Names tree (spelt text)) (sym is) (named tree text)))
 
 -- ---- the text of what is above a path
 
-front_read : (text above : List ℕ) (read : Option Path) → path_of text ≡ read → IsTrue (is_some read) → ((path : Path) → path_of text ≡ Some path → path_of above ≡ Some (front path)) →
+front_read : (text above : List ℕ) (read : Option Path) → path_of text ≡ read → IsTrue (is_some read)
+    → ((path : Path) → path_of text ≡ Some path → path_of above ≡ Some (front path)) →
     IsTrue (is_some (path_of above)) × (path_or_root (path_of above) ≡ front (path_or_root read))
 front_read text above None is some fronts = absurd (false≢true some)
 front_read text above (Some path) is some fronts = rw (fronts path is) (refl, refl)

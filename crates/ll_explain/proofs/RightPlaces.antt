@@ -12,12 +12,14 @@ use Rattle.ll_reasons.specs.Conditions.{directory_rights, rights_beyond, unknown
 use Rattle.ll_rights.specs.Rights as files
 
 -- each right is at the place of its bit
-numbered : {R : Type 0} (bit_of : R → ℕ) (rights : List R) (none : R) (count : ℕ) → length rights ≡ count → map bit_of rights ≡ map (λ n. n) (range_with_len 0 count) →
+numbered : {R : Type 0} (bit_of : R → ℕ) (rights : List R) (none : R) (count : ℕ) → length rights ≡ count
+    → map bit_of rights ≡ map (λ n. n) (range_with_len 0 count) →
     (place : ℕ) → place < count → bit_of (get_or rights place none) ≡ place
 numbered bit_of rights none count counted same place there =
     let within : place < length rights = omega (arith, counted) in
     let zero_more : 0 + place ≡ place = omega arith in
-    sym (get_or-map bit_of rights place none 0 within) ∙ ap (λ ns. get_or ns place 0) same ∙ get_or-map-range_with_len (λ n. n) 0 count place place 0 there zero_more
+    sym (get_or-map bit_of rights place none 0 within) ∙ ap (λ ns. get_or ns place 0) same
+    ∙ get_or-map-range_with_len (λ n. n) 0 count place place 0 there zero_more
 
 pub bit_of-at : (place : ℕ) → place < length files.all_rights → files.bit_of (get_or files.all_rights place files.other) ≡ place
 unfolding files.all_rights files.named_rights
@@ -33,13 +35,15 @@ module _ {D R : Type 0} (right_of : D → R) (items : List D) (rights : List R) 
   item_at first none place there = sym (get_or-map right_of items place first none there) ∙ ap (λ rs. get_or rs place none) is
 
 -- the rights that a version doesn't know are those beyond the set of all that it knows
-pub unknown_beyond : (abi : Abi) (wanted known : Fs) → ((right : files.FsRight) → files.has known right ≡ knows_fs abi right) → rights_beyond wanted known ≡ unknown_rights abi wanted
+pub unknown_beyond : (abi : Abi) (wanted known : Fs) → ((right : files.FsRight) → files.has known right ≡ knows_fs abi right)
+    → rights_beyond wanted known ≡ unknown_rights abi wanted
 unknown_beyond abi wanted known same =
     filter_agree (λ right. files.has wanted right && not (files.has known right)) (λ right. files.has wanted right && not (knows_fs abi right))
     (λ right. ap (λ b. files.has wanted right && not b) (same right)) files.all_rights
 
 -- the rights for directories alone are those beyond the set of those that files have too
-pub directory_beyond : (wanted file : Fs) → ((right : files.FsRight) → files.has file right ≡ files.is_file_right right) → rights_beyond wanted file ≡ directory_rights wanted
+pub directory_beyond : (wanted file : Fs) → ((right : files.FsRight) → files.has file right ≡ files.is_file_right right)
+    → rights_beyond wanted file ≡ directory_rights wanted
 directory_beyond wanted file same =
     filter_agree (λ right. files.has wanted right && not (files.has file right)) (λ right. files.has wanted right && not (files.is_file_right right))
     (λ right. ap (λ b. files.has wanted right && not b) (same right)) files.all_rights

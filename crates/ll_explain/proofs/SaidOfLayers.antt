@@ -1,5 +1,6 @@
 -- The line of a layer that objects to one thing or to nothing.
-use Rattle.std.proofs.Common.{◌≡◌, ◌∙◌, ℕ, suc, ◌+◌, ◌<◌, ◌≤◌, Bool, true, false, List, [], ◌∷◌, ◌++◌, length, take, get_or, refl, sym, ap, append_assoc, arith, inl, inr}
+use Rattle.std.proofs.Common.{◌≡◌, ◌∙◌, ℕ, suc, ◌+◌, ◌<◌, ◌≤◌, Bool, true, false, List, [], ◌∷◌, ◌++◌, length, take, get_or, refl, sym, ap, append_assoc, arith}
+use Rattle.std.proofs.Common.{inl, inr}
 use Rattle.std.specs.Prelude.{filter, not, ◌&&◌}
 use Rattle.std.specs.List.{flat_map, list_any}
 use Rattle.std.proofs.lemmas.Bool.{cases_Bool, true≢false}
@@ -65,10 +66,13 @@ objecting_from-push objections number [] layer =
     append-nil (of_layer number (objections layer)) ∙ ap (λ n. of_layer n (objections layer)) same
 objecting_from-push objections number (first ∷ layers) layer =
     let same : number + 1 + length layers ≡ number + suc (length layers) = omega arith in
-    ap (λ said. of_layer number (objections first) ++ said) (objecting_from-push objections (number + 1) layers layer ∙ ap (λ n. objecting_from objections (number + 1) layers ++ of_layer n (objections layer)) same)
-    ∙ sym (append_assoc (of_layer number (objections first)) (objecting_from objections (number + 1) layers) (of_layer (number + suc (length layers)) (objections layer)))
+    ap (λ said. of_layer number (objections first) ++ said)
+    (objecting_from-push objections (number + 1) layers layer ∙ ap (λ n. objecting_from objections (number + 1) layers ++ of_layer n (objections layer)) same)
+    ∙ sym (append_assoc (of_layer number (objections first)) (objecting_from objections (number + 1) layers)
+    (of_layer (number + suc (length layers)) (objections layer)))
 
-pub layers_more : (records : List Record) (made : List ℕ) (objections : Layer → List Objection) (layers : List Layer) (k : ℕ) (none : Layer) (start text after : List ℕ) → k < length layers →
+pub layers_more : (records : List Record) (made : List ℕ) (objections : Layer
+    → List Objection) (layers : List Layer) (k : ℕ) (none : Layer) (start text after : List ℕ) → k < length layers →
     text ≡ start ++ flat_map (layer_text records made) (objecting_from objections 1 (take k layers)) →
     after ≡ text ++ flat_map (layer_text records made) (of_layer (k + 1) (objections (get_or layers k none))) →
     after ≡ start ++ flat_map (layer_text records made) (objecting_from objections 1 (take (k + 1) layers))
@@ -90,7 +94,8 @@ pub missing_is : (layer : Layer) (path : Path) (asked set : Fs) → ((right : fi
     if_any (filter (files.has set) files.all_rights) (missing (filter (files.has set) files.all_rights) path) ≡ on_path path (files.has asked) layer
 unfolding on_path lacked
 missing_is layer path asked set same =
-    ap (λ rights. if_any rights (missing rights path)) (filter_agree (files.has set) (λ right. files.has asked right && handles layer right && not (granted layer path right)) same files.all_rights)
+    ap (λ rights. if_any rights (missing rights path))
+    (filter_agree (files.has set) (λ right. files.has asked right && handles layer right && not (granted layer path right)) same files.all_rights)
 
 -- ---- layers of a domain as they are kept
 
@@ -109,7 +114,8 @@ module _ (records : List Record) (made : List ℕ) (objections : Layer → List 
       ∙ ap (in_tree tree) (get_or-map (layer_at kept) ids k (record { 0 = 0 }) layer_none there) ∙ ap (λ one. in_tree tree (layer_at kept one)) is
 
   -- nothing is written yet
-  pub domain_none : (start : List ℕ) → start ≡ start ++ flat_map (layer_text records made) (objecting_from objections 1 (take 0 (all_in_tree tree (domain_of kept ids))))
+  pub domain_none : (start : List ℕ)
+      → start ≡ start ++ flat_map (layer_text records made) (objecting_from objections 1 (take 0 (all_in_tree tree (domain_of kept ids))))
   unfolding objecting_from
   domain_none start = sym (append-nil start)
 
@@ -120,7 +126,8 @@ module _ (records : List Record) (made : List ℕ) (objections : Layer → List 
       after ≡ start ++ flat_map (layer_text records made) (objecting_from objections 1 (take (k + 1) (all_in_tree tree (domain_of kept ids))))
   domain_more k start text after there so_far written =
       let same : length (all_in_tree tree (domain_of kept ids)) ≡ length ids = counted in
-      layers_more records made objections (all_in_tree tree (domain_of kept ids)) k (in_tree tree layer_none) start text after (omega (arith, there, same)) so_far
+      layers_more records made objections (all_in_tree tree (domain_of kept ids)) k (in_tree tree layer_none) start text after
+      (omega (arith, there, same)) so_far
       (written ∙ ap (λ layer. text ++ flat_map (layer_text records made) (of_layer (k + 1) (objections layer))) (sym (here_is k _ there refl)))
 
   -- the lines of all layers

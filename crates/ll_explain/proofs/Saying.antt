@@ -50,11 +50,13 @@ words_of records (Mounting handled) = refl
 words_of_all : (records : List Record) (parts : List Part) → map part_text parts ≡ map (objection_text records) (map objection_of parts)
 words_of_all records [] = refl
 words_of_all records (part ∷ parts) =
-    ap (λ text. text ∷ map part_text parts) (words_of records part) ∙ ap (λ texts. objection_text records (objection_of part) ∷ texts) (words_of_all records parts)
+    ap (λ text. text ∷ map part_text parts) (words_of records part)
+    ∙ ap (λ texts. objection_text records (objection_of part) ∷ texts) (words_of_all records parts)
 
 module _ (records : List Record) (layers : List ℕ) (number : ℕ) where
   line_of : (parts : List Part) → is_none_yet parts ≡ false →
-      flat_map (layer_text records layers) (of_layer number (map objection_of parts)) ≡ layer_head records layers number ++ joined (codes "; ") (map part_text parts) ++ codes "\n"
+      flat_map (layer_text records layers) (of_layer number (map objection_of parts))
+      ≡ layer_head records layers number ++ joined (codes "; ") (map part_text parts) ++ codes "\n"
   unfolding layer_text
   line_of [] some = absurd (true≢false some)
   line_of (part ∷ parts) some =
@@ -62,11 +64,13 @@ module _ (records : List Record) (layers : List ℕ) (number : ℕ) where
       ∙ ap (λ texts. layer_head records layers number ++ joined (codes "; ") texts ++ codes "\n") (sym (words_of_all records (part ∷ parts)))
 
   pub line_said : (parts : List Part) → list_any is_said parts ≡ true →
-      flat_map (layer_text records layers) (of_layer number (said_of parts)) ≡ layer_head records layers number ++ joined (codes "; ") (map part_text (filter is_said parts)) ++ codes "\n"
+      flat_map (layer_text records layers) (of_layer number (said_of parts))
+      ≡ layer_head records layers number ++ joined (codes "; ") (map part_text (filter is_said parts)) ++ codes "\n"
   unfolding said_of
   line_said parts some = line_of (filter is_said parts) (filter-some is_said parts (ap not some))
 
-  pub line_unsaid : (parts : List Part) (start : List ℕ) → list_any is_said parts ≡ false → start ≡ start ++ flat_map (layer_text records layers) (of_layer number (said_of parts))
+  pub line_unsaid : (parts : List Part) (start : List ℕ) → list_any is_said parts ≡ false
+      → start ≡ start ++ flat_map (layer_text records layers) (of_layer number (said_of parts))
   unfolding said_of
   line_unsaid parts start none = rw (filter-none is_said parts (ap not none)) (sym (append-nil start))
 
@@ -81,24 +85,28 @@ not_not true = refl
 not_not false = refl
 
 -- a part is said where some right is in its set
-one_said : {R : Type 0} (test : R → Bool) (rights : List R) (part : Part) (b : Bool) → is_said part ≡ b → list_any test rights ≡ b → said_of (part ∷ []) ≡ if_any (filter test rights) (objection_of part)
+one_said : {R : Type 0} (test : R → Bool) (rights : List R) (part : Part) (b : Bool) → is_said part ≡ b → list_any test rights ≡ b
+    → said_of (part ∷ []) ≡ if_any (filter test rights) (objection_of part)
 unfolding said_of
 one_said test rights part true said some = rw said (sym (any_is (filter test rights) (objection_of part) (filter-some test rights (ap not some))))
 one_said test rights part false said none = rw (said, filter-none test rights (ap not none)) refl
 
 pub missing_said : (set : Fs) (path : Bor (List ℕ)) → said_of (Missing set path ∷ []) ≡ if_any (rights_in set) (missing (rights_in set) (spelt path.now))
 unfolding rights_in files.some_right
-missing_said set path = one_said (files.has set) files.all_rights (Missing set path) (list_any (files.has set) files.all_rights) (not_not (list_any (files.has set) files.all_rights)) refl
+missing_said set path = one_said (files.has set) files.all_rights (Missing set path) (list_any (files.has set) files.all_rights)
+    (not_not (list_any (files.has set) files.all_rights)) refl
 
 pub closed_said : (set : Net) (port : ℕ) → said_of (Closed set port ∷ []) ≡ if_any (port_rights_in set) (closed (port_rights_in set) port)
 unfolding port_rights_in network.some_right
-closed_said set port = one_said (network.has set) network.all_rights (Closed set port) (list_any (network.has set) network.all_rights) (not_not (list_any (network.has set) network.all_rights)) refl
+closed_said set port = one_said (network.has set) network.all_rights (Closed set port) (list_any (network.has set) network.all_rights)
+    (not_not (list_any (network.has set) network.all_rights)) refl
 
 pub gained_said : (object : Bor (List ℕ)) (set : Fs) (directory : Bor (List ℕ)) →
     said_of (Gained object set directory ∷ []) ≡ if_any (rights_in set) (gained (spelt object.now) (rights_in set) (spelt directory.now))
 unfolding rights_in files.some_right
 gained_said object set directory =
-    one_said (files.has set) files.all_rights (Gained object set directory) (list_any (files.has set) files.all_rights) (not_not (list_any (files.has set) files.all_rights)) refl
+    one_said (files.has set) files.all_rights (Gained object set directory) (list_any (files.has set) files.all_rights)
+    (not_not (list_any (files.has set) files.all_rights)) refl
 
 -- ---- part after part
 
@@ -111,7 +119,9 @@ said_more part parts = elim (cases_Bool (is_said part)) [
 
 -- ---- what is missing
 
-pub said_on_path : (layer : Layer) (path : Path) (asked set : Fs) (text : Bor (List ℕ)) → spelt text.now ≡ path → ((right : files.FsRight) → files.has set right ≡ lacked layer path asked right) →
+pub said_on_path : (layer : Layer) (path : Path) (asked set : Fs) (text : Bor (List ℕ)) → spelt text.now ≡ path
+    → ((right : files.FsRight) → files.has set right ≡ lacked layer path asked right) →
     said_of (Missing set text ∷ []) ≡ on_path path (files.has asked) layer
 unfolding rights_in
-said_on_path layer path asked set text is same = missing_said set text ∙ ap (λ p. if_any (rights_in set) (missing (rights_in set) p)) is ∙ missing_is layer path asked set same
+said_on_path layer path asked set text is same =
+    missing_said set text ∙ ap (λ p. if_any (rights_in set) (missing (rights_in set) p)) is ∙ missing_is layer path asked set same

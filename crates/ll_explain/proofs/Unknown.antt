@@ -10,7 +10,8 @@ use Rattle.ll_explain.specs.Words.{rights_text, unknown_text}
 use Rattle.ll_explain.proofs.Listing.{is_none_yet}
 
 module _ {R : Type 0} (in_set in_whole : R → Bool) where
-  none_beyond : (rights : List R) → list_all (λ right. not (in_set right) || in_whole right) rights ≡ true → filter (λ right. in_set right && not (in_whole right)) rights ≡ []
+  none_beyond : (rights : List R) → list_all (λ right. not (in_set right) || in_whole right) rights ≡ true
+      → filter (λ right. in_set right && not (in_whole right)) rights ≡ []
   none_beyond [] all = refl
   none_beyond (right ∷ rights) all = elim (cases_Bool (in_set right)) [
     | inl has ↦ elim (cases_Bool (in_whole right)) [
@@ -20,7 +21,8 @@ module _ {R : Type 0} (in_set in_whole : R → Bool) where
     | inr hasnt ↦ rw hasnt (none_beyond rights (sym (rw hasnt refl) ∙ all))
   ]
 
-  some_beyond : (rights : List R) → list_all (λ right. not (in_set right) || in_whole right) rights ≡ false → is_none_yet (filter (λ right. in_set right && not (in_whole right)) rights) ≡ false
+  some_beyond : (rights : List R) → list_all (λ right. not (in_set right) || in_whole right) rights ≡ false
+      → is_none_yet (filter (λ right. in_set right && not (in_whole right)) rights) ≡ false
   some_beyond [] all = absurd (true≢false all)
   some_beyond (right ∷ rights) all = elim (cases_Bool (in_set right)) [
     | inl has ↦ elim (cases_Bool (in_whole right)) [

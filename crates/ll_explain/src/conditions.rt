@@ -17,7 +17,8 @@ use ll_trails::Trail;
 
 /// Adds the rights that a version doesn't know, which has some: if none of those for files is, it is one for ports.
 fn push_unknown_rights(text: &mut Vec<u8>, rights: Fs, known: Fs) -> Added
-    ensures { OnOk result (text.new.items ≡ text.old.items ++ unknown_text (rights_beyond rights known)) }
+    ensures { OnOk result (text.new.items
+        ≡ text.old.items ++ unknown_text (rights_beyond rights known)) }
 {
     if is_within(rights, known) {
         text.extend_from_slice(b"a right for ports")
@@ -28,7 +29,8 @@ fn push_unknown_rights(text: &mut Vec<u8>, rights: Fs, known: Fs) -> Added
 
 /// Says which rights a version doesn't know.
 fn push_unknown(text: &mut Vec<u8>, abi: Abi, rights: Fs) -> Added
-    ensures { OnOk result (text.new.items ≡ text.old.items ++ condition_text (conditions.unknown abi (unknown_rights abi rights))) }
+    ensures { OnOk result (text.new.items
+        ≡ text.old.items ++ condition_text (conditions.unknown abi (unknown_rights abi rights))) }
 {
     push_numbered(text, "ABI ", abi.number(), " does not know ")?;
     push_unknown_rights(text, rights, abi.fs())?;
@@ -38,7 +40,8 @@ fn push_unknown(text: &mut Vec<u8>, abi: Abi, rights: Fs) -> Added
 /// Says that a version has no rules for ports.
 #[tactic(auto, unfolding(crate::specs::Words::condition_text))]
 fn push_portless(text: &mut Vec<u8>, abi: Abi) -> Added
-    ensures { OnOk result (text.new.items ≡ text.old.items ++ condition_text (conditions.portless abi)) }
+    ensures { OnOk result (text.new.items
+        ≡ text.old.items ++ condition_text (conditions.portless abi)) }
 {
     push_numbered(text, "ABI ", abi.number(), " has no rules for ports")
 }
@@ -46,14 +49,16 @@ fn push_portless(text: &mut Vec<u8>, abi: Abi) -> Added
 /// Says that a ruleset's number isn't held.
 #[tactic(auto, unfolding(crate::specs::Words::condition_text))]
 fn push_unheld(text: &mut Vec<u8>, rs: u64) -> Added
-    ensures { OnOk result (text.new.items ≡ text.old.items ++ condition_text (conditions.unheld rs)) }
+    ensures { OnOk result (text.new.items
+        ≡ text.old.items ++ condition_text (conditions.unheld rs)) }
 {
     push_numbered(text, "ruleset ", rs, " is not held")
 }
 
 /// Says which rights of a set, for files or for ports, the ruleset doesn't handle.
 fn push_unhandled<S: RightSet>(text: &mut Vec<u8>, rights: S, whole: S) -> Added
-    ensures { OnOk result (text.new.items ≡ text.old.items ++ (codes "the ruleset does not handle " ++ S.beyond_text rights whole)) }
+    ensures { OnOk result (text.new.items
+        ≡ text.old.items ++ (codes "the ruleset does not handle " ++ S.beyond_text rights whole)) }
 {
     text.extend_from_slice(b"the ruleset does not handle ")?;
     push_beyond(text, rights, whole)
@@ -61,7 +66,8 @@ fn push_unhandled<S: RightSet>(text: &mut Vec<u8>, rights: S, whole: S) -> Added
 
 /// Says which rights are for directories, where the path is that of something else.
 fn push_only_for_directories(text: &mut Vec<u8>, rights: Fs, path: &str) -> Added
-    ensures { OnOk result (text.new.items ≡ text.old.items ++ condition_text (conditions.only_for_directories (directory_rights rights) path.now)) }
+    ensures { OnOk result (text.new.items ≡ text.old.items
+        ++ condition_text (conditions.only_for_directories (directory_rights rights) path.now)) }
 {
     push_escaped(text, path)?;
     text.extend_from_slice(b" is not a directory, and only directories have ")?;
@@ -72,7 +78,8 @@ fn push_only_for_directories(text: &mut Vec<u8>, rights: Fs, path: &str) -> Adde
 /// Says why a rule for files is invalid in a ruleset that handles `whole`.
 #[tactic(auto, unfolding(crate::specs::Words::condition_text))]
 fn push_invalid_on_path(text: &mut Vec<u8>, path: &str, fs: Fs, whole: Fs) -> Added
-    ensures { OnOk result (text.new.items ≡ text.old.items ++ condition_text (conditions.invalid_on_path path.now fs whole)) }
+    ensures { OnOk result (text.new.items
+        ≡ text.old.items ++ condition_text (conditions.invalid_on_path path.now fs whole)) }
 {
     if is_within(fs, whole) {
         push_only_for_directories(text, fs, path)
@@ -84,7 +91,8 @@ fn push_invalid_on_path(text: &mut Vec<u8>, path: &str, fs: Fs, whole: Fs) -> Ad
 /// Says why a rule for a port is invalid in a ruleset that handles `whole`.
 #[tactic(auto, unfolding(crate::specs::Words::condition_text))]
 fn push_invalid_on_port(text: &mut Vec<u8>, abi: Abi, port: u64, net: Net, whole: Net) -> Added
-    ensures { OnOk result (text.new.items ≡ text.old.items ++ condition_text (conditions.invalid_on_port abi port net whole)) }
+    ensures { OnOk result (text.new.items
+        ≡ text.old.items ++ condition_text (conditions.invalid_on_port abi port net whole)) }
 {
     if abi.number() < 4 {
         push_portless(text, abi)
@@ -97,7 +105,8 @@ fn push_invalid_on_port(text: &mut Vec<u8>, abi: Abi, port: u64, net: Net, whole
 
 /// The call of the record that created the ruleset which a number of a process names.
 fn creation<'t>(records: &'t [Record], trail: &Trail, rs: u64) -> Option<&'t Op>
-    ensures { option_map (λ op. op.now) result ≡ option_map (λ r. r.op) (option_and_then (slice_get records.now) (get trail.now.rulesets rs)) }
+    ensures { option_map (λ op. op.now) result ≡ option_map (λ r. r.op)
+        (option_and_then (slice_get records.now) (get trail.now.rulesets rs)) }
 {
     let place = *trail.rulesets.get(rs)?;
     let record = records.get(place as usize)?;
@@ -108,7 +117,8 @@ fn creation<'t>(records: &'t [Record], trail: &Trail, rs: u64) -> Option<&'t Op>
 #[tactic(auto, unfolding(ll_reasons::specs::Conditions::handled, ll_reasons::specs::Conditions::handled_on_ports))]
 fn handled(records: &[Record], trail: &Trail, rs: u64) -> (Fs, Net)
     ensures files { (o : Origins) → Follows trail.now o → result.0 ≡ handled records.now o rs }
-    ensures ports { (o : Origins) → Follows trail.now o → result.1 ≡ handled_on_ports records.now o rs }
+    ensures ports { (o : Origins) → Follows trail.now o
+        → result.1 ≡ handled_on_ports records.now o rs }
 {
     match creation(records, trail, rs) {
         Some(Op::Create { fs, net, .. }) => (*fs, *net),
@@ -126,7 +136,8 @@ pub(crate) fn push_condition(
     op: &Op,
     error: Errno,
 ) -> Added
-    ensures { OnOk result ((o : Origins) → Follows trail.now o → text.new.items ≡ text.old.items ++ condition_text (conditions.condition abi records.now o op.now error)) }
+    ensures { OnOk result ((o : Origins) → Follows trail.now o → text.new.items
+        ≡ text.old.items ++ condition_text (conditions.condition abi records.now o op.now error)) }
 {
     match (op, error) {
         (Op::Create { .. }, Errno::TooBig) => push_portless(text, abi),

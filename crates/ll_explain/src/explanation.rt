@@ -30,7 +30,8 @@ fn found_at<'t>(
     requires known { answer ≢ Allowed }
     requires trails { AreTrailsAt case.now place trails.now }
     ensures read { slice_get case.now.records place ≡ Some result.0.now }
-    ensures trail { Follows result.1.now (origins_at case.now.tree case.now.abi case.now.records place result.0.now.process.0) }
+    ensures trail { Follows result.1.now
+        (origins_at case.now.tree case.now.abi case.now.records place result.0.now.process.0) }
 {
     let found = &case.trace().records()[place];
     (found, trails.of(found.process))
@@ -40,7 +41,8 @@ fn found_at<'t>(
 fn push_moot(text: &mut Vec<u8>, case: &Case, trails: &Trails, place: usize) -> Added
     requires answer { IsAnswerAt case.now place Moot }
     requires trails { AreTrailsAt case.now place trails.now }
-    ensures { OnOk result (text.new.items ≡ text.old.items ++ text_at case.now.tree case.now.abi case.now.records place) }
+    ensures { OnOk result (text.new.items
+        ≡ text.old.items ++ text_at case.now.tree case.now.abi case.now.records place) }
 {
     let (found, trail) = found_at(case, trails, place, Answer::Moot);
     push_mootness(text, case.tree(), trail, &found.op)?;
@@ -57,7 +59,8 @@ fn push_failed(
 ) -> Added
     requires answer { IsAnswerAt case.now place (Refused error []) }
     requires trails { AreTrailsAt case.now place trails.now }
-    ensures { OnOk result (text.new.items ≡ text.old.items ++ text_at case.now.tree case.now.abi case.now.records place) }
+    ensures { OnOk result (text.new.items
+        ≡ text.old.items ++ text_at case.now.tree case.now.abi case.now.records place) }
 {
     let answer = Answer::Refused(error, LayerSet::new());
     let (found, trail) = found_at(case, trails, place, answer);
@@ -87,7 +90,8 @@ fn push_refusing(
     requires answer { IsAnswerAt case.now place (Refused error numbers) }
     requires some { numbers ≢ [] }
     requires trails { AreTrailsAt case.now place trails.now }
-    ensures { OnOk result (text.new.items ≡ text.old.items ++ text_at case.now.tree case.now.abi case.now.records place) }
+    ensures { OnOk result (text.new.items
+        ≡ text.old.items ++ text_at case.now.tree case.now.abi case.now.records place) }
 {
     let (found, trail) = found_at(case, trails, place, Answer::Refused(error, numbers));
     let domain = domain_of(alloc, case, trail)?;
@@ -114,7 +118,8 @@ pub fn push_explanation(
 ) -> Result<(), NoMemory>
     requires answer { IsAnswerAt case.now place answer }
     requires trails { AreTrailsAt case.now place trails.now }
-    ensures { OnOk result (text.new.items ≡ text.old.items ++ text_at case.now.tree case.now.abi case.now.records place) }
+    ensures { OnOk result (text.new.items
+        ≡ text.old.items ++ text_at case.now.tree case.now.abi case.now.records place) }
 {
     match answer {
         Answer::Allowed => {}

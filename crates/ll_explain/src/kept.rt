@@ -20,7 +20,8 @@ use ll_trace::{Op, Record};
 /// Adds the path that the record at a place opens, if it opens one.
 #[tactic(auto, unfolding(crate::specs::Words::path_opened))]
 fn push_path_opened(text: &mut Vec<u8>, records: &[Record], place: u32) -> Added
-    ensures { OnOk result (text.new.items ≡ text.old.items ++ escape (path_opened (slice_get records.now place))) }
+    ensures { OnOk result (text.new.items
+        ≡ text.old.items ++ escape (path_opened (slice_get records.now place))) }
 {
     match records.get(place as usize) {
         None => Ok(()),
@@ -43,7 +44,8 @@ fn line_opened(records: &[Record], place: u32) -> u64
 
 /// Says which right was missing, on which path, and where it was opened.
 fn push_opened(text: &mut Vec<u8>, records: &[Record], name: &str, place: u32) -> Added
-    ensures { OnOk result (text.new.items ≡ text.old.items ++ kept_text records.now name.now place) }
+    ensures { OnOk result (text.new.items
+        ≡ text.old.items ++ kept_text records.now name.now place) }
 {
     text.extend_from_slice(name.as_bytes())?;
     text.extend_from_slice(b" on ")?;
@@ -62,7 +64,9 @@ fn push_kept_line(
     place: u32,
 ) -> Added
     requires number { 0 < number }
-    ensures { OnOk result (text.new.items ≡ text.old.items ++ layer_text of.now.records.now of.now.trail.now.layers.items (kept_entry (fs_right right) place number)) }
+    ensures { OnOk result (text.new.items
+        ≡ text.old.items ++ layer_text of.now.records.now of.now.trail.now.layers.items
+        (kept_entry (fs_right right) place number)) }
 {
     push_head(text, of, number)?;
     push_opened(text, of.records, word_for(right.name()), place)?;
@@ -79,7 +83,8 @@ fn push_kept_lines(
     numbers: LayerSet,
     place: u32,
 ) -> Added
-    ensures { OnOk result (text.new.items ≡ text.old.items ++ lines of.now (kept_by (fs_right right) numbers (Some place))) }
+    ensures { OnOk result (text.new.items
+        ≡ text.old.items ++ lines of.now (kept_by (fs_right right) numbers (Some place))) }
 {
     if numbers.is_empty() {
         return Ok(());
@@ -100,7 +105,8 @@ pub(crate) fn push_kept(
     numbers: LayerSet,
     fd: u64,
 ) -> Added
-    ensures { OnOk result (text.new.items ≡ text.old.items ++ lines of.now (kept_by (fs_right right) numbers (opened of.now.trail.now.openings fd))) }
+    ensures { OnOk result (text.new.items ≡ text.old.items
+        ++ lines of.now (kept_by (fs_right right) numbers (opened of.now.trail.now.openings fd))) }
 {
     match of.trail.openings.get(fd) {
         None => Ok(()),

@@ -16,17 +16,27 @@ ghost use Rattle.ll_explain.specs.Words.{explanation_text};
 #[tactic(auto, unfolding(crate::specs::Words::explanation_text, crate::specs::Words::layer_text, crate::specs::Words::layer_head, crate::specs::Words::objection_text, crate::specs::Words::listed, crate::specs::Words::condition_text, crate::specs::Words::unknown_text, crate::specs::Words::reason_text, crate::specs::Words::path_text, crate::specs::Words::joined, crate::specs::Words::behind, ll_lines::specs::PathTexts::text_of, json::specs::Print::escape_byte))]
 pub fn worked_words()
     ensures nothing { explanation_text [] [] nothing ≡ [] }
-    ensures missing { explanation_text (record { line = 5; process = record { 0 = 0 }; pid = 10; op = Nnp } ∷ []) (0 ∷ [])
+    ensures missing { explanation_text
+        (record { line = 5; process = record { 0 = 0 }; pid = 10; op = Nnp } ∷ []) (0 ∷ [])
         (objections ((1, missing (read_file ∷ []) (codes "b" ∷ codes "g" ∷ []) ∷ []) ∷ []))
         ≡ codes "    layer 1 (line 5): read_file on /b/g\n" }
-    ensures twice { explanation_text (record { line = 5; process = record { 0 = 0 }; pid = 10; op = Nnp } ∷ []) (0 ∷ 0 ∷ [])
-        (objections ((1, missing (refer ∷ []) (codes "a" ∷ []) ∷ missing (refer ∷ []) (codes "b" ∷ []) ∷ [])
+    ensures twice { explanation_text
+        (record { line = 5; process = record { 0 = 0 }; pid = 10; op = Nnp } ∷ []) (0 ∷ 0 ∷ [])
+        (objections
+        ((1, missing (refer ∷ []) (codes "a" ∷ []) ∷ missing (refer ∷ []) (codes "b" ∷ []) ∷ [])
         ∷ (2, gained (codes "a" ∷ codes "f" ∷ []) (execute ∷ []) (codes "b" ∷ []) ∷ []) ∷ []))
-        ≡ codes "    layer 1 (line 5): refer on /a; refer on /b\n    layer 2 (line 5): /a/f would gain execute in /b\n" }
-    ensures kept { explanation_text (record { line = 5; process = record { 0 = 0 }; pid = 10; op = OpenFile (codes "/a/f") 4 Write false false } ∷ []) (0 ∷ [])
+        ≡ codes
+        "    layer 1 (line 5): refer on /a; refer on /b\n    layer 2 (line 5): /a/f would gain execute in /b\n" }
+    ensures kept { explanation_text (record {
+      line = 5;
+      process = record { 0 = 0 };
+      pid = 10;
+      op = OpenFile (codes "/a/f") 4 Write false false;
+    } ∷ []) (0 ∷ [])
         (objections ((1, kept truncate 0 ∷ []) ∷ []))
         ≡ codes "    layer 1 (line 5): truncate on /a/f, opened at line 5\n" }
-    ensures port { explanation_text (record { line = 5; process = record { 0 = 0 }; pid = 10; op = Nnp } ∷ []) (0 ∷ [])
+    ensures port { explanation_text
+        (record { line = 5; process = record { 0 = 0 }; pid = 10; op = Nnp } ∷ []) (0 ∷ [])
         (objections ((1, closed (bind_tcp ∷ []) 7 ∷ []) ∷ []))
         ≡ codes "    layer 1 (line 5): bind_tcp on port 7\n" }
     ensures unhandled { explanation_text [] [] (failure (unhandled (write_file ∷ [])))

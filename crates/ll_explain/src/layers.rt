@@ -32,7 +32,8 @@ pub(crate) enum Question<'p> {
 fn push_layer(text: &mut Vec<u8>, layer: &OneLayer, question: &Question) -> Added
     requires { IsAsked layer.now.of.tree.now question.now }
     ensures { OnOk result (text.new.items ≡ text.old.items
-        ++ lines layer.now.of (of_layer layer.now.number (objections layer.now.of.tree.now question.now (rules_of layer.now)))) }
+        ++ lines layer.now.of (of_layer layer.now.number
+        (objections layer.now.of.tree.now question.now (rules_of layer.now)))) }
 {
     match question {
         Question::OnNode(named, rights) => {
@@ -50,7 +51,8 @@ fn push_layer(text: &mut Vec<u8>, layer: &OneLayer, question: &Question) -> Adde
 /// Adds the lines of the layers of a process that object to what is asked.
 pub(crate) fn push_asked(text: &mut Vec<u8>, of: &Confinement, question: &Question) -> Added
     requires { IsAsked of.now.tree.now question.now }
-    ensures { OnOk result (text.new.items ≡ text.old.items ++ lines of.now (objecting (objections of.now.tree.now question.now) (stacked of.now))) }
+    ensures { OnOk result (text.new.items ≡ text.old.items
+        ++ lines of.now (objecting (objections of.now.tree.now question.now) (stacked of.now))) }
 {
     for (index, id) in of.domain.iter().enumerate() {
         let layer = OneLayer {

@@ -36,7 +36,8 @@ pub(crate) fn alone(id: LayerId) -> Domain
 /// Whether a layer handles a right of a set and doesn't grant it on a node.
 fn lacks(layer: &OneLayer, node: NodeId, rights: Fs) -> bool
     requires { IsNode layer.now.of.tree.now node }
-    ensures { result ≡ is_lacking_on (rules_of layer.now) (path_at layer.now.of.tree.now node) rights }
+    ensures { result
+        ≡ is_lacking_on (rules_of layer.now) (path_at layer.now.of.tree.now node) rights }
 {
     let domain = alone(layer.id);
     !check_path(layer.of.tree, layer.of.layers, &domain, node, rights).is_empty()
@@ -45,7 +46,8 @@ fn lacks(layer: &OneLayer, node: NodeId, rights: Fs) -> bool
 /// Whether a right is in a set, and a layer handles it and doesn't grant it on a node.
 fn is_missing(layer: &OneLayer, node: NodeId, asked: Fs, right: FsRight) -> bool
     requires { IsNode layer.now.of.tree.now node }
-    ensures { result ≡ lacked (rules_of layer.now) (path_at layer.now.of.tree.now node) asked (fs_right right) }
+    ensures { result
+        ≡ lacked (rules_of layer.now) (path_at layer.now.of.tree.now node) asked (fs_right right) }
 {
     if asked.has(right) {
         lacks(layer, node, right.set())
@@ -74,7 +76,8 @@ fn is_gained(layer: &OneLayer, object: NodeId, directory: NodeId, right: FsRight
     requires object { IsNode layer.now.of.tree.now object }
     requires directory { IsNode layer.now.of.tree.now directory }
     ensures { result ≡ gainable (rules_of layer.now) (kind_at layer.now.of.tree.now object)
-        (path_at layer.now.of.tree.now object) (path_at layer.now.of.tree.now directory) (fs_right right) }
+        (path_at layer.now.of.tree.now object)
+        (path_at layer.now.of.tree.now directory) (fs_right right) }
 {
     let set = right.set();
     let lacking = lacks(layer, object, set);
@@ -97,7 +100,8 @@ fn does_pass(layer: &OneLayer, test: Test, right: FsRight) -> bool
 /// The rights that pass a test under a layer.
 pub(crate) fn passing(layer: &OneLayer, test: Test) -> Fs
     requires { IsTest layer.now.of.tree.now test }
-    ensures { (right : files.FsRight) → files.has result right ≡ passes layer.now.of.tree.now (rules_of layer.now) test right }
+    ensures { (right : files.FsRight)
+        → files.has result right ≡ passes layer.now.of.tree.now (rules_of layer.now) test right }
 {
     let mut rights = Fs::NONE;
     for right in FsRight::all() {

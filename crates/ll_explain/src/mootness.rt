@@ -40,7 +40,8 @@ fn not_opened<'t>(tree: &Tree, trail: &Trail, path: &'t PathText, fd: u64) -> Wh
 /// Why a descriptor's file isn't truncated.
 #[tactic(auto, unfolding(ll_reasons::specs::Meant::meant))]
 fn not_truncated(trail: &Trail, fd: u64) -> Why<'static>
-    ensures { meant result ≡ (if is_some (opened trail.now.openings fd) then not_for_writing fd else unopened fd) }
+    ensures { meant result
+        ≡ (if is_some (opened trail.now.openings fd) then not_for_writing fd else unopened fd) }
 {
     if is_open(trail, fd) {
         return Why::NotForWriting(fd);
@@ -50,7 +51,8 @@ fn not_truncated(trail: &Trail, fd: u64) -> Why<'static>
 
 /// Why what is at a path isn't what a call wants there, if it wants something at one.
 fn unwanted<'t>(tree: &Tree, op: &'t Op) -> Option<Why<'t>>
-    ensures { option_map meant result ≡ option_map (λ want. unmet tree.now (spelt want.0) (place tree.now want.0) want.1) (wanted op.now) }
+    ensures { option_map meant result ≡ option_map
+        (λ want. unmet tree.now (spelt want.0) (place tree.now want.0) want.1) (wanted op.now) }
 {
     let (path, wanted) = wanted(op)?;
     Some(unmet(tree, path, wanted))
@@ -70,7 +72,8 @@ fn push_line(text: &mut Vec<u8>, why: &Why) -> Added
 /// Why a call is moot, and None for a call that never is.
 #[tactic(auto, unfolding(ll_reasons::specs::Meant::meant, ll_reasons::specs::Reasons::reason))]
 fn why_moot<'t>(tree: &Tree, trail: &Trail, op: &'t Op) -> Option<Why<'t>>
-    ensures { (o : Origins) → Follows trail.now o → option_map meant result ≡ reason tree.now o op.now }
+    ensures { (o : Origins) → Follows trail.now o
+        → option_map meant result ≡ reason tree.now o op.now }
 {
     match op {
         Op::Create { rs, .. } | Op::CreateEmpty { rs } => Some(Why::HeldAlready(*rs)),
@@ -90,7 +93,8 @@ fn why_moot<'t>(tree: &Tree, trail: &Trail, op: &'t Op) -> Option<Why<'t>>
 /// Adds the line that says why a call is moot, by the origins of what its process has. Nothing is added for a call that
 /// never is.
 pub(crate) fn push_mootness(text: &mut Vec<u8>, tree: &Tree, trail: &Trail, op: &Op) -> Added
-    ensures { OnOk result ((o : Origins) → Follows trail.now o → text.new.items ≡ text.old.items ++ mootness_text (reason tree.now o op.now)) }
+    ensures { OnOk result ((o : Origins) → Follows trail.now o
+        → text.new.items ≡ text.old.items ++ mootness_text (reason tree.now o op.now)) }
 {
     match why_moot(tree, trail, op) {
         None => Ok(()),

@@ -57,7 +57,8 @@ fn push_moved(
 ) -> Added
     requires fit { IfSome asked (IsFitMove of.now.tree.now) }
     requires between { IsMove of.now.tree.now from.now to.now asked }
-    ensures { OnOk result (text.new.items ≡ text.old.items ++ lines of.now (to_move of.now.tree.now (stacked of.now) error asked)) }
+    ensures { OnOk result (text.new.items
+        ≡ text.old.items ++ lines of.now (to_move of.now.tree.now (stacked of.now) error asked)) }
 {
     let Some(attempt) = asked else {
         return Ok(());
@@ -76,7 +77,8 @@ pub(crate) fn push_renamed(
     error: Errno,
 ) -> Added
     ensures { OnOk result (text.new.items ≡ text.old.items ++ lines of.now
-        (to_move of.now.tree.now (stacked of.now) error (renaming of.now.tree.now from.now to.now exchange))) }
+        (to_move of.now.tree.now (stacked of.now) error
+        (renaming of.now.tree.now from.now to.now exchange))) }
 {
     let source = place_of(of.tree, from, None);
     let target = place_of(of.tree, to, None);
@@ -93,7 +95,8 @@ pub(crate) fn push_linked(
     error: Errno,
 ) -> Added
     ensures { OnOk result (text.new.items ≡ text.old.items ++ lines of.now
-        (to_move of.now.tree.now (stacked of.now) error (linking of.now.tree.now from.now to.now))) }
+        (to_move of.now.tree.now (stacked of.now) error
+        (linking of.now.tree.now from.now to.now))) }
 {
     let source = place_of(of.tree, from, None);
     let target = place_of(of.tree, to, None);

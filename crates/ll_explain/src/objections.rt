@@ -26,7 +26,8 @@ pub(crate) fn push_objections(
     numbers: LayerSet,
 ) -> Added
     ensures { OnOk result (text.new.items ≡ text.old.items ++ lines of.now
-        (objections_to of.now.tree.now (stacked of.now) (followed of.now.trail.now) op.now error numbers)) }
+        (objections_to of.now.tree.now (stacked of.now)
+        (followed of.now.trail.now) op.now error numbers)) }
 {
     match op {
         Op::Ftruncate { fd } => push_kept(text, of, FsRight::Truncate, numbers, *fd),

@@ -65,7 +65,8 @@ fn push_rights(text: &mut Vec<u8>, rights: Fs) -> Added
 
 /// Adds the names of the rights for ports of a set.
 fn push_port_rights(text: &mut Vec<u8>, rights: Net) -> Added
-    ensures { OnOk result (text.new.items ≡ text.old.items ++ port_rights_text (port_rights_in rights)) }
+    ensures { OnOk result (text.new.items
+        ≡ text.old.items ++ port_rights_text (port_rights_in rights)) }
 {
     push_beyond(text, rights, Net::NONE)?;
     Ok(())
@@ -74,7 +75,8 @@ fn push_port_rights(text: &mut Vec<u8>, rights: Net) -> Added
 /// Adds names of rights, and the path on which they are missing.
 fn push_rights_on(text: &mut Vec<u8>, rights: Fs, path: &str) -> Added
     requires { IsTrue (is_some (path_of path.now)) }
-    ensures { OnOk result (text.new.items ≡ text.old.items ++ (rights_text (rights_in rights) ++ codes " on " ++ path_text (spelt path.now))) }
+    ensures { OnOk result (text.new.items ≡ text.old.items
+        ++ (rights_text (rights_in rights) ++ codes " on " ++ path_text (spelt path.now))) }
 {
     push_rights(text, rights)?;
     text.extend_from_slice(b" on ")?;
@@ -84,7 +86,8 @@ fn push_rights_on(text: &mut Vec<u8>, rights: Fs, path: &str) -> Added
 
 /// Adds names of rights, and the port on which they are missing.
 fn push_rights_on_port(text: &mut Vec<u8>, rights: Net, port: u16) -> Added
-    ensures { OnOk result (text.new.items ≡ text.old.items ++ (port_rights_text (port_rights_in rights) ++ codes " on port " ++ decimal port)) }
+    ensures { OnOk result (text.new.items ≡ text.old.items
+        ++ (port_rights_text (port_rights_in rights) ++ codes " on port " ++ decimal port)) }
 {
     push_port_rights(text, rights)?;
     text.extend_from_slice(b" on port ")?;
@@ -96,7 +99,9 @@ fn push_rights_on_port(text: &mut Vec<u8>, rights: Net, port: u16) -> Added
 fn push_gain(text: &mut Vec<u8>, object: &str, rights: Fs, directory: &str) -> Added
     requires object { IsTrue (is_some (path_of object.now)) }
     requires directory { IsTrue (is_some (path_of directory.now)) }
-    ensures { OnOk result (text.new.items ≡ text.old.items ++ (path_text (spelt object.now) ++ codes " would gain " ++ rights_text (rights_in rights) ++ codes " in " ++ path_text (spelt directory.now))) }
+    ensures { OnOk result (text.new.items
+        ≡ text.old.items ++ (path_text (spelt object.now) ++ codes " would gain "
+        ++ rights_text (rights_in rights) ++ codes " in " ++ path_text (spelt directory.now))) }
 {
     push_path(text, object)?;
     text.extend_from_slice(b" would gain ")?;
@@ -128,7 +133,8 @@ fn push_part(text: &mut Vec<u8>, part: &Part) -> Added
 #[tactic(auto, unfolding(crate::specs::Words::behind))]
 fn push_next(text: &mut Vec<u8>, part: &Part, is_first: bool) -> Added
     requires { IsSpelt part.now }
-    ensures { OnOk result (text.new.items ≡ text.old.items ++ (if is_first then part_text part.now else behind (codes "; ") (part_text part.now))) }
+    ensures { OnOk result (text.new.items ≡ text.old.items
+        ++ (if is_first then part_text part.now else behind (codes "; ") (part_text part.now))) }
 {
     if !is_first {
         text.extend_from_slice(b"; ")?;
@@ -140,7 +146,8 @@ fn push_next(text: &mut Vec<u8>, part: &Part, is_first: bool) -> Added
 /// Says the parts for which there is something to say, one behind another.
 fn push_parts(text: &mut Vec<u8>, parts: &[Part]) -> Added
     requires { All IsSpelt parts.now }
-    ensures { OnOk result (text.new.items ≡ text.old.items ++ joined (codes "; ") (map part_text (filter is_said parts.now))) }
+    ensures { OnOk result (text.new.items
+        ≡ text.old.items ++ joined (codes "; ") (map part_text (filter is_said parts.now))) }
 {
     let mut is_first = true;
     for part in parts {
@@ -162,7 +169,8 @@ fn some_said(parts: &[Part]) -> bool
 /// The line of the record that made a layer, or 0 where there is none.
 fn line_at(records: &[Record], layers: &[u32], number: u64) -> u64
     requires { 0 < number }
-    ensures { result ≡ line_of (option_and_then (slice_get records.now) (slice_get layers.now (number - 1))) }
+    ensures { result
+        ≡ line_of (option_and_then (slice_get records.now) (slice_get layers.now (number - 1))) }
 {
     match layers.get(number as usize - 1) {
         None => 0,
@@ -176,7 +184,8 @@ fn line_at(records: &[Record], layers: &[u32], number: u64) -> u64
 /// Begins the line of a layer, which says where the layer comes from.
 pub(crate) fn push_head(text: &mut Vec<u8>, of: &Confinement, number: u64) -> Added
     requires { 0 < number }
-    ensures { OnOk result (text.new.items ≡ text.old.items ++ layer_head of.now.records.now of.now.trail.now.layers.items number) }
+    ensures { OnOk result (text.new.items
+        ≡ text.old.items ++ layer_head of.now.records.now of.now.trail.now.layers.items number) }
 {
     push_numbered(text, "    layer ", number, " (line ")?;
     let line = line_at(of.records, of.trail.layers.as_slice(), number);
@@ -188,7 +197,8 @@ pub(crate) fn push_head(text: &mut Vec<u8>, of: &Confinement, number: u64) -> Ad
 /// Adds the line of a layer, where something is said of it.
 pub(crate) fn push_line(text: &mut Vec<u8>, layer: &OneLayer, parts: &[Part]) -> Added
     requires { All IsSpelt parts.now }
-    ensures { OnOk result (text.new.items ≡ text.old.items ++ lines layer.now.of (of_layer layer.now.number (said_of parts.now))) }
+    ensures { OnOk result (text.new.items
+        ≡ text.old.items ++ lines layer.now.of (of_layer layer.now.number (said_of parts.now))) }
 {
     if !some_said(parts) {
         return Ok(());

@@ -51,7 +51,8 @@ fn push_both(
     to: &SpeltPath,
     said: &str,
 ) -> Added
-    ensures { OnOk result (text.new.items ≡ text.old.items ++ (path_text from.now ++ between.now ++ path_text to.now ++ said.now)) }
+    ensures { OnOk result (text.new.items
+        ≡ text.old.items ++ (path_text from.now ++ between.now ++ path_text to.now ++ said.now)) }
 {
     push_said(text, from, between)?;
     push_said(text, to, said)

@@ -40,7 +40,8 @@ pub(crate) trait RightSet: Copy {
         ensures { result.now ≡ name right };
 
     ghost named: { (all : List Self.Right) → is_table all → (set whole : Self)
-        → listed name (filter (λ right. has set right && not (has whole right)) all) ≡ beyond_text set whole };
+        → listed name (filter (λ right. has set right && not (has whole right)) all)
+        ≡ beyond_text set whole };
 
     ghost tested: { (all : List Self.Right) → is_table all → (set whole : Self)
         → list_all (λ right. not (has set right) || has whole right) all ≡ is_within set whole };
@@ -59,7 +60,8 @@ impl RightSet for Fs {
 
     ghost is_within = { files.is_within };
 
-    ghost named = { λ all table set whole. listed_alike fs_right files.name_of files.all_rights all table
+    ghost named = { λ all table set whole.
+        listed_alike fs_right files.name_of files.all_rights all table
         (λ right. files.has set right && not (files.has whole right)) };
 
     ghost tested = { files_within };
@@ -90,7 +92,8 @@ impl RightSet for Net {
 
     ghost is_within = { network.is_within };
 
-    ghost named = { λ all table set whole. listed_alike net_right network.name_of network.all_rights all table
+    ghost named = { λ all table set whole.
+        listed_alike net_right network.name_of network.all_rights all table
         (λ right. network.has set right && not (network.has whole right)) };
 
     ghost tested = { ports_within };
@@ -122,7 +125,8 @@ pub(crate) fn word_for(name: &str) -> &str
 /// Adds a name, behind a comma if it isn't the first.
 #[tactic(auto, unfolding(crate::specs::Words::behind))]
 fn push_name(text: &mut Vec<u8>, name: &str, is_first: bool) -> Added
-    ensures { OnOk result (text.new.items ≡ text.old.items ++ (if is_first then name.now else behind (codes ", ") name.now)) }
+    ensures { OnOk result (text.new.items
+        ≡ text.old.items ++ (if is_first then name.now else behind (codes ", ") name.now)) }
 {
     if !is_first {
         text.extend_from_slice(b", ")?;

@@ -37,7 +37,9 @@ pub(crate) struct Route<'p> {
 /// other moves.
 fn part_of_other<'p>(layer: &OneLayer, route: &Route<'p>) -> Part<'p>
     requires { IsRoute layer.now.of.tree.now route.now }
-    ensures said { said_of (result ∷ []) ≡ on_other_gain layer.now.of.tree.now route.now.attempt route.now.attempt.how route.now.attempt.target (rules_of layer.now) }
+    ensures said { said_of (result ∷ [])
+        ≡ on_other_gain layer.now.of.tree.now route.now.attempt route.now.attempt.how
+        route.now.attempt.target (rules_of layer.now) }
     ensures spelt { IsSpelt result }
 {
     let nothing = Part::Gained {
@@ -62,7 +64,8 @@ fn part_of_other<'p>(layer: &OneLayer, route: &Route<'p>) -> Part<'p>
 pub(crate) fn push_denied(text: &mut Vec<u8>, layer: &OneLayer, route: &Route) -> Added
     requires { IsRoute layer.now.of.tree.now route.now }
     ensures { OnOk result (text.new.items ≡ text.old.items
-        ++ lines layer.now.of (of_layer layer.now.number (on_directories layer.now.of.tree.now route.now.attempt (rules_of layer.now)))) }
+        ++ lines layer.now.of (of_layer layer.now.number
+        (on_directories layer.now.of.tree.now route.now.attempt (rules_of layer.now)))) }
 {
     if route.destination.node == route.source.node {
         let asked = route.leaving.union(route.entering);
@@ -79,7 +82,8 @@ pub(crate) fn push_denied(text: &mut Vec<u8>, layer: &OneLayer, route: &Route) -
 pub(crate) fn push_held_back(text: &mut Vec<u8>, layer: &OneLayer, route: &Route) -> Added
     requires { IsRoute layer.now.of.tree.now route.now }
     ensures { OnOk result (text.new.items ≡ text.old.items
-        ++ lines layer.now.of (of_layer layer.now.number (on_crossing layer.now.of.tree.now route.now.attempt (rules_of layer.now)))) }
+        ++ lines layer.now.of (of_layer layer.now.number
+        (on_crossing layer.now.of.tree.now route.now.attempt (rules_of layer.now)))) }
 {
     let source = part_on_path(layer, route.source, Fs::REFER);
     let destination = part_on_path(layer, route.destination, Fs::REFER);

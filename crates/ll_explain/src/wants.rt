@@ -17,7 +17,10 @@ use ll_trace::{Op, PathText};
 /// Adds the lines for what a call wants at a path.
 #[tactic(auto, unfolding(ll_reasons::specs::Objections::to_request))]
 fn push_wanted(text: &mut Vec<u8>, of: &Confinement, path: &PathText, wanted: Wanted) -> Added
-    ensures { OnOk result (text.new.items ≡ text.old.items ++ lines of.now (to_request of.now.tree.now (stacked of.now) (asks of.now.tree.now (place of.now.tree.now path.now) wanted))) }
+    ensures { OnOk result (text.new.items
+        ≡ text.old.items
+        ++ lines of.now (to_request of.now.tree.now (stacked of.now)
+        (asks of.now.tree.now (place of.now.tree.now path.now) wanted))) }
 {
     let place = place_of(of.tree, path, None);
     let Some(request) = asks(of.tree, place, wanted) else {
@@ -33,7 +36,8 @@ fn push_wanted(text: &mut Vec<u8>, of: &Confinement, path: &PathText, wanted: Wa
 /// Adds the lines for a call that may want something at a path.
 #[tactic(auto, unfolding(ll_reasons::specs::Objections::to_request))]
 pub(crate) fn push_request(text: &mut Vec<u8>, of: &Confinement, op: &Op) -> Added
-    ensures { OnOk result (text.new.items ≡ text.old.items ++ lines of.now (to_request of.now.tree.now (stacked of.now) (request of.now.tree.now (wanted op.now)))) }
+    ensures { OnOk result (text.new.items ≡ text.old.items ++ lines of.now
+        (to_request of.now.tree.now (stacked of.now) (request of.now.tree.now (wanted op.now)))) }
 {
     match wanted(op) {
         None => Ok(()),

@@ -73,7 +73,8 @@ pub(crate) fn push_escaped(text: &mut Vec<u8>, path: &str) -> Added
 
 /// Adds a number between two texts.
 pub(crate) fn push_numbered(text: &mut Vec<u8>, before: &str, number: u64, after: &str) -> Added
-    ensures { OnOk result (text.new.items ≡ text.old.items ++ (before.now ++ decimal number ++ after.now)) }
+    ensures { OnOk result (text.new.items
+        ≡ text.old.items ++ (before.now ++ decimal number ++ after.now)) }
 {
     text.extend_from_slice(before.as_bytes())?;
     push_number(text, number)?;

@@ -1,5 +1,6 @@
 -- A file is its first line and the lines of the bytes after it.
-use Rattle.std.proofs.Common.{◌≡◌, ℕ, zero, suc, ◌+◌, ◌-◌, ◌<◌, true, false, List, [], ◌∷◌, length, take, drop, refl, ap, arith, eqb, slice_index, add-one, ◌≤◌, Bool, ◌++◌, get_or, cond, sym, ◌∙◌, length-drop}
+use Rattle.std.proofs.Common.{◌≡◌, ℕ, zero, suc, ◌+◌, ◌-◌, ◌<◌, true, false, List, [], ◌∷◌, length, take, drop, refl, ap, arith, eqb, slice_index, add-one, ◌≤◌}
+use Rattle.std.proofs.Common.{Bool, ◌++◌, get_or, cond, sym, ◌∙◌, length-drop}
 use Rattle.std.proofs.lemmas.Bool.{false_from_ne_true, eqb-true}
 use Rattle.std.proofs.lemmas.List.{take_rest, append-nil, take-append-drop, take_more, get_or-drop}
 use Rattle.memchr.specs.Find.{NoneBefore, Nowhere, Passes, is_byte}
@@ -26,7 +27,8 @@ lines-uncut b (x ∷ xs) none =
     let others : lines (x ∷ xs) ≡ (x ∷ xs) ∷ [] = lines-uncut x xs (rest_has_none b (x ∷ xs) (suc (length xs)) none) in
     rw (first_is_none b (x ∷ xs) (suc (length xs)) none) (ap (with_first b) others)
 
-pub lines-cut : (bytes : List ℕ) (end : ℕ) → end < length bytes → eqb (slice_index bytes end) 10 ≡ true → NoLineFeed bytes end → lines bytes ≡ take end bytes ∷ lines (drop (suc end) bytes)
+pub lines-cut : (bytes : List ℕ) (end : ℕ) → end < length bytes → eqb (slice_index bytes end) 10 ≡ true → NoLineFeed bytes end
+    → lines bytes ≡ take end bytes ∷ lines (drop (suc end) bytes)
 unfolding lines
 lines-cut [] end lt here none = absurd (omega arith)
 lines-cut (b ∷ bytes) zero lt here none = rw here refl
@@ -35,7 +37,8 @@ lines-cut (b ∷ bytes) (suc end) lt here none =
     rw (first_is_none b bytes end none) (ap (with_first b) others)
 
 -- as the code says it
-pub cut_at : (bytes : List ℕ) (end : ℕ) → NoneBefore (Passes (is_byte 10) bytes) 0 (length bytes) end → Passes (is_byte 10) bytes end → lines bytes ≡ take end bytes ∷ lines (take (length bytes - (end + 1)) (drop (end + 1) bytes))
+pub cut_at : (bytes : List ℕ) (end : ℕ) → NoneBefore (Passes (is_byte 10) bytes) 0 (length bytes) end → Passes (is_byte 10) bytes end
+    → lines bytes ≡ take end bytes ∷ lines (take (length bytes - (end + 1)) (drop (end + 1) bytes))
 cut_at bytes end none here = rw (take_rest, add-one) (lines-cut bytes end none.high here (λ k lt. none.before k (omega arith) lt))
 
 pub uncut : (bytes : List ℕ) → 0 < length bytes → Nowhere (Passes (is_byte 10) bytes) 0 (length bytes) → lines bytes ≡ bytes ∷ lines []
@@ -57,7 +60,8 @@ some_more true b xs some = omega arith
 some_more false b [] some = absurd (omega arith)
 some_more false b (x ∷ xs) some = omega arith
 
-more-append : (feed : Bool) (b : ℕ) (xs ys : List (List ℕ)) → 0 < length xs → cond feed ([] ∷ xs ++ ys) (with_first b (xs ++ ys)) ≡ cond feed ([] ∷ xs) (with_first b xs) ++ ys
+more-append : (feed : Bool) (b : ℕ) (xs ys : List (List ℕ)) → 0 < length xs
+    → cond feed ([] ∷ xs ++ ys) (with_first b (xs ++ ys)) ≡ cond feed ([] ∷ xs) (with_first b xs) ++ ys
 more-append true b xs ys some = refl
 more-append false b [] ys some = absurd (omega arith)
 more-append false b (x ∷ xs) ys some = refl
@@ -92,20 +96,20 @@ numbered-append n (x ∷ xs) ys =
     let same : n + 1 + length xs ≡ n + suc (length xs) = omega arith in
     ap (λ others. record { number = n; bytes = x } ∷ others) (numbered-append (n + 1) xs ys ∙ ap (λ m. numbered_from (n + 1) xs ++ numbered_from m ys) same)
 
-pub filled-append : (n : ℕ) (front after : List ℕ) → filled_from n (front ++ 10 ∷ after) ≡ filled_from n (front ++ 10 ∷ []) ++ filled_from (n + line_feeds (front ++ 10 ∷ [])) after
+pub filled-append : (n : ℕ) (front after : List ℕ)
+    → filled_from n (front ++ 10 ∷ after) ≡ filled_from n (front ++ 10 ∷ []) ++ filled_from (n + line_feeds (front ++ 10 ∷ [])) after
 filled-append n front after =
     let kept = λ (line : Line). not (is_blank line.bytes) in
     let first = lines (front ++ 10 ∷ []) in
-    ap (λ ls. filter kept (numbered_from n ls)) (lines-append front after)
-    ∙ (ap (filter kept) (numbered-append n first (lines after))
+    ap (λ ls. filter kept (numbered_from n ls)) (lines-append front after) ∙ (ap (filter kept) (numbered-append n first (lines after))
     ∙ (filter-append kept (numbered_from n first) (numbered_from (n + length first) (lines after))
     ∙ ap (λ m. filter kept (numbered_from n first) ++ filter kept (numbered_from (n + m) (lines after))) (length-lines front)))
 
 -- as the code says it: the first line feed of what is behind a place
 pub filled-cut : (bytes : List ℕ) (from end n : ℕ) → from ≤ length bytes
     → NoneBefore (Passes (is_byte 10) (take (length bytes - from) (drop from bytes))) 0 (length (take (length bytes - from) (drop from bytes))) end
-    → Passes (is_byte 10) (take (length bytes - from) (drop from bytes)) end
-    → filled_from n bytes ≡ filled_from n (take (from + end + 1) bytes) ++ filled_from (n + line_feeds (take (from + end + 1) bytes)) (drop (from + end + 1) bytes)
+    → Passes (is_byte 10) (take (length bytes - from) (drop from bytes)) end → filled_from n bytes ≡ filled_from n (take (from + end + 1) bytes)
+    ++ filled_from (n + line_feeds (take (from + end + 1) bytes)) (drop (from + end + 1) bytes)
 filled-cut bytes from end n within none feed =
     let lt : end < length bytes - from = rw (take_rest, length-drop) at none.high in
     let found : get_or (drop from bytes) end 0 ≡ 10 = eqb-true _ 10 (rw take_rest at feed) in
@@ -115,7 +119,8 @@ filled-cut bytes from end n within none feed =
     let whole : bytes ≡ front ++ 10 ∷ drop (from + end + 1) bytes =
     sym (take-append-drop (from + end) bytes) ∙ ap (λ bs. front ++ bs) (drop-cons bytes (from + end) 0 (omega arith)
     ∙ (ap (λ b. b ∷ drop (suc (from + end)) bytes) here ∙ ap (λ m. 10 ∷ drop m bytes) (sym (add-one (from + end))))) in
-    ap (filled_from n) whole ∙ (filled-append n front (drop (from + end + 1) bytes) ∙ ap (λ bs. filled_from n bs ++ filled_from (n + line_feeds bs) (drop (from + end + 1) bytes)) (sym part))
+    ap (filled_from n) whole ∙ (filled-append n front (drop (from + end + 1) bytes)
+    ∙ ap (λ bs. filled_from n bs ++ filled_from (n + line_feeds bs) (drop (from + end + 1) bytes)) (sym part))
 
 -- where there is none, one part has all lines
 pub filled-uncut : (n m : ℕ) (bytes : List ℕ) → filled_from n bytes ≡ filled_from n bytes ++ filled_from m []

@@ -1,6 +1,7 @@
 -- A path and its text give each other back, and the text of the path without its last name ends before the last
 -- slash.
-use Rattle.std.proofs.Common.{◌≡◌, ℕ, ◌≤◌, ◌∷◌, [], List, true, false, length, Some, None, cond, eqb, refl, ap, ◌∙◌, arith, ◌&&◌, leb, sym, subst, get_or, suc, ◌<◌, ◌+◌, ◌-◌, ◌++◌, ⊎_elim, take}
+use Rattle.std.proofs.Common.{◌≡◌, ℕ, ◌≤◌, ◌∷◌, [], List, true, false, length, Some, None, cond, eqb, refl, ap, ◌∙◌, arith, ◌&&◌, leb, sym, subst, get_or, suc}
+use Rattle.std.proofs.Common.{◌<◌, ◌+◌, ◌-◌, ◌++◌, ⊎_elim, take}
 use Rattle.std.specs.Prelude.{◌≢◌, is_some, not, codes}
 use Rattle.std.specs.List.{list_all, slice_split, All, join_with_byte}
 use Rattle.std.proofs.lemmas.Bool.{le-leb, leb-true, false≢true, and_parts, cases_lt}
@@ -46,7 +47,8 @@ pub is_some-names_in : (names : List ℕ) → names ≢ [] → is_some (names_in
 unfolding names_in
 is_some-names_in [] some = absurd (some refl)
 is_some-names_in (byte ∷ bytes) some =
-    elim (list_all is_name (slice_split is_slash (byte ∷ bytes))) as (λ b. is_some (cond b (Some (slice_split is_slash (byte ∷ bytes))) None) ≡ b) [ true ↦ refl | false ↦ refl ]
+    elim (list_all is_name (slice_split is_slash (byte ∷ bytes))) as
+    (λ b. is_some (cond b (Some (slice_split is_slash (byte ∷ bytes))) None) ≡ b) [ true ↦ refl | false ↦ refl ]
 
 -- ---- texts and paths
 
@@ -54,7 +56,8 @@ is_some-names_in (byte ∷ bytes) some =
 read_parts : (text : List ℕ) (path : Path) → path_of text ≡ Some path → (length text ≤ 4096) × (after_slash text ≡ Some path)
 unfolding path_of
 read_parts text path is =
-    elim (leb (length text) 4096) as (λ b. leb (length text) 4096 ≡ b → cond b (after_slash text) None ≡ Some path → (length text ≤ 4096) × (after_slash text ≡ Some path))
+    elim (leb (length text) 4096) as (λ b. leb (length text) 4096 ≡ b → cond b (after_slash text) None ≡ Some path
+    → (length text ≤ 4096) × (after_slash text ≡ Some path))
     [ true ↦ λ short read. (leb-true (length text) 4096 short, read) | false ↦ λ long read. absurd (none-some path read) ] refl is
 
 -- the names that are read, joined by slashes, are the text; and each is a name
@@ -70,7 +73,8 @@ from_slash : (text : List ℕ) (path : Path) → after_slash text ≡ Some path 
 unfolding after_slash text_of
 from_slash [] path is = absurd (none-some path is)
 from_slash (byte ∷ bytes) path is =
-    elim (eqb byte 47) as (λ b. eqb byte 47 ≡ b → cond b (names_in bytes) None ≡ Some path → (47 ∷ join_with_byte 47 path ≡ byte ∷ bytes) × (list_all is_name path ≡ true)) [
+    elim (eqb byte 47) as (λ b. eqb byte 47 ≡ b → cond b (names_in bytes) None ≡ Some path
+    → (47 ∷ join_with_byte 47 path ≡ byte ∷ bytes) × (list_all is_name path ≡ true)) [
       | true ↦ λ slash read. (let same : byte ≡ 47 = grind (arith, nat_tests) in let rest = (joined bytes path read).0 in cc, (joined bytes path read).1)
       | false ↦ λ other read. absurd (none-some path read)
     ] refl is
@@ -110,7 +114,8 @@ cut_again : (name : Name) (names : Path) → list_all is_name (name ∷ names) �
 cut_again name [] is = slice_split_none is_slash name (name_parts name (and_parts (is_name name) true is).0).1
 cut_again name (next ∷ names) is =
     let parts = and_parts (is_name name) (list_all is_name (next ∷ names)) is in
-    slice_split_at is_slash name 47 (join_with_byte 47 (next ∷ names)) (name_parts name parts.0).1 refl ∙ ap (λ (rest : Path). name ∷ rest) (cut_again next names parts.1)
+    slice_split_at is_slash name 47 (join_with_byte 47 (next ∷ names)) (name_parts name parts.0).1 refl
+    ∙ ap (λ (rest : Path). name ∷ rest) (cut_again next names parts.1)
 
 -- names that aren't empty are read where each is a name
 some_names : (bytes : List ℕ) → bytes ≢ [] → list_all is_name (slice_split is_slash bytes) ≡ true → names_in bytes ≡ Some (slice_split is_slash bytes)
@@ -160,11 +165,13 @@ last_name (name ∷ []) = name
 last_name (name ∷ next ∷ names) = last_name (next ∷ names)
 
 -- the names before the last one, and the last one after a slash
-join_last : (name next : Name) (names : Path) → join_with_byte 47 (name ∷ next ∷ names) ≡ join_with_byte 47 (front (name ∷ next ∷ names)) ++ 47 ∷ last_name (next ∷ names)
+join_last : (name next : Name) (names : Path)
+    → join_with_byte 47 (name ∷ next ∷ names) ≡ join_with_byte 47 (front (name ∷ next ∷ names)) ++ 47 ∷ last_name (next ∷ names)
 unfolding front last_name
 join_last name next [] = refl
 join_last name next (third ∷ names) =
-    ap (λ rest. name ++ 47 ∷ rest) (join_last next third names) ∙ sym (append_assoc name (47 ∷ join_with_byte 47 (front (next ∷ third ∷ names))) (47 ∷ last_name (third ∷ names)))
+    ap (λ rest. name ++ 47 ∷ rest) (join_last next third names)
+    ∙ sym (append_assoc name (47 ∷ join_with_byte 47 (front (next ∷ third ∷ names))) (47 ∷ last_name (third ∷ names)))
 
 last_is_name : (name : Name) (names : Path) → list_all is_name (name ∷ names) ≡ true → is_name (last_name (name ∷ names)) ≡ true
 unfolding last_name
@@ -181,7 +188,8 @@ front_names (name ∷ next ∷ names) are =
     rw parts.0 (front_names (next ∷ names) parts.1)
 
 -- a list in which 47 is last at a place, and is followed by no other 47
-last_slash : (text fore rest : List ℕ) (place : ℕ) → text ≡ fore ++ 47 ∷ rest → All (λ byte. is_slash byte ≡ false) rest → place < length text → get_or text place 0 ≡ 47 → ((i : ℕ) → place < i → i < length text → get_or text i 0 ≢ 47) → place ≡ length fore
+last_slash : (text fore rest : List ℕ) (place : ℕ) → text ≡ fore ++ 47 ∷ rest → All (λ byte. is_slash byte ≡ false) rest → place < length text
+    → get_or text place 0 ≡ 47 → ((i : ℕ) → place < i → i < length text → get_or text i 0 ≢ 47) → place ≡ length fore
 last_slash text fore rest place is clear within slash after =
     let size : length text ≡ length fore + suc (length rest) = ap length is ∙ length-append fore (47 ∷ rest) in
     let there : get_or text (length fore) 0 ≡ 47 = ap (λ t. get_or t (length fore) 0) is ∙ get_or_at fore 47 rest 0 (length fore) refl in
@@ -191,7 +199,9 @@ last_slash text fore rest place is clear within slash after =
     (λ (behind : length fore < place).
     let byte = place - suc (length fore) in
     let at : place - length fore ≡ suc byte = omega arith in
-    let found : get_or rest byte 0 ≡ 47 = sym (ap (λ t. get_or t place 0) is ∙ get_or-append_right fore (47 ∷ rest) (length fore) place 0 refl later ∙ ap (λ n. get_or (47 ∷ rest) n 0) at) ∙ slash in
+    let found : get_or rest byte 0 ≡ 47 =
+    sym (ap (λ t. get_or t place 0) is ∙ get_or-append_right fore (47 ∷ rest) (length fore) place 0 refl later ∙ ap (λ n. get_or (47 ∷ rest) n 0) at)
+    ∙ slash in
     let other : is_slash (get_or rest byte 0) ≡ false = clear byte 0 (omega arith) in
     absurd (false≢true (sym other ∙ rw found refl)))
     (λ (same : place ≤ length fore). omega arith)
@@ -200,7 +210,8 @@ last_slash text fore rest place is clear within slash after =
 
 -- The last slash of a path's text is first, and there is at most one name, or it is after the text of the
 -- names before the last one.
-pub front_read : (text : List ℕ) (path : Path) (place : ℕ) → path_of text ≡ Some path → place < length text → get_or text place 0 ≡ 47 → ((i : ℕ) → place < i → i < length text → get_or text i 0 ≢ 47)
+pub front_read : (text : List ℕ) (path : Path) (place : ℕ) → path_of text ≡ Some path → place < length text → get_or text place 0 ≡ 47
+    → ((i : ℕ) → place < i → i < length text → get_or text i 0 ≢ 47)
     → (place ≡ 0 → path_of (codes "/") ≡ Some (front path)) × (0 < place → path_of (take place text) ≡ Some (front path))
 unfolding front text_of path_of after_slash names_in is_path
 front_read text [] place read within slash after =
@@ -218,7 +229,8 @@ front_read text (name ∷ next ∷ names) place read within slash after =
     let is : text ≡ text_of (front path) ++ 47 ∷ last = sym (text_of-path_of text path read) ∙ ap (λ rest. 47 ∷ rest) (join_last name next names) in
     let are = and_parts (list_all is_name path) (leb (length (text_of path)) 4096) (is_path-path_of text path read) in
     let others = and_parts (is_name name) (list_all is_name (next ∷ names)) are.0 in
-    let end : place ≡ length (text_of (front path)) = last_slash text (text_of (front path)) last place is (name_parts last (last_is_name next names others.1)).1 within slash after in
+    let end : place ≡ length (text_of (front path)) =
+    last_slash text (text_of (front path)) last place is (name_parts last (last_is_name next names others.1)).1 within slash after in
     let size : length text ≡ length (text_of (front path)) + suc (length last) = ap length is ∙ length-append (text_of (front path)) (47 ∷ last) in
     let fits : length (text_of path) ≤ 4096 = leb-true (length (text_of path)) 4096 are.1 in
     let whole : length (text_of path) ≡ length text = ap length (text_of-path_of text path read) in

@@ -1,5 +1,6 @@
 -- Reading line after line answers the entries of a good file, and the first fault of a bad one.
-use Rattle.std.proofs.Common.{◌≡◌, ◌≢◌, ◌↔◌, ℕ, ◌⊎◌, inl, inr, List, [], ◌∷◌, ◌++◌, Option, Some, None, Result, Ok, Err, refl, sym, ap, ◌∙◌, append_assoc, subst}
+use Rattle.std.proofs.Common.{◌≡◌, ◌≢◌, ◌↔◌, ℕ, ◌⊎◌, inl, inr, List, [], ◌∷◌, ◌++◌, Option, Some, None, Result, Ok, Err, refl, sym, ap, ◌∙◌, append_assoc}
+use Rattle.std.proofs.Common.{subst}
 use Rattle.std.proofs.lemmas.List.{append-nil}
 use Rattle.ll_lines.specs.declared.fault.Cause.{Cause}
 use Rattle.ll_lines.specs.declared.fault.ReadFault.{ReadFault}
@@ -37,16 +38,18 @@ faultless-nil : {Entry : Type 0} (format : Format Entry) (earlier : List Entry) 
 faultless-nil format earlier before after line e = absurd (not_nil before after line e)
 
 -- the entry of a line is before the lines after it
-fault_from-cons : {Entry : Type 0} (format : Format Entry) (earlier : List Entry) (line : Line) (entry : Entry) (before : List Line) (next : Line) → format.entry_of_line line ≡ Ok entry
-    → fault_from format earlier (line ∷ before) next ≡ fault_from format (earlier ++ entry ∷ []) before next
+fault_from-cons : {Entry : Type 0} (format : Format Entry) (earlier : List Entry) (line : Line) (entry : Entry) (before : List Line) (next : Line)
+    → format.entry_of_line line ≡ Ok entry → fault_from format earlier (line ∷ before) next ≡ fault_from format (earlier ++ entry ∷ []) before next
 fault_from-cons format earlier line entry before next reads =
     rw reads (ap (λ es. first_fault (format.entry_of_line next) (format.fault_after es)) (sym (append_assoc earlier (entry ∷ []) (entries_of format before))))
 
-fault_from-nil : {Entry : Type 0} (format : Format Entry) (earlier : List Entry) (line : Line) → fault_from format earlier [] line ≡ first_fault (format.entry_of_line line) (format.fault_after earlier)
+fault_from-nil : {Entry : Type 0} (format : Format Entry) (earlier : List Entry) (line : Line)
+    → fault_from format earlier [] line ≡ first_fault (format.entry_of_line line) (format.fault_after earlier)
 fault_from-nil format earlier line = ap (λ es. first_fault (format.entry_of_line line) (format.fault_after es)) (append-nil earlier)
 
 -- a line without a fault, and others after it
-faultless-cons : {Entry : Type 0} (format : Format Entry) (earlier : List Entry) (line : Line) (entry : Entry) (others : List Line) → format.entry_of_line line ≡ Ok entry → format.fault_after earlier entry ≡ None
+faultless-cons : {Entry : Type 0} (format : Format Entry) (earlier : List Entry) (line : Line) (entry : Entry) (others : List Line)
+    → format.entry_of_line line ≡ Ok entry → format.fault_after earlier entry ≡ None
     → FaultlessFrom format (earlier ++ entry ∷ []) others → FaultlessFrom format earlier (line ∷ others)
 faultless-cons format earlier line entry others reads fits later [] after next e =
     let same : next ≡ line = cc in
@@ -56,8 +59,8 @@ faultless-cons format earlier line entry others reads fits later (first ∷ befo
     let rest : others ≡ before ++ next ∷ after = cc in
     rw same (fault_from-cons format earlier line entry before next reads ∙ later before after next rest)
 
-faultless-rest : {Entry : Type 0} (format : Format Entry) (earlier : List Entry) (line : Line) (entry : Entry) (others : List Line) → format.entry_of_line line ≡ Ok entry
-    → FaultlessFrom format earlier (line ∷ others) → FaultlessFrom format (earlier ++ entry ∷ []) others
+faultless-rest : {Entry : Type 0} (format : Format Entry) (earlier : List Entry) (line : Line) (entry : Entry) (others : List Line)
+    → format.entry_of_line line ≡ Ok entry → FaultlessFrom format earlier (line ∷ others) → FaultlessFrom format (earlier ++ entry ∷ []) others
 faultless-rest format earlier line entry others reads faultless before after next e =
     sym (fault_from-cons format earlier line entry before next reads) ∙ faultless (line ∷ before) after next (ap (λ ls. line ∷ ls) e)
 
@@ -67,11 +70,13 @@ record Reads {Entry : Type 0} (format : Format Entry) (earlier : List Entry) (li
   reads : format.entry_of_line line ≡ Ok entry
   fits : format.fault_after earlier entry ≡ None
 
-reads_by : {Entry : Type 0} (format : Format Entry) (earlier : List Entry) (line : Line) (r : Result Entry Cause) → format.entry_of_line line ≡ r → first_fault r (format.fault_after earlier) ≡ None → Reads format earlier line
+reads_by : {Entry : Type 0} (format : Format Entry) (earlier : List Entry) (line : Line) (r : Result Entry Cause) → format.entry_of_line line ≡ r
+    → first_fault r (format.fault_after earlier) ≡ None → Reads format earlier line
 reads_by format earlier line (Ok entry) is none = record { entry = entry; reads = is; fits = none }
 reads_by format earlier line (Err cause) is none = absurd (cc)
 
-reads_first : {Entry : Type 0} (format : Format Entry) (earlier : List Entry) (line : Line) (others : List Line) → FaultlessFrom format earlier (line ∷ others) → Reads format earlier line
+reads_first : {Entry : Type 0} (format : Format Entry) (earlier : List Entry) (line : Line) (others : List Line) → FaultlessFrom format earlier (line ∷ others)
+    → Reads format earlier line
 reads_first format earlier line others faultless =
     reads_by format earlier line (format.entry_of_line line) refl (sym (fault_from-nil format earlier line) ∙ faultless [] others line refl)
 
@@ -83,16 +88,20 @@ read_lines-append format earlier [] rest faultless = ap (λ es. read_lines forma
 read_lines-append format earlier (line ∷ before) rest faultless =
     let first = reads_first format earlier line before faultless in
     let more = faultless-rest format earlier line first.entry before first.reads faultless in
-    let step : read_lines format earlier ((line ∷ before) ++ rest) ≡ read_lines format (earlier ++ first.entry ∷ []) (before ++ rest) = rw (first.reads, first.fits) refl in
-    let all : (earlier ++ first.entry ∷ []) ++ entries_of format before ≡ earlier ++ entries_of format (line ∷ before) = rw first.reads (append_assoc earlier (first.entry ∷ []) (entries_of format before)) in
+    let step : read_lines format earlier ((line ∷ before) ++ rest) ≡ read_lines format (earlier ++ first.entry ∷ []) (before ++ rest) =
+    rw (first.reads, first.fits) refl in
+    let all : (earlier ++ first.entry ∷ []) ++ entries_of format before ≡ earlier ++ entries_of format (line ∷ before) =
+    rw first.reads (append_assoc earlier (first.entry ∷ []) (entries_of format before)) in
     step ∙ (read_lines-append format (earlier ++ first.entry ∷ []) before rest more ∙ ap (λ es. read_lines format es rest) all)
 
 -- a list of lines has no fault or a first one
-stop_at : {Entry : Type 0} (format : Format Entry) (earlier : List Entry) (line : Line) (others : List Line) (cause : Cause) → fault_from format earlier [] line ≡ Some cause → Stop format earlier (line ∷ others)
+stop_at : {Entry : Type 0} (format : Format Entry) (earlier : List Entry) (line : Line) (others : List Line) (cause : Cause)
+    → fault_from format earlier [] line ≡ Some cause → Stop format earlier (line ∷ others)
 stop_at format earlier line others cause is =
     record { before = []; line = line; after = others; cause = cause; cut = refl; faultless = faultless-nil format earlier; is = is }
 
-stop_later : {Entry : Type 0} (format : Format Entry) (earlier : List Entry) (line : Line) (entry : Entry) (others : List Line) → format.entry_of_line line ≡ Ok entry → format.fault_after earlier entry ≡ None
+stop_later : {Entry : Type 0} (format : Format Entry) (earlier : List Entry) (line : Line) (entry : Entry) (others : List Line)
+    → format.entry_of_line line ≡ Ok entry → format.fault_after earlier entry ≡ None
     → Stop format (earlier ++ entry ∷ []) others → Stop format earlier (line ∷ others)
 stop_later format earlier line entry others reads fits stop = record {
   before = line ∷ stop.before;
@@ -104,64 +113,81 @@ stop_later format earlier line entry others reads fits stop = record {
   is = fault_from-cons format earlier line entry stop.before stop.line reads ∙ stop.is;
 }
 
-by_fault : {Entry : Type 0} (format : Format Entry) (earlier : List Entry) (line : Line) (entry : Entry) (others : List Line) (fault : Option Cause) → format.entry_of_line line ≡ Ok entry
-    → format.fault_after earlier entry ≡ fault → FaultlessFrom format (earlier ++ entry ∷ []) others ⊎ Stop format (earlier ++ entry ∷ []) others → FaultlessFrom format earlier (line ∷ others) ⊎ Stop format earlier (line ∷ others)
-by_fault format earlier line entry others (Some cause) reads fits later = inr (stop_at format earlier line others cause (fault_from-nil format earlier line ∙ rw (reads, fits) refl))
-by_fault format earlier line entry others None reads fits later =
-    elim later [ inl faultless ↦ inl (faultless-cons format earlier line entry others reads fits faultless) | inr stop ↦ inr (stop_later format earlier line entry others reads fits stop) ]
+by_fault : {Entry : Type 0} (format : Format Entry) (earlier : List Entry) (line : Line) (entry : Entry) (others : List Line) (fault : Option Cause)
+    → format.entry_of_line line ≡ Ok entry
+    → format.fault_after earlier entry ≡ fault → FaultlessFrom format (earlier ++ entry ∷ []) others ⊎ Stop format (earlier ++ entry ∷ []) others
+    → FaultlessFrom format earlier (line ∷ others) ⊎ Stop format earlier (line ∷ others)
+by_fault format earlier line entry others (Some cause) reads fits later =
+    inr (stop_at format earlier line others cause (fault_from-nil format earlier line ∙ rw (reads, fits) refl))
+by_fault format earlier line entry others None reads fits later = elim later [
+  | inl faultless ↦ inl (faultless-cons format earlier line entry others reads fits faultless)
+  | inr stop ↦ inr (stop_later format earlier line entry others reads fits stop)
+]
 
-by_entry : {Entry : Type 0} (format : Format Entry) (earlier : List Entry) (line : Line) (others : List Line) (r : Result Entry Cause) → format.entry_of_line line ≡ r
-    → ((entry : Entry) → FaultlessFrom format (earlier ++ entry ∷ []) others ⊎ Stop format (earlier ++ entry ∷ []) others) → FaultlessFrom format earlier (line ∷ others) ⊎ Stop format earlier (line ∷ others)
+by_entry : {Entry : Type 0} (format : Format Entry) (earlier : List Entry) (line : Line) (others : List Line) (r : Result Entry Cause)
+    → format.entry_of_line line ≡ r
+    → ((entry : Entry) → FaultlessFrom format (earlier ++ entry ∷ []) others ⊎ Stop format (earlier ++ entry ∷ []) others)
+    → FaultlessFrom format earlier (line ∷ others) ⊎ Stop format earlier (line ∷ others)
 by_entry format earlier line others (Err cause) reads later = inr (stop_at format earlier line others cause (rw reads refl))
-by_entry format earlier line others (Ok entry) reads later = by_fault format earlier line entry others (format.fault_after earlier entry) reads refl (later entry)
+by_entry format earlier line others (Ok entry) reads later =
+    by_fault format earlier line entry others (format.fault_after earlier entry) reads refl (later entry)
 
-faultless_or_stop : {Entry : Type 0} (format : Format Entry) (earlier : List Entry) (lines : List Line) → FaultlessFrom format earlier lines ⊎ Stop format earlier lines
+faultless_or_stop : {Entry : Type 0} (format : Format Entry) (earlier : List Entry) (lines : List Line)
+    → FaultlessFrom format earlier lines ⊎ Stop format earlier lines
 faultless_or_stop format earlier [] = inl (faultless-nil format earlier)
-faultless_or_stop format earlier (line ∷ others) = by_entry format earlier line others (format.entry_of_line line) refl (λ entry. faultless_or_stop format (earlier ++ entry ∷ []) others)
+faultless_or_stop format earlier (line ∷ others) =
+    by_entry format earlier line others (format.entry_of_line line) refl (λ entry. faultless_or_stop format (earlier ++ entry ∷ []) others)
 
 -- reading line after line meets the entries, or the first fault
-read_lines_faultless : {Entry : Type 0} (format : Format Entry) (lines : List Line) → FaultlessFrom format [] lines → read_lines format [] lines ≡ Ok (entries_of format lines)
+read_lines_faultless : {Entry : Type 0} (format : Format Entry) (lines : List Line) → FaultlessFrom format [] lines
+    → read_lines format [] lines ≡ Ok (entries_of format lines)
 unfolding read_lines
 read_lines_faultless format lines faultless =
     ap (λ ls. read_lines format [] ls) (sym (append-nil lines)) ∙ read_lines-append format [] lines [] faultless
 
-read_at_fault : {Entry : Type 0} (format : Format Entry) (earlier : List Entry) (line : Line) (others : List Line) (cause : Cause) (r : Result Entry Cause) → format.entry_of_line line ≡ r
+read_at_fault : {Entry : Type 0} (format : Format Entry) (earlier : List Entry) (line : Line) (others : List Line) (cause : Cause) (r : Result Entry Cause)
+    → format.entry_of_line line ≡ r
     → first_fault r (format.fault_after earlier) ≡ Some cause → read_lines format earlier (line ∷ others) ≡ Err (record { line = line.number; cause = cause })
 unfolding read_lines
 read_at_fault format earlier line others cause (Err other) is fault = let same : other ≡ cause = cc in rw (is, same) refl
 read_at_fault format earlier line others cause (Ok entry) is fault = rw (is, fault) refl
 
-read_lines-stop : {Entry : Type 0} (format : Format Entry) (lines : List Line) (stop : Stop format [] lines) → read_lines format [] lines ≡ Err (record { line = stop.line.number; cause = stop.cause })
+read_lines-stop : {Entry : Type 0} (format : Format Entry) (lines : List Line) (stop : Stop format [] lines)
+    → read_lines format [] lines ≡ Err (record { line = stop.line.number; cause = stop.cause })
 read_lines-stop format lines stop =
     ap (λ ls. read_lines format [] ls) stop.cut ∙ (read_lines-append format [] stop.before (stop.line ∷ stop.after) stop.faultless
     ∙ read_at_fault format (entries_of format stop.before) stop.line stop.after stop.cause (format.entry_of_line stop.line) refl stop.is)
 
 -- the generic law, in both directions and for both outcomes
-pub reading-good : {Entry : Type 0} (format : Format Entry) (bytes : List ℕ) (entries : List Entry) → IsGood format bytes entries → reading format bytes ≡ Ok entries
+pub reading-good : {Entry : Type 0} (format : Format Entry) (bytes : List ℕ) (entries : List Entry) → IsGood format bytes entries
+    → reading format bytes ≡ Ok entries
 reading-good format bytes entries good = read_lines_faultless format (filled_lines bytes) good.faultless ∙ ap Ok (sym good.all)
 
 pub reading-bad : {Entry : Type 0} (format : Format Entry) (bytes : List ℕ) (fault : ReadFault) → IsBad format bytes fault → reading format bytes ≡ Err fault
 reading-bad format bytes fault bad =
-    let stop : Stop format [] (filled_lines bytes) = record { before = bad.before; line = bad.line; after = bad.after; cause = fault.cause; cut = bad.cut; faultless = bad.earlier; is = bad.cause } in
+    let stop : Stop format [] (filled_lines bytes) =
+    record { before = bad.before; line = bad.line; after = bad.after; cause = fault.cause; cut = bad.cut; faultless = bad.earlier; is = bad.cause } in
     read_lines-stop format (filled_lines bytes) stop ∙ ap (λ n. Err (record { line = n; cause = fault.cause })) bad.number
 
-pub good_from_reading : {Entry : Type 0} (format : Format Entry) (bytes : List ℕ) (entries : List Entry) → reading format bytes ≡ Ok entries → IsGood format bytes entries
-good_from_reading format bytes entries reads =
-    elim (faultless_or_stop format [] (filled_lines bytes)) [
-      | inl faultless ↦ record { faultless = faultless; all = (let e = sym reads ∙ read_lines_faultless format (filled_lines bytes) faultless in cc) }
-      | inr stop ↦ absurd (let e = sym reads ∙ read_lines-stop format (filled_lines bytes) stop in cc)
-    ]
+pub good_from_reading : {Entry : Type 0} (format : Format Entry) (bytes : List ℕ) (entries : List Entry) → reading format bytes ≡ Ok entries
+    → IsGood format bytes entries
+good_from_reading format bytes entries reads = elim (faultless_or_stop format [] (filled_lines bytes)) [
+  | inl faultless ↦ record { faultless = faultless; all = (let e = sym reads ∙ read_lines_faultless format (filled_lines bytes) faultless in cc) }
+  | inr stop ↦ absurd (let e = sym reads ∙ read_lines-stop format (filled_lines bytes) stop in cc)
+]
 
-pub bad_from_reading : {Entry : Type 0} (format : Format Entry) (bytes : List ℕ) (fault : ReadFault) → reading format bytes ≡ Err fault → IsBad format bytes fault
-bad_from_reading format bytes fault reads =
-    elim (faultless_or_stop format [] (filled_lines bytes)) [
-      | inl faultless ↦ absurd (let e = sym reads ∙ read_lines_faultless format (filled_lines bytes) faultless in cc)
-      | inr stop ↦ (let e = sym reads ∙ read_lines-stop format (filled_lines bytes) stop in
-          record { before = stop.before; line = stop.line; after = stop.after; cut = stop.cut; earlier = stop.faultless; number = (cc); cause = stop.is ∙ ap Some (let same : stop.cause ≡ fault.cause = cc in same) })
-    ]
+pub bad_from_reading : {Entry : Type 0} (format : Format Entry) (bytes : List ℕ) (fault : ReadFault) → reading format bytes ≡ Err fault
+    → IsBad format bytes fault
+bad_from_reading format bytes fault reads = elim (faultless_or_stop format [] (filled_lines bytes)) [
+  | inl faultless ↦ absurd (let e = sym reads ∙ read_lines_faultless format (filled_lines bytes) faultless in cc)
+  | inr stop ↦ (let e = sym reads ∙ read_lines-stop format (filled_lines bytes) stop in
+      let why = stop.is ∙ ap Some (let same : stop.cause ≡ fault.cause = cc in same) in
+      record { before = stop.before; line = stop.line; after = stop.after; cut = stop.cut; earlier = stop.faultless; number = (cc); cause = why })
+]
 
 -- no file is both good and bad
-pub good_or_bad : {Entry : Type 0} (format : Format Entry) (bytes : List ℕ) (entries : List Entry) (fault : ReadFault) → IsGood format bytes entries → IsBad format bytes fault → ⊥
+pub good_or_bad : {Entry : Type 0} (format : Format Entry) (bytes : List ℕ) (entries : List Entry) (fault : ReadFault) → IsGood format bytes entries
+    → IsBad format bytes fault → ⊥
 good_or_bad format bytes entries fault good bad = let e = sym (reading-good format bytes entries good) ∙ reading-bad format bytes fault bad in cc
 
 -- every file is one of the two
@@ -170,26 +196,30 @@ by_reading : {Entry : Type 0} (format : Format Entry) (bytes : List ℕ) (read :
 by_reading format bytes (Ok entries) is = inl (entries, good_from_reading format bytes entries is)
 by_reading format bytes (Err fault) is = inr (fault, bad_from_reading format bytes fault is)
 
-pub good_or_else_bad : {Entry : Type 0} (format : Format Entry) (bytes : List ℕ) → ((entries : List Entry) × IsGood format bytes entries) ⊎ ((fault : ReadFault) × IsBad format bytes fault)
+pub good_or_else_bad : {Entry : Type 0} (format : Format Entry) (bytes : List ℕ)
+    → ((entries : List Entry) × IsGood format bytes entries) ⊎ ((fault : ReadFault) × IsBad format bytes fault)
 good_or_else_bad format bytes = by_reading format bytes (reading format bytes) refl
 
 -- no file has two first faults
-pub one_fault : {Entry : Type 0} (format : Format Entry) (bytes : List ℕ) (fault other : ReadFault) → IsBad format bytes fault → IsBad format bytes other → fault ≡ other
+pub one_fault : {Entry : Type 0} (format : Format Entry) (bytes : List ℕ) (fault other : ReadFault) → IsBad format bytes fault
+    → IsBad format bytes other → fault ≡ other
 one_fault format bytes fault other first second = let same = sym (reading-bad format bytes fault first) ∙ reading-bad format bytes other second in cc
 
 -- a loop over the lines: what is read so far and the lines that are left
-pub read_lines_next : {Entry : Type 0} (format : Format Entry) (earlier entries : List Entry) (line : Line) (others : List Line) → with_line format earlier line ≡ Ok entries
-    → read_lines format earlier (line ∷ others) ≡ read_lines format entries others
+pub read_lines_next : {Entry : Type 0} (format : Format Entry) (earlier entries : List Entry) (line : Line) (others : List Line)
+    → with_line format earlier line ≡ Ok entries → read_lines format earlier (line ∷ others) ≡ read_lines format entries others
 unfolding read_lines
 read_lines_next format earlier entries line others reads = rw reads refl
 
-pub read_lines_fault : {Entry : Type 0} (format : Format Entry) (earlier : List Entry) (line : Line) (others : List Line) (cause : Cause) → Fails cause (with_line format earlier line)
-    → MeetsFault line.number cause (read_lines format earlier (line ∷ others))
+pub read_lines_fault : {Entry : Type 0} (format : Format Entry) (earlier : List Entry) (line : Line) (others : List Line) (cause : Cause)
+    → Fails cause (with_line format earlier line) → MeetsFault line.number cause (read_lines format earlier (line ∷ others))
 unfolding read_lines
 read_lines_fault format earlier line others cause fails =
-    unless-map cause (with_line format earlier line) (Err cause) (read_lines format earlier (line ∷ others)) (Err (record { line = line.number; cause = cause })) (λ fault. rw fault refl) fails
+    unless-map cause (with_line format earlier line) (Err cause) (read_lines format earlier (line ∷ others))
+    (Err (record { line = line.number; cause = cause })) (λ fault. rw fault refl) fails
 
-pub meets_fault : {Entry : Type 0} (format : Format Entry) (earlier : List Entry) (lines : List Line) (line : Line) (others : List Line) (cause : Cause) (whole : Result (List Entry) ReadFault)
+pub meets_fault : {Entry : Type 0} (format : Format Entry) (earlier : List Entry) (lines : List Line) (line : Line) (others : List Line) (cause : Cause)
+    (whole : Result (List Entry) ReadFault)
     → lines ≡ line ∷ others → read_lines format earlier lines ≡ whole → Fails cause (with_line format earlier line) → MeetsFault line.number cause whole
 meets_fault format earlier lines line others cause whole cut reads fails =
     subst (MeetsFault line.number cause) (sym (ap (read_lines format earlier) cut) ∙ reads) (read_lines_fault format earlier line others cause fails)
@@ -199,13 +229,16 @@ unfolding read_lines
 read_lines_end format earlier = refl
 
 -- what a reader answers is what the file is
-pub bad_from_fault : {Entry : Type 0} (format : Format Entry) (bytes : List ℕ) (fault : ReadFault) → MeetsFault fault.line fault.cause (reading format bytes) → fault.cause ≢ Memory → IsBad format bytes fault
+pub bad_from_fault : {Entry : Type 0} (format : Format Entry) (bytes : List ℕ) (fault : ReadFault) → MeetsFault fault.line fault.cause (reading format bytes)
+    → fault.cause ≢ Memory → IsBad format bytes fault
 bad_from_fault format bytes fault meets other = bad_from_reading format bytes fault (unless-other fault.cause (reading format bytes) (Err fault) other meets)
 
-pub good_iff_reading : {Entry : Type 0} (format : Format Entry) (bytes : List ℕ) (entries : List Entry) → IsGood format bytes entries ↔ (reading format bytes ≡ Ok entries)
+pub good_iff_reading : {Entry : Type 0} (format : Format Entry) (bytes : List ℕ) (entries : List Entry)
+    → IsGood format bytes entries ↔ (reading format bytes ≡ Ok entries)
 good_iff_reading format bytes entries = (reading-good format bytes entries, good_from_reading format bytes entries)
 
-pub bad_iff_reading : {Entry : Type 0} (format : Format Entry) (bytes : List ℕ) (fault : ReadFault) → IsBad format bytes fault ↔ (reading format bytes ≡ Err fault)
+pub bad_iff_reading : {Entry : Type 0} (format : Format Entry) (bytes : List ℕ) (fault : ReadFault)
+    → IsBad format bytes fault ↔ (reading format bytes ≡ Err fault)
 bad_iff_reading format bytes fault = (reading-bad format bytes fault, bad_from_reading format bytes fault)
 
 -- ---- files of a format are read in one way, whatever is made of the entries of a good one

@@ -45,22 +45,27 @@ mutual
 
   items_convert : (values : json.Items) → are_in_range values ≡ true → of_items values ≡ Some (data_of_items values)
   items_convert json.no_items e = refl
-  items_convert (json.item value others) e = let in_range = both (is_in_range value) (are_in_range others) e in rw (converts value in_range.0, items_convert others in_range.1) refl
+  items_convert (json.item value others) e = let in_range = both (is_in_range value) (are_in_range others) e in
+      rw (converts value in_range.0, items_convert others in_range.1) refl
 
-  members_convert : (entries : json.Members) (earlier : Members) → have_range entries ≡ true → of_members entries earlier ≡ Some (data_of_members entries earlier)
+  members_convert : (entries : json.Members) (earlier : Members) → have_range entries ≡ true
+      → of_members entries earlier ≡ Some (data_of_members entries earlier)
   members_convert json.no_members earlier e = refl
   members_convert (json.member name value others) earlier e =
       let in_range = both (is_in_range value) (have_range others) e in
       rw (converts value in_range.0) (members_convert others (put name (data_of value) earlier) in_range.1)
 
 -- and what has not has no value
-item_refused : (value : json.Json) (others : json.Items) (b : Bool) → is_in_range value ≡ b → (b && are_in_range others) ≡ false → (is_in_range value ≡ false → of_json value ≡ None)
+item_refused : (value : json.Json) (others : json.Items) (b : Bool) → is_in_range value ≡ b → (b && are_in_range others) ≡ false
+    → (is_in_range value ≡ false → of_json value ≡ None)
     → (are_in_range others ≡ false → of_items others ≡ None) → of_items (json.item value others) ≡ None
 item_refused value others true is e value_refused others_refused = rw (converts value is, others_refused e) refl
 item_refused value others false is e value_refused others_refused = rw (value_refused is) refl
 
-member_refused : (name : List ℕ) (value : json.Json) (others : json.Members) (earlier : Members) (b : Bool) → is_in_range value ≡ b → (b && have_range others) ≡ false
-    → (is_in_range value ≡ false → of_json value ≡ None) → ((e : Members) → have_range others ≡ false → of_members others e ≡ None) → of_members (json.member name value others) earlier ≡ None
+member_refused : (name : List ℕ) (value : json.Json) (others : json.Members) (earlier : Members) (b : Bool) → is_in_range value ≡ b
+    → (b && have_range others) ≡ false
+    → (is_in_range value ≡ false → of_json value ≡ None) → ((e : Members) → have_range others ≡ false → of_members others e ≡ None)
+    → of_members (json.member name value others) earlier ≡ None
 member_refused name value others earlier true is e value_refused others_refused = rw (converts value is) (others_refused (put name (data_of value) earlier) e)
 member_refused name value others earlier false is e value_refused others_refused = rw (value_refused is) refl
 
@@ -84,7 +89,8 @@ mutual
 
   members_refused : (entries : json.Members) (earlier : Members) → have_range entries ≡ false → of_members entries earlier ≡ None
   members_refused json.no_members earlier e = absurd (true≢false e)
-  members_refused (json.member name value others) earlier e = member_refused name value others earlier (is_in_range value) refl e (refused value) (members_refused others)
+  members_refused (json.member name value others) earlier e =
+      member_refused name value others earlier (is_in_range value) refl e (refused value) (members_refused others)
 
 found_or : (name key : List ℕ) (value : json.Json) (earlier : Members) (r : Option json.Json) (same : Bool) → bytes_eq key name ≡ same
     → or_earlier (option_map data_of r) (get_member name (put key (data_of value) earlier))
@@ -145,11 +151,13 @@ number_itself None = refl
 
 number_is : (value : json.Json) → as_number (data_of value) ≡ option_and_then number_of (json_find.as_number value)
 number_is =
-    by_form as_number (λ value. option_and_then number_of (json_find.as_number value)) refl (λ _. refl) (λ text. number_itself (number_of text)) (λ _. refl) (λ _. refl) (λ _. refl)
+    by_form as_number (λ value. option_and_then number_of (json_find.as_number value)) refl (λ _. refl) (λ text. number_itself (number_of text))
+    (λ _. refl) (λ _. refl) (λ _. refl)
 
 list_is : (value : json.Json) → as_array (data_of value) ≡ option_map data_of_items (json_find.as_array value)
 list_is =
-    by_form as_array (λ value. option_map data_of_items (json_find.as_array value)) refl (λ _. refl) (λ text. none_of as_array refl (λ n. refl) (number_of text)) (λ _. refl) (λ _. refl) (λ _. refl)
+    by_form as_array (λ value. option_map data_of_items (json_find.as_array value)) refl (λ _. refl)
+    (λ text. none_of as_array refl (λ n. refl) (number_of text)) (λ _. refl) (λ _. refl) (λ _. refl)
 
 -- what a reader finds in a member's data, it finds in the member
 module _ {A : Type 0} (f : Data → Option A) (g : json.Json → Option A) (same : (value : json.Json) → f (data_of value) ≡ g value) where
@@ -157,11 +165,13 @@ module _ {A : Type 0} (f : Data → Option A) (g : json.Json → Option A) (same
   in_member None = refl
   in_member (Some value) = rw (same value) refl
 
-pub text_at_data : (name : List ℕ) (value : json.Json) → text_at name (data_of value) ≡ ok_or (option_and_then json_find.as_str (json_find.get name value)) Field
+pub text_at_data : (name : List ℕ) (value : json.Json)
+    → text_at name (data_of value) ≡ ok_or (option_and_then json_find.as_str (json_find.get name value)) Field
 unfolding text_at
 text_at_data name value = rw (member_of name value) (in_member as_str json_find.as_str text_is (json_find.get name value))
 
-pub truth_at_data : (name : List ℕ) (value : json.Json) → truth_at name (data_of value) ≡ ok_or (option_and_then json_find.as_bool (json_find.get name value)) Field
+pub truth_at_data : (name : List ℕ) (value : json.Json)
+    → truth_at name (data_of value) ≡ ok_or (option_and_then json_find.as_bool (json_find.get name value)) Field
 unfolding truth_at
 truth_at_data name value = rw (member_of name value) (in_member as_bool json_find.as_bool truth_is (json_find.get name value))
 
@@ -169,8 +179,8 @@ whole_of_text : (r : Option (List ℕ)) → option_and_then as_u64 (option_and_t
 whole_of_text None = refl
 whole_of_text (Some text) = refl
 
-number_of_member : (r : Option json.Json)
-    → ok_or (option_and_then as_u64 (option_and_then as_number (option_map data_of r))) Field ≡ ok_or (option_and_then whole (option_and_then json_find.as_number r)) Field
+number_of_member : (r : Option json.Json) → ok_or (option_and_then as_u64 (option_and_then as_number (option_map data_of r))) Field
+    ≡ ok_or (option_and_then whole (option_and_then json_find.as_number r)) Field
 number_of_member None = refl
 number_of_member (Some value) = rw (number_is value) (ap (λ n. ok_or n Field) (whole_of_text (json_find.as_number value)))
 
@@ -183,7 +193,8 @@ pub flag_at_none : (name : List ℕ) (value : json.Json) → json_find.get name 
 unfolding flag_at
 flag_at_none name value none = rw (member_of name value, none) refl
 
-pub flag_at_some : (name : List ℕ) (value flag : json.Json) → json_find.get name value ≡ Some flag → flag_at name (data_of value) ≡ ok_or (json_find.as_bool flag) Field
+pub flag_at_some : (name : List ℕ) (value flag : json.Json) → json_find.get name value ≡ Some flag
+    → flag_at name (data_of value) ≡ ok_or (json_find.as_bool flag) Field
 unfolding flag_at
 flag_at_some name value flag some = rw (member_of name value, some, truth_is flag) refl
 
@@ -191,7 +202,8 @@ pub items_at_none : (name : List ℕ) (value : json.Json) → json_find.get name
 unfolding items_at
 items_at_none name value none = rw (member_of name value, none) refl
 
-pub items_at_some : (name : List ℕ) (value list : json.Json) → json_find.get name value ≡ Some list → items_at name (data_of value) ≡ ok_or (option_map data_of_items (json_find.as_array list)) Field
+pub items_at_some : (name : List ℕ) (value list : json.Json) → json_find.get name value ≡ Some list
+    → items_at name (data_of value) ≡ ok_or (option_map data_of_items (json_find.as_array list)) Field
 unfolding items_at
 items_at_some name value list some = rw (member_of name value, some, list_is list) refl
 
@@ -225,10 +237,13 @@ not_parsed : (line : List ℕ) (cause : Cause) → IsUtf8 line → ok_or (parsed
 not_parsed line cause utf8 e = text line utf8 ∙ nothing_parsed (parsed line) cause e
 
 pub parse_fails : (line : List ℕ) (cause : Cause) → IsUtf8 line → Fails cause (ok_or (parsed line) Json) → Fails cause (value_at line)
-parse_fails line cause utf8 e = unless-map cause (ok_or (parsed line) Json) (Err cause) (value_at line) (Err cause) (λ fault. not_parsed line cause utf8 fault) e
+parse_fails line cause utf8 e =
+    unless-map cause (ok_or (parsed line) Json) (Err cause) (value_at line) (Err cause) (λ fault. not_parsed line cause utf8 fault) e
 
-pub in_range : (line : List ℕ) (value : json.Json) → IsUtf8 line → ok_or (parsed line) Json ≡ Ok value → is_in_range value ≡ true → value_at line ≡ Ok (data_of value)
+pub in_range : (line : List ℕ) (value : json.Json) → IsUtf8 line → ok_or (parsed line) Json ≡ Ok value → is_in_range value ≡ true
+    → value_at line ≡ Ok (data_of value)
 in_range line value utf8 e range = text line utf8 ∙ rw (parsed_as (parsed line) value e, converts value range) refl
 
-pub out_of_range : (line : List ℕ) (value : json.Json) → IsUtf8 line → ok_or (parsed line) Json ≡ Ok value → is_in_range value ≡ false → value_at line ≡ Err Json
+pub out_of_range : (line : List ℕ) (value : json.Json) → IsUtf8 line → ok_or (parsed line) Json ≡ Ok value → is_in_range value ≡ false
+    → value_at line ≡ Err Json
 out_of_range line value utf8 e range = text line utf8 ∙ rw (parsed_as (parsed line) value e, refused value range) refl

@@ -54,7 +54,8 @@ pub fn flag_of(value: &Value<'_>, name: &str) -> Result<bool, Cause>
 /// The values of a member that is a list, and none where it is missing.
 #[tactic(auto, using(crate::proofs::ValueLemmas::items_at_none, crate::proofs::ValueLemmas::items_at_some))]
 pub fn items_of<'v, 'l>(value: &'v Value<'l>, name: &str) -> Result<&'v [Value<'l>], Cause>
-    ensures { Reads (λ items. items_data items.now) result (items_at name.now (value_data value.now)) }
+    ensures { Reads (λ items. items_data items.now) result
+        (items_at name.now (value_data value.now)) }
 {
     let Some(list) = value.get(name) else {
         return no_items();

@@ -41,7 +41,8 @@ pub fn path_ok(text: &str) -> bool
 
 /// The text of the path without its last name.
 pub fn front_text(text: &str) -> &str
-    ensures { (path : Path) → path_of text.now ≡ Some path → path_of result.now ≡ Some (front path) }
+    ensures { (path : Path) → path_of text.now ≡ Some path
+        → path_of result.now ≡ Some (front path) }
 {
     match text.rfind('/') {
         Some(end) if end > 0 => &text[..end],
@@ -52,7 +53,10 @@ pub fn front_text(text: &str) -> &str
 /// A text that is read as a path is the text of that path, and each path is read back from its text.
 #[tactic(auto, using(crate::proofs::PathLaws::texts_and_paths))]
 pub fn path_texts()
-    ensures text_again { (text : List ℕ) (path : Path) → path_of text ≡ Some path → text_of path ≡ text }
-    ensures read_is_path { (text : List ℕ) (path : Path) → path_of text ≡ Some path → IsTrue (is_path path) }
-    ensures path_again { (path : Path) → IsTrue (is_path path) → path_of (text_of path) ≡ Some path }
+    ensures text_again { (text : List ℕ) (path : Path)
+        → path_of text ≡ Some path → text_of path ≡ text }
+    ensures read_is_path { (text : List ℕ) (path : Path) → path_of text ≡ Some path
+        → IsTrue (is_path path) }
+    ensures path_again { (path : Path) → IsTrue (is_path path)
+        → path_of (text_of path) ≡ Some path }
 {}

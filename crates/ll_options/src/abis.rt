@@ -34,7 +34,8 @@ impl AbiRange {
 
     /// The version of the range, where it has just one.
     pub fn single(self) -> Option<Abi>
-        ensures { result ≡ (if number_of self.oldest == number_of self.newest then Some self.oldest else None) }
+        ensures { result
+            ≡ (if number_of self.oldest == number_of self.newest then Some self.oldest else None) }
     {
         if self.oldest.number() == self.newest.number() {
             Some(self.oldest)

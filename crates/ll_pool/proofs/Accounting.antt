@@ -30,7 +30,8 @@ some_part_still v w gave some_part = omega (arith, gave.parts, some_part)
 
 -- ---- jobs that were seen to
 
-pub seen_judged : (of : Matter) (p : ℕ) (before after : List ℕ) (pieces pieces_after : List Piece) (piece : Piece) → pieces_after ≡ pieces ++ piece ∷ [] → piece.case.now ≡ of
+pub seen_judged : (of : Matter) (p : ℕ) (before after : List ℕ) (pieces pieces_after : List Piece) (piece : Piece)
+    → pieces_after ≡ pieces ++ piece ∷ [] → piece.case.now ≡ of
     → SharesOut of.records p (numbers piece.processes.items) before after → SeenTo of (p ∷ []) before after pieces pieces_after
 seen_judged of p before after pieces pieces_after piece is its shares =
     subst (λ (xs : List Piece). SeenTo of (p ∷ []) before after pieces xs) (sym is)
@@ -48,14 +49,16 @@ seen_judged of p before after pieces pieces_after piece is its shares =
           ));
     })
 
-pub seen_on : (of : Matter) (xs ys g0 g1 g2 : List ℕ) (p0 p1 p2 : List Piece) → SeenTo of xs g0 g1 p0 p1 → SeenTo of ys g1 g2 p1 p2 → SeenTo of (xs ++ ys) g0 g2 p0 p2
+pub seen_on : (of : Matter) (xs ys g0 g1 g2 : List ℕ) (p0 p1 p2 : List Piece) → SeenTo of xs g0 g1 p0 p1 → SeenTo of ys g1 g2 p1 p2
+    → SeenTo of (xs ++ ys) g0 g2 p0 p2
 seen_on of xs ys g0 g1 g2 p0 p1 p2 one two = record {
   pieces_of = λ all. two.pieces_of (one.pieces_of all);
   shared = λ weight. omega (arith, one.shared weight, two.shared weight, sum_by-append weight xs ys);
 }
 
 -- jobs in another order
-pub seen_alike : (of : Matter) (xs ys g0 g1 : List ℕ) (p0 p1 : List Piece) → ((weight : ℕ → ℕ) → sum_by weight xs ≡ sum_by weight ys) → SeenTo of xs g0 g1 p0 p1 → SeenTo of ys g0 g1 p0 p1
+pub seen_alike : (of : Matter) (xs ys g0 g1 : List ℕ) (p0 p1 : List Piece) → ((weight : ℕ → ℕ) → sum_by weight xs ≡ sum_by weight ys) → SeenTo of xs g0 g1 p0 p1
+    → SeenTo of ys g0 g1 p0 p1
 seen_alike of xs ys g0 g1 p0 p1 alike one = record {
   pieces_of = one.pieces_of;
   shared = λ weight. omega (arith, one.shared weight, alike weight);
@@ -66,7 +69,8 @@ unfolding processes_in
 processes_in-append xs ys = flat_map-append (λ (one : Piece). numbers one.processes.items) xs ys
 
 -- what another did, beside what was done
-seen_beside : (of : Matter) (xs ys g h : List ℕ) (p q : List Piece) → AllOf of q → SeenTo of xs [] g [] p → SeenTo of ys [] h [] q → SeenTo of (xs ++ ys) [] (g ++ h) [] (p ++ q)
+seen_beside : (of : Matter) (xs ys g h : List ℕ) (p q : List Piece) → AllOf of q → SeenTo of xs [] g [] p → SeenTo of ys [] h [] q
+    → SeenTo of (xs ++ ys) [] (g ++ h) [] (p ++ q)
 seen_beside of xs ys g h p q theirs one two = record {
   pieces_of = λ none. All-append (λ (x : Piece). x.case.now ≡ of) p q (one.pieces_of none) theirs;
   shared = λ weight.
@@ -88,7 +92,8 @@ seen_beside of xs ys g h p q theirs one two = record {
 -- ---- accounts
 
 -- a job was taken and seen to
-pub account_more : (of : Matter) (roots : List ℕ) (p : ℕ) (v taken w : Known) (before after : List Piece) → taken ≡ after_taking v p → OnlyGave taken w → SeenTo of (p ∷ []) taken.given w.given before after
+pub account_more : (of : Matter) (roots : List ℕ) (p : ℕ) (v taken w : Known) (before after : List Piece) → taken ≡ after_taking v p → OnlyGave taken w
+    → SeenTo of (p ∷ []) taken.given w.given before after
     → IsAccount of roots v before → IsAccount of roots w after
 account_more of roots p v took w before after is gave seen so_far = record {
   its_case = gave.its_case ∙ ap (λ (u : Known). u.case) is ∙ so_far.its_case;
@@ -109,11 +114,13 @@ account_more of roots p v took w before after is gave seen so_far = record {
 }
 
 -- what a worker did goes to what the caller did
-pub account_joined : (of : Matter) (roots : List ℕ) (v u w : Known) (mine theirs all : List Piece) → w ≡ known v.case (v.parts + u.parts) (v.given ++ u.given) (v.taken ++ u.taken) → all ≡ mine ++ theirs
+pub account_joined : (of : Matter) (roots : List ℕ) (v u w : Known) (mine theirs all : List Piece)
+    → w ≡ known v.case (v.parts + u.parts) (v.given ++ u.given) (v.taken ++ u.taken) → all ≡ mine ++ theirs
     → IsAccount of [] u theirs → IsAccount of roots v mine → IsAccount of roots w all
 account_joined of roots v u w mine theirs all is are worked so_far = record {
   its_case = ap (λ (x : Known). x.case) is ∙ so_far.its_case;
-  pieces_of = All-same (λ (x : Piece). x.case.now ≡ of) all (mine ++ theirs) are (All-append (λ (x : Piece). x.case.now ≡ of) mine theirs so_far.pieces_of worked.pieces_of);
+  pieces_of = All-same (λ (x : Piece). x.case.now ≡ of) all (mine ++ theirs) are
+      (All-append (λ (x : Piece). x.case.now ≡ of) mine theirs so_far.pieces_of worked.pieces_of);
   seen =
       subst (λ (xs : List Piece). SeenTo of (roots ++ w.taken) [] w.given [] xs) (sym are)
       (subst (λ (g : List ℕ). SeenTo of (roots ++ w.taken) [] g [] (mine ++ theirs)) (sym (ap (λ (x : Known). x.given) is))
@@ -131,18 +138,18 @@ account_joined of roots v u w mine theirs all is are worked so_far = record {
 }
 
 -- where all that was given was taken, the processes judged are the roots with the children of all of them
-pub account_settled : (of : Matter) (roots : List ℕ) (v : Known) (pieces : List Piece) → ((weight : ℕ → ℕ) → sum_by weight v.given ≡ sum_by weight v.taken) → IsAccount of roots v pieces
+pub account_settled : (of : Matter) (roots : List ℕ) (v : Known) (pieces : List Piece) → ((weight : ℕ → ℕ) → sum_by weight v.given ≡ sum_by weight v.taken)
+    → IsAccount of roots v pieces
     → (weight : ℕ → ℕ) → sum_by weight (processes_in pieces) ≡ sum_by weight roots + sum_by weight (kids of.records (processes_in pieces))
-account_settled of roots v pieces settled account weight =
-    omega (
-      arith,
-      account.seen.shared weight,
-      settled weight,
-      ap (λ (zs : List ℕ). sum_by weight zs) no_processes,
-      ap (λ (zs : List ℕ). sum_by weight (kids of.records zs)) no_processes,
-      ap (λ (zs : List ℕ). sum_by weight zs) (no_kids of.records),
-      sum_by-append weight roots v.taken,
-    )
+account_settled of roots v pieces settled account weight = omega (
+  arith,
+  account.seen.shared weight,
+  settled weight,
+  ap (λ (zs : List ℕ). sum_by weight zs) no_processes,
+  ap (λ (zs : List ℕ). sum_by weight (kids of.records zs)) no_processes,
+  ap (λ (zs : List ℕ). sum_by weight zs) (no_kids of.records),
+  sum_by-append weight roots v.taken,
+)
 
 -- ---- jobs that are seen to one after another
 
@@ -153,7 +160,8 @@ pub record Halfway (of : Matter) (all : List ℕ) (left : List Job) (g0 g1 : Lis
   pub parts : all ≡ done ++ processes_of left
   pub seen : SeenTo of done g0 g1 p0 p1
 
-pub halfway_more : (of : Matter) (all : List ℕ) (left rest : List Job) (job : Job) (g0 g1 g2 : List ℕ) (p0 p1 p2 : List Piece) → left ≡ job ∷ rest → SeenTo of (job.process.0 ∷ []) g1 g2 p1 p2
+pub halfway_more : (of : Matter) (all : List ℕ) (left rest : List Job) (job : Job) (g0 g1 g2 : List ℕ) (p0 p1 p2 : List Piece) → left ≡ job ∷ rest
+    → SeenTo of (job.process.0 ∷ []) g1 g2 p1 p2
     → Halfway of all left g0 g1 p0 p1 → Halfway of all rest g0 g2 p0 p2
 halfway_more of all left rest job g0 g1 g2 p0 p1 p2 is seen so_far = record {
   left_of = All-tail (λ (j : Job). j.case.now ≡ of) job rest (subst (λ (xs : List Job). AllJobsOf of xs) is so_far.left_of);
@@ -165,7 +173,8 @@ halfway_more of all left rest job g0 g1 g2 p0 p1 p2 is seen so_far = record {
 -- ---- the caller's roots
 
 -- a job was judged with a hand that keeps nothing
-pub seen_unkept : (of : Matter) (p : ℕ) (given : List ℕ) (pieces pieces_after : List Piece) (piece : Piece) → pieces_after ≡ pieces ++ piece ∷ [] → piece.case.now ≡ of
+pub seen_unkept : (of : Matter) (p : ℕ) (given : List ℕ) (pieces pieces_after : List Piece) (piece : Piece)
+    → pieces_after ≡ pieces ++ piece ∷ [] → piece.case.now ≡ of
     → SharesOut of.records p (numbers piece.processes.items) [] [] → SeenTo of (p ∷ []) given given pieces pieces_after
 seen_unkept of p given pieces pieces_after piece is its shares =
     let one : SeenTo of (p ∷ []) [] [] pieces pieces_after = seen_judged of p [] [] pieces pieces_after piece is its shares in

@@ -27,25 +27,30 @@ use Rattle.ll_pool.proofs.Placing.{length-placed}
 own_within : (records : List Record) (p : ℕ) → All (λ (k : ℕ). k < length records) (own_records records p)
 own_within records p =
     λ i d within.
-    (let found : (r : Record) × (slice_get records (get_or (own_records records p) i d) ≡ Some r) × (r.process.0 ≡ p) = own_record records p i (get_or (own_records records p) i d) (slice_get-get_or (own_records records p) i d within) in
+    (let found : (r : Record) × (slice_get records (get_or (own_records records p) i d) ≡ Some r)
+    × (r.process.0 ≡ p) = own_record records p i (get_or (own_records records p) i d) (slice_get-get_or (own_records records p) i d within) in
     slice_get_within records (get_or (own_records records p) i d) found.0 found.1)
 
 answers_within : (of : Matter) (p : ℕ) → All (λ (part : ℕ × Answer). part.0 < length of.records) (answers_to of p)
 unfolding answers_of
-answers_within of p = All-map (λ (part : ℕ × Answer). part.0 < length of.records) (λ k. (k, answer_at of.tree of.abi of.records k)) (own_records of.records p) (own_within of.records p)
+answers_within of p = All-map (λ (part : ℕ × Answer). part.0 < length of.records) (λ k. (k, answer_at of.tree of.abi of.records k)) (own_records of.records p)
+    (own_within of.records p)
 
 all_within : (of : Matter) (ps : List ℕ) → All (λ (part : ℕ × Answer). part.0 < length of.records) (flat_map (answers_to of) ps)
 all_within of [] = All-nil (λ (part : ℕ × Answer). part.0 < length of.records)
-all_within of (p ∷ ps) = All-append (λ (part : ℕ × Answer). part.0 < length of.records) (answers_to of p) (flat_map (answers_to of) ps) (answers_within of p) (all_within of ps)
+all_within of (p ∷ ps) =
+    All-append (λ (part : ℕ × Answer). part.0 < length of.records) (answers_to of p) (flat_map (answers_to of) ps) (answers_within of p) (all_within of ps)
 
-pub all_places : (of : Matter) (piece : Piece) (n : ℕ) → piece.case.now ≡ of → length of.records ≡ n → All (λ (part : ℕ × Answer). part.0 < n) piece.answers.items
+pub all_places : (of : Matter) (piece : Piece) (n : ℕ) → piece.case.now ≡ of → length of.records ≡ n
+    → All (λ (part : ℕ × Answer). part.0 < n) piece.answers.items
 all_places of piece n its len =
     All-same (λ (part : ℕ × Answer). part.0 < n) piece.answers.items (flat_map (answers_to piece.case.now) (numbers piece.processes.items)) piece.answered
     (λ i d within. omega (arith, all_within piece.case.now (numbers piece.processes.items) i d within, ap (λ (m : Matter). length m.records) its, len))
 
 -- ---- every record has its answer
 
-placed_map : (f : ℕ → Answer) (ks : List ℕ) (xs : List Answer) (k : ℕ) (d : Answer) → (0 < times k ks) ⊎ (get_or xs k d ≡ f k) → k < length xs → get_or (placed (map (λ i. (i, f i)) ks) xs) k d ≡ f k
+placed_map : (f : ℕ → Answer) (ks : List ℕ) (xs : List Answer) (k : ℕ) (d : Answer) → (0 < times k ks) ⊎ (get_or xs k d ≡ f k) → k < length xs
+    → get_or (placed (map (λ i. (i, f i)) ks) xs) k d ≡ f k
 unfolding placed
 placed_map f [] xs k d (inl some) within = absurd (omega (arith, times-nil k, some))
 placed_map f [] xs k d (inr is) within = is
@@ -73,15 +78,15 @@ own_has records k r at =
 
 flat_has : (f : ℕ → List ℕ) (k p : ℕ) (ps : List ℕ) → 0 < times p ps → 0 < times k (f p) → 0 < times k (flat_map f ps)
 flat_has f k p [] some has = absurd (omega (arith, some, times-nil p))
-flat_has f k p (q ∷ qs) some has =
-    elim (cases_eq q p) [
-      | inl same ↦ omega (arith, times-append k (f q) (flat_map f qs), has, ap (λ i. times k (f i)) same)
-      | inr other ↦
-          (let rest : 0 < times p qs = omega (arith, some, times-cons p q qs, times-other p q other) in
-          omega (arith, times-append k (f q) (flat_map f qs), flat_has f k p qs rest has))
-    ]
+flat_has f k p (q ∷ qs) some has = elim (cases_eq q p) [
+  | inl same ↦ omega (arith, times-append k (f q) (flat_map f qs), has, ap (λ i. times k (f i)) same)
+  | inr other ↦
+      (let rest : 0 < times p qs = omega (arith, some, times-cons p q qs, times-other p q other) in
+      omega (arith, times-append k (f q) (flat_map f qs), flat_has f k p qs rest has))
+]
 
-flat_answers : (of : Matter) (ps : List ℕ) → flat_map (answers_to of) ps ≡ map (λ k. (k, answer_at of.tree of.abi of.records k)) (flat_map (own_records of.records) ps)
+flat_answers : (of : Matter) (ps : List ℕ)
+    → flat_map (answers_to of) ps ≡ map (λ k. (k, answer_at of.tree of.abi of.records k)) (flat_map (own_records of.records) ps)
 unfolding answers_of
 flat_answers of [] = refl
 flat_answers of (p ∷ ps) =
@@ -92,24 +97,32 @@ pieces_answer : (of : Matter) (pieces : List Piece) → AllOf of pieces → answ
 unfolding answers_in processes_in
 pieces_answer of [] all = refl
 pieces_answer of (x ∷ xs) all =
-    ap (λ (ys : List (ℕ × Answer)). ys ++ answers_in xs) (x.answered ∙ ap (λ (m : Matter). flat_map (answers_to m) (numbers x.processes.items)) (All-head (λ (piece : Piece). piece.case.now ≡ of) x xs all))
-    ∙ ap (λ (ys : List (ℕ × Answer)). flat_map (answers_to of) (numbers x.processes.items) ++ ys) (pieces_answer of xs (All-tail (λ (piece : Piece). piece.case.now ≡ of) x xs all))
+    ap (λ (ys : List (ℕ × Answer)). ys ++ answers_in xs) (x.answered
+    ∙ ap (λ (m : Matter). flat_map (answers_to m) (numbers x.processes.items)) (All-head (λ (piece : Piece). piece.case.now ≡ of) x xs all))
+    ∙ ap (λ (ys : List (ℕ × Answer)). flat_map (answers_to of) (numbers x.processes.items) ++ ys)
+    (pieces_answer of xs (All-tail (λ (piece : Piece). piece.case.now ≡ of) x xs all))
     ∙ sym (flat_map-append (answers_to of) (numbers x.processes.items) (processes_in xs))
 
-answer_there : (of : Matter) (pieces : List Piece) (before : List Answer) (k : ℕ) → IsCase of → AllOf of pieces → ((q : ℕ) → q < process_count of.records → 0 < times q (processes_in pieces)) → length before ≡ length of.records → k < length of.records
+answer_there : (of : Matter) (pieces : List Piece) (before : List Answer) (k : ℕ) → IsCase of → AllOf of pieces
+    → ((q : ℕ) → q < process_count of.records → 0 < times q (processes_in pieces)) → length before ≡ length of.records → k < length of.records
     → get_or (placed (answers_in pieces) before) k Moot ≡ answer_at of.tree of.abi of.records k
 answer_there of pieces before k case all each len within =
     let found : (r : Record) × (slice_get of.records k ≡ Some r) = stands_at of.records k within in
-    let below : found.0.process.0 < process_count of.records = omega (arith, numbered_below of.records k found.0 case.numbered found.1, count-all of.records (suc k)) in
-    let has : 0 < times k (flat_map (own_records of.records) (processes_in pieces)) = flat_has (own_records of.records) k found.0.process.0 (processes_in pieces) (each found.0.process.0 below) (own_has of.records k found.0 found.1) in
+    let below : found.0.process.0 < process_count of.records =
+    omega (arith, numbered_below of.records k found.0 case.numbered found.1, count-all of.records (suc k)) in
+    let has : 0 < times k (flat_map (own_records of.records) (processes_in pieces)) =
+    flat_has (own_records of.records) k found.0.process.0 (processes_in pieces) (each found.0.process.0 below) (own_has of.records k found.0 found.1) in
     ap (λ (ps : List (ℕ × Answer)). get_or (placed ps before) k Moot) (pieces_answer of pieces all ∙ flat_answers of (processes_in pieces))
-    ∙ placed_map (answer_at of.tree of.abi of.records) (flat_map (own_records of.records) (processes_in pieces)) before k Moot (inl has) (omega (arith, within, len))
+    ∙ placed_map (answer_at of.tree of.abi of.records) (flat_map (own_records of.records) (processes_in pieces)) before k Moot (inl has)
+    (omega (arith, within, len))
 
 judged_there : (of : Matter) (k : ℕ) → get_or (judged of.tree of.abi of.records) k Moot ≡ answer_at of.tree of.abi of.records k
 unfolding answer_at
 judged_there of k = sym (unwrap_or-slice_get (judged of.tree of.abi of.records) k Moot)
 
-pub all_answered : (of : Matter) (pieces : List Piece) (before answers : List Answer) → IsCase of → AllOf of pieces → ((q : ℕ) → q < process_count of.records → 0 < times q (processes_in pieces)) → length before ≡ length of.records → answers ≡ placed (answers_in pieces) before
+pub all_answered : (of : Matter) (pieces : List Piece) (before answers : List Answer) → IsCase of → AllOf of pieces
+    → ((q : ℕ) → q < process_count of.records → 0 < times q (processes_in pieces)) → length before ≡ length of.records
+    → answers ≡ placed (answers_in pieces) before
     → answers ≡ judged of.tree of.abi of.records
 all_answered of pieces before answers case all each len is =
     is

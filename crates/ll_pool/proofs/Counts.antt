@@ -21,23 +21,44 @@ pub record Counted (before : List ℕ) (processes : List ProcessId) (seen : List
 pub counted_none : (before : List ℕ) → ((q : ℕ) → q < length before → slice_index before q < 256) → Counted before [] before
 counted_none before small = record { len = refl; each = λ q within. omega (arith, small q within, times-nil q) }
 
-numbers_next : (processes : List ProcessId) (i : ℕ) (p : ProcessId) → slice_get processes i ≡ Some p → numbers (take (i + 1) processes) ≡ numbers (take i processes) ++ p.0 ∷ []
+numbers_next : (processes : List ProcessId) (i : ℕ) (p : ProcessId) → slice_get processes i ≡ Some p
+    → numbers (take (i + 1) processes) ≡ numbers (take i processes) ++ p.0 ∷ []
 numbers_next processes i p at =
-    ap (λ (xs : List ProcessId). numbers xs) (take_more processes i p (slice_get_within processes i p at) ∙ ap (λ (x : ProcessId). take i processes ++ x ∷ []) (get_or_from_slice_get processes i p p at))
+    ap (λ (xs : List ProcessId). numbers xs) (take_more processes i p (slice_get_within processes i p at)
+    ∙ ap (λ (x : ProcessId). take i processes ++ x ∷ []) (get_or_from_slice_get processes i p p at))
     ∙ map-append (λ (x : ProcessId). x.0) (take i processes) (p ∷ [])
 
 pub counted_more : (before seen seen_after : List ℕ) (processes : List ProcessId) (i n : ℕ) (p : ProcessId) → slice_get processes i ≡ Some p → p.0 < length seen
-    → seen_after ≡ set seen p.0 n → n ≡ min 255 (slice_index seen p.0 + 1) → Counted before (take i processes) seen → Counted before (take (i + 1) processes) seen_after
+    → seen_after ≡ set seen p.0 n → n ≡ min 255 (slice_index seen p.0 + 1) → Counted before (take i processes) seen
+    → Counted before (take (i + 1) processes) seen_after
 counted_more before seen seen_after processes i n p at within written is so_far = record {
   len = ap (λ (xs : List ℕ). length xs) written ∙ length-set seen p.0 n ∙ so_far.len;
   each = λ q inside.
       elim (cases_eq p.0 q) [
         | inl same ↦
-            (let here : slice_index seen_after q ≡ n = ap (λ (xs : List ℕ). slice_index xs q) written ∙ ap (λ k. slice_index (set seen p.0 n) k) (sym same) ∙ get_or-set_same seen p.0 n 0 within in
-            omega (arith, here, is, ap (λ k. slice_index seen k) same, so_far.each q inside, ap (λ (xs : List ℕ). times q xs) (numbers_next processes i p at), times-append q (numbers (take i processes)) (p.0 ∷ []), times-same q p.0 same))
+            (let here : slice_index seen_after q ≡ n = ap (λ (xs : List ℕ). slice_index xs q) written ∙ ap (λ k. slice_index (set seen p.0 n) k) (sym same)
+            ∙ get_or-set_same seen p.0 n 0 within in
+            omega (
+              arith,
+              here,
+              is,
+              ap (λ k. slice_index seen k) same,
+              so_far.each q inside,
+              ap (λ (xs : List ℕ). times q xs) (numbers_next processes i p at),
+              times-append q (numbers (take i processes)) (p.0 ∷ []),
+              times-same q p.0 same,
+            ))
         | inr other ↦
-            (let here : slice_index seen_after q ≡ slice_index seen q = ap (λ (xs : List ℕ). slice_index xs q) written ∙ get_or-set_other seen p.0 q n 0 (λ same. other (sym same)) in
-            omega (arith, here, so_far.each q inside, ap (λ (xs : List ℕ). times q xs) (numbers_next processes i p at), times-append q (numbers (take i processes)) (p.0 ∷ []), times-other q p.0 other))
+            (let here : slice_index seen_after q ≡ slice_index seen q = ap (λ (xs : List ℕ). slice_index xs q) written
+            ∙ get_or-set_other seen p.0 q n 0 (λ same. other (sym same)) in
+            omega (
+              arith,
+              here,
+              so_far.each q inside,
+              ap (λ (xs : List ℕ). times q xs) (numbers_next processes i p at),
+              times-append q (numbers (take i processes)) (p.0 ∷ []),
+              times-other q p.0 other,
+            ))
       ];
 }
 
@@ -47,10 +68,12 @@ pub processes_in-nil : processes_in [] ≡ []
 unfolding processes_in
 processes_in-nil = refl
 
-pub processes_in-next : (pieces : List Piece) (i : ℕ) (piece : Piece) → slice_get pieces i ≡ Some piece → processes_in (take (i + 1) pieces) ≡ processes_in (take i pieces) ++ numbers piece.processes.items
+pub processes_in-next : (pieces : List Piece) (i : ℕ) (piece : Piece) → slice_get pieces i ≡ Some piece
+    → processes_in (take (i + 1) pieces) ≡ processes_in (take i pieces) ++ numbers piece.processes.items
 unfolding processes_in
 processes_in-next pieces i piece at =
-    ap (λ (xs : List Piece). flat_map (λ (x : Piece). numbers x.processes.items) xs) (take_more pieces i piece (slice_get_within pieces i piece at) ∙ ap (λ (x : Piece). take i pieces ++ x ∷ []) (get_or_from_slice_get pieces i piece piece at))
+    ap (λ (xs : List Piece). flat_map (λ (x : Piece). numbers x.processes.items) xs) (take_more pieces i piece (slice_get_within pieces i piece at)
+    ∙ ap (λ (x : Piece). take i pieces ++ x ∷ []) (get_or_from_slice_get pieces i piece piece at))
     ∙ flat_map-append (λ (x : Piece). numbers x.processes.items) (take i pieces) (piece ∷ [])
     ∙ ap (λ (xs : List ℕ). flat_map (λ (x : Piece). numbers x.processes.items) (take i pieces) ++ xs) (append-nil (numbers piece.processes.items))
 
@@ -63,17 +86,26 @@ pub tally_more : (pieces : List Piece) (i : ℕ) (piece : Piece) (seen seen_afte
 tally_more pieces i piece seen seen_after at len each so_far = record {
   each = λ q inside.
       (let here : q < length seen = omega (arith, len) in
-      omega (arith, each q here, so_far.each q here, ap (λ (xs : List ℕ). times q xs) (processes_in-next pieces i piece at), times-append q (processes_in (take i pieces)) (numbers piece.processes.items)));
+      omega (
+        arith,
+        each q here,
+        so_far.each q here,
+        ap (λ (xs : List ℕ). times q xs) (processes_in-next pieces i piece at),
+        times-append q (processes_in (take i pieces)) (numbers piece.processes.items),
+      ));
 }
 
-pub all_there : (of : Matter) (piece : Piece) (n : ℕ) → piece.case.now ≡ of → process_count of.records ≡ n → All (λ (p : ProcessId). p.0 < n) piece.processes.items
+pub all_there : (of : Matter) (piece : Piece) (n : ℕ) → piece.case.now ≡ of → process_count of.records ≡ n
+    → All (λ (p : ProcessId). p.0 < n) piece.processes.items
 all_there of piece n its count =
     λ k d within.
-    (let here : (get_or piece.processes.items k d).0 < process_count piece.case.now.records = piece.there k (get_or piece.processes.items k d) (slice_get-get_or piece.processes.items k d within) in
+    (let here : (get_or piece.processes.items k d).0 < process_count piece.case.now.records =
+    piece.there k (get_or piece.processes.items k d) (slice_get-get_or piece.processes.items k d within) in
     omega (arith, here, ap (λ (m : Matter). process_count m.records) its, count))
 
 -- the piece that a loop is at is of the case
-pub piece_at : (of : Matter) (pieces : List Piece) (i : ℕ) (piece : Piece) → All (λ (x : Piece). x.case.now ≡ of) pieces → piece ≡ get_or pieces i piece → i < length pieces → piece.case.now ≡ of
+pub piece_at : (of : Matter) (pieces : List Piece) (i : ℕ) (piece : Piece) → All (λ (x : Piece). x.case.now ≡ of) pieces → piece ≡ get_or pieces i piece
+    → i < length pieces → piece.case.now ≡ of
 piece_at of pieces i piece all is within = ap (λ (x : Piece). x.case.now) is ∙ all i piece within
 
 pub zeros : (seen : List ℕ) (n q : ℕ) → seen ≡ replicate n 0 → q < length seen → slice_index seen q ≡ 0

@@ -13,7 +13,8 @@ use Rattle.ll_pool.specs.contracts.pool.Pool as Pool
 use Rattle.ll_pool.specs.contracts.member.Member as Member
 use Rattle.ll_pool.specs.contracts.worker.Worked as Worked
 
-pub pool_sync : (a a' : NamedLft) (T T' T'' : RattleType) (g : Ghosts T.Denot) → IsSend T → IsSync T → IsSync T' → IsSync T'' → IsSync (Pool.the_row a a' T T' T'' g)
+pub pool_sync : (a a' : NamedLft) (T T' T'' : RattleType) (g : Ghosts T.Denot) → IsSend T → IsSync T → IsSync T' → IsSync T''
+    → IsSync (Pool.the_row a a' T T' T'' g)
 pool_sync a a' T T' T'' g send sync sync' sync'' =
     recorded_sync (Pool.the_field a a' T T' T'' g).row _ _ (Pool.the_type a a' T T' T'' g).to_one
     (struct_sync (shape (Pool.the_type a a' T T' T'' g)) (
@@ -30,7 +31,8 @@ pool_sync a a' T T' T'' g send sync sync' sync'' =
       ),
     ))
 
-pub member_send : (a a' a'' : NamedLft) (T T' T'' : RattleType) (g : Ghosts T.Denot) → IsSend T → IsSync T → IsSync T' → IsSync T'' → IsSend (Member.the_row a a' a'' T T' T'' g)
+pub member_send : (a a' a'' : NamedLft) (T T' T'' : RattleType) (g : Ghosts T.Denot) → IsSend T → IsSync T → IsSync T' → IsSync T''
+    → IsSend (Member.the_row a a' a'' T T' T'' g)
 member_send a a' a'' T T' T'' g send sync sync' sync'' =
     recorded_send (Member.the_field a a' a'' T T' T'' g).row _ _ (Member.the_type a a' a'' T T' T'' g).to_one
     (struct_send (shape (Member.the_type a a' a'' T T' T'' g)) (

@@ -31,14 +31,17 @@ pub answers_in-nil : answers_in [] ≡ []
 unfolding answers_in
 answers_in-nil = refl
 
-pub answers_in-next : (pieces : List Piece) (i : ℕ) (piece : Piece) → slice_get pieces i ≡ Some piece → answers_in (take (i + 1) pieces) ≡ answers_in (take i pieces) ++ piece.answers.items
+pub answers_in-next : (pieces : List Piece) (i : ℕ) (piece : Piece) → slice_get pieces i ≡ Some piece
+    → answers_in (take (i + 1) pieces) ≡ answers_in (take i pieces) ++ piece.answers.items
 unfolding answers_in
 answers_in-next pieces i piece at =
-    ap (λ (xs : List Piece). flat_map (λ (x : Piece). x.answers.items) xs) (take_more pieces i piece (slice_get_within pieces i piece at) ∙ ap (λ (x : Piece). take i pieces ++ x ∷ []) (get_or_from_slice_get pieces i piece piece at))
+    ap (λ (xs : List Piece). flat_map (λ (x : Piece). x.answers.items) xs) (take_more pieces i piece (slice_get_within pieces i piece at)
+    ∙ ap (λ (x : Piece). take i pieces ++ x ∷ []) (get_or_from_slice_get pieces i piece piece at))
     ∙ flat_map-append (λ (x : Piece). x.answers.items) (take i pieces) (piece ∷ [])
     ∙ ap (λ (xs : List (ℕ × Answer)). flat_map (λ (x : Piece). x.answers.items) (take i pieces) ++ xs) (append-nil piece.answers.items)
 
-pub assembled_more : (pieces : List Piece) (i : ℕ) (piece : Piece) (before xs xs_after : List Answer) → slice_get pieces i ≡ Some piece → xs ≡ placed (answers_in (take i pieces)) before → xs_after ≡ placed piece.answers.items xs → xs_after ≡ placed (answers_in (take (i + 1) pieces)) before
+pub assembled_more : (pieces : List Piece) (i : ℕ) (piece : Piece) (before xs xs_after : List Answer) → slice_get pieces i ≡ Some piece
+    → xs ≡ placed (answers_in (take i pieces)) before → xs_after ≡ placed piece.answers.items xs → xs_after ≡ placed (answers_in (take (i + 1) pieces)) before
 assembled_more pieces i piece before xs xs_after at so_far is =
     is
     ∙ ap (λ (ys : List Answer). placed piece.answers.items ys) so_far

@@ -27,8 +27,11 @@ at_read (x ∷ xs) zero a e = some-injective x a e
 at_read (x ∷ xs) (suc i) a e = at_read xs i a e
 
 -- the sum after one view has changed
-sum_set : (f : Known → ℕ) (views : List Known) (port : ℕ) (v w : Known) → get_elem? views port ≡ some v → sum_by f (set views port w) + f v ≡ sum_by f views + f w
-sum_set f views port v w at = subst (λ (u : Known). sum_by f (set views port w) + f u ≡ sum_by f views + f w) (at_read views port v at) (sum_by-set f views port w v (at_within views port v at))
+sum_set : (f : Known → ℕ) (views : List Known) (port : ℕ) (v w : Known) → get_elem? views port ≡ some v
+    → sum_by f (set views port w) + f v ≡ sum_by f views + f w
+sum_set f views port v w at =
+    subst (λ (u : Known). sum_by f (set views port w) + f u ≡ sum_by f views + f w) (at_read views port v at)
+    (sum_by-set f views port w v (at_within views port v at))
 
 -- what was given and taken in all after one view has changed
 law_set : (weight : ℕ → ℕ) (views : List Known) (port : ℕ) (v w : Known) (queued left : ℕ) → get_elem? views port ≡ some v
@@ -72,7 +75,8 @@ begins of = record {
 
 -- ---- a push that gives, a pop that takes
 
-pub gives : (of : Matter) (n port : ℕ) (v : Known) (job : Job) → 0 < v.parts → job.case.now ≡ of → Pushes (IsFair of) n port v job (λ w. w ≡ after_giving v job.process.0)
+pub gives : (of : Matter) (n port : ℕ) (v : Known) (job : Job) → 0 < v.parts → job.case.now ≡ of
+    → Pushes (IsFair of) n port v job (λ w. w ≡ after_giving v job.process.0)
 gives of n port v job some_part its jobs views room fair at =
     let w : Known = after_giving v job.process.0 in (
       w,
@@ -110,7 +114,8 @@ takes of port v some_part job jobs views fair at =
 
 -- ---- splitting and joining
 
-pub parts_with : (of : Matter) (port : ℕ) (v : Known) → 1 < v.parts → Forks (IsFair of) port v (known v.case (v.parts - 1) v.given v.taken) (known v.case 1 [] [])
+pub parts_with : (of : Matter) (port : ℕ) (v : Known) → 1 < v.parts
+    → Forks (IsFair of) port v (known v.case (v.parts - 1) v.given v.taken) (known v.case 1 [] [])
 parts_with of port v more jobs views fair at =
     let left : Known = known v.case (v.parts - 1) v.given v.taken in
     let right : Known = known v.case 1 [] [] in
@@ -120,13 +125,16 @@ parts_with of port v more jobs views fair at =
     record {
       parts = omega (arith, sum_set (λ (u : Known). u.parts) views port v left at, fair.parts, sum_by_push (λ (u : Known). u.parts) rest right);
       law = λ weight.
-          let law = law_set weight views port v left (sum_by weight (processes_of jobs)) (sum_by weight (processes_of jobs)) at (fair.law weight) (omega arith) in
+          let law =
+          law_set weight views port v left (sum_by weight (processes_of jobs)) (sum_by weight (processes_of jobs)) at (fair.law weight) (omega arith) in
           omega (arith, law, sum_by_push (λ (u : Known). sum_by weight u.given) rest right, sum_by_push (λ (u : Known). sum_by weight u.taken) rest right);
-      fits = λ j u e. ⊎_elim (λ (x : get_elem? rest j ≡ some u). fits j u x) (λ (is : right ≡ u). subst (λ (y : Known). Fits of y) is (fits_here of right (omega arith) mine)) (at_snoc rest right u j e);
+      fits = λ j u e. ⊎_elim (λ (x : get_elem? rest j ≡ some u). fits j u x)
+          (λ (is : right ≡ u). subst (λ (y : Known). Fits of y) is (fits_here of right (omega arith) mine)) (at_snoc rest right u j e);
       jobs_of = fair.jobs_of;
     }
 
-pub joins : (of : Matter) (port : ℕ) (v : Known) (other : ℕ) (w : Known) → 0 < v.parts → Merges (IsFair of) port v other w (known v.case (v.parts + w.parts) (v.given ++ w.given) (v.taken ++ w.taken)) (known of 0 [] [])
+pub joins : (of : Matter) (port : ℕ) (v : Known) (other : ℕ) (w : Known) → 0 < v.parts
+    → Merges (IsFair of) port v other w (known v.case (v.parts + w.parts) (v.given ++ w.given) (v.taken ++ w.taken)) (known of 0 [] [])
 joins of port v other w some_part jobs views fair at apart at_other =
     let both : Known = known v.case (v.parts + w.parts) (v.given ++ w.given) (v.taken ++ w.taken) in
     let spent : Known = known of 0 [] [] in
@@ -155,18 +163,27 @@ joins of port v other w some_part jobs views fair at apart at_other =
 -- ---- what a pass with all parts learns
 
 -- where nobody has a part, what counts only with a part comes to nothing
-none_left : (f : Known → ℕ) (views : List Known) → ((port : ℕ) (v : Known) → get_elem? views port ≡ some v → v.parts ≡ 0 → f v ≡ 0) → sum_by (λ (v : Known). v.parts) views ≡ 0 → sum_by f views ≡ 0
+none_left : (f : Known → ℕ) (views : List Known) → ((port : ℕ) (v : Known) → get_elem? views port ≡ some v → v.parts ≡ 0 → f v ≡ 0)
+    → sum_by (λ (v : Known). v.parts) views ≡ 0 → sum_by f views ≡ 0
 none_left f [] idle none = refl
 none_left f (v ∷ views) idle none =
     let parts = sum_by-cons (λ (u : Known). u.parts) v views in
-    omega (arith, sum_by-cons f v views, idle 0 v refl (omega (arith, parts, none)), none_left f views (λ port u e. idle (suc port) u e) (omega (arith, parts, none)))
+    omega (
+      arith,
+      sum_by-cons f v views,
+      idle 0 v refl (omega (arith, parts, none)),
+      none_left f views (λ port u e. idle (suc port) u e) (omega (arith, parts, none)),
+    )
 
 -- where one pass has all parts, its own is the whole
-whole : (of : Matter) (f : Known → ℕ) (views : List Known) (port : ℕ) (v : Known) → ((u : Known) → Fits of u → u.parts ≡ 0 → f u ≡ 0) → AllFit of views → get_elem? views port ≡ some v → sum_by (λ (u : Known). u.parts) views ≡ v.parts → sum_by f views ≡ f v
+whole : (of : Matter) (f : Known → ℕ) (views : List Known) (port : ℕ) (v : Known) → ((u : Known) → Fits of u → u.parts ≡ 0 → f u ≡ 0) → AllFit of views
+    → get_elem? views port ≡ some v → sum_by (λ (u : Known). u.parts) views ≡ v.parts → sum_by f views ≡ f v
 whole of f views port v idle fits at all =
     let spent : Known = known of 0 [] [] in
     let rest : List Known = set views port spent in
-    let others : sum_by f rest ≡ 0 = none_left f rest (λ j u e. idle u (fits_set of views port spent (spent_fits of) fits j u e)) (omega (arith, sum_set (λ (u : Known). u.parts) views port v spent at, all)) in
+    let others : sum_by f rest ≡ 0 =
+    none_left f rest (λ j u e. idle u (fits_set of views port spent (spent_fits of) fits j u e))
+    (omega (arith, sum_set (λ (u : Known). u.parts) views port v spent at, all)) in
     omega (arith, sum_set f views port v spent at, others, idle spent (spent_fits of) refl)
 
 pub learns : (of : Matter) (port : ℕ) (v : Known) → Learns (IsFair of) port v (KnowsAll v)
@@ -175,6 +192,8 @@ learns of port v jobs views fair at all weight =
     omega (
       arith,
       fair.law weight,
-      whole of (λ (u : Known). sum_by weight u.given) views port v (λ u fit none. ap (λ (xs : List ℕ). sum_by weight xs) ((fit.idle none).0)) fair.fits at parts,
-      whole of (λ (u : Known). sum_by weight u.taken) views port v (λ u fit none. ap (λ (xs : List ℕ). sum_by weight xs) ((fit.idle none).1)) fair.fits at parts,
+      whole of (λ (u : Known). sum_by weight u.given) views port v
+          (λ u fit none. ap (λ (xs : List ℕ). sum_by weight xs) ((fit.idle none).0)) fair.fits at parts,
+      whole of (λ (u : Known). sum_by weight u.taken) views port v
+          (λ u fit none. ap (λ (xs : List ℕ). sum_by weight xs) ((fit.idle none).1)) fair.fits at parts,
     )

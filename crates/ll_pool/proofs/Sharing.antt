@@ -17,7 +17,8 @@ use Rattle.ll_pool.specs.Gathered.{AllOf, processes_in}
 pub record AreShared (of : Matter) (jobs : List Job) (pieces : List Piece) : Type 0 where
   pub jobs_of : AllJobsOf of jobs
   pub pieces_of : AllOf of pieces
-  pub shared : (weight : ℕ → ℕ) → sum_by weight (processes_in pieces) + sum_by weight (processes_of jobs) ≡ sum_by weight (roots of.records) + sum_by weight (kids of.records (processes_in pieces))
+  pub shared : (weight : ℕ → ℕ) → sum_by weight (processes_in pieces) + sum_by weight (processes_of jobs)
+      ≡ sum_by weight (roots of.records) + sum_by weight (kids of.records (processes_in pieces))
 
 pub no_processes : processes_in [] ≡ []
 unfolding processes_in
@@ -44,7 +45,8 @@ pub kids-append : (records : List Record) (xs ys : List ℕ) → kids records (x
 unfolding kids
 kids-append records xs ys = flat_map-append (children records) xs ys
 
-pub shared_more : (of : Matter) (before jobs : List Job) (job : Job) (pieces : List Piece) (piece : Piece) → before ≡ jobs ++ job ∷ [] → piece.case.now ≡ job.case.now
+pub shared_more : (of : Matter) (before jobs : List Job) (job : Job) (pieces : List Piece) (piece : Piece) → before ≡ jobs ++ job ∷ []
+    → piece.case.now ≡ job.case.now
     → SharesOut job.case.now.records job.process.0 (numbers piece.processes.items) [] [] → AreShared of before pieces → AreShared of jobs (pieces ++ piece ∷ [])
 shared_more of before jobs job pieces piece popped same shares so_far =
     let parts = All-pop (λ (one : Job). one.case.now ≡ of) before jobs (Some job) popped so_far.jobs_of in
@@ -54,7 +56,8 @@ shared_more of before jobs job pieces piece popped same shares so_far =
       pieces_of = All-push (λ (one : Piece). one.case.now ≡ of) pieces piece so_far.pieces_of (same ∙ of_case);
       shared = λ weight.
           let here = subst (λ (case : Matter). SharesOut case.records job.process.0 (numbers piece.processes.items) [] []) of_case shares in
-          let left : processes_of before ≡ processes_of jobs ++ job.process.0 ∷ [] = ap (λ (xs : List Job). processes_of xs) popped ∙ map-append (λ (one : Job). one.process.0) jobs (job ∷ []) in
+          let left : processes_of before ≡ processes_of jobs ++ job.process.0 ∷ [] =
+          ap (λ (xs : List Job). processes_of xs) popped ∙ map-append (λ (one : Job). one.process.0) jobs (job ∷ []) in
           let total = so_far.shared weight in
           rw (processes_in-push pieces piece, kids-append of.records (processes_in pieces) (numbers piece.processes.items))
           (omega (

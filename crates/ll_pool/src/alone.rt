@@ -16,8 +16,10 @@ use std::alloc::Global;
 fn pieces_of(alloc: Global, case: &Case) -> Result<Vec<Piece<'_>>, NoMemory>
     ensures of_case { IfOk result (λ pieces. AllOf case.now pieces.items) }
     ensures numbered { IfOk result (λ pieces. IsNumbered case.now.records) }
-    ensures shared { IfOk result (λ pieces. (weight : ℕ → ℕ) → sum_by weight (processes_in pieces.items)
-        ≡ sum_by weight (roots case.now.records) + sum_by weight (kids case.now.records (processes_in pieces.items))) }
+    ensures shared { IfOk result (λ pieces. (weight : ℕ → ℕ)
+        → sum_by weight (processes_in pieces.items)
+        ≡ sum_by weight (roots case.now.records)
+        + sum_by weight (kids case.now.records (processes_in pieces.items))) }
 {
     let mut jobs = case.roots(alloc)?;
     let mut pieces = Vec::new(alloc);
@@ -31,7 +33,8 @@ fn pieces_of(alloc: Global, case: &Case) -> Result<Vec<Piece<'_>>, NoMemory>
 /// The answers to all records of a case, in their order, judged process by process on the caller's
 /// thread.
 pub fn judge_alone(alloc: Global, case: &Case) -> Result<Vec<Answer>, NoMemory>
-    ensures { IfOk result (λ answers. answers.items ≡ judged case.now.tree case.now.abi case.now.records) }
+    ensures { IfOk result (λ answers. answers.items
+        ≡ judged case.now.tree case.now.abi case.now.records) }
 {
     collect_whole(alloc, case, pieces_of(alloc, case)?)
 }

@@ -36,7 +36,8 @@ pub(crate) fn start<'t, 'p, 's, 'c, N: Naming + Send + Sync, R: Wait + Sync, G: 
     ensures taken { (view pass.new).taken ≡ (view pass.old).taken }
     ensures its_case { (view pass.new).case ≡ N.case }
     ensures some_part { 0 < (view pass.new).parts }
-    ensures parts { OnOk result ((view pass.new).parts + vec_len handles.new ≡ (view pass.old).parts) }
+    ensures parts { OnOk result
+        ((view pass.new).parts + vec_len handles.new ≡ (view pass.old).parts) }
     ensures promised { All (λ handle. handle.promise.line.now ≡ pool.now.line) handles.new.items }
 {
     for _started in 0..workers {
@@ -66,8 +67,11 @@ fn take_in<'s, 'c, N: Naming, R, G>(
     requires another { IsPassOf pool.now.line worked.pass }
     requires account { IsAccount N.case [] (view worked.pass) worked.pieces.items }
     ensures queue { OnOk result (IsPassOf pool.now.line done.new.pass) }
-    ensures parts { OnOk result ((view done.new.pass).parts ≡ (view done.old.pass).parts + (view worked.entry.pass).parts) }
-    ensures account { OnOk result ((roots : List ℕ) → IsAccount N.case roots (view done.old.pass) done.old.pieces.items → IsAccount N.case roots (view done.new.pass) done.new.pieces.items) }
+    ensures parts { OnOk result
+        ((view done.new.pass).parts ≡ (view done.old.pass).parts + (view worked.entry.pass).parts) }
+    ensures account { OnOk result ((roots : List ℕ)
+        → IsAccount N.case roots (view done.old.pass) done.old.pieces.items
+        → IsAccount N.case roots (view done.new.pass) done.new.pieces.items) }
 {
     let Worked { pass, pieces } = worked;
     keep_all(&mut done.pieces, pieces)?;
@@ -86,7 +90,9 @@ fn join_one<'p, 's, 'c, N: Naming, R: Threads, G>(
     requires promised { handle.promise.line.now ≡ pool.now.line }
     ensures queue { OnOk result (IsPassOf pool.now.line done.new.pass) }
     ensures parts { OnOk result ((view done.new.pass).parts ≡ (view done.old.pass).parts + 1) }
-    ensures account { OnOk result ((roots : List ℕ) → IsAccount N.case roots (view done.old.pass) done.old.pieces.items → IsAccount N.case roots (view done.new.pass) done.new.pieces.items) }
+    ensures account { OnOk result ((roots : List ℕ)
+        → IsAccount N.case roots (view done.old.pass) done.old.pieces.items
+        → IsAccount N.case roots (view done.new.pass) done.new.pieces.items) }
 {
     let worked = handle.join(pool.rt)?;
     take_in(pool, worked, done)
@@ -111,7 +117,9 @@ pub(crate) fn join_all<'p, 's, 'c, N: Naming, R: Threads, G>(
     requires promised { All (λ handle. handle.promise.line.now ≡ pool.now.line) handles.items }
     ensures queue { IfOk result (λ all. IsPassOf pool.now.line all.pass) }
     ensures parts { IfOk result (λ all. (view all.pass).parts ≡ 1024) }
-    ensures account { IfOk result (λ all. (roots : List ℕ) → IsAccount N.case roots (view done.entry.pass) done.entry.pieces.items → IsAccount N.case roots (view all.pass) all.pieces.items) }
+    ensures account { IfOk result (λ all. (roots : List ℕ)
+        → IsAccount N.case roots (view done.entry.pass) done.entry.pieces.items
+        → IsAccount N.case roots (view all.pass) all.pieces.items) }
 {
     let mut left = handles.into_iter();
     while let Some(handle) = left.next() {

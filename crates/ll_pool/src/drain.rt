@@ -24,7 +24,9 @@ pub(crate) fn drain<'s, 'c, N: Naming, R: Wait, G: Gate>(
     requires queue { IsPassOf pool.now.line pass.old }
     requires whole { (view pass.old).parts ≡ 1024 }
     requires of_case { (view pass.old).case ≡ N.case }
-    ensures account { OnOk result ((roots : List ℕ) → IsAccount N.case roots (view pass.old) pieces.old.items → IsAccount N.case roots (view pass.new) pieces.new.items) }
+    ensures account { OnOk result ((roots : List ℕ)
+        → IsAccount N.case roots (view pass.old) pieces.old.items
+        → IsAccount N.case roots (view pass.new) pieces.new.items) }
     ensures settled { OnOk result (IsSettled (view pass.new)) }
 {
     for _ in pool.rt.forever() {

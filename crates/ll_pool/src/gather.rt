@@ -43,7 +43,8 @@ pub fn collect(
     requires { AllOf case.now pieces.items }
     ensures answers { IfOk result
         (λ answers. answers.items ≡ judged case.now.tree case.now.abi case.now.records) }
-    ensures each_once { IfOk result (λ answers. (process : ℕ) → process < process_count case.now.records →
+    ensures each_once { IfOk result (λ answers. (process : ℕ)
+        → process < process_count case.now.records →
         times process (processes_in pieces.entry.items) ≡ 1) }
     ensures fault { IfErr result (IsFault case.now.records (processes_in pieces.entry.items)) }
 {
@@ -64,8 +65,10 @@ pub fn collect_whole(
     pieces: Vec<Piece<'_>>,
 ) -> Result<Vec<Answer>, NoMemory>
     requires of_case { AllOf case.now pieces.items }
-    requires each_once { (process : ℕ) → process < process_count case.now.records → times process (processes_in pieces.items) ≡ 1 }
-    ensures { IfOk result (λ answers. answers.items ≡ judged case.now.tree case.now.abi case.now.records) }
+    requires each_once { (process : ℕ) → process < process_count case.now.records
+        → times process (processes_in pieces.items) ≡ 1 }
+    ensures { IfOk result (λ answers. answers.items
+        ≡ judged case.now.tree case.now.abi case.now.records) }
 {
     match collect(alloc, case, pieces) {
         Ok(answers) => Ok(answers),

@@ -61,8 +61,11 @@ fn begin<'t, 'p, 's, 'c, N: Naming + Send + Sync, R: Threads + Wait + Sync, G: G
     ensures queue { IsPassOf me.old.pool.now.line me.new.pass }
     ensures some_part { 0 < (view me.new.pass).parts }
     ensures parts { IfOk result (λ _. (view me.new.pass).parts + vec_len handles.new ≡ 1024) }
-    ensures promised { All (λ handle. handle.promise.line.now ≡ me.old.pool.now.line) handles.new.items }
-    ensures account { IfOk result (λ pieces. IsAccount N.case (processes_of roots.entry.first.items ++ processes_of roots.entry.rest.items) (view me.new.pass) pieces.items) }
+    ensures promised { All (λ handle. handle.promise.line.now ≡ me.old.pool.now.line)
+        handles.new.items }
+    ensures account { IfOk result
+        (λ pieces. IsAccount N.case (processes_of roots.entry.first.items
+        ++ processes_of roots.entry.rest.items) (view me.new.pass) pieces.items) }
 {
     let Roots { first, rest } = roots;
     let mut pieces = Vec::new(me.pool.alloc);
@@ -89,7 +92,9 @@ impl<'p, 's, 'c, N: Naming + Send + Sync, R: Threads + Wait + Sync, G: Gate + Sy
         requires workers { self.workers < 1024 }
         ensures queue { IfOk result (λ all. IsPassOf self.entry.me.pool.now.line all.pass) }
         ensures parts { IfOk result (λ all. (view all.pass).parts ≡ 1024) }
-        ensures account { IfOk result (λ all. IsAccount N.case (processes_of self.entry.roots.first.items ++ processes_of self.entry.roots.rest.items) (view all.pass) all.pieces.items) }
+        ensures account { IfOk result
+            (λ all. IsAccount N.case (processes_of self.entry.roots.first.items
+            ++ processes_of self.entry.roots.rest.items) (view all.pass) all.pieces.items) }
     {
         let Self {
             mut me,
@@ -127,7 +132,9 @@ pub(crate) fn lead<'p, 's, 'c, N: Naming + Send + Sync, R: Threads + Wait + Sync
     requires workers { workers < 1024 }
     ensures queue { IfOk result (λ all. IsPassOf me.entry.pool.now.line all.pass) }
     ensures parts { IfOk result (λ all. (view all.pass).parts ≡ 1024) }
-    ensures account { IfOk result (λ all. IsAccount N.case (processes_of roots.entry.first.items ++ processes_of roots.entry.rest.items) (view all.pass) all.pieces.items) }
+    ensures account { IfOk result
+        (λ all. IsAccount N.case (processes_of roots.entry.first.items
+        ++ processes_of roots.entry.rest.items) (view all.pass) all.pieces.items) }
 {
     let rt = me.pool.rt;
     let caller = Caller { me, roots, workers };

@@ -35,7 +35,8 @@ pub(crate) fn split<'c, N: Naming>(line: &Line<'c, N>, pass: &mut Ticket<'c>) ->
     requires parts { 1 < (view pass.old).parts }
     ensures queue { IsPassOf line.now pass.new }
     ensures another { IsPassOf line.now result }
-    ensures knows { view pass.new ≡ known (view pass.old).case ((view pass.old).parts - 1) (view pass.old).given (view pass.old).taken }
+    ensures knows { view pass.new ≡ known (view pass.old).case ((view pass.old).parts - 1)
+        (view pass.old).given (view pass.old).taken }
     ensures begins { view result ≡ known (view pass.old).case 1 [] [] }
 {
     line.another::<Parting<N>>(pass)
@@ -47,7 +48,10 @@ pub(crate) fn join<'c, N: Naming>(line: &Line<'c, N>, pass: &mut Ticket<'c>, oth
     requires another { IsPassOf line.now other }
     requires parts { 0 < (view pass.old).parts }
     ensures queue { IsPassOf line.now pass.new }
-    ensures knows { view pass.new ≡ known (view pass.old).case ((view pass.old).parts + (view other.entry).parts) ((view pass.old).given ++ (view other.entry).given) ((view pass.old).taken ++ (view other.entry).taken) }
+    ensures knows { view pass.new
+        ≡ known (view pass.old).case ((view pass.old).parts + (view other.entry).parts)
+        ((view pass.old).given ++ (view other.entry).given)
+        ((view pass.old).taken ++ (view other.entry).taken) }
 {
     line.absorb::<Parting<N>>(pass, other)
 }
@@ -63,7 +67,8 @@ pub(crate) fn push<'c, N: Naming, R: Wait>(
     requires parts { 0 < (view pass.old).parts }
     requires of_case { job.case.now ≡ N.case }
     ensures queue { IsPassOf line.now pass.new }
-    ensures gives { IfNone result (view pass.new ≡ after_giving (view pass.old) job.entry.process.0) }
+    ensures gives { IfNone result
+        (view pass.new ≡ after_giving (view pass.old) job.entry.process.0) }
     ensures full { IfSome result (λ back. (back ≡ job.entry) × (view pass.new ≡ view pass.old)) }
 {
     match line.push_as::<Gives, R>(rt, pass, job) {
@@ -82,7 +87,8 @@ pub(crate) fn pop<'c, N: Naming, R: Wait>(
     requires queue { IsPassOf line.now pass.old }
     requires parts { 0 < (view pass.old).parts }
     ensures queue { IsPassOf line.now pass.new }
-    ensures takes { IfSome result (λ job. (job.case.now ≡ (view pass.old).case) × (view pass.new ≡ after_taking (view pass.old) job.process.0)) }
+    ensures takes { IfSome result (λ job. (job.case.now ≡ (view pass.old).case)
+        × (view pass.new ≡ after_taking (view pass.old) job.process.0)) }
     ensures same { IfNone result (view pass.new ≡ view pass.old) }
     ensures settled { IfNone result ((view pass.old).parts ≡ 1024 → IsSettled (view pass.old)) }
 {

@@ -44,9 +44,11 @@ impl<'p, 's, 'c, N: Naming, R: Wait, G> Hand<'c> for Member<'p, 's, 'c, N, R, G>
 
     ghost kept = { λ member. (view member.pass).given };
 
-    ghost suits = { λ member of. (of ≡ N.case) × (IsPassOf member.pool.now.line member.pass × (0 < (view member.pass).parts)) };
+    ghost suits = { λ member of. (of ≡ N.case)
+        × (IsPassOf member.pool.now.line member.pass × (0 < (view member.pass).parts)) };
 
-    ghost stays = { λ before after. (after.pool ≡ before.pool) × OnlyGave (view before.pass) (view after.pass) };
+    ghost stays = { λ before after. (after.pool ≡ before.pool)
+        × OnlyGave (view before.pass) (view after.pass) };
 
     fn give(&mut self, job: Job<'c>) -> Option<Job<'c>> {
         if self.pool.is_cut(job.process()) {
@@ -65,8 +67,10 @@ impl<'p, 's, 'c, N: Naming, R: Wait, G> Member<'p, 's, 'c, N, R, G> {
         requires of_case { job.case.now ≡ N.case }
         ensures pool { self.new.pool ≡ self.old.pool }
         ensures queue { IsPassOf self.new.pool.now.line self.new.pass }
-        ensures gives { IfNone result (view self.new.pass ≡ after_giving (view self.old.pass) job.entry.process.0) }
-        ensures full { IfSome result (λ back. (back ≡ job.entry) × (view self.new.pass ≡ view self.old.pass)) }
+        ensures gives { IfNone result
+            (view self.new.pass ≡ after_giving (view self.old.pass) job.entry.process.0) }
+        ensures full { IfSome result (λ back. (back ≡ job.entry)
+            × (view self.new.pass ≡ view self.old.pass)) }
     {
         let pool = self.pool;
         pool.busy.raise();
@@ -91,7 +95,9 @@ impl<'p, 's, 'c, N: Naming, R: Wait, G: Gate> Member<'p, 's, 'c, N, R, G> {
         ensures pool { self.new.pool ≡ self.old.pool }
         ensures queue { IsPassOf self.new.pool.now.line self.new.pass }
         ensures gave { OnlyGave (view self.old.pass) (view self.new.pass) }
-        ensures seen { OnOk result (SeenTo N.case (job.entry.process.0 ∷ []) (view self.old.pass).given (view self.new.pass).given pieces.old.items pieces.new.items) }
+        ensures seen { OnOk result
+            (SeenTo N.case (job.entry.process.0 ∷ []) (view self.old.pass).given
+            (view self.new.pass).given pieces.old.items pieces.new.items) }
     {
         let pool = self.pool;
         pool.gate.begun(job.process());
@@ -108,7 +114,9 @@ impl<'p, 's, 'c, N: Naming, R: Wait, G: Gate> Member<'p, 's, 'c, N, R, G> {
         ensures pool { self.new.pool ≡ self.old.pool }
         ensures queue { IsPassOf self.new.pool.now.line self.new.pass }
         ensures gave { OnlyGave (view self.old.pass) (view self.new.pass) }
-        ensures seen { OnOk result (SeenTo N.case (root.entry.process.0 ∷ []) (view self.old.pass).given (view self.new.pass).given pieces.old.items pieces.new.items) }
+        ensures seen { OnOk result
+            (SeenTo N.case (root.entry.process.0 ∷ []) (view self.old.pass).given
+            (view self.new.pass).given pieces.old.items pieces.new.items) }
     {
         match self.queue(root) {
             None => Ok(()),
@@ -128,7 +136,9 @@ impl<'p, 's, 'c, N: Naming, R: Wait, G: Gate> Member<'p, 's, 'c, N, R, G> {
         ensures pool { self.new.pool ≡ self.old.pool }
         ensures queue { IsPassOf self.new.pool.now.line self.new.pass }
         ensures gave { OnlyGave (view self.old.pass) (view self.new.pass) }
-        ensures seen { OnOk result (SeenTo N.case (processes_of roots.entry.items) (view self.old.pass).given (view self.new.pass).given pieces.old.items pieces.new.items) }
+        ensures seen { OnOk result
+            (SeenTo N.case (processes_of roots.entry.items) (view self.old.pass).given
+            (view self.new.pass).given pieces.old.items pieces.new.items) }
     {
         for root in roots {
             self.hand_out(root, pieces)?;

@@ -50,7 +50,8 @@ impl<N: Naming> Join<Known> for Parting<N> {
     ghost use Rattle.std.specs.Prelude.{◌+◌, ◌++◌, []};
     ghost use Rattle.ll_pool.specs.Rule.{known};
 
-    ghost both = { λ v w. known v.case (v.parts + w.parts) (v.given ++ w.given) (v.taken ++ w.taken) };
+    ghost both = { λ v w.
+        known v.case (v.parts + w.parts) (v.given ++ w.given) (v.taken ++ w.taken) };
 
     ghost spent = { known N.case 0 [] [] };
 }

@@ -55,7 +55,8 @@ pub fn run<'c, R: Threads + Wait + Sync, G: Gate + Sync>(
     requires { (1 ≤ workers) × (workers ≤ 64) }
     ensures of_case { IfOk result (λ pieces. AllOf case.now pieces.items) }
     ensures each_once { IfOk result
-        (λ pieces. (process : ℕ) → process < process_count case.now.records → times process (processes_in pieces.items) ≡ 1) }
+        (λ pieces. (process : ℕ) → process < process_count case.now.records
+        → times process (processes_in pieces.items) ≡ 1) }
 {
     run_named::<Brand, R, G>(rt, alloc, case, workers, cut, gate)
 }
@@ -69,8 +70,10 @@ fn most_jobs(roots: usize, cut: &[bool]) -> usize
 
 /// The jobs behind those for which the queue has room.
 fn beyond_room<'c>(jobs: &mut Vec<Job<'c>>) -> Result<Vec<Job<'c>>, NoMemory>
-    ensures items { IfOk result (λ rest. jobs.new.items ≡ take (min (length jobs.old.items) 1024) jobs.old.items) }
-    ensures tail { IfOk result (λ rest. rest.items ≡ drop (min (length jobs.old.items) 1024) jobs.old.items) }
+    ensures items { IfOk result
+        (λ rest. jobs.new.items ≡ take (min (length jobs.old.items) 1024) jobs.old.items) }
+    ensures tail { IfOk result
+        (λ rest. rest.items ≡ drop (min (length jobs.old.items) 1024) jobs.old.items) }
 {
     Ok(jobs.split_off(jobs.len().min(ROOM))?)
 }
@@ -88,7 +91,8 @@ fn run_named<'s, 'c, N: Naming + Send + Sync, R: Threads + Wait + Sync, G: Gate 
     requires workers { workers ≤ 64 }
     ensures of_case { IfOk result (λ pieces. AllOf case.now pieces.items) }
     ensures each_once { IfOk result
-        (λ pieces. (process : ℕ) → process < process_count case.now.records → times process (processes_in pieces.items) ≡ 1) }
+        (λ pieces. (process : ℕ) → process < process_count case.now.records
+        → times process (processes_in pieces.items) ≡ 1) }
 {
     let mut first = case.roots(alloc)?;
     let crew = workers.min(most_jobs(first.len(), cut));

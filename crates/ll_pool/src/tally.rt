@@ -14,7 +14,8 @@ fn count(seen: &mut Vec<u8>, processes: &[ProcessId])
     requires { All (λ process. process.0 < vec_len seen.old) processes.now }
     ensures len { length seen.new.items ≡ length seen.old.items }
     ensures each { (process : ℕ) → process < length seen.old.items →
-        slice_index seen.new.items process ≡ min 255 (slice_index seen.old.items process + times process (numbers processes.now)) }
+        slice_index seen.new.items process
+        ≡ min 255 (slice_index seen.old.items process + times process (numbers processes.now)) }
 {
     for process in processes {
         let place = process.0 as usize;
@@ -39,9 +40,11 @@ pub(crate) fn tally(alloc: Global, case: &Case, pieces: &[Piece<'_>]) -> Result<
 /// The first process that is there more than once.
 pub(crate) fn first_double(seen: &[u8]) -> Option<u32>
     requires { length seen.now ≤ 65536 }
-    ensures found { IfSome result (λ first. (first < length seen.now) × (1 < slice_index seen.now first)
+    ensures found { IfSome result (λ first. (first < length seen.now)
+        × (1 < slice_index seen.now first)
         × ((process : ℕ) → process < first → slice_index seen.now process ≤ 1)) }
-    ensures none { IfNone result ((process : ℕ) → process < length seen.now → slice_index seen.now process ≤ 1) }
+    ensures none { IfNone result ((process : ℕ) → process < length seen.now
+        → slice_index seen.now process ≤ 1) }
 {
     for process in 0..seen.len() as u32 {
         if seen[process as usize] > 1 {
@@ -54,9 +57,11 @@ pub(crate) fn first_double(seen: &[u8]) -> Option<u32>
 /// The first process that isn't there.
 pub(crate) fn first_absent(seen: &[u8]) -> Option<u32>
     requires { length seen.now ≤ 65536 }
-    ensures found { IfSome result (λ first. (first < length seen.now) × (slice_index seen.now first ≡ 0)
+    ensures found { IfSome result (λ first. (first < length seen.now)
+        × (slice_index seen.now first ≡ 0)
         × ((process : ℕ) → process < first → 0 < slice_index seen.now process)) }
-    ensures none { IfNone result ((process : ℕ) → process < length seen.now → 0 < slice_index seen.now process) }
+    ensures none { IfNone result ((process : ℕ) → process < length seen.now
+        → 0 < slice_index seen.now process) }
 {
     for process in 0..seen.len() as u32 {
         if seen[process as usize] == 0 {

@@ -35,7 +35,8 @@ impl<'p, 'c, N: Naming> Promise<Result<Worked<'c>, NoMemory>> for Kept<'p, 'c, N
     ghost use Rattle.crossbeam_queue.specs.Passes.{view, IsPassOf};
     ghost use Rattle.ll_pool.specs.Crews.{IsAccount};
 
-    ghost kept_by = { λ kept worked. IfOk worked (λ done. IsPassOf kept.line.now done.pass × ((view done.pass).parts ≡ 1) × IsAccount N.case [] (view done.pass) done.pieces.items) };
+    ghost kept_by = { λ kept worked. IfOk worked (λ done. IsPassOf kept.line.now done.pass
+        × ((view done.pass).parts ≡ 1) × IsAccount N.case [] (view done.pass) done.pieces.items) };
 }
 
 impl<'p, 's, 'c, N: Naming, R: Wait, G: Gate> Member<'p, 's, 'c, N, R, G> {
@@ -46,7 +47,8 @@ impl<'p, 's, 'c, N: Naming, R: Wait, G: Gate> Member<'p, 's, 'c, N, R, G> {
         requires begins { view self.pass ≡ known N.case 1 [] [] }
         ensures queue { IfOk result (λ done. IsPassOf self.entry.pool.now.line done.pass) }
         ensures parts { IfOk result (λ done. (view done.pass).parts ≡ 1) }
-        ensures account { IfOk result (λ done. IsAccount N.case [] (view done.pass) done.pieces.items) }
+        ensures account { IfOk result
+            (λ done. IsAccount N.case [] (view done.pass) done.pieces.items) }
     {
         let pool = self.pool;
         let mut pieces = Vec::new(pool.alloc);

@@ -1,5 +1,6 @@
 -- How far the judging of a process and its descendants has come.
-use Rattle.std.proofs.Common.{◌≡◌, ℕ, ◌+◌, cond, eqb, List, ◌∷◌, ◌++◌, arith, ◌<◌, [], sym, ap, ◌∙◌, append_assoc, ◌⊎◌, zero, suc, Some, map, refl, subst, inl, inr}
+use Rattle.std.proofs.Common.{◌≡◌, ℕ, ◌+◌, cond, eqb, List, ◌∷◌, ◌++◌, arith, ◌<◌, [], sym, ap, ◌∙◌, append_assoc, ◌⊎◌, zero, suc, Some, map, refl, subst, inl}
+use Rattle.std.proofs.Common.{inr}
 use Rattle.std.specs.Prelude.{sum_by, slice_get}
 use Rattle.std.proofs.lemmas.List.Sums.{sum_by-append, sum_by-cons, sum_by_push}
 use Rattle.ll_trace.specs.declared.record.Record.{Record}
@@ -26,14 +27,13 @@ counted records first judged before after weighs = record { shared = λ p. weigh
 
 pub weighed : (records : List Record) (first : ℕ) (judged before after : List ℕ) → SharesOut records first judged before after
     → (weight : ℕ → ℕ) → sum_by weight judged + sum_by weight after ≡ sum_by weight (first ∷ kids records judged) + sum_by weight before
-weighed records first judged before after shares weight =
-    omega (
-      arith,
-      equal_weights (judged ++ after) ((first ∷ kids records judged) ++ before)
-          (λ p. omega (arith, shares.shared p, times-append p judged after, times-append p (first ∷ kids records judged) before)) weight,
-      sum_by-append weight judged after,
-      sum_by-append weight (first ∷ kids records judged) before,
-    )
+weighed records first judged before after shares weight = omega (
+  arith,
+  equal_weights (judged ++ after) ((first ∷ kids records judged) ++ before)
+      (λ p. omega (arith, shares.shared p, times-append p judged after, times-append p (first ∷ kids records judged) before)) weight,
+  sum_by-append weight judged after,
+  sum_by-append weight (first ∷ kids records judged) before,
+)
 
 -- ---- lists of processes that only grow
 
@@ -67,13 +67,15 @@ module _ (of : Matter) where
 
   kids-push : (judged : List ℕ) (p : ℕ) → kids of.records (judged ++ p ∷ []) ≡ kids of.records judged ++ children of.records p
   unfolding kids
-  kids-push judged p = flat_map-append (children of.records) judged (p ∷ []) ∙ ap (λ xs. flat_map (children of.records) judged ++ xs) (append-nil (children of.records p))
+  kids-push judged p =
+      flat_map-append (children of.records) judged (p ∷ []) ∙ ap (λ xs. flat_map (children of.records) judged ++ xs) (append-nil (children of.records p))
 
   -- the first process was judged, or its job alone is to do
   abbrev IsFirst : ProcessId → List ProcessId → List Job → Type 0
   IsFirst first processes todo = (slice_get processes 0 ≡ Some first) ⊎ ((processes ≡ []) × (map (λ (j : Job). j.process) todo ≡ first ∷ []))
 
-  first_taken : (first : ProcessId) (processes : List ProcessId) (rest : List Job) (job : Job) → IsFirst first processes (rest ++ job ∷ []) → slice_get (processes ++ job.process ∷ []) 0 ≡ Some first
+  first_taken : (first : ProcessId) (processes : List ProcessId) (rest : List Job) (job : Job) → IsFirst first processes (rest ++ job ∷ [])
+      → slice_get (processes ++ job.process ∷ []) 0 ≡ Some first
   first_taken first [] rest job (inl at) = absurd (none-some first at)
   first_taken first (p ∷ ps) rest job (inl at) = at
   first_taken first processes [] job (inr (none, alone)) = rw none (let same : job.process ≡ first = cc in rw same refl)
@@ -83,10 +85,12 @@ module _ (of : Matter) where
       nothing [] is = cc
       nothing (one ∷ rest) is = cc
 
-  pub record Descended (first : ProcessId) (processes : List ProcessId) (answers : List (ℕ × Answer)) (kept_before kept : List ℕ) (todo : List Job) : Type 0 where
+  pub record Descended (first : ProcessId) (processes : List ProcessId) (answers : List (ℕ × Answer)) (kept_before kept : List ℕ)
+      (todo : List Job) : Type 0 where
     pub first_is : IsFirst first processes todo
     pub answered : answers ≡ flat_map (answers_in of) (numbers processes)
-    pub shared : (weight : ℕ → ℕ) → sum_by weight (numbers processes) + sum_by weight kept + sum_by weight (processes_of todo) ≡ sum_by weight (first.0 ∷ kids of.records (numbers processes)) + sum_by weight kept_before
+    pub shared : (weight : ℕ → ℕ) → sum_by weight (numbers processes) + sum_by weight kept + sum_by weight (processes_of todo)
+        ≡ sum_by weight (first.0 ∷ kids of.records (numbers processes)) + sum_by weight kept_before
     pub there : AllThere processes
     pub of_case : AllOf of todo
 
@@ -108,21 +112,31 @@ module _ (of : Matter) where
     todo_is : processes_of todo ≡ processes_of rest ++ job.process.0 ∷ []
     todo_is = ap (λ (xs : List Job). processes_of xs) popped ∙ map-append (λ (j : Job). j.process.0) rest (job ∷ [])
 
-    pub weighs_less : (todo_after : List Job) → weight_of (process_count of.records) (processes_of todo_after) < weight_of (process_count of.records) (processes_of rest) + weight (process_count of.records) job.process.0 →
+    pub weighs_less : (todo_after : List Job) → weight_of (process_count of.records) (processes_of todo_after)
+        < weight_of (process_count of.records) (processes_of rest) + weight (process_count of.records) job.process.0 →
         weight_of (process_count of.records) (processes_of todo_after) < weight_of (process_count of.records) (processes_of todo)
     unfolding weight_of
-    weighs_less todo_after less = omega (arith, less, ap (λ xs. sum_by (weight (process_count of.records)) xs) todo_is, sum_by_push (weight (process_count of.records)) (processes_of rest) job.process.0)
+    weighs_less todo_after less = omega (
+      arith,
+      less,
+      ap (λ xs. sum_by (weight (process_count of.records)) xs) todo_is,
+      sum_by_push (weight (process_count of.records)) (processes_of rest) job.process.0,
+    )
 
     -- one process more
-    pub descended_more : (first : ProcessId) (processes : List ProcessId) (answers : List (ℕ × Answer)) (kept_before kept kept_after : List ℕ) (todo_after : List Job) → Descended first processes answers kept_before kept todo →
-        job.process.0 < process_count of.records → HandedOut (children of.records job.process.0) kept kept_after (processes_of rest) (processes_of todo_after) → AllOf of todo_after →
+    pub descended_more : (first : ProcessId) (processes : List ProcessId) (answers : List (ℕ × Answer)) (kept_before kept kept_after : List ℕ)
+        (todo_after : List Job) → Descended first processes answers kept_before kept todo →
+        job.process.0 < process_count of.records → HandedOut (children of.records job.process.0) kept kept_after (processes_of rest) (processes_of todo_after)
+        → AllOf of todo_after →
         Descended first (processes ++ job.process ∷ []) (answers ++ answers_in of job.process.0) kept_before kept_after todo_after
     descended_more first processes answers kept_before kept kept_after todo_after so_far there handed all =
         let p : ℕ = job.process.0 in
-        let judged_is : numbers (processes ++ job.process ∷ []) ≡ numbers processes ++ p ∷ [] = map-append (λ (p : ProcessId). p.0) processes (job.process ∷ []) in
+        let judged_is : numbers (processes ++ job.process ∷ []) ≡ numbers processes ++ p ∷ [] =
+        map-append (λ (p : ProcessId). p.0) processes (job.process ∷ []) in
         record {
           first_is = inl (first_taken first processes rest job (subst (λ (xs : List Job). IsFirst first processes xs) popped so_far.first_is));
-          answered = rw (judged_is, flat_map-append (answers_in of) (numbers processes) (p ∷ []), append-nil (answers_in of p)) (ap (λ xs. xs ++ answers_in of p) so_far.answered);
+          answered = rw (judged_is, flat_map-append (answers_in of) (numbers processes) (p ∷ []), append-nil (answers_in of p))
+              (ap (λ xs. xs ++ answers_in of p) so_far.answered);
           shared = λ w. rw (judged_is, kids-push (numbers processes) p) (omega (
             arith,
             so_far.shared w,
@@ -139,6 +153,8 @@ module _ (of : Matter) where
         }
 
   -- nothing is still to do
-  module _ (first : ProcessId) (processes : List ProcessId) (answers : List (ℕ × Answer)) (kept_before kept : List ℕ) (todo : List Job) (all : Descended first processes answers kept_before kept todo) (none : todo ≡ []) where
+  module _ (first : ProcessId) (processes : List ProcessId) (answers : List (ℕ × Answer)) (kept_before kept : List ℕ) (todo : List Job)
+      (all : Descended first processes answers kept_before kept todo) (none : todo ≡ []) where
     pub shares_out : SharesOut of.records first.0 (numbers processes) kept_before kept
-    shares_out = counted of.records first.0 (numbers processes) kept_before kept (λ weight. omega (arith, all.shared weight, ap (λ (xs : List Job). sum_by weight (processes_of xs)) none))
+    shares_out = counted of.records first.0 (numbers processes) kept_before kept
+        (λ weight. omega (arith, all.shared weight, ap (λ (xs : List Job). sum_by weight (processes_of xs)) none))

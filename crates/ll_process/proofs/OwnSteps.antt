@@ -27,26 +27,32 @@ pub own_process : (of : Matter) (index p : ℕ) (r : Record) → IsOwn of index 
 own_process of index p r own at = ap (λ (x : Record). x.process.0) (same_Some r own.0 (sym at ∙ own.1)) ∙ own.2
 
 -- a start is allowed
-pub start_answer : (of : Matter) (index p : ℕ) (r : Record) → slice_get of.records index ≡ Some r → is_start r.op ≡ true → Allowed ≡ answer_at of.tree of.abi of.records index
+pub start_answer : (of : Matter) (index p : ℕ) (r : Record) → slice_get of.records index ≡ Some r → is_start r.op ≡ true
+    → Allowed ≡ answer_at of.tree of.abi of.records index
 start_answer of index p r at starts =
     sym (answer-start of.tree of.abi (world_at of.tree of.abi of.records index).rulesets r.op (state_met of.tree of.abi of.records index r.process.0) starts)
     ∙ answer_met of.tree of.abi of.records index r at
 
 -- and leaves what it meets
-pub start_leaves : (of : Matter) (index p : ℕ) (r : Record) (own : OwnState) → slice_get of.records index ≡ Some r → is_start r.op ≡ true → Meets of index p own → Leaves of index p own
+pub start_leaves : (of : Matter) (index p : ℕ) (r : Record) (own : OwnState) → slice_get of.records index ≡ Some r → is_start r.op ≡ true
+    → Meets of index p own → Leaves of index p own
 unfolding state_left
 start_leaves of index p r own at starts meets =
     subst (λ (s : State). AgreesIn of own s) (met_at_start of.tree of.abi of.records index p r at starts) meets
 
 -- what is answered in the state that the record meets is the fold's answer
-pub met_answer : (of : Matter) (index p : ℕ) (r : Record) (given : Answer) → slice_get of.records index ≡ Some r → r.process.0 ≡ p → given ≡ answer of.tree of.abi (world_at of.tree of.abi of.records index).rulesets r.op (state_met of.tree of.abi of.records index p) → given ≡ answer_at of.tree of.abi of.records index
+pub met_answer : (of : Matter) (index p : ℕ) (r : Record) (given : Answer) → slice_get of.records index ≡ Some r → r.process.0 ≡ p
+    → given ≡ answer of.tree of.abi (world_at of.tree of.abi of.records index).rulesets r.op (state_met of.tree of.abi of.records index p)
+    → given ≡ answer_at of.tree of.abi of.records index
 met_answer of index p r given at own is =
     is
     ∙ ap (λ q. answer of.tree of.abi (world_at of.tree of.abi of.records index).rulesets r.op (state_met of.tree of.abi of.records index q)) (sym own)
     ∙ answer_met of.tree of.abi of.records index r at
 
 -- and the state after it is what the record leaves
-pub met_leaves : (of : Matter) (index p : ℕ) (r : Record) (own : OwnState) → IsCase of → slice_get of.records index ≡ Some r → r.process.0 ≡ p → AgreesIn of own (state_after of.tree of.abi (world_at of.tree of.abi of.records index).rulesets r.op (state_met of.tree of.abi of.records index p)) → Leaves of index p own
+pub met_leaves : (of : Matter) (index p : ℕ) (r : Record) (own : OwnState) → IsCase of → slice_get of.records index ≡ Some r → r.process.0 ≡ p
+    → AgreesIn of own (state_after of.tree of.abi (world_at of.tree of.abi of.records index).rulesets r.op (state_met of.tree of.abi of.records index p))
+    → Leaves of index p own
 met_leaves of index p r own case at process agrees =
     subst (λ (s : State). AgreesIn of own s)
     (ap (λ q. state_after of.tree of.abi (world_at of.tree of.abi of.records index).rulesets r.op (state_met of.tree of.abi of.records index q)) (sym process)
@@ -55,9 +61,11 @@ met_leaves of index p r own case at process agrees =
     agrees
 
 -- the note of a record fits what the record meets
-pub note_fits : (of : Matter) (index p : ℕ) (r : Record) (note : Note) → IsCase of → slice_get of.records index ≡ Some r → slice_get of.notes index ≡ Some note → is_start r.op ≡ false → r.process.0 ≡ p → NoteFits (situation_at of index p) r.op note
+pub note_fits : (of : Matter) (index p : ℕ) (r : Record) (note : Note) → IsCase of → slice_get of.records index ≡ Some r → slice_get of.notes index ≡ Some note
+    → is_start r.op ≡ false → r.process.0 ≡ p → NoteFits (situation_at of index p) r.op note
 note_fits of index p r note case at says goes process =
-    subst (λ (s : State). NoteFits (record { tree = of.tree; layers = of.layers; abi = of.abi; rulesets = (world_at of.tree of.abi of.records index).rulesets; state = s }) r.op note)
+    subst (λ (s : State). NoteFits
+    (record { tree = of.tree; layers = of.layers; abi = of.abi; rulesets = (world_at of.tree of.abi of.records index).rulesets; state = s }) r.op note)
     (sym (met_going_on of.tree of.abi of.records index p r at goes ∙ ap (λ q. (world_at of.tree of.abi of.records index).processes q) (sym process)))
     (case.settled.fits index r note at says)
 
@@ -72,7 +80,8 @@ unfolding answered
 met_answers of index p r (Ok given) at own is = met_answer of index p r given at own (is r at)
 met_answers of index p r (Err e) at own is = tt
 
-pub met_leaving : (of : Matter) (index p : ℕ) (r : Record) (own : OwnState) (result : Result Answer NoMemory) → IsCase of → slice_get of.records index ≡ Some r → r.process.0 ≡ p
+pub met_leaving : (of : Matter) (index p : ℕ) (r : Record) (own : OwnState) (result : Result Answer NoMemory) → IsCase of
+    → slice_get of.records index ≡ Some r → r.process.0 ≡ p
     → OnOk result ((x : Record) → slice_get of.records index ≡ Some x → AgreesIn of own (left (situation_at of index p) x.op))
     → OnOk result (Leaves of index p own)
 unfolding left
@@ -87,7 +96,8 @@ child_there of index child is =
     omega (arith, one.number, child_below of.records index one.of one.at one.kind)
 
 -- a fork leaves its process what it gives to the child
-left_alike : (of : Matter) (index p child : ℕ) (r : Record) → IsCase of → slice_get of.records index ≡ Some r → is_fork r.op ≡ true → r.process.0 ≡ p → child ≡ process_count (take index of.records) → state_left of.tree of.abi of.records index p ≡ state_left of.tree of.abi of.records index child
+left_alike : (of : Matter) (index p child : ℕ) (r : Record) → IsCase of → slice_get of.records index ≡ Some r → is_fork r.op ≡ true → r.process.0 ≡ p
+    → child ≡ process_count (take index of.records) → state_left of.tree of.abi of.records index p ≡ state_left of.tree of.abi of.records index child
 left_alike of index p child r case at forks own number =
     ap (λ q. state_left of.tree of.abi of.records index q) (sym own)
     ∙ left_met of.tree of.abi of.records index r case.numbered at
@@ -95,10 +105,12 @@ left_alike of index p child r case at forks own number =
     ∙ sym (child_state of.tree of.abi of.records index r at forks)
     ∙ ap (λ q. state_left of.tree of.abi of.records index q) (sym number)
 
-pub child_begins : (of : Matter) (index p child : ℕ) (own : OwnState) → IsCase of → IsOwn of index p → Some child ≡ forked_at of.records index → AgreesIn of own (state_left of.tree of.abi of.records index p) → BeginsAs of child own
+pub child_begins : (of : Matter) (index p child : ℕ) (own : OwnState) → IsCase of → IsOwn of index p → Some child ≡ forked_at of.records index
+    → AgreesIn of own (state_left of.tree of.abi of.records index p) → BeginsAs of child own
 child_begins of index p child own case mine is agrees k starts =
     let one : ForkedAt of.records index child = forked_at-is of.records index child (sym is) in
-    let here : StartedAt of.records index child = subst (λ (q : ℕ). StartedAt of.records index q) (sym one.number) (forked of.records index one.of one.at one.kind) in
+    let here : StartedAt of.records index child =
+    subst (λ (q : ℕ). StartedAt of.records index q) (sym one.number) (forked of.records index one.of one.at one.kind) in
     let same : index ≡ k = started_once of.records index k child here (started_at-is of.records k child starts) in
     subst (λ (i : ℕ). AgreesIn of own (state_left of.tree of.abi of.records i child)) same
     (subst (λ (s : State). AgreesIn of own s)

@@ -1,5 +1,6 @@
 -- The walk over a process's own records: how far it has come, its beginning, its steps and its end.
-use Rattle.std.proofs.Common.{◌≡◌, ℕ, suc, ◌+◌, ◌<◌, ◌≤◌, List, [], ◌∷◌, ◌++◌, length, drop, map, get_or, Option, Some, None, refl, sym, ap, ◌∙◌, subst, arith, append_assoc, option_to_list}
+use Rattle.std.proofs.Common.{◌≡◌, ℕ, suc, ◌+◌, ◌<◌, ◌≤◌, List, [], ◌∷◌, ◌++◌, length, drop, map, get_or, Option, Some, None, refl, sym, ap, ◌∙◌, subst, arith}
+use Rattle.std.proofs.Common.{append_assoc, option_to_list}
 use Rattle.std.specs.Prelude.{slice_get, sum_by}
 use Rattle.std.specs.List.{filter_map, cons_option}
 use Rattle.std.proofs.lemmas.List.{drop_more, drop_all}
@@ -23,15 +24,18 @@ module _ (of : Matter) (process : ℕ) where
   abbrev with_answer : ℕ → ℕ × Answer
   with_answer k = (k, answer_at of.tree of.abi of.records k)
 
-  -- The own records before place j were walked: what was there before, with all that the process answers and forks, is what there is now with what the rest answers and forks.
-  pub record Walked (j : ℕ) (own : OwnState) (answers_before answers : List (ℕ × Answer)) (kept_before kept : List ℕ) (todo_before todo : List Job) : Type 0 where
+  -- The own records before place j were walked: what was there before, with all that the process answers and forks, is what there is now with what the rest
+  -- answers and forks.
+  pub record Walked (j : ℕ) (own : OwnState) (answers_before answers : List (ℕ × Answer)) (kept_before kept : List ℕ) (todo_then todo : List Job) : Type 0 where
     pub meets : (i : ℕ) → slice_get (own_records of.records process) j ≡ Some i → Meets of i process own
     pub answered : answers ++ map with_answer (drop j (own_records of.records process)) ≡ answers_before ++ answers_in of process
-    pub shared : (weight : ℕ → ℕ) → sum_by weight kept + sum_by weight (processes_of todo) + sum_by weight (filter_map (forked_at of.records) (drop j (own_records of.records process)))
-        ≡ sum_by weight kept_before + sum_by weight (processes_of todo_before) + sum_by weight (children of.records process)
+    pub shared : (weight : ℕ → ℕ)
+        → sum_by weight kept + sum_by weight (processes_of todo) + sum_by weight (filter_map (forked_at of.records) (drop j (own_records of.records process)))
+        ≡ sum_by weight kept_before + sum_by weight (processes_of todo_then) + sum_by weight (children of.records process)
     pub of_case : AllOf of todo
 
-  pub walked_none : (own : OwnState) (answers : List (ℕ × Answer)) (kept : List ℕ) (todo : List Job) → IsCase of → process < process_count of.records → BeginsAs of process own → AllOf of todo →
+  pub walked_none : (own : OwnState) (answers : List (ℕ × Answer)) (kept : List ℕ) (todo : List Job) → IsCase of → process < process_count of.records
+      → BeginsAs of process own → AllOf of todo →
       Walked 0 own answers answers kept kept todo todo
   unfolding answers_of children
   walked_none own answers kept todo case there begins all = record {
@@ -52,17 +56,28 @@ module _ (of : Matter) (process : ℕ) where
     pub own_now : j < length items → IsOwn of (get_or items j 0) process
     own_now within = own_record of.records process j (get_or items j 0) (place_now within)
 
-    pub walked_more : (given : Answer) (own own_after : OwnState) (answers_before answers : List (ℕ × Answer)) (kept_before kept kept_after : List ℕ) (todo_before todo todo_after : List Job) → IsCase of → j < length items →
-        Walked j own answers_before answers kept_before kept todo_before todo → given ≡ answer_at of.tree of.abi of.records (get_or items j 0) → Leaves of (get_or items j 0) process own_after →
-        HandedOut (option_to_list (forked_at of.records (get_or items j 0))) kept kept_after (processes_of todo) (processes_of todo_after) → AllOf of todo_after →
+    pub walked_more : (given : Answer) (own own_after : OwnState) (answers_before answers : List (ℕ × Answer)) (kept_before kept kept_after : List ℕ)
+        (todo_before todo todo_after : List Job) → IsCase of → j < length items →
+        Walked j own answers_before answers kept_before kept todo_before todo → given ≡ answer_at of.tree of.abi of.records (get_or items j 0)
+        → Leaves of (get_or items j 0) process own_after →
+        HandedOut (option_to_list (forked_at of.records (get_or items j 0))) kept kept_after (processes_of todo) (processes_of todo_after)
+        → AllOf of todo_after →
         Walked (j + 1) own_after answers_before (answers ++ (get_or items j 0, given) ∷ []) kept_before kept_after todo_before todo_after
     walked_more given own own_after answers_before answers kept_before kept kept_after todo_before todo todo_after case within walked told leaves handed all =
         let i : ℕ = get_or items j 0 in
         let rest : drop j (own_records of.records process) ≡ i ∷ drop (j + 1) (own_records of.records process) = rw (← is) (drop_more items j 0 within) in
         record {
-          meets = λ k next. rw (met_next of.tree of.abi of.records process j i k case.numbered (place_now within) (let more : suc j ≡ j + 1 = omega arith in rw more next)) leaves;
+          meets =
+              λ k next. rw (met_next of.tree of.abi of.records process j i k case.numbered (place_now within)
+              (let more : suc j ≡ j + 1 = omega arith in rw more next)) leaves;
           answered = rw (append_assoc, told) (rw rest at walked.answered);
-          shared = λ weight. omega (arith, handed.shared weight, walked.shared weight, ap (λ xs. sum_by weight (filter_map (forked_at of.records) xs)) rest, sum_option weight (forked_at of.records i) (filter_map (forked_at of.records) (drop (j + 1) (own_records of.records process))));
+          shared = λ weight. omega (
+            arith,
+            handed.shared weight,
+            walked.shared weight,
+            ap (λ xs. sum_by weight (filter_map (forked_at of.records) xs)) rest,
+            sum_option weight (forked_at of.records i) (filter_map (forked_at of.records) (drop (j + 1) (own_records of.records process))),
+          );
           of_case = all;
         }
       where
@@ -72,17 +87,26 @@ module _ (of : Matter) (process : ℕ) where
 
     -- ---- the end
 
-    pub handed_all : (own : OwnState) (answers_before answers : List (ℕ × Answer)) (kept_before kept : List ℕ) (todo_before todo : List Job) → length items ≤ j →
-        Walked j own answers_before answers kept_before kept todo_before todo → HandedOut (children of.records process) kept_before kept (processes_of todo_before) (processes_of todo)
+    pub handed_all : (own : OwnState) (answers_before answers : List (ℕ × Answer)) (kept_before kept : List ℕ) (todo_before todo : List Job)
+        → length items ≤ j →
+        Walked j own answers_before answers kept_before kept todo_before todo
+        → HandedOut (children of.records process) kept_before kept (processes_of todo_before) (processes_of todo)
     handed_all own answers_before answers kept_before kept todo_before todo past walked = record {
-      shared = λ weight. omega (arith, walked.shared weight, ap (λ xs. sum_by weight (filter_map (forked_at of.records) (drop j xs))) is, ap (λ xs. sum_by weight (filter_map (forked_at of.records) xs)) (drop_all j items past));
+      shared = λ weight. omega (
+        arith,
+        walked.shared weight,
+        ap (λ xs. sum_by weight (filter_map (forked_at of.records) (drop j xs))) is,
+        ap (λ xs. sum_by weight (filter_map (forked_at of.records) xs)) (drop_all j items past),
+      );
     }
 
   -- what is still to do after a process weighs less than with it
-  pub less_to_do : (kept kept_after todo todo_after : List ℕ) → IsCase of → HandedOut (children of.records process) kept kept_after todo todo_after → KeepsMore of.records kept kept_after →
+  pub less_to_do : (kept kept_after todo todo_after : List ℕ) → IsCase of → HandedOut (children of.records process) kept kept_after todo todo_after
+      → KeepsMore of.records kept kept_after →
       weight_of (process_count of.records) todo_after < weight_of (process_count of.records) todo + weight (process_count of.records) process
   unfolding weight_of
   less_to_do kept kept_after todo todo_after case handed keeps =
       let w = weight (process_count of.records) in
-      let less : sum_by w (children of.records process) < w process = weight_of-children of.records process (process_count of.records) case.numbered (omega arith) in
+      let less : sum_by w (children of.records process) < w process =
+      weight_of-children of.records process (process_count of.records) case.numbered (omega arith) in
       omega (arith, less, handed.shared w, ap (λ xs. sum_by w xs) keeps.grown, sum_by-append w kept keeps.newly)

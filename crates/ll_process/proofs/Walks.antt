@@ -20,66 +20,75 @@ use Rattle.ll_trace.proofs.OwnRecords.{stands_at, own_record, own_rising, first_
 -- ---- while no record is its own, a process stays as it is
 
 module _ (tree : List Entry) (abi : Abi) (records : List Record) where
-  unchanged : (b m p : ℕ) → b + m ≤ length records → p < process_count (take b records) → ((n : ℕ) (r : Record) → b ≤ n → n < b + m → slice_get records n ≡ Some r → r.process.0 ≢ p)
+  unchanged : (b m p : ℕ) → b + m ≤ length records → p < process_count (take b records)
+      → ((n : ℕ) (r : Record) → b ≤ n → n < b + m → slice_get records n ≡ Some r → r.process.0 ≢ p)
       → (world_at tree abi records (b + m)).processes p ≡ (world_at tree abi records b).processes p
   unchanged b zero p within there none = (let same : b + 0 ≡ b = omega arith in ap (λ n. (world_at tree abi records n).processes p) same)
   unchanged b (suc m) p within there none =
       let (r, at) = stands_at records (b + m) (omega arith) in
       let next : b + suc m ≡ b + m + 1 = omega arith in
-      let older : p < (world_at tree abi records (b + m)).count = omega (arith, count-world_at tree abi records (b + m), count-le records b (b + m) (omega arith)) in
+      let older : p < (world_at tree abi records (b + m)).count =
+      omega (arith, count-world_at tree abi records (b + m), count-le records b (b + m) (omega arith)) in
       ap (λ n. (world_at tree abi records n).processes p) next
       ∙ ap (λ w. w.processes p) (world_at-more tree abi records (b + m) r at)
-      ∙ step-other tree abi (world_at tree abi records (b + m)) r.process.0 r.op p (λ same. none (b + m) r (omega arith) (omega arith) at (sym same)) (λ last. omega (arith, older, last))
+      ∙ step-other tree abi (world_at tree abi records (b + m)) r.process.0 r.op p (λ same. none (b + m) r (omega arith) (omega arith) at (sym same))
+      (λ last. omega (arith, older, last))
       ∙ unchanged b m p (omega arith) there (λ n x from less. none n x from (omega arith))
 
 -- ---- what an own record meets
 
-pub met_at_start : (tree : List Entry) (abi : Abi) (records : List Record) (i p : ℕ) (r : Record) → slice_get records i ≡ Some r → is_start r.op ≡ true → state_met tree abi records i p ≡ (world_at tree abi records (i + 1)).processes p
+pub met_at_start : (tree : List Entry) (abi : Abi) (records : List Record) (i p : ℕ) (r : Record) → slice_get records i ≡ Some r → is_start r.op ≡ true
+    → state_met tree abi records i p ≡ (world_at tree abi records (i + 1)).processes p
 unfolding state_met
 met_at_start tree abi records i p r at starts =
     let after : place_met i (slice_get records i) ≡ i + 1 = rw (at, starts) refl in
     ap (λ (n : ℕ). (world_at tree abi records n).processes p) after
 
-pub met_going_on : (tree : List Entry) (abi : Abi) (records : List Record) (i p : ℕ) (r : Record) → slice_get records i ≡ Some r → is_start r.op ≡ false → state_met tree abi records i p ≡ (world_at tree abi records i).processes p
+pub met_going_on : (tree : List Entry) (abi : Abi) (records : List Record) (i p : ℕ) (r : Record) → slice_get records i ≡ Some r → is_start r.op ≡ false
+    → state_met tree abi records i p ≡ (world_at tree abi records i).processes p
 unfolding state_met
 met_going_on tree abi records i p r at goes =
     let before : place_met i (slice_get records i) ≡ i = rw (at, goes) refl in
     ap (λ (n : ℕ). (world_at tree abi records n).processes p) before
 
 -- the answer of the fold is that of the state which the record meets
-pub answer_met : (tree : List Entry) (abi : Abi) (records : List Record) (i : ℕ) (r : Record) → slice_get records i ≡ Some r → answer tree abi (world_at tree abi records i).rulesets r.op (state_met tree abi records i r.process.0) ≡ answer_at tree abi records i
+pub answer_met : (tree : List Entry) (abi : Abi) (records : List Record) (i : ℕ) (r : Record) → slice_get records i ≡ Some r
+    → answer tree abi (world_at tree abi records i).rulesets r.op (state_met tree abi records i r.process.0) ≡ answer_at tree abi records i
 unfolding answer_at answer_in
 answer_met tree abi records i r at =
-    let fold : slice_get (judged tree abi records) i ≡ Some (answer tree abi (world_at tree abi records i).rulesets r.op ((world_at tree abi records i).processes r.process.0)) = judged-at tree abi records i r at in
+    let fold : slice_get (judged tree abi records) i ≡ Some
+    (answer tree abi (world_at tree abi records i).rulesets r.op ((world_at tree abi records i).processes r.process.0)) = judged-at tree abi records i r at in
     elim (cases_Bool (is_start r.op)) [
       | inl starts ↦
           answer-start tree abi (world_at tree abi records i).rulesets r.op (state_met tree abi records i r.process.0) starts
-          ∙ sym (ap (λ o. unwrap_or o Moot) fold ∙ answer-start tree abi (world_at tree abi records i).rulesets r.op ((world_at tree abi records i).processes r.process.0) starts)
+          ∙ sym (ap (λ o. unwrap_or o Moot) fold
+          ∙ answer-start tree abi (world_at tree abi records i).rulesets r.op ((world_at tree abi records i).processes r.process.0) starts)
       | inr goes ↦
           ap (λ s. answer tree abi (world_at tree abi records i).rulesets r.op s) (met_going_on tree abi records i r.process.0 r at goes)
           ∙ sym (ap (λ o. unwrap_or o Moot) fold)
     ]
 
 -- and the state after it follows from the one that it meets
-pub left_met : (tree : List Entry) (abi : Abi) (records : List Record) (i : ℕ) (r : Record) → IsNumbered records → slice_get records i ≡ Some r → state_left tree abi records i r.process.0 ≡ state_after tree abi (world_at tree abi records i).rulesets r.op (state_met tree abi records i r.process.0)
+pub left_met : (tree : List Entry) (abi : Abi) (records : List Record) (i : ℕ) (r : Record) → IsNumbered records → slice_get records i ≡ Some r
+    → state_left tree abi records i r.process.0 ≡ state_after tree abi (world_at tree abi records i).rulesets r.op (state_met tree abi records i r.process.0)
 unfolding state_left
-left_met tree abi records i r numbered at =
-    elim (cases_Bool (is_start r.op)) [
-      | inl starts ↦
-          sym (state_after-start tree abi (world_at tree abi records i).rulesets r.op (state_met tree abi records i r.process.0) starts
-          ∙ met_at_start tree abi records i r.process.0 r at starts)
-      | inr goes ↦
-          (let there : r.process.0 < (world_at tree abi records i).count = omega (arith, count-world_at tree abi records i, numbered.goes_on i r at goes) in
-          ap (λ w. w.processes r.process.0) (world_at-more tree abi records i r at)
-          ∙ step-own tree abi (world_at tree abi records i) r.process.0 r.op (λ last. omega (arith, there, last))
-          ∙ ap (λ s. state_after tree abi (world_at tree abi records i).rulesets r.op s) (sym (met_going_on tree abi records i r.process.0 r at goes)))
-    ]
+left_met tree abi records i r numbered at = elim (cases_Bool (is_start r.op)) [
+  | inl starts ↦
+      sym (state_after-start tree abi (world_at tree abi records i).rulesets r.op (state_met tree abi records i r.process.0) starts
+      ∙ met_at_start tree abi records i r.process.0 r at starts)
+  | inr goes ↦
+      (let there : r.process.0 < (world_at tree abi records i).count = omega (arith, count-world_at tree abi records i, numbered.goes_on i r at goes) in
+      ap (λ w. w.processes r.process.0) (world_at-more tree abi records i r at)
+      ∙ step-own tree abi (world_at tree abi records i) r.process.0 r.op (λ last. omega (arith, there, last))
+      ∙ ap (λ s. state_after tree abi (world_at tree abi records i).rulesets r.op s) (sym (met_going_on tree abi records i r.process.0 r at goes)))
+]
 
 -- ---- from one own record to the next
 
 module _ (tree : List Entry) (abi : Abi) (records : List Record) (p : ℕ) where
   -- an own record meets the state from which no own record separates it
-  met_later : (b i : ℕ) (r : Record) → IsNumbered records → slice_get records i ≡ Some r → r.process.0 ≡ p → p < process_count (take b records) → b ≤ i → ((n : ℕ) (x : Record) → b ≤ n → n < i → slice_get records n ≡ Some x → x.process.0 ≢ p)
+  met_later : (b i : ℕ) (r : Record) → IsNumbered records → slice_get records i ≡ Some r → r.process.0 ≡ p → p < process_count (take b records) → b ≤ i
+      → ((n : ℕ) (x : Record) → b ≤ n → n < i → slice_get records n ≡ Some x → x.process.0 ≢ p)
       → state_met tree abi records i p ≡ (world_at tree abi records b).processes p
   met_later b i r numbered at own there after none =
       let goes : is_start r.op ≡ false = elim (cases_Bool (is_start r.op)) [
@@ -89,10 +98,12 @@ module _ (tree : List Entry) (abi : Abi) (records : List Record) (p : ℕ) where
       let apart : b + (i - b) ≡ i = omega (arith, after) in
       met_going_on tree abi records i p r at goes
       ∙ ap (λ n. (world_at tree abi records n).processes p) (sym apart)
-      ∙ unchanged tree abi records b (i - b) p (omega (arith, apart, slice_get_within records i r at)) there (λ n x from less. none n x from (omega (arith, apart)))
+      ∙ unchanged tree abi records b (i - b) p (omega (arith, apart, slice_get_within records i r at)) there
+      (λ n x from less. none n x from (omega (arith, apart)))
 
   -- a record meets the state that the own record before it leaves
-  pub met_next : (j i k : ℕ) → IsNumbered records → slice_get (own_records records p) j ≡ Some i → slice_get (own_records records p) (suc j) ≡ Some k → state_met tree abi records k p ≡ state_left tree abi records i p
+  pub met_next : (j i k : ℕ) → IsNumbered records → slice_get (own_records records p) j ≡ Some i → slice_get (own_records records p) (suc j) ≡ Some k
+      → state_met tree abi records k p ≡ state_left tree abi records i p
   unfolding state_left
   met_next j i k numbered here next =
       let (r, at, own) = own_record records p j i here in
@@ -102,7 +113,8 @@ module _ (tree : List Entry) (abi : Abi) (records : List Record) (p : ℕ) where
       (λ n y from less found same. omega (arith, next_own records p j i k n y here next found same (omega arith)))
 
   -- the first own record meets the state that the process begins with
-  pub met_first : (k i : ℕ) → IsNumbered records → StartedAt records k p → slice_get (own_records records p) 0 ≡ Some i → state_met tree abi records i p ≡ state_left tree abi records k p
+  pub met_first : (k i : ℕ) → IsNumbered records → StartedAt records k p → slice_get (own_records records p) 0 ≡ Some i
+      → state_met tree abi records i p ≡ state_left tree abi records k p
   unfolding state_left
   met_first k i numbered one first =
       let (r, at, own) = own_record records p 0 i first in

@@ -1,6 +1,7 @@
 -- A forked child begins with the state of its parent, whose number is below its own; all children of a process together
 -- weigh less than it does.
-use Rattle.std.proofs.Common.{◌≡◌, ℕ, suc, ◌<◌, true, List, take, Some, refl, sym, ap, ◌∙◌, arith, ◌⊎◌, zero, ◌+◌, ◌-◌, ◌≤◌, ◌^◌, [], ◌∷◌, Option, subst, inl, inr, add-one}
+use Rattle.std.proofs.Common.{◌≡◌, ℕ, suc, ◌<◌, true, List, take, Some, refl, sym, ap, ◌∙◌, arith, ◌⊎◌, zero, ◌+◌, ◌-◌, ◌≤◌, ◌^◌, [], ◌∷◌, Option, subst, inl}
+use Rattle.std.proofs.Common.{inr, add-one}
 use Rattle.std.specs.Prelude.{slice_get, sum_by, ◌==◌}
 use Rattle.ll_rights.specs.declared.abi.Abi.{Abi}
 use Rattle.ll_tree.specs.Trees.{Entry}
@@ -21,21 +22,26 @@ use Rattle.ll_process.specs.Jobs.{weight, weight_of}
 use Rattle.ll_trace.proofs.OwnRecords.{own_from-yes, own_from-no, own_from-nil}
 
 -- the child that a fork record starts
-pub forked : (records : List Record) (i : ℕ) (r : Record) → slice_get records i ≡ Some r → is_fork r.op ≡ true → StartedAt records i (process_count (take i records))
+pub forked : (records : List Record) (i : ℕ) (r : Record) → slice_get records i ≡ Some r → is_fork r.op ≡ true
+    → StartedAt records i (process_count (take i records))
 forked records i r at forks = record { of = r; at = at; kind = fork-starts r.op forks; number = refl }
 
-pub child_state : (tree : List Entry) (abi : Abi) (records : List Record) (i : ℕ) (r : Record) → slice_get records i ≡ Some r → is_fork r.op ≡ true → state_left tree abi records i (process_count (take i records)) ≡ state_met tree abi records i r.process.0
+pub child_state : (tree : List Entry) (abi : Abi) (records : List Record) (i : ℕ) (r : Record) → slice_get records i ≡ Some r → is_fork r.op ≡ true
+    → state_left tree abi records i (process_count (take i records)) ≡ state_met tree abi records i r.process.0
 unfolding state_left
 child_state tree abi records i r at forks =
     ap (λ w. w.processes (process_count (take i records))) (world_at-more tree abi records i r at)
     ∙ ap (λ p. (step tree abi (world_at tree abi records i) r.process.0 r.op).processes p) (sym (count-world_at tree abi records i))
-    ∙ step-new tree abi (world_at tree abi records i) r.process.0 r.op ((world_at tree abi records i).processes r.process.0) (started-fork tree (world_at tree abi records i).rulesets r.op ((world_at tree abi records i).processes r.process.0) forks)
+    ∙ step-new tree abi (world_at tree abi records i) r.process.0 r.op ((world_at tree abi records i).processes r.process.0)
+    (started-fork tree (world_at tree abi records i).rulesets r.op ((world_at tree abi records i).processes r.process.0) forks)
     ∙ sym (met_going_on tree abi records i r.process.0 r at (fork_no_start r.op forks))
 
-pub child_above : (records : List Record) (i : ℕ) (r : Record) → IsNumbered records → slice_get records i ≡ Some r → is_fork r.op ≡ true → r.process.0 < process_count (take i records)
+pub child_above : (records : List Record) (i : ℕ) (r : Record) → IsNumbered records → slice_get records i ≡ Some r → is_fork r.op ≡ true
+    → r.process.0 < process_count (take i records)
 child_above records i r numbered at forks = numbered.goes_on i r at (fork_no_start r.op forks)
 
-pub child_below : (records : List Record) (i : ℕ) (r : Record) → slice_get records i ≡ Some r → is_fork r.op ≡ true → process_count (take i records) < process_count records
+pub child_below : (records : List Record) (i : ℕ) (r : Record) → slice_get records i ≡ Some r → is_fork r.op ≡ true
+    → process_count (take i records) < process_count records
 child_below records i r at forks = omega (arith, count-started records i r at (fork-starts r.op forks), count-all records (suc i))
 
 -- a power above the weights of a process's children from a place on
@@ -70,7 +76,8 @@ child_and_rest : (n c e s : ℕ) → c < n → n + 1 ≤ e + c → ((d : ℕ) �
 child_and_rest n c zero s below covered less = absurd (omega arith)
 child_and_rest n c (suc e) s below covered less = halves n c e s covered (less e (omega arith))
 
-pub children_weigh : (records rs : List Record) (b p n e : ℕ) → IsNumbered records → FromPlace records b rs → process_count records ≤ n → Covers records b p n e → sum_by (weight n) (filter_map (forked_at records) (own_from p b rs)) < 2 ^ e
+pub children_weigh : (records rs : List Record) (b p n e : ℕ) → IsNumbered records → FromPlace records b rs → process_count records ≤ n → Covers records b p n e
+    → sum_by (weight n) (filter_map (forked_at records) (own_from p b rs)) < 2 ^ e
 children_weigh records [] b p n e numbered from all covers =
     subst (λ (xs : List ℕ). sum_by (weight n) (filter_map (forked_at records) xs) < 2 ^ e) (sym (own_from-nil p b)) (pow_pos e)
 children_weigh records (r ∷ rs) b p n e numbered from all covers =
@@ -79,24 +86,31 @@ children_weigh records (r ∷ rs) b p n e numbered from all covers =
     λ d covered. children_weigh records rs (b + 1) p n d numbered (next_place records b r rs from) all covered in
     elim (cases_Bool (r.process.0 == p)) [
       | inr other ↦
-          subst (λ (xs : List ℕ). sum_by (weight n) (filter_map (forked_at records) xs) < 2 ^ e) (sym (own_from-no p b r rs (eqb-false r.process.0 p other))) (rest e (covers_next records b p n e covers))
+          subst (λ (xs : List ℕ). sum_by (weight n) (filter_map (forked_at records) xs) < 2 ^ e) (sym (own_from-no p b r rs (eqb-false r.process.0 p other)))
+          (rest e (covers_next records b p n e covers))
       | inl own ↦
           subst (λ (xs : List ℕ). sum_by (weight n) (filter_map (forked_at records) xs) < 2 ^ e) (sym (own_from-yes p b r rs (eqb-true r.process.0 p own)))
           (elim (cases_Bool (is_fork r.op)) [
             | inr goes ↦
-                subst (λ (o : Option ℕ). sum_by (weight n) (cons_option o (filter_map (forked_at records) (own_from p (b + 1) rs))) < 2 ^ e) (sym (forked_at-none records b r at goes)) (rest e (covers_next records b p n e covers))
+                subst (λ (o : Option ℕ). sum_by (weight n) (cons_option o (filter_map (forked_at records) (own_from p (b + 1) rs))) < 2 ^ e)
+                (sym (forked_at-none records b r at goes)) (rest e (covers_next records b p n e covers))
             | inl forks ↦
                 (let c : ℕ = process_count (take b records) in
                 let above : p < process_count (take b records) = omega (arith, child_above records b r numbered at forks, eqb-true r.process.0 p own) in
-                let more : process_count (take (b + 1) records) ≡ process_count (take b records) + 1 = rw (add-one b) (count-started records b r at (fork-starts r.op forks)) in
+                let more : process_count (take (b + 1) records) ≡ process_count (take b records) + 1 =
+                rw (add-one b) (count-started records b r at (fork-starts r.op forks)) in
                 let here : 2 ^ (n - process_count (take b records)) + sum_by (weight n) (filter_map (forked_at records) (own_from p (b + 1) rs)) < 2 ^ e =
-                child_and_rest n (process_count (take b records)) e _ (omega (arith, child_below records b r at forks)) (covers_fork records b p n e above covers) (λ d covered. rest d (inr (omega (arith, more)))) in
-                subst (λ (o : Option ℕ). sum_by (weight n) (cons_option o (filter_map (forked_at records) (own_from p (b + 1) rs))) < 2 ^ e) (sym (forked_at-from records b r at forks))
-                (subst (λ (m : ℕ). m < 2 ^ e) (sym (sum_by-cons (weight n) (process_count (take b records)) (filter_map (forked_at records) (own_from p (b + 1) rs)))) here))
+                child_and_rest n (process_count (take b records)) e _ (omega (arith, child_below records b r at forks))
+                (covers_fork records b p n e above covers) (λ d covered. rest d (inr (omega (arith, more)))) in
+                subst (λ (o : Option ℕ). sum_by (weight n) (cons_option o (filter_map (forked_at records) (own_from p (b + 1) rs))) < 2 ^ e)
+                (sym (forked_at-from records b r at forks))
+                (subst (λ (m : ℕ). m < 2 ^ e)
+                (sym (sum_by-cons (weight n) (process_count (take b records)) (filter_map (forked_at records) (own_from p (b + 1) rs)))) here))
           ])
     ]
 
 pub weight_of-children : (records : List Record) (p n : ℕ) → IsNumbered records → process_count records ≤ n → weight_of n (children records p) < weight n p
 unfolding weight_of children own_records
 weight_of-children records p n numbered all =
-    children_weigh records records 0 p n (n - p) numbered (λ k. (let same : k ≡ 0 + k = omega arith in ap (λ i. slice_get records i) same)) all (inl (omega arith))
+    children_weigh records records 0 p n (n - p) numbered
+    (λ k. (let same : k ≡ 0 + k = omega arith in ap (λ i. slice_get records i) same)) all (inl (omega arith))

@@ -155,7 +155,8 @@ impl Case {
 
     /// The place of the first path of the record at a place, where it is known.
     pub fn known_place(&self, index: usize) -> Option<Place>
-        ensures { IfSome result (λ one. (r : OneRecord) → slice_get self.now.records index ≡ Some r → one ≡ first_place self.now.tree r.op) }
+        ensures { IfSome result (λ one. (r : OneRecord) → slice_get self.now.records index ≡ Some r
+            → one ≡ first_place self.now.tree r.op) }
     {
         self.places.get(index).copied()
     }

@@ -48,8 +48,10 @@ pub(crate) fn offer<'c, H: Hand<'c>>(
     requires its { IfSome child (λ job. job.case.now ≡ case.now) }
     requires of_case { AllOf case.now todo.old.items }
     requires suits { H.suits hand.old case.now }
-    ensures handed { OnOk result (HandedOut (option_to_list (option_map (λ job. job.process.0) child.entry))
-        (H.kept hand.old) (H.kept hand.new) (processes_of todo.old.items) (processes_of todo.new.items)) }
+    ensures handed { OnOk result
+        (HandedOut (option_to_list (option_map (λ job. job.process.0) child.entry))
+        (H.kept hand.old) (H.kept hand.new) (processes_of todo.old.items)
+        (processes_of todo.new.items)) }
     ensures of_case { OnOk result (AllOf case.now todo.new.items) }
     ensures keeps { KeepsMore case.now.records (H.kept hand.old) (H.kept hand.new) }
     ensures suits { H.suits hand.new case.now }

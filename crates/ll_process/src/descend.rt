@@ -33,7 +33,8 @@ fn judge_own<'c, H: Hand<'c>>(
         (answers.new.items ≡ answers.old.items ++ answers_in case.now job.entry.process.0) }
     ensures handed { OnOk result
         (HandedOut (children case.now.records job.entry.process.0)
-        (H.kept hand.old) (H.kept hand.new) (processes_of todo.old.items) (processes_of todo.new.items)) }
+        (H.kept hand.old) (H.kept hand.new) (processes_of todo.old.items)
+        (processes_of todo.new.items)) }
     ensures less { OnOk result
         (weight_of (process_count case.now.records) (processes_of todo.new.items)
         < weight_of (process_count case.now.records) (processes_of todo.old.items)
@@ -65,7 +66,8 @@ pub fn judge<'c, H: Hand<'c>>(
     hand: &mut H,
 ) -> Result<Piece<'c>, NoMemory>
     requires { H.suits hand.old job.case.now }
-    ensures first { IfOk result (λ piece. slice_get piece.processes.items 0 ≡ Some job.entry.process) }
+    ensures first { IfOk result
+        (λ piece. slice_get piece.processes.items 0 ≡ Some job.entry.process) }
     ensures of_case { IfOk result (λ piece. piece.case.now ≡ job.entry.case.now) }
     ensures shares_out { IfOk result (λ piece.
         SharesOut job.entry.case.now.records job.entry.process.0 (numbers piece.processes.items)

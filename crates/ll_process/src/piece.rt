@@ -17,8 +17,10 @@ pub struct Piece<'c> {
     pub(crate) case: &'c Case,
     pub(crate) processes: Vec<ProcessId>,
     pub(crate) answers: Vec<(u32, Answer)>,
-    pub ghost there: { (k : ℕ) (process : Process) → slice_get processes.items k ≡ Some process → process.0 < process_count case.now.records },
-    pub ghost answered: { answers.items ≡ flat_map (answers_in case.now) (numbers processes.items) },
+    pub ghost there: { (k : ℕ) (process : Process) → slice_get processes.items k ≡ Some process
+        → process.0 < process_count case.now.records },
+    pub ghost answered: { answers.items
+        ≡ flat_map (answers_in case.now) (numbers processes.items) },
 }
 
 impl<'c> Piece<'c> {

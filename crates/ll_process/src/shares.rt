@@ -8,6 +8,7 @@ ghost use Rattle.ll_trace.specs.Processes.{IsNumbered, process_count, times, roo
 #[tactic(auto, using(ll_trace::proofs::EachOnce::each_once))]
 pub fn each_process_once()
     ensures { (records : List Record) (processes : List ℕ) → IsNumbered records
-        → ((process : ℕ) → times process processes ≡ times process (roots records) + times process (kids records processes))
+        → ((process : ℕ) → times process processes
+        ≡ times process (roots records) + times process (kids records processes))
         → (process : ℕ) → process < process_count records → times process processes ≡ 1 }
 {}

@@ -32,7 +32,8 @@ fn judge_met(
     ensures answer { IfOk result (λ given. (r : OneRecord) →
         slice_get case.now.records index ≡ Some r → given ≡ answered at r.op) }
     ensures agrees { OnOk result ((r : OneRecord) →
-        slice_get case.now.records index ≡ Some r → Agrees at.tree at.layers own.new (left at r.op)) }
+        slice_get case.now.records index ≡ Some r
+        → Agrees at.tree at.layers own.new (left at r.op)) }
 {
     let op = &case.record(index as usize).op;
     let note = case.note(index as usize);
@@ -49,7 +50,8 @@ pub(crate) fn answer_own(
 ) -> Result<Answer, NoMemory>
     requires own { IsOwn case.now index process.0 }
     requires meets { Meets case.now index process.0 own.old }
-    ensures answer { IfOk result (λ given. given ≡ answer_at case.now.tree case.now.abi case.now.records index) }
+    ensures answer { IfOk result
+        (λ given. given ≡ answer_at case.now.tree case.now.abi case.now.records index) }
     ensures leaves { OnOk result (Leaves case.now index process.0 own.new) }
 {
     match case.record(index as usize).op {

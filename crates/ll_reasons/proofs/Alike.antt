@@ -23,7 +23,8 @@ module _ {A B : Type 0} (R : A → B → Type 0) where
   either false x u y v this that = that
 
   -- an entry is put or taken out in both
-  pub alike-update : (f : ℕ → Option A) (g : ℕ → Option B) (k q : ℕ) (x : Option A) (y : Option B) → Alike x y → Alike (f q) (g q) → Alike (update nat_eq f k x q) (update nat_eq g k y q)
+  pub alike-update : (f : ℕ → Option A) (g : ℕ → Option B) (k q : ℕ) (x : Option A) (y : Option B) → Alike x y → Alike (f q) (g q)
+      → Alike (update nat_eq f k x q) (update nat_eq g k y q)
   alike-update f g k q x y this that = either (nat_eq k q) x (f q) y (g q) this that
 
 pub alike-weaker : {A B : Type 0} (R Q : A → B → Type 0) → ((a : A) (b : B) → R a b → Q a b) → (x : Option A) (y : Option B) → Alike R x y → Alike Q x y

@@ -24,7 +24,8 @@ use Rattle.ll_semantics.specs.Situations.{world_at}
 use Rattle.ll_reasons.specs.Explanations.{origins_at}
 use Rattle.ll_reasons.proofs.RulesetsMade.{ruleset_handles}
 use Rattle.ll_reasons.specs.Origins.{Origins}
-use Rattle.ll_reasons.specs.Conditions.{handled, handled_on_ports, of_create, invalid_on_path, of_add_path, invalid_on_port, of_add_port, of_restrict, condition}
+use Rattle.ll_reasons.specs.Conditions.{handled, handled_on_ports, of_create, invalid_on_path, of_add_path, invalid_on_port, of_add_port, of_restrict}
+use Rattle.ll_reasons.specs.Conditions.{condition}
 use Rattle.ll_reasons.specs.ConditionsHold.{files_of, ports_of, ruleset_of, IsCondition}
 use Rattle.ll_reasons.proofs.Enough.{and_both, and_from}
 use Rattle.ll_reasons.proofs.Named.{rights_named, port_rights_named}
@@ -40,14 +41,16 @@ by_error P e error is holds = (let same : e ≡ error = cc in subst P same holds
 
 -- ---- creating
 
-by_create : (P : Errno → Type 0) (a b c : Bool) (error : Errno) → answers.unless (if a then Some TooBig else (if b then Some Inval else (if c then Some NoMsg else None))) ≡ Refused error []
+by_create : (P : Errno → Type 0) (a b c : Bool) (error : Errno)
+    → answers.unless (if a then Some TooBig else (if b then Some Inval else (if c then Some NoMsg else None))) ≡ Refused error []
     → (a ≡ true → P TooBig) → (b ≡ true → P Inval) → (c ≡ true → P NoMsg) → P error
 by_create P true b c error is too_big inval no_msg = by_error P TooBig error is (too_big refl)
 by_create P false true c error is too_big inval no_msg = by_error P Inval error is (inval refl)
 by_create P false false true error is too_big inval no_msg = by_error P NoMsg error is (no_msg refl)
 by_create P false false false error is too_big inval no_msg = absurd (cc)
 
-create_condition : (abi : Abi) (rulesets : List Layer) (s : State) (rs : ℕ) (fs : Fs) (net : Net) (held : Option ℕ) (error : Errno) → answers.create_answer abi fs net held ≡ Refused error [] → IsCondition abi rulesets s (calls.Create rs fs net) (of_create abi fs error)
+create_condition : (abi : Abi) (rulesets : List Layer) (s : State) (rs : ℕ) (fs : Fs) (net : Net) (held : Option ℕ) (error : Errno)
+    → answers.create_answer abi fs net held ≡ Refused error [] → IsCondition abi rulesets s (calls.Create rs fs net) (of_create abi fs error)
 unfolding answers.create_answer of_create IsCondition files_of ports_of
 create_condition abi rulesets s rs fs net (Some place) error is = absurd (cc)
 create_condition abi rulesets s rs fs net None error is =
@@ -59,18 +62,21 @@ create_condition abi rulesets s rs fs net None error is =
 
 -- ---- rules for files
 
-by_rule : (P : Errno → Type 0) (a b : Bool) (rest : Option RuleRefusal) (error : Errno) → answers.of_rule_refusal (if a then Some (with_error NoMsg) else (if b then Some (with_error Inval) else rest)) ≡ Refused error []
+by_rule : (P : Errno → Type 0) (a b : Bool) (rest : Option RuleRefusal) (error : Errno)
+    → answers.of_rule_refusal (if a then Some (with_error NoMsg) else (if b then Some (with_error Inval) else rest)) ≡ Refused error []
     → (a ≡ true → P NoMsg) → (b ≡ true → P Inval) → (b ≡ false → answers.of_rule_refusal rest ≡ Refused error [] → P error) → P error
 by_rule P true b rest error is no_msg inval last = by_error P NoMsg error is (no_msg refl)
 by_rule P false true rest error is no_msg inval last = by_error P Inval error is (inval refl)
 by_rule P false false rest error is no_msg inval last = last refl is
 
-by_place : (P : Errno → Type 0) (tree : List Entry) (at : Place) (fs : Fs) (error : Errno) → answers.of_rule_refusal (place_refusal tree at fs) ≡ Refused error [] → (are_file_rights fs ≡ false → P Inval) → P error
+by_place : (P : Errno → Type 0) (tree : List Entry) (at : Place) (fs : Fs) (error : Errno)
+    → answers.of_rule_refusal (place_refusal tree at fs) ≡ Refused error [] → (are_file_rights fs ≡ false → P Inval) → P error
 by_place P tree (Gap node) fs error is inval = absurd (cc)
 by_place P tree Nowhere fs error is inval = absurd (cc)
 by_place P tree (Node node) fs error is inval = by_test (is_dir (kind_at tree node)) (are_file_rights fs) is inval
   where
-    by_test : (d f : Bool) → answers.of_rule_refusal (if not d && not f then Some (with_error Inval) else None) ≡ Refused error [] → (f ≡ false → P Inval) → P error
+    by_test : (d f : Bool) → answers.of_rule_refusal (if not d && not f then Some (with_error Inval) else None) ≡ Refused error []
+        → (f ≡ false → P Inval) → P error
     by_test true f is inval = absurd (cc)
     by_test false true is inval = absurd (cc)
     by_test false false is inval = by_error P Inval error is (inval refl)
@@ -87,19 +93,22 @@ no_files : files.is_empty files.no_right ≡ true
 unfolding files.has files.some_right files.all_rights files.named_rights
 no_files = refl
 
-invalid_beyond : (abi : Abi) (rulesets : List Layer) (s : State) (rs : ℕ) (path : List ℕ) (fs : Fs) (layer : Layer) → answers.named rulesets (s.held rs) ≡ Some layer → files.is_within fs layer.handled_files ≡ false
+invalid_beyond : (abi : Abi) (rulesets : List Layer) (s : State) (rs : ℕ) (path : List ℕ) (fs : Fs) (layer : Layer)
+    → answers.named rulesets (s.held rs) ≡ Some layer → files.is_within fs layer.handled_files ≡ false
     → IsCondition abi rulesets s (calls.AddPath rs path fs) (invalid_on_path path fs layer.handled_files)
 unfolding IsCondition files_of ruleset_of
 invalid_beyond abi rulesets s rs path fs layer is beyond =
     rw beyond (layer, is, (λ right. rights_named (λ right. files.has fs right && not (files.has layer.handled_files right)) right), beyond)
 
-invalid_for_directories : (abi : Abi) (rulesets : List Layer) (s : State) (rs : ℕ) (path : List ℕ) (fs : Fs) (layer : Layer) → files.is_within fs layer.handled_files ≡ true → are_file_rights fs ≡ false
+invalid_for_directories : (abi : Abi) (rulesets : List Layer) (s : State) (rs : ℕ) (path : List ℕ) (fs : Fs) (layer : Layer)
+    → files.is_within fs layer.handled_files ≡ true → are_file_rights fs ≡ false
     → IsCondition abi rulesets s (calls.AddPath rs path fs) (invalid_on_path path fs layer.handled_files)
 unfolding IsCondition files_of
 invalid_for_directories abi rulesets s rs path fs layer within not_files =
     rw within ((λ right. rights_named (λ right. files.has fs right && not (files.is_file_right right)) right), not_files)
 
-path_condition : (abi : Abi) (tree : List Entry) (rulesets : List Layer) (s : State) (rs : ℕ) (path : List ℕ) (fs whole : Fs) (rules : Option Layer) (error : Errno) → answers.named rulesets (s.held rs) ≡ rules → ((layer : Layer) → rules ≡ Some layer → whole ≡ layer.handled_files)
+path_condition : (abi : Abi) (tree : List Entry) (rulesets : List Layer) (s : State) (rs : ℕ) (path : List ℕ) (fs whole : Fs) (rules : Option Layer)
+    (error : Errno) → answers.named rulesets (s.held rs) ≡ rules → ((layer : Layer) → rules ≡ Some layer → whole ≡ layer.handled_files)
     → answers.add_path_answer tree path fs rules ≡ Refused error [] → IsCondition abi rulesets s (calls.AddPath rs path fs) (of_add_path rs path fs whole error)
 unfolding answers.add_path_answer of_add_path IsCondition files_of ports_of ruleset_of
 path_condition abi tree rulesets s rs path fs whole None error is handles asked =
@@ -110,13 +119,15 @@ path_condition abi tree rulesets s rs path fs whole (Some layer) error is handle
     (files.is_empty fs) (not (files.is_within fs layer.handled_files)) (place_refusal tree (place tree path) fs) error asked
     (λ a. and_from (files.is_empty fs) _ a no_ports)
     (λ b. invalid_beyond abi rulesets s rs path fs layer is (not_true (files.is_within fs layer.handled_files) b))
-    (λ within refused. by_place (λ (e : Errno). IsCondition abi rulesets s (calls.AddPath rs path fs) (of_add_path rs path fs layer.handled_files e)) tree (place tree path) fs error refused
+    (λ within refused. by_place (λ (e : Errno). IsCondition abi rulesets s (calls.AddPath rs path fs) (of_add_path rs path fs layer.handled_files e)) tree
+    (place tree path) fs error refused
     (λ not_files. invalid_for_directories abi rulesets s rs path fs layer (not_false (files.is_within fs layer.handled_files) within) not_files)))
 
 -- ---- rules for ports
 
 by_port : (P : Errno → Type 0) (a b c d : Bool) (error : Errno)
-    → answers.of_rule_refusal (if a then Some (with_error Inval) else (if b then Some (with_error NoMsg) else (if c then Some (with_error Inval) else (if d then Some (with_error Inval) else None)))) ≡ Refused error []
+    → answers.of_rule_refusal (if a then Some (with_error Inval)
+    else (if b then Some (with_error NoMsg) else (if c then Some (with_error Inval) else (if d then Some (with_error Inval) else None)))) ≡ Refused error []
     → (a ≡ true → P Inval) → (b ≡ true → P NoMsg) → (a ≡ false → c ≡ true → P Inval) → (a ≡ false → c ≡ false → d ≡ true → P Inval) → P error
 by_port P true b c d error is no_version no_msg beyond outside = by_error P Inval error is (no_version refl)
 by_port P false true c d error is no_version no_msg beyond outside = by_error P NoMsg error is (no_msg refl)
@@ -129,18 +140,27 @@ module _ (abi : Abi) (rulesets : List Layer) (s : State) (rs port : ℕ) (net : 
   unfolding IsCondition
   invalid_version whole older = rw older (refl, not_true (has_ports abi) older)
 
-  invalid_beyond_ports : (layer : Layer) → answers.named rulesets (s.held rs) ≡ Some layer → not (has_ports abi) ≡ false → network.is_within net layer.handled_network ≡ false
+  invalid_beyond_ports : (layer : Layer) → answers.named rulesets (s.held rs) ≡ Some layer → not (has_ports abi) ≡ false
+      → network.is_within net layer.handled_network ≡ false
       → IsCondition abi rulesets s (calls.AddPort rs port net) (invalid_on_port abi port net layer.handled_network)
   unfolding IsCondition ports_of ruleset_of
   invalid_beyond_ports layer is newer beyond =
-      rw (newer, beyond) (layer, is, (λ right. port_rights_named (λ right. network.has net right && not (network.has layer.handled_network right)) right), beyond)
+      rw (newer, beyond) (
+        layer,
+        is,
+        (λ right. port_rights_named (λ right. network.has net right && not (network.has layer.handled_network right)) right),
+        beyond,
+      )
 
-  invalid_number : (whole : Net) → not (has_ports abi) ≡ false → network.is_within net whole ≡ true → nat_lt 65535 port ≡ true → IsCondition abi rulesets s (calls.AddPort rs port net) (invalid_on_port abi port net whole)
+  invalid_number : (whole : Net) → not (has_ports abi) ≡ false → network.is_within net whole ≡ true → nat_lt 65535 port ≡ true
+      → IsCondition abi rulesets s (calls.AddPort rs port net) (invalid_on_port abi port net whole)
   unfolding IsCondition
   invalid_number whole newer within outside = rw (newer, within) outside
 
-  port_condition : (whole : Net) (rules : Option Layer) (error : Errno) → answers.named rulesets (s.held rs) ≡ rules → ((layer : Layer) → rules ≡ Some layer → whole ≡ layer.handled_network)
-      → answers.add_port_answer abi port net rules ≡ Refused error [] → IsCondition abi rulesets s (calls.AddPort rs port net) (of_add_port abi rs port net whole error)
+  port_condition : (whole : Net) (rules : Option Layer) (error : Errno) → answers.named rulesets (s.held rs) ≡ rules
+      → ((layer : Layer) → rules ≡ Some layer → whole ≡ layer.handled_network)
+      → answers.add_port_answer abi port net rules ≡ Refused error []
+      → IsCondition abi rulesets s (calls.AddPort rs port net) (of_add_port abi rs port net whole error)
   unfolding answers.add_port_answer of_add_port IsCondition files_of ports_of
   port_condition whole None error is handles asked =
       by_error (λ (e : Errno). IsCondition abi rulesets s (calls.AddPort rs port net) (of_add_port abi rs port net whole e)) BadFd error asked is
@@ -155,37 +175,47 @@ module _ (abi : Abi) (rulesets : List Layer) (s : State) (rs port : ℕ) (net : 
 
 -- ---- restricting
 
-by_restrict : (P : Errno → Type 0) (may many : Bool) (error : Errno) → (if may then (if many then answers.fails TooBig else Allowed) else answers.fails Perm) ≡ Refused error [] → (may ≡ false → P Perm) → (many ≡ true → P TooBig) → P error
+by_restrict : (P : Errno → Type 0) (may many : Bool) (error : Errno) → (if may then (if many then answers.fails TooBig else Allowed) else answers.fails Perm)
+    ≡ Refused error [] → (may ≡ false → P Perm) → (many ≡ true → P TooBig) → P error
 by_restrict P true true error is perm too_big = by_error P TooBig error is (too_big refl)
 by_restrict P true false error is perm too_big = absurd (cc)
 by_restrict P false many error is perm too_big = by_error P Perm error is (perm refl)
 
-by_no_ruleset : (P : Errno → Type 0) (may : Bool) (error : Errno) → (if may then answers.fails BadFd else answers.fails Perm) ≡ Refused error [] → (may ≡ false → P Perm) → P BadFd → P error
+by_no_ruleset : (P : Errno → Type 0) (may : Bool) (error : Errno) → (if may then answers.fails BadFd else answers.fails Perm) ≡ Refused error []
+    → (may ≡ false → P Perm) → P BadFd → P error
 by_no_ruleset P true error is perm bad_fd = by_error P BadFd error is bad_fd
 by_no_ruleset P false error is perm bad_fd = by_error P Perm error is (perm refl)
 
-restrict_condition : (abi : Abi) (rulesets : List Layer) (s : State) (rs : ℕ) (rules : Option Layer) (error : Errno) → answers.named rulesets (s.held rs) ≡ rules → answers.restrict_answer s rules ≡ Refused error [] → IsCondition abi rulesets s (calls.Restrict rs) (of_restrict rs error)
+restrict_condition : (abi : Abi) (rulesets : List Layer) (s : State) (rs : ℕ) (rules : Option Layer) (error : Errno) → answers.named rulesets (s.held rs)
+    ≡ rules → answers.restrict_answer s rules ≡ Refused error [] → IsCondition abi rulesets s (calls.Restrict rs) (of_restrict rs error)
 unfolding answers.restrict_answer of_restrict IsCondition
 restrict_condition abi rulesets s rs None error is asked =
     by_no_ruleset (λ (e : Errno). IsCondition abi rulesets s (calls.Restrict rs) (of_restrict rs e)) (answers.may_restrict s) error asked (λ may. may) is
 restrict_condition abi rulesets s rs (Some rules) error is asked =
-    by_restrict (λ (e : Errno). IsCondition abi rulesets s (calls.Restrict rs) (of_restrict rs e)) (answers.may_restrict s) (nat_le 16 (length s.domain)) error asked (λ may. may) (λ many. many)
+    by_restrict (λ (e : Errno). IsCondition abi rulesets s (calls.Restrict rs) (of_restrict rs e)) (answers.may_restrict s)
+    (nat_le 16 (length s.domain)) error asked (λ may. may) (λ many. many)
 
 -- ---- every call
 
 call_condition : (tree : List Entry) (abi : Abi) (records : List Record) (rulesets : List Layer) (op : Op) (s : State) (o : Origins) (error : Errno)
-    → ((rs : ℕ) (layer : Layer) → answers.named rulesets (s.held rs) ≡ Some layer → (handled records o rs ≡ layer.handled_files) × (handled_on_ports records o rs ≡ layer.handled_network))
+    → ((rs : ℕ) (layer : Layer) → answers.named rulesets (s.held rs) ≡ Some layer
+    → (handled records o rs ≡ layer.handled_files) × (handled_on_ports records o rs ≡ layer.handled_network))
     → answers.answer tree abi rulesets op s ≡ Refused error [] → IsCondition abi rulesets s op (condition abi records o op error)
 unfolding answers.answer condition
 call_condition tree abi records rulesets (calls.Create rs fs net) s o error handles is = create_condition abi rulesets s rs fs net (s.held rs) error is
 call_condition tree abi records rulesets (calls.AddPath rs path fs) s o error handles is =
-    path_condition abi tree rulesets s rs path fs (handled records o rs) (answers.named rulesets (s.held rs)) error refl (λ layer named. (handles rs layer named).0) is
+    path_condition abi tree rulesets s rs path fs (handled records o rs) (answers.named rulesets (s.held rs)) error refl
+    (λ layer named. (handles rs layer named).0) is
 call_condition tree abi records rulesets (calls.AddPort rs port net) s o error handles is =
-    port_condition abi rulesets s rs port net (handled_on_ports records o rs) (answers.named rulesets (s.held rs)) error refl (λ layer named. (handles rs layer named).1) is
+    port_condition abi rulesets s rs port net (handled_on_ports records o rs) (answers.named rulesets (s.held rs)) error refl
+    (λ layer named. (handles rs layer named).1) is
 call_condition tree abi records rulesets (calls.CloseRs rs) s o error handles is = never_faulty _ _ _ _ error (can_there (s.held rs)) is
-call_condition tree abi records rulesets (calls.Restrict rs) s o error handles is = restrict_condition abi rulesets s rs (answers.named rulesets (s.held rs)) error refl is
-call_condition tree abi records rulesets (calls.OpenFile path fd mode create trunc) s o error handles is = never_faulty _ _ _ _ error (can_free true (s.descriptors fd) _ (can_request tree s.domain _)) is
-call_condition tree abi records rulesets (calls.Adopt fd kind) s o error handles is = never_faulty _ _ _ _ error (can_free false (s.descriptors fd) Allowed can_allowed) is
+call_condition tree abi records rulesets (calls.Restrict rs) s o error handles is =
+    restrict_condition abi rulesets s rs (answers.named rulesets (s.held rs)) error refl is
+call_condition tree abi records rulesets (calls.OpenFile path fd mode create trunc) s o error handles is =
+    never_faulty _ _ _ _ error (can_free true (s.descriptors fd) _ (can_request tree s.domain _)) is
+call_condition tree abi records rulesets (calls.Adopt fd kind) s o error handles is =
+    never_faulty _ _ _ _ error (can_free false (s.descriptors fd) Allowed can_allowed) is
 call_condition tree abi records rulesets (calls.Dup fd to) s o error handles is = never_faulty _ _ _ _ error (can_there (s.descriptors fd)) is
 call_condition tree abi records rulesets (calls.Close fd) s o error handles is = never_faulty _ _ _ _ error (can_there (s.descriptors fd)) is
 call_condition tree abi records rulesets (calls.Ftruncate fd) s o error handles is = never_faulty _ _ _ _ error (can_ftruncate (s.descriptors fd)) is
@@ -195,7 +225,8 @@ call_condition tree abi records rulesets (calls.Link from to) s o error handles 
 call_condition tree abi records rulesets calls.Mount s o error handles is = never_faulty _ _ _ _ error (can_refused_by false Perm _) is
 call_condition tree abi records rulesets (calls.Bind port) s o error handles is = never_faulty _ _ _ _ error (can_refused_by false Acces _) is
 call_condition tree abi records rulesets (calls.Connect port) s o error handles is = never_faulty _ _ _ _ error (can_refused_by false Acces _) is
-call_condition tree abi records rulesets (calls.CreateEmpty rs) s o error handles is = never_faulty _ _ _ _ error (can_free false (s.held rs) Allowed can_allowed) is
+call_condition tree abi records rulesets (calls.CreateEmpty rs) s o error handles is =
+    never_faulty _ _ _ _ error (can_free false (s.held rs) Allowed can_allowed) is
 call_condition tree abi records rulesets (calls.LeaveOut rule) s o error handles is = absurd (cc)
 call_condition tree abi records rulesets (calls.Start nnp admin) s o error handles is = absurd (cc)
 call_condition tree abi records rulesets (calls.Fork child) s o error handles is = absurd (cc)
@@ -203,9 +234,12 @@ call_condition tree abi records rulesets calls.Exit s o error handles is = absur
 call_condition tree abi records rulesets calls.Nnp s o error handles is = absurd (cc)
 call_condition tree abi records rulesets op s o error handles is = never_faulty _ _ _ _ error (can_request tree s.domain (request tree (wanted op))) is
 
-pub condition_at : (tree : List Entry) (abi : Abi) (records : List Record) (place process : ℕ) (op : Op) (error : Errno) → answer_in tree abi (world_at tree abi records place) process op ≡ Refused error []
-    → IsCondition abi (world_at tree abi records place).rulesets ((world_at tree abi records place).processes process) op (condition abi records (origins_at tree abi records place process) op error)
+pub condition_at : (tree : List Entry) (abi : Abi) (records : List Record) (place process : ℕ) (op : Op) (error : Errno)
+    → answer_in tree abi (world_at tree abi records place) process op ≡ Refused error []
+    → IsCondition abi (world_at tree abi records place).rulesets ((world_at tree abi records place).processes process) op
+    (condition abi records (origins_at tree abi records place process) op error)
 unfolding answer_in
 condition_at tree abi records place process op error is =
     let w : World = world_at tree abi records place in
-    call_condition tree abi records w.rulesets op (w.processes process) (origins_at tree abi records place process) error (λ rs layer named. ruleset_handles tree abi records place process rs layer named) is
+    call_condition tree abi records w.rulesets op (w.processes process) (origins_at tree abi records place process) error
+    (λ rs layer named. ruleset_handles tree abi records place process rs layer named) is

@@ -26,11 +26,13 @@ Opens tree abi records at d k = IsEarlier is_opening tree abi records at k × (o
 abbrev AllOpen : List Entry → Abi → List Record → ℕ → State → Origins → Type 0
 AllOpen tree abi records at s o = (fd : ℕ) → Alike (Opens tree abi records at) (s.descriptors fd) (o.openings fd)
 
-later : (tree : List Entry) (abi : Abi) (records : List Record) (k : ℕ) (x : Option Descriptor) (y : Option ℕ) → Alike (Opens tree abi records k) x y → Alike (Opens tree abi records (suc k)) x y
+later : (tree : List Entry) (abi : Abi) (records : List Record) (k : ℕ) (x : Option Descriptor) (y : Option ℕ) → Alike (Opens tree abi records k) x y
+    → Alike (Opens tree abi records (suc k)) x y
 later tree abi records k x y fits =
     alike-weaker (Opens tree abi records k) (Opens tree abi records (suc k)) (λ d j is. ((omega (arith, is.0.0), is.0.1), is.1)) x y fits
 
-changed : (tree : List Entry) (abi : Abi) (records : List Record) (k : ℕ) (r : Record) (op : Op) (rulesets : List Layer) (s : State) (o : Origins) → r.op ≡ op → slice_get records k ≡ Some r → slice_get (judged tree abi records) k ≡ Some Allowed
+changed : (tree : List Entry) (abi : Abi) (records : List Record) (k : ℕ) (r : Record) (op : Op) (rulesets : List Layer) (s : State) (o : Origins) → r.op ≡ op
+    → slice_get records k ≡ Some r → slice_get (judged tree abi records) k ≡ Some Allowed
     → opened_at tree abi records k ≡ opened_in tree s op → AllOpen tree abi records k s o
     → AllOpen tree abi records (suc k) (change tree rulesets op s) (traced k op o)
 unfolding change state_by effect traced opened_in is_opening Alike
@@ -56,22 +58,26 @@ unfolding fresh no_origins opened_at opened_by Alike
 keeps tree abi records = record {
   begins = λ k nnp admin fd. tt;
   stays = λ k s o all fd. later tree abi records k (s.descriptors fd) (o.openings fd) (all fd);
-  changes = λ k r o at allowed judged all. changed tree abi records k r r.op _ _ o refl at judged (ap (λ (x : Option Record). opened_by tree (world_at tree abi records k) x) at) all;
+  changes = λ k r o at allowed judged all.
+      changed tree abi records k r r.op _ _ o refl at judged (ap (λ (x : Option Record). opened_by tree (world_at tree abi records k) x) at) all;
 }
 
-all_open : (tree : List Entry) (abi : Abi) (records : List Record) (at process : ℕ) → AllOpen tree abi records at ((world_at tree abi records at).processes process) (origins_at tree abi records at process)
+all_open : (tree : List Entry) (abi : Abi) (records : List Record) (at process : ℕ)
+    → AllOpen tree abi records at ((world_at tree abi records at).processes process) (origins_at tree abi records at process)
 all_open tree abi records at process = holds_at tree abi records (AllOpen tree abi records) (keeps tree abi records) at process
 
 -- ---- the law
 
-described : (tree : List Entry) (abi : Abi) (records : List Record) (at : ℕ) (x : Option Descriptor) (y : Option ℕ) → Alike (Opens tree abi records at) x y → x ≡ option_and_then (opened_at tree abi records) y
+described : (tree : List Entry) (abi : Abi) (records : List Record) (at : ℕ) (x : Option Descriptor) (y : Option ℕ) → Alike (Opens tree abi records at) x y
+    → x ≡ option_and_then (opened_at tree abi records) y
 unfolding Alike
 described tree abi records at None None fits = refl
 described tree abi records at (Some d) (Some k) fits = sym fits.1
 described tree abi records at None (Some k) fits = absurd fits
 described tree abi records at (Some d) None fits = absurd fits
 
-earlier : (tree : List Entry) (abi : Abi) (records : List Record) (at : ℕ) (x : Option Descriptor) (y : Option ℕ) → Alike (Opens tree abi records at) x y → IfSome y (IsEarlier is_opening tree abi records at)
+earlier : (tree : List Entry) (abi : Abi) (records : List Record) (at : ℕ) (x : Option Descriptor) (y : Option ℕ) → Alike (Opens tree abi records at) x y
+    → IfSome y (IsEarlier is_opening tree abi records at)
 unfolding Alike
 earlier tree abi records at None None fits = tt
 earlier tree abi records at (Some d) (Some k) fits = fits.0
@@ -85,11 +91,13 @@ module _ (tree : List Entry) (abi : Abi) (records : List Record) (at process fd 
   opening : Option ℕ
   opening = (origins_at tree abi records at process).openings fd
 
-  pub descriptor_made : ((world_at tree abi records at).processes process).descriptors fd ≡ option_and_then (opened_at tree abi records) ((origins_at tree abi records at process).openings fd)
+  pub descriptor_made : ((world_at tree abi records at).processes process).descriptors fd
+      ≡ option_and_then (opened_at tree abi records) ((origins_at tree abi records at process).openings fd)
   unfolding d opening
   descriptor_made = described tree abi records at d opening (all_open tree abi records at process fd)
 
-  pub descriptor_open : is_some ((origins_at tree abi records at process).openings fd) ≡ is_some (((world_at tree abi records at).processes process).descriptors fd)
+  pub descriptor_open : is_some ((origins_at tree abi records at process).openings fd)
+      ≡ is_some (((world_at tree abi records at).processes process).descriptors fd)
   unfolding d opening
   descriptor_open = alike-some (Opens tree abi records at) d opening (all_open tree abi records at process fd)
 

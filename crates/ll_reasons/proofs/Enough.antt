@@ -21,7 +21,8 @@ use Rattle.ll_rules.specs.Checks.{lacks, lacks_on_port}
 use Rattle.ll_rules.specs.Moves.{source_of, destination_of, kind_there, asked_of_source, asked_of_destination, lacks_one_of, denies}
 use Rattle.ll_rules.proofs.Booleans.{or_assoc, or_false, and_none}
 use Rattle.ll_semantics.specs.States.{Layer}
-use Rattle.ll_reasons.specs.Objections.{Objection, missing, closed, gained, mounting, kept, missing_rights, closed_rights, one_of, if_any, on_path, on_port, on_directories}
+use Rattle.ll_reasons.specs.Objections.{Objection, missing, closed, gained, mounting, kept, missing_rights, closed_rights, one_of, if_any, on_path, on_port}
+use Rattle.ll_reasons.specs.Objections.{on_directories}
 use Rattle.ll_reasons.specs.Remedies.{set_of, port_set_of, satisfied, all_satisfied}
 use Rattle.ll_reasons.proofs.Named.{rights_named, port_rights_named}
 
@@ -84,7 +85,8 @@ unfolding network.has
 has_no_port network.other = refl
 has_no_port right = refl
 
-has-port_set_of : (rights : List network.NetRight) (right : network.NetRight) → network.has (port_set_of rights) right ≡ list_any (network.is_right right) rights
+has-port_set_of : (rights : List network.NetRight) (right : network.NetRight)
+    → network.has (port_set_of rights) right ≡ list_any (network.is_right right) rights
 unfolding port_set_of
 has-port_set_of [] right = has_no_port right
 has-port_set_of (one ∷ rights) right =
@@ -111,7 +113,8 @@ gives_on_port port right (kept one place) = false
 one_rule_more : (p : Bool) (h v g : Bool) → ((p && h) || (v || g)) ≡ (((p && h) || v) || g)
 one_rule_more p h v g = sym (or_assoc (p && h) v g)
 
-pub granted-satisfied : (objections : List Objection) (layer : Layer) (path : Path) (right : FsRight) → granted (all_satisfied layer objections) path right ≡ (list_any (gives path right) objections || granted layer path right)
+pub granted-satisfied : (objections : List Objection) (layer : Layer) (path : Path) (right : FsRight)
+    → granted (all_satisfied layer objections) path right ≡ (list_any (gives path right) objections || granted layer path right)
 unfolding all_satisfied satisfied gives granted
 granted-satisfied [] layer path right = refl
 granted-satisfied (missing rights there ∷ objections) layer path right =
@@ -124,18 +127,21 @@ granted-satisfied (closed rights port ∷ objections) layer path right = granted
 granted-satisfied (mounting ∷ objections) layer path right = granted-satisfied objections layer path right
 granted-satisfied (kept one place ∷ objections) layer path right = granted-satisfied objections layer path right
 
-granted_on_port-satisfied : (objections : List Objection) (layer : Layer) (port : ℕ) (right : network.NetRight) → granted_on_port (all_satisfied layer objections) port right ≡ (list_any (gives_on_port port right) objections || granted_on_port layer port right)
+granted_on_port-satisfied : (objections : List Objection) (layer : Layer) (port : ℕ) (right : network.NetRight)
+    → granted_on_port (all_satisfied layer objections) port right ≡ (list_any (gives_on_port port right) objections || granted_on_port layer port right)
 unfolding all_satisfied satisfied gives_on_port granted_on_port
 granted_on_port-satisfied [] layer port right = refl
 granted_on_port-satisfied (missing rights there ∷ objections) layer port right = granted_on_port-satisfied objections layer port right
 granted_on_port-satisfied (gained object rights directory ∷ objections) layer port right = granted_on_port-satisfied objections layer port right
 granted_on_port-satisfied (closed rights there ∷ objections) layer port right =
     rw (has-port_set_of rights right, granted_on_port-satisfied objections layer port right)
-    (one_rule_more (port == there) (list_any (network.is_right right) rights) (list_any (gives_on_port port right) objections) (granted_on_port layer port right))
+    (one_rule_more (port == there) (list_any (network.is_right right) rights) (list_any (gives_on_port port right) objections)
+    (granted_on_port layer port right))
 granted_on_port-satisfied (mounting ∷ objections) layer port right = granted_on_port-satisfied objections layer port right
 granted_on_port-satisfied (kept one place ∷ objections) layer port right = granted_on_port-satisfied objections layer port right
 
-handled-satisfied : (objections : List Objection) (layer : Layer) → ((all_satisfied layer objections).handled_files ≡ layer.handled_files) × ((all_satisfied layer objections).handled_network ≡ layer.handled_network)
+handled-satisfied : (objections : List Objection) (layer : Layer)
+    → ((all_satisfied layer objections).handled_files ≡ layer.handled_files) × ((all_satisfied layer objections).handled_network ≡ layer.handled_network)
 unfolding all_satisfied satisfied
 handled-satisfied [] layer = (refl, refl)
 handled-satisfied (missing rights there ∷ objections) layer = handled-satisfied objections layer
@@ -168,46 +174,55 @@ unfolding is_prefix
 prefix-same [] = refl
 prefix-same (name ∷ names) = and_from (bytes_eq name name) (is_prefix names names) ((bytes_eq-Decides name name).1 refl) (prefix-same names)
 
-gives-if_any : (rights : List FsRight) (there path : Path) (right : FsRight) → list_any (gives path right) (if_any rights (missing rights there)) ≡ (is_prefix there path && one_of rights right)
+gives-if_any : (rights : List FsRight) (there path : Path) (right : FsRight)
+    → list_any (gives path right) (if_any rights (missing rights there)) ≡ (is_prefix there path && one_of rights right)
 unfolding gives
 gives-if_any [] there path right = sym (and_none (is_prefix there path))
 gives-if_any (one ∷ rights) there path right = or_false (is_prefix there path && one_of (one ∷ rights) right)
 
 -- what the rule for what is missing on a path grants
 pub gives-on_path : (there path : Path) (asked : FsRight → Bool) (layer : Layer) (right : FsRight)
-    → list_any (gives path right) (on_path there asked layer) ≡ (is_prefix there path && (asked right && handles layer right && not (granted layer there right)))
+    → list_any (gives path right) (on_path there asked layer)
+    ≡ (is_prefix there path && (asked right && handles layer right && not (granted layer there right)))
 unfolding on_path
 gives-on_path there path asked layer right =
     gives-if_any (missing_rights layer there asked) there path right
     ∙ ap (λ (b : Bool). is_prefix there path && b) (rights_named (λ right. asked right && handles layer right && not (granted layer there right)) right)
 
-pub given_there : (path : Path) (asked : FsRight → Bool) (layer : Layer) (right : FsRight) → (asked right && handles layer right && not (granted layer path right)) ≡ true → list_any (gives path right) (on_path path asked layer) ≡ true
+pub given_there : (path : Path) (asked : FsRight → Bool) (layer : Layer) (right : FsRight)
+    → (asked right && handles layer right && not (granted layer path right)) ≡ true → list_any (gives path right) (on_path path asked layer) ≡ true
 given_there path asked layer right lacking = gives-on_path path path asked layer right ∙ and_from (is_prefix path path) _ (prefix-same path) lacking
 
 pub path_enough : (layer : Layer) (path : Path) (wanted : Fs) → lacks (all_satisfied layer (on_path path (files.has wanted) layer)) path wanted ≡ false
-path_enough layer path wanted = covered layer (on_path path (files.has wanted) layer) path (files.has wanted) (λ right lacking. given_there path (files.has wanted) layer right lacking)
+path_enough layer path wanted =
+    covered layer (on_path path (files.has wanted) layer) path (files.has wanted) (λ right lacking. given_there path (files.has wanted) layer right lacking)
 
 -- ---- ports
 
-gives_on_port-if_any : (rights : List network.NetRight) (port : ℕ) (right : network.NetRight) → list_any (gives_on_port port right) (if_any rights (closed rights port)) ≡ ((port == port) && list_any (network.is_right right) rights)
+gives_on_port-if_any : (rights : List network.NetRight) (port : ℕ) (right : network.NetRight)
+    → list_any (gives_on_port port right) (if_any rights (closed rights port)) ≡ ((port == port) && list_any (network.is_right right) rights)
 unfolding gives_on_port
 gives_on_port-if_any [] port right = sym (and_none (port == port))
 gives_on_port-if_any (one ∷ rights) port right = or_false ((port == port) && list_any (network.is_right right) (one ∷ rights))
 
 gives-on_port : (port : ℕ) (wanted : Net) (layer : Layer) (right : network.NetRight)
-    → (network.has wanted right && network.has layer.handled_network right && not (granted_on_port layer port right)) ≡ true → list_any (gives_on_port port right) (on_port port wanted layer) ≡ true
+    → (network.has wanted right && network.has layer.handled_network right && not (granted_on_port layer port right)) ≡ true
+    → list_any (gives_on_port port right) (on_port port wanted layer) ≡ true
 unfolding on_port
 gives-on_port port wanted layer right lacking =
     gives_on_port-if_any (closed_rights layer port (network.has wanted)) port right
-    ∙ and_from (port == port) _ (eq-eqb port port refl) (port_rights_named (λ right. network.has wanted right && network.has layer.handled_network right && not (granted_on_port layer port right)) right ∙ lacking)
+    ∙ and_from (port == port) _ (eq-eqb port port refl) (port_rights_named
+    (λ right. network.has wanted right && network.has layer.handled_network right && not (granted_on_port layer port right)) right ∙ lacking)
 
 pub port_enough : (layer : Layer) (port : ℕ) (wanted : Net) → lacks_on_port (all_satisfied layer (on_port port wanted layer)) port wanted ≡ false
 unfolding network.some_right
 port_enough layer port wanted =
     let objections : List Objection = on_port port wanted layer in
-    any_none (λ right. network.has wanted right && network.has (all_satisfied layer objections).handled_network right && not (granted_on_port (all_satisfied layer objections) port right))
+    any_none (λ right. network.has wanted right && network.has (all_satisfied layer objections).handled_network right
+    && not (granted_on_port (all_satisfied layer objections) port right))
     (λ right. rw (granted_on_port-satisfied objections layer port right, (handled-satisfied objections layer).1)
-    (none_left (network.has wanted right) (network.has layer.handled_network right) (granted_on_port layer port right) (list_any (gives_on_port port right) objections) (gives-on_port port wanted layer right)))
+    (none_left (network.has wanted right) (network.has layer.handled_network right) (granted_on_port layer port right)
+    (list_any (gives_on_port port right) objections) (gives-on_port port wanted layer right)))
     network.all_rights
 
 -- ---- the two directories of a move
@@ -219,24 +234,30 @@ weaker a b h n so holds =
     and_from (b && h) n (and_from b h (so inner.0) inner.1) outer.1
 
 directories : (layer : Layer) (a b : Path) (xs ys : List FsRight) (one : Bool) → path_eq a b ≡ one
-    → (objections : List Objection) → objections ≡ (if one then on_path a (one_of (xs ++ ys)) layer else on_path a (one_of xs) layer ++ on_path b (one_of ys) layer)
+    → (objections : List Objection)
+    → objections ≡ (if one then on_path a (one_of (xs ++ ys)) layer else on_path a (one_of xs) layer ++ on_path b (one_of ys) layer)
     → (lacks_one_of (all_satisfied layer objections) a xs || lacks_one_of (all_satisfied layer objections) b ys) ≡ false
-directories layer a b xs ys true same objections is =
-    rw (
-      covered layer objections a (one_of xs) (λ right lacking. ap (λ (os : List Objection). list_any (gives a right) os) is ∙ given_there a (one_of (xs ++ ys)) layer right
-          (weaker (one_of xs right) (one_of (xs ++ ys) right) (handles layer right) (not (granted layer a right)) (λ asked. list_any-append (is_right right) xs ys ∙ or_left (one_of xs right) (one_of ys right) asked) lacking)),
-      covered layer objections b (one_of ys) (λ right lacking. ap (λ (os : List Objection). list_any (gives b right) os) is
-          ∙ subst (λ (path : Path). list_any (gives path right) (on_path a (one_of (xs ++ ys)) layer) ≡ true) (same_path a b same) (given_there a (one_of (xs ++ ys)) layer right
-          (weaker (one_of ys right) (one_of (xs ++ ys) right) (handles layer right) (not (granted layer a right)) (λ asked. list_any-append (is_right right) xs ys ∙ or_right (one_of xs right) (one_of ys right) asked)
-          (subst (λ (path : Path). (one_of ys right && handles layer right && not (granted layer path right)) ≡ true) (sym (same_path a b same)) lacking)))),
-    ) refl
+directories layer a b xs ys true same objections is = rw (
+  covered layer objections a (one_of xs) (λ right lacking. ap (λ (os : List Objection). list_any (gives a right) os) is
+      ∙ given_there a (one_of (xs ++ ys)) layer right
+      (weaker (one_of xs right) (one_of (xs ++ ys) right) (handles layer right) (not (granted layer a right))
+      (λ asked. list_any-append (is_right right) xs ys ∙ or_left (one_of xs right) (one_of ys right) asked) lacking)),
+  covered layer objections b (one_of ys) (λ right lacking. ap (λ (os : List Objection). list_any (gives b right) os) is
+      ∙ subst (λ (path : Path). list_any (gives path right) (on_path a (one_of (xs ++ ys)) layer) ≡ true) (same_path a b same)
+      (given_there a (one_of (xs ++ ys)) layer right
+      (weaker (one_of ys right) (one_of (xs ++ ys) right) (handles layer right) (not (granted layer a right))
+      (λ asked. list_any-append (is_right right) xs ys ∙ or_right (one_of xs right) (one_of ys right) asked)
+      (subst (λ (path : Path). (one_of ys right && handles layer right && not (granted layer path right)) ≡ true) (sym (same_path a b same)) lacking)))),
+) refl
 directories layer a b xs ys false other objections is =
     let first : List Objection = on_path a (one_of xs) layer in
     let second : List Objection = on_path b (one_of ys) layer in
     rw (
-      covered layer objections a (one_of xs) (λ right lacking. ap (λ (os : List Objection). list_any (gives a right) os) is ∙ list_any-append (gives a right) first second
+      covered layer objections a (one_of xs) (λ right lacking. ap (λ (os : List Objection). list_any (gives a right) os) is
+          ∙ list_any-append (gives a right) first second
           ∙ or_left (list_any (gives a right) first) (list_any (gives a right) second) (given_there a (one_of xs) layer right lacking)),
-      covered layer objections b (one_of ys) (λ right lacking. ap (λ (os : List Objection). list_any (gives b right) os) is ∙ list_any-append (gives b right) first second
+      covered layer objections b (one_of ys) (λ right lacking. ap (λ (os : List Objection). list_any (gives b right) os) is
+          ∙ list_any-append (gives b right) first second
           ∙ or_right (list_any (gives b right) first) (list_any (gives b right) second) (given_there b (one_of ys) layer right lacking)),
     ) refl
 
@@ -244,5 +265,6 @@ pub directories_enough : (tree : List Entry) (move : Move) (layer : Layer) → d
 unfolding on_directories
 directories_enough tree move layer =
     directories layer (source_of tree move) (destination_of tree move.target)
-    (asked_of_source move.how (kind_at tree move.moved) (kind_there tree move.target)) (asked_of_destination (kind_at tree move.moved) (kind_there tree move.target))
+    (asked_of_source move.how (kind_at tree move.moved) (kind_there tree move.target))
+    (asked_of_destination (kind_at tree move.moved) (kind_there tree move.target))
     (path_eq (source_of tree move) (destination_of tree move.target)) refl (on_directories tree move layer) refl

@@ -1,5 +1,6 @@
 -- The domain of a process begins as the one that each of its descriptors was opened in.
-use Rattle.std.proofs.Common.{◌≡◌, ℕ, suc, Bool, true, false, cond, List, [], ◌++◌, option_to_list, Option, Some, None, nat_eq, sym, ap, ◌∙◌, append_assoc, append-nil, IfSome}
+use Rattle.std.proofs.Common.{◌≡◌, ℕ, suc, Bool, true, false, cond, List, [], ◌++◌, option_to_list, Option, Some, None, nat_eq, sym, ap, ◌∙◌, append_assoc}
+use Rattle.std.proofs.Common.{append-nil, IfSome}
 use Rattle.std.specs.Map.{update}
 use Rattle.ll_rights.specs.declared.abi.Abi.{Abi}
 use Rattle.ll_tree.specs.Trees.{Entry}
@@ -30,11 +31,13 @@ module _ (tree : List Entry) (abi : Abi) (records : List Record) where
   longer domain more (Some k) began =
       (began.0 ++ more, ap (λ (layers : List Layer). layers ++ more) began.1 ∙ append_assoc (domain_there tree abi records k) began.0 more)
 
-  either : (domain : List Layer) (b : Bool) (x y : Option ℕ) → Began tree abi records domain x → Began tree abi records domain y → Began tree abi records domain (cond b x y)
+  either : (domain : List Layer) (b : Bool) (x y : Option ℕ) → Began tree abi records domain x → Began tree abi records domain y
+      → Began tree abi records domain (cond b x y)
   either domain true x y this that = this
   either domain false x y this that = that
 
-  put : (domain : List Layer) (f : ℕ → Option ℕ) (fd q : ℕ) (x : Option ℕ) → Began tree abi records domain x → Began tree abi records domain (f q) → Began tree abi records domain (update nat_eq f fd x q)
+  put : (domain : List Layer) (f : ℕ → Option ℕ) (fd q : ℕ) (x : Option ℕ) → Began tree abi records domain x → Began tree abi records domain (f q)
+      → Began tree abi records domain (update nat_eq f fd x q)
   put domain f fd q x this that = either domain (nat_eq fd q) x (f q) this that
 
   here : (k : ℕ) (domain : List Layer) → domain_there tree abi records k ≡ domain → Began tree abi records domain (Some k)
@@ -45,7 +48,8 @@ module _ (tree : List Entry) (abi : Abi) (records : List Record) where
   unfolding Began
   none_began domain = tt
 
-  changed : (k : ℕ) (op : Op) (rulesets : List Layer) (s : State) (o : Origins) → domain_there tree abi records k ≡ s.domain → AllBegan tree abi records k s o → AllBegan tree abi records (suc k) (change tree rulesets op s) (traced k op o)
+  changed : (k : ℕ) (op : Op) (rulesets : List Layer) (s : State) (o : Origins) → domain_there tree abi records k ≡ s.domain → AllBegan tree abi records k s o
+      → AllBegan tree abi records (suc k) (change tree rulesets op s) (traced k op o)
   unfolding AllBegan change state_by effect traced
   changed k (Restrict rs) rulesets s o is all q = longer s.domain (option_to_list (named rulesets (s.held rs))) (o.openings q) (all q)
   changed k (OpenFile path fd mode create trunc) rulesets s o is all q = put s.domain o.openings fd q (Some k) (here k s.domain is) (all q)
@@ -65,6 +69,7 @@ module _ (tree : List Entry) (abi : Abi) (records : List Record) where
         changed k r.op w.rulesets s o (ap (λ (x : Option Record). domain_by w x) at) all);
   }
 
-  pub grown : (place process fd : ℕ) → IfSome ((origins_at tree abi records place process).openings fd) (λ k. BeganAs (domain_at tree abi records place process) (domain_there tree abi records k))
+  pub grown : (place process fd : ℕ) → IfSome ((origins_at tree abi records place process).openings fd)
+      (λ k. BeganAs (domain_at tree abi records place process) (domain_there tree abi records k))
   unfolding AllBegan Began domain_at
   grown place process fd = holds_at tree abi records (AllBegan tree abi records) keeps place process fd

@@ -15,12 +15,15 @@ module _ {L : Type 0} (test : L → Bool) where
   none_below i n (layer ∷ layers) less =
       one_apart (test layer) i n (numbers_from test (n + 1) layers) (λ same. omega (arith, same)) (none_below i (n + 1) layers (omega arith))
 
-  none_there : (n k i : ℕ) (layers : List L) (layer : L) → i ≡ n + k → test layer ≡ false → list_any (nat_eq i) (numbers_from test n (slice_set layers k layer)) ≡ false
+  none_there : (n k i : ℕ) (layers : List L) (layer : L) → i ≡ n + k → test layer ≡ false
+      → list_any (nat_eq i) (numbers_from test n (slice_set layers k layer)) ≡ false
   unfolding numbers_from
   none_there n k i [] layer is fails = refl
   none_there n zero i (x ∷ layers) layer is fails = rw fails (none_below i (n + 1) layers (omega arith))
   none_there n (suc k) i (x ∷ layers) layer is fails =
-      one_apart (test x) i n (numbers_from test (n + 1) (slice_set layers k layer)) (λ same. omega (arith, same, is)) (none_there (n + 1) k i layers layer (omega arith) fails)
+      one_apart (test x) i n (numbers_from test (n + 1) (slice_set layers k layer)) (λ same. omega (arith, same, is))
+      (none_there (n + 1) k i layers layer (omega arith) fails)
 
-  pub not_refusing : (layers : List L) (k : ℕ) (layer : L) → test layer ≡ false → list_any (nat_eq (k + 1)) (numbers_where test (slice_set layers k layer)) ≡ false
+  pub not_refusing : (layers : List L) (k : ℕ) (layer : L) → test layer ≡ false
+      → list_any (nat_eq (k + 1)) (numbers_where test (slice_set layers k layer)) ≡ false
   not_refusing layers k layer fails = none_there 1 k (k + 1) layers layer (omega arith) fails

@@ -21,7 +21,8 @@ use Rattle.ll_reasons.specs.Explanations.{origins_at}
 
 -- ---- the origins, record by record
 
-pub sources_after-more : (i : ℕ) (s : Sources) (rs : List Record) (answers : List Answer) (k : ℕ) (r : Record) (a : Answer) → slice_get rs k ≡ Some r → slice_get answers k ≡ Some a
+pub sources_after-more : (i : ℕ) (s : Sources) (rs : List Record) (answers : List Answer) (k : ℕ) (r : Record) (a : Answer) → slice_get rs k ≡ Some r
+    → slice_get answers k ≡ Some a
     → sources_after i s (take (suc k) rs) answers ≡ sources_by (i + k) r.op r.process.0 a (sources_after i s (take k rs) answers)
 unfolding sources_after
 sources_after-more i s [] answers k r a at asked = absurd (none-some r at)
@@ -30,14 +31,18 @@ sources_after-more i s (x ∷ rs) (y ∷ answers) zero r a at asked =
     rw (sym (same_Some x r at), sym (same_Some y a asked), (let none : i + 0 ≡ i = omega arith in none)) refl
 sources_after-more i s (x ∷ rs) (y ∷ answers) (suc k) r a at asked =
     sources_after-more (i + 1) (sources_by i x.op x.process.0 y s) rs answers k r a at asked
-    ∙ ap (λ (n : ℕ). sources_by n r.op r.process.0 a (sources_after (i + 1) (sources_by i x.op x.process.0 y s) (take k rs) answers)) (let more : i + 1 + k ≡ i + suc k = omega arith in more)
+    ∙ ap (λ (n : ℕ). sources_by n r.op r.process.0 a (sources_after (i + 1) (sources_by i x.op x.process.0 y s) (take k rs) answers))
+    (let more : i + 1 + k ≡ i + suc k = omega arith in more)
 
 pub sources_at-more : (tree : List Entry) (abi : Abi) (records : List Record) (k : ℕ) (r : Record) → slice_get records k ≡ Some r
-    → sources_at tree abi records (suc k) ≡ sources_by k r.op r.process.0 (answer_in tree abi (world_at tree abi records k) r.process.0 r.op) (sources_at tree abi records k)
+    → sources_at tree abi records (suc k)
+    ≡ sources_by k r.op r.process.0 (answer_in tree abi (world_at tree abi records k) r.process.0 r.op) (sources_at tree abi records k)
 unfolding sources_at
 sources_at-more tree abi records k r at =
-    sources_after-more 0 no_sources records (judged tree abi records) k r (answer_in tree abi (world_at tree abi records k) r.process.0 r.op) at (judged-at tree abi records k r at)
-    ∙ ap (λ (n : ℕ). sources_by n r.op r.process.0 (answer_in tree abi (world_at tree abi records k) r.process.0 r.op) (sources_after 0 no_sources (take k records) (judged tree abi records))) (let same : 0 + k ≡ k = omega arith in same)
+    sources_after-more 0 no_sources records (judged tree abi records) k r (answer_in tree abi (world_at tree abi records k) r.process.0 r.op)
+    at (judged-at tree abi records k r at)
+    ∙ ap (λ (n : ℕ). sources_by n r.op r.process.0 (answer_in tree abi (world_at tree abi records k) r.process.0 r.op)
+    (sources_after 0 no_sources (take k records) (judged tree abi records))) (let same : 0 + k ≡ k = omega arith in same)
 
 pub world_at-more : (tree : List Entry) (abi : Abi) (records : List Record) (k : ℕ) (r : Record) → slice_get records k ≡ Some r
     → world_at tree abi records (suc k) ≡ step tree abi (world_at tree abi records k) r.process.0 r.op
@@ -52,11 +57,13 @@ take_past [] (suc k) past = refl
 take_past (x ∷ rs) zero past = absurd (none-some x (sym past))
 take_past (x ∷ rs) (suc k) past = ap (λ (ys : List Record). x ∷ ys) (take_past rs k past)
 
-pub world_at-past : (tree : List Entry) (abi : Abi) (records : List Record) (k : ℕ) → slice_get records k ≡ None → world_at tree abi records (suc k) ≡ world_at tree abi records k
+pub world_at-past : (tree : List Entry) (abi : Abi) (records : List Record) (k : ℕ) → slice_get records k ≡ None
+    → world_at tree abi records (suc k) ≡ world_at tree abi records k
 unfolding world_at
 world_at-past tree abi records k past = ap (λ (rs : List Record). world_after tree abi empty_world rs) (take_past records k past)
 
-sources_at-past : (tree : List Entry) (abi : Abi) (records : List Record) (k : ℕ) → slice_get records k ≡ None → sources_at tree abi records (suc k) ≡ sources_at tree abi records k
+sources_at-past : (tree : List Entry) (abi : Abi) (records : List Record) (k : ℕ) → slice_get records k ≡ None
+    → sources_at tree abi records (suc k) ≡ sources_at tree abi records k
 unfolding sources_at
 sources_at-past tree abi records k past = ap (λ (rs : List Record). sources_after 0 no_sources rs (judged tree abi records)) (take_past records k past)
 
@@ -91,13 +98,18 @@ module _ (tree : List Entry) (abi : Abi) (records : List Record) (Fits : ℕ →
   either k true s t o u this that = this
   either k false s t o u this that = that
 
-  by_answer : (k : ℕ) (w : World) (p q : ℕ) (s : State) (sources : Sources) (o : Origins) (a : Answer) → Fits k (w.processes q) (sources.processes q) → (a ≡ Allowed → Fits (suc k) s o)
-      → Fits (suc k) (with_state w.processes p (if_allowed a s (w.processes p)) q) ((if_allowed a (record sources { processes = with_origins sources.processes p o }) sources).processes q)
-  by_answer k w p q s sources o Allowed fits then = either (suc k) (q == p) s (w.processes q) o (sources.processes q) (then refl) (keeps.stays k (w.processes q) (sources.processes q) fits)
+  by_answer : (k : ℕ) (w : World) (p q : ℕ) (s : State) (sources : Sources) (o : Origins) (a : Answer) → Fits k (w.processes q) (sources.processes q)
+      → (a ≡ Allowed → Fits (suc k) s o)
+      → Fits (suc k) (with_state w.processes p (if_allowed a s (w.processes p)) q)
+      ((if_allowed a (record sources { processes = with_origins sources.processes p o }) sources).processes q)
+  by_answer k w p q s sources o Allowed fits then =
+      either (suc k) (q == p) s (w.processes q) o (sources.processes q) (then refl) (keeps.stays k (w.processes q) (sources.processes q) fits)
   by_answer k w p q s sources o Moot fits then =
-      subst (λ (v : State). Fits (suc k) v (sources.processes q)) (sym (with_state-same w.processes p q)) (keeps.stays k (w.processes q) (sources.processes q) fits)
+      subst (λ (v : State). Fits (suc k) v (sources.processes q)) (sym (with_state-same w.processes p q))
+      (keeps.stays k (w.processes q) (sources.processes q) fits)
   by_answer k w p q s sources o (Refused error numbers) fits then =
-      subst (λ (v : State). Fits (suc k) v (sources.processes q)) (sym (with_state-same w.processes p q)) (keeps.stays k (w.processes q) (sources.processes q) fits)
+      subst (λ (v : State). Fits (suc k) v (sources.processes q)) (sym (with_state-same w.processes p q))
+      (keeps.stays k (w.processes q) (sources.processes q) fits)
 
   -- one record
   by_record : (k : ℕ) (op : Op) (p q : ℕ) (w : World) (sources : Sources) → w.count ≡ sources.count → ((q : ℕ) → Fits k (w.processes q) (sources.processes q))
@@ -106,16 +118,21 @@ module _ (tree : List Entry) (abi : Abi) (records : List Record) (Fits : ℕ →
   unfolding step answer_in answer effect sources_by state_after is_starting
   by_record k (Start nnp admin) p q w sources counted fits then =
       subst (λ (n : ℕ). Fits (suc k) (cond (q == w.count) (fresh nnp admin) (w.processes q)) (cond (q == n) no_origins (sources.processes q))) counted
-      (either (suc k) (q == w.count) (fresh nnp admin) (w.processes q) no_origins (sources.processes q) (keeps.begins (suc k) nnp admin) (keeps.stays k (w.processes q) (sources.processes q) (fits q)))
+      (either (suc k) (q == w.count) (fresh nnp admin) (w.processes q) no_origins (sources.processes q) (keeps.begins (suc k) nnp admin)
+      (keeps.stays k (w.processes q) (sources.processes q) (fits q)))
   by_record k (Fork child) p q w sources counted fits then =
       subst (λ (n : ℕ). Fits (suc k) (cond (q == w.count) (w.processes p) (w.processes q)) (cond (q == n) (sources.processes p) (sources.processes q))) counted
-      (either (suc k) (q == w.count) (w.processes p) (w.processes q) (sources.processes p) (sources.processes q) (keeps.stays k (w.processes p) (sources.processes p) (fits p)) (keeps.stays k (w.processes q) (sources.processes q) (fits q)))
+      (either (suc k) (q == w.count) (w.processes p) (w.processes q) (sources.processes p) (sources.processes q)
+      (keeps.stays k (w.processes p) (sources.processes p) (fits p)) (keeps.stays k (w.processes q) (sources.processes q) (fits q)))
   by_record k op p q w sources counted fits then =
-      subst (λ (s : State). Fits (suc k) s ((sources_by k op p (answer_in tree abi w p op) sources).processes q)) (sym (step-unbegun tree abi w p op q (started-none tree w.rulesets op (w.processes p) refl)))
-      (by_answer k w p q (change tree w.rulesets op (w.processes p)) sources (traced k op (sources.processes p)) (answer tree abi w.rulesets op (w.processes p)) (fits q) then)
+      subst (λ (s : State). Fits (suc k) s ((sources_by k op p (answer_in tree abi w p op) sources).processes q))
+      (sym (step-unbegun tree abi w p op q (started-none tree w.rulesets op (w.processes p) refl)))
+      (by_answer k w p q (change tree w.rulesets op (w.processes p)) sources (traced k op (sources.processes p))
+      (answer tree abi w.rulesets op (w.processes p)) (fits q) then)
 
   AllFit : ℕ → Type 0
-  AllFit k = ((world_at tree abi records k).count ≡ (sources_at tree abi records k).count) × ((q : ℕ) → Fits k ((world_at tree abi records k).processes q) ((sources_at tree abi records k).processes q))
+  AllFit k = ((world_at tree abi records k).count ≡ (sources_at tree abi records k).count)
+      × ((q : ℕ) → Fits k ((world_at tree abi records k).processes q) ((sources_at tree abi records k).processes q))
 
   next : (k : ℕ) (x : Option Record) → slice_get records k ≡ x → AllFit k → AllFit (suc k)
   unfolding AllFit
@@ -126,15 +143,20 @@ module _ (tree : List Entry) (abi : Abi) (records : List Record) (Fits : ℕ →
       let w : World = world_at tree abi records k in
       let sources : Sources = sources_at tree abi records k in
       rw (world_at-more tree abi records k r at, sources_at-more tree abi records k r at) (
-        count-step tree abi w r.process.0 r.op ∙ ap (λ (n : ℕ). n + cond (is_starting r.op) 1 0) before.0 ∙ sym (count-sources_by k r.op r.process.0 (answer_in tree abi w r.process.0 r.op) sources),
-        λ q. by_record k r.op r.process.0 q w sources before.0 before.1 (λ allowed. keeps.changes k r (sources.processes r.process.0) at allowed (judged-at tree abi records k r at ∙ ap Some allowed) (before.1 r.process.0)),
+        count-step tree abi w r.process.0 r.op ∙ ap (λ (n : ℕ). n + cond (is_starting r.op) 1 0) before.0
+            ∙ sym (count-sources_by k r.op r.process.0 (answer_in tree abi w r.process.0 r.op) sources),
+        λ q. by_record k r.op r.process.0 q w sources before.0 before.1 (λ allowed.
+            keeps.changes k r (sources.processes r.process.0) at allowed (judged-at tree abi records k r at ∙ ap Some allowed) (before.1 r.process.0)),
       )
 
   all_fit : (k : ℕ) → AllFit k
   unfolding AllFit world_at world_after sources_at sources_after
   all_fit zero = first records
     where
-      first : (rs : List Record) → ((world_after tree abi empty_world (take 0 rs)).count ≡ (sources_after 0 no_sources (take 0 rs) (judged tree abi records)).count) × ((q : ℕ) → Fits 0 ((world_after tree abi empty_world (take 0 rs)).processes q) ((sources_after 0 no_sources (take 0 rs) (judged tree abi records)).processes q))
+      first : (rs : List Record)
+          → ((world_after tree abi empty_world (take 0 rs)).count ≡ (sources_after 0 no_sources (take 0 rs) (judged tree abi records)).count)
+          × ((q : ℕ) → Fits 0 ((world_after tree abi empty_world (take 0 rs)).processes q)
+          ((sources_after 0 no_sources (take 0 rs) (judged tree abi records)).processes q))
       first [] = (refl, λ q. keeps.begins 0 false false)
       first (r ∷ rs) = (refl, λ q. keeps.begins 0 false false)
   all_fit (suc k) = next k (slice_get records k) refl (all_fit k)

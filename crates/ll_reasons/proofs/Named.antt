@@ -22,7 +22,8 @@ pub same_right : (a b : files.FsRight) → files.is_right a b ≡ true → a ≡
 same_right a b is = sym (right_at a) ∙ ap (λ (n : ℕ). get_or files.all_rights n files.other) (eqb-true (files.bit_of a) (files.bit_of b) is) ∙ right_at b
 
 same_port_right : (a b : network.NetRight) → network.is_right a b ≡ true → a ≡ b
-same_port_right a b is = sym (port_right_at a) ∙ ap (λ (n : ℕ). get_or network.all_rights n network.other) (eqb-true (network.bit_of a) (network.bit_of b) is) ∙ port_right_at b
+same_port_right a b is =
+    sym (port_right_at a) ∙ ap (λ (n : ℕ). get_or network.all_rights n network.other) (eqb-true (network.bit_of a) (network.bit_of b) is) ∙ port_right_at b
 
 listed : (right : files.FsRight) → list_any (files.is_right right) files.all_rights ≡ true
 unfolding files.all_rights files.named_rights
@@ -55,5 +56,7 @@ module _ {R : Type 0} (is : R → R → Bool) (same : (a b : R) → is a b ≡ t
 pub rights_named : (test : files.FsRight → Bool) (right : files.FsRight) → list_any (files.is_right right) (filter test files.all_rights) ≡ test right
 rights_named test right = any-filter files.is_right same_right test right files.all_rights ∙ ap (λ (b : Bool). b && test right) (listed right)
 
-pub port_rights_named : (test : network.NetRight → Bool) (right : network.NetRight) → list_any (network.is_right right) (filter test network.all_rights) ≡ test right
-port_rights_named test right = any-filter network.is_right same_port_right test right network.all_rights ∙ ap (λ (b : Bool). b && test right) (port_listed right)
+pub port_rights_named : (test : network.NetRight → Bool) (right : network.NetRight)
+    → list_any (network.is_right right) (filter test network.all_rights) ≡ test right
+port_rights_named test right =
+    any-filter network.is_right same_port_right test right network.all_rights ∙ ap (λ (b : Bool). b && test right) (port_listed right)

@@ -1,5 +1,6 @@
 -- The ruleset that a number names is one that an allowed create made, and handles what this named.
-use Rattle.std.proofs.Common.{◌≡◌, ℕ, zero, suc, ◌<◌, true, List, [], ◌∷◌, ◌++◌, length, Option, Some, None, refl, sym, ap, ◌∙◌, subst, arith, IfSome, option_and_then}
+use Rattle.std.proofs.Common.{◌≡◌, ℕ, zero, suc, ◌<◌, true, List, [], ◌∷◌, ◌++◌, length, Option, Some, None, refl, sym, ap, ◌∙◌, subst, arith, IfSome}
+use Rattle.std.proofs.Common.{option_and_then}
 use Rattle.std.specs.Prelude.{slice_get, slice_set, is_some, unwrap_or, option_map}
 use Rattle.std.proofs.lemmas.Option.{none-some, same_Some}
 use Rattle.ll_rights.specs.declared.abi.Abi.{Abi}
@@ -37,7 +38,8 @@ unfoldable HandlesJust : Fs → Net → Option Layer → Type 0
 HandlesJust fs net None = ⊥
 HandlesJust fs net (Some rules) = (rules.handled_files ≡ fs) × (rules.handled_network ≡ net)
 
-appended : (fs : Fs) (net : Net) (rulesets more : List Layer) (j : ℕ) → HandlesJust fs net (slice_get rulesets j) → HandlesJust fs net (slice_get (rulesets ++ more) j)
+appended : (fs : Fs) (net : Net) (rulesets more : List Layer) (j : ℕ) → HandlesJust fs net (slice_get rulesets j)
+    → HandlesJust fs net (slice_get (rulesets ++ more) j)
 unfolding HandlesJust
 appended fs net [] more j just = absurd just
 appended fs net (x ∷ rulesets) more zero just = just
@@ -48,7 +50,8 @@ unfolding HandlesJust
 just_new fs net [] = (refl, refl)
 just_new fs net (x ∷ rulesets) = just_new fs net rulesets
 
-set_kept : (fs : Fs) (net : Net) (rulesets : List Layer) (p j : ℕ) (old new : Layer) → slice_get rulesets p ≡ Some old → new.handled_files ≡ old.handled_files → new.handled_network ≡ old.handled_network
+set_kept : (fs : Fs) (net : Net) (rulesets : List Layer) (p j : ℕ) (old new : Layer) → slice_get rulesets p ≡ Some old → new.handled_files ≡ old.handled_files
+    → new.handled_network ≡ old.handled_network
     → HandlesJust fs net (slice_get rulesets j) → HandlesJust fs net (slice_get (slice_set rulesets p new) j)
 unfolding HandlesJust
 set_kept fs net [] p j old new at same_fs same_net just = absurd just
@@ -59,12 +62,14 @@ set_kept fs net (x ∷ rulesets) zero (suc j) old new at same_fs same_net just =
 set_kept fs net (x ∷ rulesets) (suc p) zero old new at same_fs same_net just = just
 set_kept fs net (x ∷ rulesets) (suc p) (suc j) old new at same_fs same_net just = set_kept fs net rulesets p j old new at same_fs same_net just
 
-changed_kept : (fs : Fs) (net : Net) (rulesets : List Layer) (h : Option ℕ) (f : Layer → Layer) (j : ℕ) → ((old : Layer) → (f old).handled_files ≡ old.handled_files) → ((old : Layer) → (f old).handled_network ≡ old.handled_network)
+changed_kept : (fs : Fs) (net : Net) (rulesets : List Layer) (h : Option ℕ) (f : Layer → Layer) (j : ℕ)
+    → ((old : Layer) → (f old).handled_files ≡ old.handled_files) → ((old : Layer) → (f old).handled_network ≡ old.handled_network)
     → HandlesJust fs net (slice_get rulesets j) → HandlesJust fs net (slice_get (changed_at rulesets h f) j)
 changed_kept fs net rulesets None f j same_fs same_net just = just
 changed_kept fs net rulesets (Some p) f j same_fs same_net just = by_get (slice_get rulesets p) refl
   where
-    by_get : (o : Option Layer) → slice_get rulesets p ≡ o → HandlesJust fs net (slice_get (unwrap_or (option_map (λ (old : Layer). slice_set rulesets p (f old)) o) rulesets) j)
+    by_get : (o : Option Layer) → slice_get rulesets p ≡ o
+        → HandlesJust fs net (slice_get (unwrap_or (option_map (λ (old : Layer). slice_set rulesets p (f old)) o) rulesets) j)
     by_get None at = just
     by_get (Some old) at = set_kept fs net rulesets p j old (f old) at (same_fs old) (same_net old) just
 
@@ -78,31 +83,39 @@ with_rule-ports tree (Node node) fs old = refl
 with_rule-ports tree (Gap node) fs old = refl
 with_rule-ports tree Nowhere fs old = refl
 
-by_call : (tree : List Entry) (rulesets : List Layer) (op : Op) (s : State) (fs : Fs) (net : Net) (j : ℕ) → HandlesJust fs net (slice_get rulesets j) → HandlesJust fs net (slice_get (rules tree rulesets op s) j)
+by_call : (tree : List Entry) (rulesets : List Layer) (op : Op) (s : State) (fs : Fs) (net : Net) (j : ℕ) → HandlesJust fs net (slice_get rulesets j)
+    → HandlesJust fs net (slice_get (rules tree rulesets op s) j)
 unfolding rules rulesets_by effect
 by_call tree rulesets (Create rs fs2 net2) s fs net j just = appended fs net rulesets (without_rules fs2 net2 ∷ []) j just
 by_call tree rulesets (CreateEmpty rs) s fs net j just = appended fs net rulesets (without_rules files.no_right network.no_right ∷ []) j just
 by_call tree rulesets (AddPath rs path fs2) s fs net j just =
-    changed_kept fs net rulesets (s.held rs) (λ old. with_rule_at tree old (place tree path) fs2) j (λ old. with_rule-files tree (place tree path) fs2 old) (λ old. with_rule-ports tree (place tree path) fs2 old) just
+    changed_kept fs net rulesets (s.held rs) (λ old. with_rule_at tree old (place tree path) fs2) j (λ old. with_rule-files tree (place tree path) fs2 old)
+    (λ old. with_rule-ports tree (place tree path) fs2 old) just
 by_call tree rulesets (AddPort rs port net2) s fs net j just =
     changed_kept fs net rulesets (s.held rs) (λ old. with_port_rule old port net2) j (λ old. refl) (λ old. refl) just
 by_call tree rulesets op s fs net j just = just
 
-by_answer : (a : Answer) (after before : List Layer) (fs : Fs) (net : Net) (j : ℕ) → (HandlesJust fs net (slice_get before j) → HandlesJust fs net (slice_get after j)) → HandlesJust fs net (slice_get before j) → HandlesJust fs net (slice_get (if_allowed a after before) j)
+by_answer : (a : Answer) (after before : List Layer) (fs : Fs) (net : Net) (j : ℕ)
+    → (HandlesJust fs net (slice_get before j) → HandlesJust fs net (slice_get after j)) → HandlesJust fs net (slice_get before j)
+    → HandlesJust fs net (slice_get (if_allowed a after before) j)
 by_answer Allowed after before fs net j then just = then just
 by_answer Moot after before fs net j then just = just
 by_answer (Refused error numbers) after before fs net j then just = just
 
-in_step : (tree : List Entry) (abi : Abi) (rulesets : List Layer) (s : State) (op : Op) (fs : Fs) (net : Net) (j : ℕ) → HandlesJust fs net (slice_get rulesets j) → HandlesJust fs net (slice_get (rulesets_after tree abi rulesets op s) j)
+in_step : (tree : List Entry) (abi : Abi) (rulesets : List Layer) (s : State) (op : Op) (fs : Fs) (net : Net) (j : ℕ)
+    → HandlesJust fs net (slice_get rulesets j) → HandlesJust fs net (slice_get (rulesets_after tree abi rulesets op s) j)
 unfolding rulesets_after
-in_step tree abi rulesets s op fs net j just = by_answer (answer tree abi rulesets op s) (rules tree rulesets op s) rulesets fs net j (λ just. by_call tree rulesets op s fs net j just) just
+in_step tree abi rulesets s op fs net j just =
+    by_answer (answer tree abi rulesets op s) (rules tree rulesets op s) rulesets fs net j (λ just. by_call tree rulesets op s fs net j just) just
 
 next_rulesets : (tree : List Entry) (abi : Abi) (records : List Record) (k : ℕ) (r : Record) → slice_get records k ≡ Some r
-    → (world_at tree abi records (suc k)).rulesets ≡ rulesets_after tree abi (world_at tree abi records k).rulesets r.op ((world_at tree abi records k).processes r.process.0)
+    → (world_at tree abi records (suc k)).rulesets
+    ≡ rulesets_after tree abi (world_at tree abi records k).rulesets r.op ((world_at tree abi records k).processes r.process.0)
 next_rulesets tree abi records k r at =
     ap (λ (v : World). v.rulesets) (world_at-more tree abi records k r at) ∙ step-rulesets tree abi (world_at tree abi records k) r.process.0 r.op
 
-by_record : (tree : List Entry) (abi : Abi) (records : List Record) (k : ℕ) (fs : Fs) (net : Net) (j : ℕ) → HandlesJust fs net (slice_get (world_at tree abi records k).rulesets j) → HandlesJust fs net (slice_get (world_at tree abi records (suc k)).rulesets j)
+by_record : (tree : List Entry) (abi : Abi) (records : List Record) (k : ℕ) (fs : Fs) (net : Net) (j : ℕ)
+    → HandlesJust fs net (slice_get (world_at tree abi records k).rulesets j) → HandlesJust fs net (slice_get (world_at tree abi records (suc k)).rulesets j)
 by_record tree abi records k fs net j just = by_get (slice_get records k) refl
   where
     by_get : (x : Option Record) → slice_get records k ≡ x → HandlesJust fs net (slice_get (world_at tree abi records (suc k)).rulesets j)
@@ -113,7 +126,8 @@ by_record tree abi records k fs net j just = by_get (slice_get records k) refl
         (in_step tree abi w.rulesets (w.processes r.process.0) r.op fs net j just)
 
 -- what is created is the last
-rules_last : (tree : List Entry) (rulesets : List Layer) (s : State) (op : Op) → is_create op ≡ true → HandlesJust (handled_by op) (handled_on_ports_by op) (slice_get (rules tree rulesets op s) (length rulesets))
+rules_last : (tree : List Entry) (rulesets : List Layer) (s : State) (op : Op) → is_create op ≡ true
+    → HandlesJust (handled_by op) (handled_on_ports_by op) (slice_get (rules tree rulesets op s) (length rulesets))
 unfolding is_create rules rulesets_by effect
 rules_last tree rulesets s (Create rs fs net) creates = just_new fs net rulesets
 rules_last tree rulesets s (CreateEmpty rs) creates = just_new files.no_right network.no_right rulesets
@@ -123,7 +137,8 @@ created_last : (tree : List Entry) (abi : Abi) (rulesets : List Layer) (s : Stat
     → HandlesJust (handled_by op) (handled_on_ports_by op) (slice_get (rulesets_after tree abi rulesets op s) (length rulesets))
 unfolding rulesets_after
 created_last tree abi rulesets s op allowed creates =
-    subst (λ (a : Answer). HandlesJust (handled_by op) (handled_on_ports_by op) (slice_get (if_allowed a (rules tree rulesets op s) rulesets) (length rulesets))) (sym allowed) (rules_last tree rulesets s op creates)
+    subst (λ (a : Answer). HandlesJust (handled_by op) (handled_on_ports_by op)
+    (slice_get (if_allowed a (rules tree rulesets op s) rulesets) (length rulesets))) (sym allowed) (rules_last tree rulesets s op creates)
 
 -- ---- what a number names
 
@@ -137,24 +152,33 @@ record Holds (tree : List Entry) (abi : Abi) (records : List Record) (at j k : �
 abbrev AllHeld : List Entry → Abi → List Record → ℕ → State → Origins → Type 0
 AllHeld tree abi records at s o = (rs : ℕ) → Alike (Holds tree abi records at) (s.held rs) (o.rulesets rs)
 
-later : (tree : List Entry) (abi : Abi) (records : List Record) (k : ℕ) (x y : Option ℕ) → Alike (Holds tree abi records k) x y → Alike (Holds tree abi records (suc k)) x y
+later : (tree : List Entry) (abi : Abi) (records : List Record) (k : ℕ) (x y : Option ℕ) → Alike (Holds tree abi records k) x y
+    → Alike (Holds tree abi records (suc k)) x y
 later tree abi records k x y fits =
     alike-weaker (Holds tree abi records k) (Holds tree abi records (suc k))
-    (λ j i is. record { before = omega (arith, is.before); created = is.created; just = by_record tree abi records k (handled_by is.created.of.op) (handled_on_ports_by is.created.of.op) j is.just }) x y fits
+    (λ j i is. record {
+      before = omega (arith, is.before);
+      created = is.created;
+      just = by_record tree abi records k (handled_by is.created.of.op) (handled_on_ports_by is.created.of.op) j is.just;
+    }) x y fits
 
 -- the ruleset that a record at a place creates
-created_here : (tree : List Entry) (abi : Abi) (records : List Record) (k j : ℕ) (r : Record) → slice_get records k ≡ Some r → slice_get (judged tree abi records) k ≡ Some Allowed → is_create r.op ≡ true
+created_here : (tree : List Entry) (abi : Abi) (records : List Record) (k j : ℕ) (r : Record) → slice_get records k ≡ Some r
+    → slice_get (judged tree abi records) k ≡ Some Allowed → is_create r.op ≡ true
     → HandlesJust (handled_by r.op) (handled_on_ports_by r.op) (slice_get (world_at tree abi records (suc k)).rulesets j) → Holds tree abi records (suc k) j k
-created_here tree abi records k j r at allowed creates just = record { before = omega arith; created = record { of = r; at = at; such = creates; allowed = allowed }; just = just }
+created_here tree abi records k j r at allowed creates just =
+    record { before = omega arith; created = record { of = r; at = at; such = creates; allowed = allowed }; just = just }
 
 changed : (tree : List Entry) (abi : Abi) (records : List Record) (k : ℕ) (op : Op) (rulesets : List Layer) (s : State) (o : Origins)
     → (is_create op ≡ true → Holds tree abi records (suc k) (length rulesets) k) → AllHeld tree abi records k s o
     → AllHeld tree abi records (suc k) (change tree rulesets op s) (traced k op o)
 unfolding change state_by effect traced Alike is_create
 changed tree abi records k (Create rs fs net) rulesets s o makes all q =
-    alike-update (Holds tree abi records (suc k)) s.held o.rulesets rs q (Some (length rulesets)) (Some k) (makes refl) (later tree abi records k (s.held q) (o.rulesets q) (all q))
+    alike-update (Holds tree abi records (suc k)) s.held o.rulesets rs q (Some (length rulesets)) (Some k) (makes refl)
+    (later tree abi records k (s.held q) (o.rulesets q) (all q))
 changed tree abi records k (CreateEmpty rs) rulesets s o makes all q =
-    alike-update (Holds tree abi records (suc k)) s.held o.rulesets rs q (Some (length rulesets)) (Some k) (makes refl) (later tree abi records k (s.held q) (o.rulesets q) (all q))
+    alike-update (Holds tree abi records (suc k)) s.held o.rulesets rs q (Some (length rulesets)) (Some k) (makes refl)
+    (later tree abi records k (s.held q) (o.rulesets q) (all q))
 changed tree abi records k (CloseRs rs) rulesets s o makes all q =
     alike-update (Holds tree abi records (suc k)) s.held o.rulesets rs q None None tt
     (later tree abi records k (s.held q) (o.rulesets q) (all q))
@@ -169,11 +193,13 @@ keeps tree abi records = record {
       (let w : World = world_at tree abi records k in
       changed tree abi records k r.op w.rulesets (w.processes r.process.0) o
       (λ creates. created_here tree abi records k (length w.rulesets) r at judged creates
-      (subst (λ (rulesets : List Layer). HandlesJust (handled_by r.op) (handled_on_ports_by r.op) (slice_get rulesets (length w.rulesets))) (sym (next_rulesets tree abi records k r at)) (created_last tree abi w.rulesets (w.processes r.process.0) r.op allowed creates)))
+      (subst (λ (rulesets : List Layer). HandlesJust (handled_by r.op) (handled_on_ports_by r.op) (slice_get rulesets (length w.rulesets)))
+      (sym (next_rulesets tree abi records k r at)) (created_last tree abi w.rulesets (w.processes r.process.0) r.op allowed creates)))
       all);
 }
 
-all_held : (tree : List Entry) (abi : Abi) (records : List Record) (at process : ℕ) → AllHeld tree abi records at ((world_at tree abi records at).processes process) (origins_at tree abi records at process)
+all_held : (tree : List Entry) (abi : Abi) (records : List Record) (at process : ℕ)
+    → AllHeld tree abi records at ((world_at tree abi records at).processes process) (origins_at tree abi records at process)
 all_held tree abi records at process = holds_at tree abi records (AllHeld tree abi records) (keeps tree abi records) at process
 
 -- ---- the law
@@ -183,14 +209,17 @@ unfolding HandlesJust
 some_just fs net None just = absurd just
 some_just fs net (Some rules) just = refl
 
-is_named : (tree : List Entry) (abi : Abi) (records : List Record) (at : ℕ) (x y : Option ℕ) → Alike (Holds tree abi records at) x y → is_some (named (world_at tree abi records at).rulesets x) ≡ is_some x
+is_named : (tree : List Entry) (abi : Abi) (records : List Record) (at : ℕ) (x y : Option ℕ) → Alike (Holds tree abi records at) x y
+    → is_some (named (world_at tree abi records at).rulesets x) ≡ is_some x
 unfolding Alike
 is_named tree abi records at None None fits = refl
-is_named tree abi records at (Some j) (Some k) fits = some_just (handled_by fits.created.of.op) (handled_on_ports_by fits.created.of.op) (slice_get (world_at tree abi records at).rulesets j) fits.just
+is_named tree abi records at (Some j) (Some k) fits =
+    some_just (handled_by fits.created.of.op) (handled_on_ports_by fits.created.of.op) (slice_get (world_at tree abi records at).rulesets j) fits.just
 is_named tree abi records at None (Some k) fits = absurd fits
 is_named tree abi records at (Some j) None fits = absurd fits
 
-handles_named : (fs : Fs) (net : Net) (o : Option Layer) (rules : Layer) → o ≡ Some rules → HandlesJust fs net o → (fs ≡ rules.handled_files) × (net ≡ rules.handled_network)
+handles_named : (fs : Fs) (net : Net) (o : Option Layer) (rules : Layer) → o ≡ Some rules → HandlesJust fs net o
+    → (fs ≡ rules.handled_files) × (net ≡ rules.handled_network)
 unfolding HandlesJust
 handles_named fs net None rules is just = absurd just
 handles_named fs net (Some x) rules is just =
@@ -204,18 +233,21 @@ handled_there records k = handled_by (call_of (option_and_then (slice_get record
 handled_on_ports_there : List Record → Option ℕ → Net
 handled_on_ports_there records k = handled_on_ports_by (call_of (option_and_then (slice_get records) k))
 
-as_created : (tree : List Entry) (abi : Abi) (records : List Record) (at : ℕ) (x y : Option ℕ) (rules : Layer) → Alike (Holds tree abi records at) x y → named (world_at tree abi records at).rulesets x ≡ Some rules
+as_created : (tree : List Entry) (abi : Abi) (records : List Record) (at : ℕ) (x y : Option ℕ) (rules : Layer) → Alike (Holds tree abi records at) x y
+    → named (world_at tree abi records at).rulesets x ≡ Some rules
     → (handled_there records y ≡ rules.handled_files) × (handled_on_ports_there records y ≡ rules.handled_network)
 unfolding Alike handled_there handled_on_ports_there
 as_created tree abi records at None None rules fits is = absurd (none-some rules is)
 as_created tree abi records at (Some j) (Some k) rules fits is =
     let created = fits.created in
-    let same = handles_named (handled_by created.of.op) (handled_on_ports_by created.of.op) (slice_get (world_at tree abi records at).rulesets j) rules is fits.just in
+    let same =
+    handles_named (handled_by created.of.op) (handled_on_ports_by created.of.op) (slice_get (world_at tree abi records at).rulesets j) rules is fits.just in
     rw created.at same
 as_created tree abi records at None (Some k) rules fits is = absurd fits
 as_created tree abi records at (Some j) None rules fits is = absurd fits
 
-earlier : (tree : List Entry) (abi : Abi) (records : List Record) (at : ℕ) (x y : Option ℕ) → Alike (Holds tree abi records at) x y → IfSome y (IsEarlier is_create tree abi records at)
+earlier : (tree : List Entry) (abi : Abi) (records : List Record) (at : ℕ) (x y : Option ℕ) → Alike (Holds tree abi records at) x y
+    → IfSome y (IsEarlier is_create tree abi records at)
 unfolding Alike
 earlier tree abi records at None None fits = tt
 earlier tree abi records at (Some j) (Some k) fits = (fits.before, fits.created)
@@ -225,18 +257,25 @@ earlier tree abi records at (Some j) None fits = tt
 module _ (tree : List Entry) (abi : Abi) (records : List Record) (at process rs : ℕ) where
   pub ruleset_held : is_some ((origins_at tree abi records at process).rulesets rs) ≡ is_some (((world_at tree abi records at).processes process).held rs)
   ruleset_held =
-      alike-some (Holds tree abi records at) (((world_at tree abi records at).processes process).held rs) ((origins_at tree abi records at process).rulesets rs) (all_held tree abi records at process rs)
+      alike-some (Holds tree abi records at) (((world_at tree abi records at).processes process).held rs) ((origins_at tree abi records at process).rulesets rs)
+      (all_held tree abi records at process rs)
 
-  pub ruleset_named : is_some (named (world_at tree abi records at).rulesets (((world_at tree abi records at).processes process).held rs)) ≡ is_some (((world_at tree abi records at).processes process).held rs)
+  pub ruleset_named : is_some (named (world_at tree abi records at).rulesets (((world_at tree abi records at).processes process).held rs))
+      ≡ is_some (((world_at tree abi records at).processes process).held rs)
   ruleset_named =
-      is_named tree abi records at (((world_at tree abi records at).processes process).held rs) ((origins_at tree abi records at process).rulesets rs) (all_held tree abi records at process rs)
+      is_named tree abi records at (((world_at tree abi records at).processes process).held rs) ((origins_at tree abi records at process).rulesets rs)
+      (all_held tree abi records at process rs)
 
-  pub ruleset_handles : (rules : Layer) → named (world_at tree abi records at).rulesets (((world_at tree abi records at).processes process).held rs) ≡ Some rules
-      → (handled records (origins_at tree abi records at process) rs ≡ rules.handled_files) × (handled_on_ports records (origins_at tree abi records at process) rs ≡ rules.handled_network)
+  pub ruleset_handles : (rules : Layer)
+      → named (world_at tree abi records at).rulesets (((world_at tree abi records at).processes process).held rs) ≡ Some rules
+      → (handled records (origins_at tree abi records at process) rs ≡ rules.handled_files)
+      × (handled_on_ports records (origins_at tree abi records at process) rs ≡ rules.handled_network)
   unfolding handled handled_on_ports handled_there handled_on_ports_there
   ruleset_handles rules is =
-      as_created tree abi records at (((world_at tree abi records at).processes process).held rs) ((origins_at tree abi records at process).rulesets rs) rules (all_held tree abi records at process rs) is
+      as_created tree abi records at (((world_at tree abi records at).processes process).held rs) ((origins_at tree abi records at process).rulesets rs) rules
+      (all_held tree abi records at process rs) is
 
   pub ruleset_earlier : IfSome ((origins_at tree abi records at process).rulesets rs) (IsEarlier is_create tree abi records at)
   ruleset_earlier =
-      earlier tree abi records at (((world_at tree abi records at).processes process).held rs) ((origins_at tree abi records at process).rulesets rs) (all_held tree abi records at process rs)
+      earlier tree abi records at (((world_at tree abi records at).processes process).held rs) ((origins_at tree abi records at process).rulesets rs)
+      (all_held tree abi records at process rs)

@@ -39,7 +39,8 @@ pub never_faulty : {P : Type 0} (a m r : Bool) (x : Answer) (error : Errno) → 
 unfolding among
 never_faulty a m r x error can is = (let both : true ≡ false = sym can ∙ ap (among a m false r) is in absurd (cc))
 
-pub never_refused : {P : Type 0} (a m f : Bool) (x : Answer) (error : Errno) (number : ℕ) (numbers : List ℕ) → among a m f false x ≡ true → x ≡ Refused error (number ∷ numbers) → P
+pub never_refused : {P : Type 0} (a m f : Bool) (x : Answer) (error : Errno) (number : ℕ) (numbers : List ℕ) → among a m f false x ≡ true
+    → x ≡ Refused error (number ∷ numbers) → P
 unfolding among
 never_refused a m f x error number numbers can is = (let both : true ≡ false = sym can ∙ ap (among a m f false) is in absurd (cc))
 
@@ -54,7 +55,8 @@ pub can_allowed : among true true false false Allowed ≡ true
 unfolding among
 can_allowed = refl
 
-pub can_free : {A : Type 0} (r : Bool) (o : Option A) (asked : Answer) → among true true false r asked ≡ true → among true true false r (answers.if_free o asked) ≡ true
+pub can_free : {A : Type 0} (r : Bool) (o : Option A) (asked : Answer) → among true true false r asked ≡ true
+    → among true true false r (answers.if_free o asked) ≡ true
 unfolding among
 can_free r None asked can = can
 can_free r (Some held) asked can = refl
@@ -66,7 +68,8 @@ unfolding among
 can_refused_by m e [] = refl
 can_refused_by m e (number ∷ numbers) = refl
 
-pub can_request : (tree : List Entry) (domain : List Layer) (request : Option Request) → among true true false true (answers.of_request tree domain request) ≡ true
+pub can_request : (tree : List Entry) (domain : List Layer) (request : Option Request)
+    → among true true false true (answers.of_request tree domain request) ≡ true
 unfolding among
 can_request tree domain None = refl
 can_request tree domain (Some request) = can_refused_by true Acces _
@@ -77,12 +80,14 @@ can_verdict verdicts.Passed = refl
 can_verdict (verdicts.Refused error []) = refl
 can_verdict (verdicts.Refused error (number ∷ numbers)) = refl
 
-refused_verdict : (e : Errno) (numbers : List ℕ) (next : Verdict) → among true true false true (answers.of_verdict next) ≡ true → among true true false true (answers.of_verdict (refused_by e numbers next)) ≡ true
+refused_verdict : (e : Errno) (numbers : List ℕ) (next : Verdict) → among true true false true (answers.of_verdict next) ≡ true
+    → among true true false true (answers.of_verdict (refused_by e numbers next)) ≡ true
 unfolding among
 refused_verdict e [] next can = can
 refused_verdict e (number ∷ numbers) next can = refl
 
-either_verdict : (b : Bool) (next : Verdict) → among true true false true (answers.of_verdict next) ≡ true → among true true false true (answers.of_verdict (if b then verdicts.Passed else next)) ≡ true
+either_verdict : (b : Bool) (next : Verdict) → among true true false true (answers.of_verdict next) ≡ true
+    → among true true false true (answers.of_verdict (if b then verdicts.Passed else next)) ≡ true
 unfolding among
 either_verdict true next can = refl
 either_verdict false next can = can
@@ -92,7 +97,8 @@ unfolding among move_verdict
 can_move tree domain None = refl
 can_move tree domain (Some move) =
     refused_verdict Acces (numbers_where (denies tree move) domain) _
-    (either_verdict (path_eq (source_of tree move) (destination_of tree move.target)) _ (refused_verdict XDev (numbers_where (holds_back tree move) domain) verdicts.Passed refl))
+    (either_verdict (path_eq (source_of tree move) (destination_of tree move.target)) _
+    (refused_verdict XDev (numbers_where (holds_back tree move) domain) verdicts.Passed refl))
 
 can_truncate : (sort : Sort) (numbers : List ℕ) → among true true false true (answers.truncate_kept sort numbers) ≡ true
 unfolding among
@@ -119,7 +125,8 @@ can_ioctl (Some held) driver = can_ioctl_kept true held.sort held.kept driver
 
 -- ---- rulesets
 
-either : (b : Bool) (x y : Answer) → among true false true false x ≡ true → among true false true false y ≡ true → among true false true false (if b then x else y) ≡ true
+either : (b : Bool) (x y : Answer) → among true false true false x ≡ true → among true false true false y ≡ true
+    → among true false true false (if b then x else y) ≡ true
 either true x y this that = this
 either false x y this that = that
 
@@ -139,12 +146,15 @@ can_rule None = refl
 can_rule (Some (with_error e)) = refl
 can_rule (Some without_object) = refl
 
-pub can_add_path : (tree : List Entry) (path : List ℕ) (fs : Fs) (rules : Option Layer) → among true true true false (answers.add_path_answer tree path fs rules) ≡ true
+pub can_add_path : (tree : List Entry) (path : List ℕ) (fs : Fs) (rules : Option Layer)
+    → among true true true false (answers.add_path_answer tree path fs rules) ≡ true
 unfolding answers.add_path_answer among
 can_add_path tree path fs None = refl
 can_add_path tree path fs (Some rules) = can_rule _
 
-tests : (a b c d : Bool) → among true false true false (answers.of_rule_refusal (if a then Some (with_error Inval) else (if b then Some (with_error NoMsg) else (if c then Some (with_error Inval) else (if d then Some (with_error Inval) else None))))) ≡ true
+tests : (a b c d : Bool)
+    → among true false true false (answers.of_rule_refusal (if a then Some (with_error Inval)
+    else (if b then Some (with_error NoMsg) else (if c then Some (with_error Inval) else (if d then Some (with_error Inval) else None))))) ≡ true
 unfolding among
 tests true b c d = refl
 tests false true c d = refl
@@ -155,7 +165,8 @@ tests false false false false = refl
 pub can_add_port : (abi : Abi) (port : ℕ) (net : Net) (rules : Option Layer) → among true false true false (answers.add_port_answer abi port net rules) ≡ true
 unfolding answers.add_port_answer among
 can_add_port abi port net None = refl
-can_add_port abi port net (Some rules) = tests (not (has_ports abi)) (network.is_empty net) (not (network.is_within net rules.handled_network)) (nat_lt 65535 port)
+can_add_port abi port net (Some rules) =
+    tests (not (has_ports abi)) (network.is_empty net) (not (network.is_within net rules.handled_network)) (nat_lt 65535 port)
 
 pub can_restrict : (s : State) (rules : Option Layer) → among true false true false (answers.restrict_answer s rules) ≡ true
 unfolding answers.restrict_answer among

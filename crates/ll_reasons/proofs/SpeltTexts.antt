@@ -15,10 +15,12 @@ spelt_read text some = read_as (path_of text) some
 
 -- ---- the path above
 
-pub front_shape : (text above : List ℕ) → IsTrue (is_some (path_of text)) → ((path : Path) → path_of text ≡ Some path → path_of above ≡ Some (front path)) → IsTrue (is_some (path_of above))
+pub front_shape : (text above : List ℕ) → IsTrue (is_some (path_of text)) → ((path : Path) → path_of text ≡ Some path → path_of above ≡ Some (front path))
+    → IsTrue (is_some (path_of above))
 front_shape text above some step = rw (step (spelt text) (spelt_read text some)) refl
 
-pub front_spelt : (text above : List ℕ) → IsTrue (is_some (path_of text)) → ((path : Path) → path_of text ≡ Some path → path_of above ≡ Some (front path)) → spelt above ≡ front (spelt text)
+pub front_spelt : (text above : List ℕ) → IsTrue (is_some (path_of text)) → ((path : Path) → path_of text ≡ Some path → path_of above ≡ Some (front path))
+    → spelt above ≡ front (spelt text)
 front_spelt text above some step = ap path_or_root (step (spelt text) (spelt_read text some))
 
 alone : (b : Bool) → path_or_root (cond b (names_in []) None) ≡ []

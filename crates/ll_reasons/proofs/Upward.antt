@@ -25,10 +25,12 @@ by_above tree (name ∷ names) some =
 above_there : (tree : List Entry) (path : Path) (node : NodeId) → path ≢ [] → Some node ≡ node_at tree (front path) → nowhere tree path ≡ beside tree path node
 above_there tree path node some is = by_above tree path some ∙ ap (λ (above : Option NodeId). or_above tree path above (nowhere tree (front path))) (sym is)
 
-pub above_directory : (tree : List Entry) (path above : Path) (node : NodeId) → (above ≡ front path) × (path ≢ []) → Some node ≡ node_at tree above → is_dir (kind_at tree node) ≡ true → absent path ≡ nowhere tree path
+pub above_directory : (tree : List Entry) (path above : Path) (node : NodeId) → (above ≡ front path) × (path ≢ []) → Some node ≡ node_at tree above
+    → is_dir (kind_at tree node) ≡ true → absent path ≡ nowhere tree path
 above_directory tree path above node up is directory = sym (above_there tree path node up.1 (is ∙ ap (node_at tree) up.0) ∙ rw directory refl)
 
-pub above_other : (tree : List Entry) (path above : Path) (node : NodeId) → (above ≡ front path) × (path ≢ []) → Some node ≡ node_at tree above → is_dir (kind_at tree node) ≡ false → no_directory above ≡ nowhere tree path
+pub above_other : (tree : List Entry) (path above : Path) (node : NodeId) → (above ≡ front path) × (path ≢ []) → Some node ≡ node_at tree above
+    → is_dir (kind_at tree node) ≡ false → no_directory above ≡ nowhere tree path
 above_other tree path above node up is other = ap no_directory up.0 ∙ sym (above_there tree path node up.1 (is ∙ ap (node_at tree) up.0) ∙ rw other refl)
 
 pub above_gone : (tree : List Entry) (path : Path) → path ≢ [] → None ≡ node_at tree (front path) → nowhere tree path ≡ nowhere tree (front path)

@@ -87,3 +87,22 @@ execute_unhandled = failure (conditions.unhandled (execute ∷ []))
 
 abbrev pub execute_on_the_second : Explanation
 execute_on_the_second = objections ((2, missing (execute ∷ []) a_f ∷ []) ∷ [])
+
+-- All that unfolds when records of worked traces are explained.
+unfoldable pub explaining : Unit {0}
+unfolding
+    Rattle.ll_semantics.specs.WorkedWords.judging Rattle.ll_semantics.specs.Situations.world_at Rattle.ll_semantics.specs.Situations.world_after
+    explained_there Rattle.ll_reasons.specs.Explanations.explained_at Rattle.ll_reasons.specs.Explanations.explained
+    Rattle.ll_reasons.specs.Explanations.domain_at Rattle.ll_reasons.specs.Explanations.origins_at Rattle.ll_reasons.specs.Explanations.objections_to
+    Rattle.ll_reasons.specs.Origins.no_origins Rattle.ll_reasons.specs.Origins.traced Rattle.ll_reasons.specs.Origins.sources_by
+    Rattle.ll_reasons.specs.Origins.sources_after Rattle.ll_reasons.specs.Origins.sources_at Rattle.ll_reasons.specs.Objections.on_path
+    Rattle.ll_reasons.specs.Objections.on_port Rattle.ll_reasons.specs.Objections.on_mount Rattle.ll_reasons.specs.Objections.on_gain
+    Rattle.ll_reasons.specs.Objections.on_directories Rattle.ll_reasons.specs.Objections.on_other_gain Rattle.ll_reasons.specs.Objections.on_crossing
+    Rattle.ll_reasons.specs.Objections.objecting_from Rattle.ll_reasons.specs.Objections.to_request Rattle.ll_reasons.specs.Objections.to_move
+    Rattle.ll_reasons.specs.Conditions.handled Rattle.ll_reasons.specs.Conditions.handled_on_ports Rattle.ll_reasons.specs.Conditions.of_create
+    Rattle.ll_reasons.specs.Conditions.of_add_path Rattle.ll_reasons.specs.Conditions.of_add_port Rattle.ll_reasons.specs.Conditions.of_restrict
+    Rattle.ll_reasons.specs.Conditions.condition Rattle.ll_reasons.specs.Reasons.ends_at Rattle.ll_reasons.specs.Reasons.no_object
+    Rattle.ll_reasons.specs.Reasons.unsuited Rattle.ll_reasons.specs.Reasons.unmet Rattle.ll_reasons.specs.Reasons.onto
+    Rattle.ll_reasons.specs.Reasons.moved_to Rattle.ll_reasons.specs.Reasons.unrenamed Rattle.ll_reasons.specs.Reasons.linked_to
+    Rattle.ll_reasons.specs.Reasons.unlinked Rattle.ll_reasons.specs.Reasons.reason
+explaining = tt

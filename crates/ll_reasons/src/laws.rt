@@ -13,6 +13,7 @@ ghost use Rattle.ll_reasons.specs.Explanations.{explained, nothing};
 /// A record that is allowed has no explanation.
 #[tactic(auto, unfolding(crate::specs::Explanations::explained))]
 pub fn allowed_records_need_no_explanation()
-    ensures { (tree : List Entry) (abi : Abi) (records : List Record) (domain : List Layer) (o : Origins) (op : Op)
+    ensures { (tree : List Entry) (abi : Abi) (records : List Record)
+        (domain : List Layer) (o : Origins) (op : Op)
         → explained tree abi records domain o op Allowed ≡ nothing }
 {}

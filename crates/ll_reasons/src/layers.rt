@@ -14,16 +14,20 @@ ghost use Rattle.ll_reasons.specs.Explanations.{objections_to, domain_at, origin
 /// The layers that are explained are exactly those that refuse, in order: for every call of a process before the
 /// record at a place, and so for each record of a trace.
 pub fn refusing_layers_are_explained()
-    ensures calls { (tree : List Entry) (abi : Abi) (records : List Record) (place process : ℕ) (op : Op)
+    ensures calls { (tree : List Entry) (abi : Abi) (records : List Record)
+        (place process : ℕ) (op : Op)
         (error : Errno) (number : ℕ) (numbers : List ℕ)
         → answer_at tree abi records place process op ≡ Refused error (number ∷ numbers)
         → map (λ said. said.0) (objections_to tree (domain_at tree abi records place process)
-        (origins_at tree abi records place process) op error (number ∷ numbers)) ≡ number ∷ numbers }
-    ensures records { (tree : List Entry) (abi : Abi) (records : List Record) (place : ℕ) (of : Record)
+        (origins_at tree abi records place process) op error (number ∷ numbers))
+        ≡ number ∷ numbers }
+    ensures records { (tree : List Entry) (abi : Abi) (records : List Record)
+        (place : ℕ) (of : Record)
         (error : Errno) (number : ℕ) (numbers : List ℕ)
         → slice_get records place ≡ Some of
         → slice_get (judged tree abi records) place ≡ Some (Refused error (number ∷ numbers))
         → (said : List (ℕ × List Objection))
-        × (explained_at tree abi records place of (Refused error (number ∷ numbers)) ≡ objections said)
+        × (explained_at tree abi records place of (Refused error (number ∷ numbers))
+        ≡ objections said)
         × (map (λ one. one.0) said ≡ number ∷ numbers) }
 {}

@@ -49,7 +49,8 @@ fn moved_to<'t>(
     exchange: bool,
 ) -> Why<'t>
     requires { IsNode tree.now moved }
-    ensures { meant result ≡ moved_to tree.now (spelt from.now) moved (spelt to.now) (place tree.now to.now) exchange }
+    ensures { meant result
+        ≡ moved_to tree.now (spelt from.now) moved (spelt to.now) (place tree.now to.now) exchange }
 {
     match tree.place_of(to.as_str()) {
         Place::Node(there) => onto(tree, from, moved, to, there),
@@ -62,7 +63,8 @@ fn moved_to<'t>(
 /// Why an object isn't renamed, or two aren't exchanged.
 #[tactic(auto, unfolding(crate::specs::Meant::meant, crate::specs::Reasons::unrenamed))]
 pub fn unrenamed<'t>(tree: &Tree, from: &'t PathText, to: &'t PathText, exchange: bool) -> Why<'t>
-    ensures { meant result ≡ unrenamed tree.now (spelt from.now) (place tree.now from.now) (spelt to.now) (place tree.now to.now) exchange }
+    ensures { meant result ≡ unrenamed tree.now (spelt from.now) (place tree.now from.now)
+        (spelt to.now) (place tree.now to.now) exchange }
 {
     match tree.place_of(from.as_str()) {
         Place::Node(moved) if moved.is_root() => Why::Root,
@@ -76,7 +78,8 @@ pub fn unrenamed<'t>(tree: &Tree, from: &'t PathText, to: &'t PathText, exchange
 #[tactic(auto, unfolding(crate::specs::Meant::meant, crate::specs::Reasons::linked_to))]
 fn linked_to<'t>(tree: &Tree, from: &'t PathText, linked: NodeId, to: &'t PathText) -> Why<'t>
     requires { IsNode tree.now linked }
-    ensures { meant result ≡ linked_to tree.now (spelt from.now) linked (spelt to.now) (place tree.now to.now) }
+    ensures { meant result
+        ≡ linked_to tree.now (spelt from.now) linked (spelt to.now) (place tree.now to.now) }
 {
     match tree.place_of(to.as_str()) {
         Place::Node(_) => Why::Present(SpeltPath::of(to)),
@@ -88,7 +91,8 @@ fn linked_to<'t>(tree: &Tree, from: &'t PathText, linked: NodeId, to: &'t PathTe
 /// Why an object gets no further name.
 #[tactic(auto, unfolding(crate::specs::Meant::meant, crate::specs::Reasons::unlinked))]
 pub fn unlinked<'t>(tree: &Tree, from: &'t PathText, to: &'t PathText) -> Why<'t>
-    ensures { meant result ≡ unlinked tree.now (spelt from.now) (place tree.now from.now) (spelt to.now) (place tree.now to.now) }
+    ensures { meant result ≡ unlinked tree.now (spelt from.now) (place tree.now from.now)
+        (spelt to.now) (place tree.now to.now) }
 {
     match tree.place_of(from.as_str()) {
         Place::Node(linked) if linked.is_root() => Why::Root,

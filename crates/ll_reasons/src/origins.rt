@@ -14,9 +14,11 @@ ghost use Rattle.ll_reasons.specs.Explanations.{domain_at, origins_at, state_at,
 pub fn layers_come_from_their_restricts()
     ensures layers { (tree : List Entry) (abi : Abi) (records : List Record) (place process : ℕ)
         → domain_at tree abi records place process
-        ≡ filter_map (enforced_at tree abi records) (origins_at tree abi records place process).layers }
+        ≡ filter_map (enforced_at tree abi records)
+        (origins_at tree abi records place process).layers }
     ensures restricts { (tree : List Entry) (abi : Abi) (records : List Record) (place process : ℕ)
-        → All (IsEarlier is_restrict tree abi records place) (origins_at tree abi records place process).layers }
+        → All (IsEarlier is_restrict tree abi records place)
+        (origins_at tree abi records place process).layers }
     ensures count { (tree : List Entry) (abi : Abi) (records : List Record) (place process : ℕ)
         → length (origins_at tree abi records place process).layers
         ≡ length (domain_at tree abi records place process) }
@@ -30,13 +32,16 @@ pub fn layers_come_from_their_restricts()
 /// opened, whatever numbers it was duplicated to and processes it was handed down to since; and this record is an
 /// earlier `open` or `adopt` that was allowed.
 pub fn descriptors_come_from_their_openings()
-    ensures descriptors { (tree : List Entry) (abi : Abi) (records : List Record) (place process fd : ℕ)
+    ensures descriptors { (tree : List Entry) (abi : Abi)
+        (records : List Record) (place process fd : ℕ)
         → (state_at tree abi records place process).descriptors fd
-        ≡ option_and_then (opened_at tree abi records) ((origins_at tree abi records place process).openings fd) }
+        ≡ option_and_then (opened_at tree abi records)
+        ((origins_at tree abi records place process).openings fd) }
     ensures open { (tree : List Entry) (abi : Abi) (records : List Record) (place process fd : ℕ)
         → is_some ((origins_at tree abi records place process).openings fd)
         ≡ is_some ((state_at tree abi records place process).descriptors fd) }
-    ensures openings { (tree : List Entry) (abi : Abi) (records : List Record) (place process fd : ℕ)
+    ensures openings { (tree : List Entry) (abi : Abi)
+        (records : List Record) (place process fd : ℕ)
         → IfSome ((origins_at tree abi records place process).openings fd)
         (IsEarlier is_opening tree abi records place) }
 {}
@@ -50,13 +55,17 @@ pub fn rulesets_come_from_their_creations()
     ensures named { (tree : List Entry) (abi : Abi) (records : List Record) (place process rs : ℕ)
         → is_some (ruleset_at tree abi records place process rs)
         ≡ is_some ((state_at tree abi records place process).held rs) }
-    ensures files { (tree : List Entry) (abi : Abi) (records : List Record) (place process rs : ℕ) (rules : Layer)
+    ensures files { (tree : List Entry) (abi : Abi) (records : List Record)
+        (place process rs : ℕ) (rules : Layer)
         → ruleset_at tree abi records place process rs ≡ Some rules
         → handled records (origins_at tree abi records place process) rs ≡ rules.handled_files }
-    ensures ports { (tree : List Entry) (abi : Abi) (records : List Record) (place process rs : ℕ) (rules : Layer)
+    ensures ports { (tree : List Entry) (abi : Abi) (records : List Record)
+        (place process rs : ℕ) (rules : Layer)
         → ruleset_at tree abi records place process rs ≡ Some rules
-        → handled_on_ports records (origins_at tree abi records place process) rs ≡ rules.handled_network }
-    ensures creations { (tree : List Entry) (abi : Abi) (records : List Record) (place process rs : ℕ)
+        → handled_on_ports records (origins_at tree abi records place process) rs
+        ≡ rules.handled_network }
+    ensures creations { (tree : List Entry) (abi : Abi)
+        (records : List Record) (place process rs : ℕ)
         → IfSome ((origins_at tree abi records place process).rulesets rs)
         (IsEarlier is_create tree abi records place) }
 {}
@@ -65,5 +74,6 @@ pub fn rulesets_come_from_their_creations()
 pub fn layers_keep_their_numbers()
     ensures { (tree : List Entry) (abi : Abi) (records : List Record) (place process fd : ℕ)
         → IfSome ((origins_at tree abi records place process).openings fd)
-        (λ k. BeganAs (domain_at tree abi records place process) (domain_there tree abi records k)) }
+        (λ k.
+        BeganAs (domain_at tree abi records place process) (domain_there tree abi records k)) }
 {}

@@ -25,7 +25,8 @@ pub fn reasons_hold()
 
 /// Where a call fails with an error that no layer gives, what the condition says of it holds.
 pub fn conditions_hold()
-    ensures { (tree : List Entry) (abi : Abi) (records : List Record) (place process : ℕ) (op : Op) (error : Errno)
+    ensures { (tree : List Entry) (abi : Abi) (records : List Record) (place process : ℕ)
+        (op : Op) (error : Errno)
         → answer_at tree abi records place process op ≡ Refused error []
         → IsCondition abi (rulesets_at tree abi records place)
         (state_at tree abi records place process) op

@@ -20,15 +20,19 @@ ghost use Rattle.ll_reasons.specs.Remedies.{all_satisfied};
 /// Each right that is named of a layer is asked, handled and not granted there, or would be gained, and every such
 /// right is named.
 pub fn named_rights_are_needed()
-    ensures files { (layer : Layer) (path : Path) (asked : files.FsRight → Bool) (right : files.FsRight)
+    ensures files { (layer : Layer) (path : Path)
+        (asked : files.FsRight → Bool) (right : files.FsRight)
         → list_any (files.is_right right) (missing_rights layer path asked)
         ≡ (asked right && handles layer right && not (granted layer path right)) }
-    ensures ports { (layer : Layer) (port : ℕ) (asked : network.NetRight → Bool) (right : network.NetRight)
+    ensures ports { (layer : Layer) (port : ℕ)
+        (asked : network.NetRight → Bool) (right : network.NetRight)
         → list_any (network.is_right right) (closed_rights layer port asked)
-        ≡ (asked right && network.has layer.handled_network right && not (granted_on_port layer port right)) }
+        ≡ (asked right && network.has layer.handled_network right
+        && not (granted_on_port layer port right)) }
     ensures gains { (layer : Layer) (kind : Kind) (object directory : Path) (right : files.FsRight)
         → list_any (files.is_right right) (gained_rights layer kind object directory)
-        ≡ (granted layer directory right && (handles layer right && (is_dir kind || files.is_file_right right))
+        ≡ (granted layer directory right
+        && (handles layer right && (is_dir kind || files.is_file_right right))
         && not (granted layer object right)) }
 {}
 
@@ -48,6 +52,8 @@ pub fn granting_what_is_named_is_enough()
 /// In a domain, a layer that no longer lacks what is tested, in place of one that did, is not among the layers that
 /// refuse: whatever the test, so for paths, ports and moves.
 pub fn satisfied_layers_do_not_refuse()
-    ensures { (test : Layer → Bool) (domain : List Layer) (place : ℕ) (layer : Layer) → test layer ≡ false
-        → list_any (nat_eq (place + 1)) (numbers_where test (slice_set domain place layer)) ≡ false }
+    ensures { (test : Layer → Bool) (domain : List Layer) (place : ℕ) (layer : Layer)
+        → test layer ≡ false
+        → list_any (nat_eq (place + 1)) (numbers_where test (slice_set domain place layer))
+        ≡ false }
 {}

@@ -33,7 +33,8 @@ pub given_at : (of : Matter) (answers : List Answer) (place : ℕ) (answer : Ans
 given_at of answers place answer are below is = ap (λ given. slice_get given place) (sym are) ∙ stands answers place answer below is
 
 -- the answer at a place is that to the record there
-pub answer_at : (of : Matter) (answers : List Answer) (place : ℕ) (answer : Answer) (blocks : Blocks) (shown : Shown) → answers ≡ judged of.tree of.abi of.records
+pub answer_at : (of : Matter) (answers : List Answer) (place : ℕ) (answer : Answer) (blocks : Blocks) (shown : Shown)
+    → answers ≡ judged of.tree of.abi of.records
     → place < length answers → answer ≡ get_or answers place answer → AreAt shown of place blocks → IsAnswerAt blocks.case.now place answer
 answer_at of answers place answer blocks shown are below is at =
     rw at.same_case (given_at of answers place answer are below is)

@@ -11,7 +11,8 @@ use Rattle.ll_report.specs.Shown.{blocks_from, shown_text}
 use Rattle.ll_report.specs.Lines.{line_of, lines_of, refused_among, verdict_of}
 
 pub lines_of-next : (records : List Record) (answers : List Answer) (k : ℕ) (of : Record) (answer : Answer) → k < length records → k < length answers
-    → lines_of (drop k records) (drop k answers) ≡ line_of (get_or records k of) (get_or answers k answer) ∷ lines_of (drop (k + 1) records) (drop (k + 1) answers)
+    → lines_of (drop k records) (drop k answers)
+    ≡ line_of (get_or records k of) (get_or answers k answer) ∷ lines_of (drop (k + 1) records) (drop (k + 1) answers)
 unfolding lines_of
 lines_of-next records answers k of answer below below_answers =
     rw (drop-cons records k of below, drop-cons answers k answer below_answers, add-one k) refl
@@ -36,7 +37,8 @@ count_of-answers test [] [] same = refl
 count_of-answers test [] (answer ∷ answers) same = absurd (omega (arith, same))
 count_of-answers test (of ∷ others) [] same = absurd (omega (arith, same))
 count_of-answers test (of ∷ others) (answer ∷ answers) same =
-    let rest : count_of test (lines_of others answers) ≡ count_by (λ a. test (verdict_of a)) answers = count_of-answers test others answers (omega (arith, same)) in
+    let rest : count_of test (lines_of others answers) ≡ count_by (λ a. test (verdict_of a)) answers =
+    count_of-answers test others answers (omega (arith, same)) in
     omega (
       arith,
       rest,

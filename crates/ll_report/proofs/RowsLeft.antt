@@ -1,5 +1,6 @@
 -- What is said and written of the versions and the records that are left.
-use Rattle.std.proofs.Common.{◌≡◌, ◌∙◌, ℕ, ◌+◌, ◌<◌, ◌≤◌, List, [], ◌∷◌, ◌++◌, length, drop, get_or, map, refl, sym, ap, ap₂, append_assoc, append-nil, arith, drop_of_length-le}
+use Rattle.std.proofs.Common.{◌≡◌, ◌∙◌, ℕ, ◌+◌, ◌<◌, ◌≤◌, List, [], ◌∷◌, ◌++◌, length, drop, get_or, map, refl, sym, ap, ap₂, append_assoc, append-nil, arith}
+use Rattle.std.proofs.Common.{drop_of_length-le}
 use Rattle.std.proofs.lemmas.List.{map-append}
 use Rattle.ll_trace.specs.declared.record.Record.{Record}
 use Rattle.ll_options.specs.declared.shown.Shown.{Shown}
@@ -8,7 +9,8 @@ use Rattle.ll_report.specs.Rows.{row_text, rows_from, told_of, total_under_text,
 use Rattle.ll_report.proofs.SpansLeft.{next_of}
 
 -- elements are made into others one by one
-module _ {A B C : Type 0} (seen : B → C) (made : A → C) (xs : List A) (k : ℕ) (done : List B) (so_far : map seen done ++ map made (drop k xs) ≡ map made xs) where
+module _ {A B C : Type 0} (seen : B → C) (made : A → C) (xs : List A) (k : ℕ) (done : List B)
+    (so_far : map seen done ++ map made (drop k xs) ≡ map made xs) where
   pub one_made : (x : A) (new : B) (after : List B) → k < length xs → x ≡ get_or xs k x → seen new ≡ made x → after ≡ done ++ new ∷ []
       → map seen after ++ map made (drop (k + 1) xs) ≡ map made xs
   one_made x new after below is same pushed =
@@ -36,14 +38,16 @@ rows_from-nil shown oldest founds place = refl
 
 module _ (shown : Shown) (oldest : ℕ) (founds : List Found) (records : List Record) (place : ℕ) (before whole : List ℕ)
     (so_far : before ++ rows_from shown oldest founds place (drop place records) ≡ whole) where
-  pub one_row : (of : Record) (after : List ℕ) → place < length records → of ≡ get_or records place of → after ≡ before ++ row_text shown oldest founds place (told_of of)
+  pub one_row : (of : Record) (after : List ℕ) → place < length records → of ≡ get_or records place of
+      → after ≡ before ++ row_text shown oldest founds place (told_of of)
       → after ++ rows_from shown oldest founds (place + 1) (drop (place + 1) records) ≡ whole
   one_row of after below is written =
       let rest : List ℕ = rows_from shown oldest founds (place + 1) (drop (place + 1) records) in
       ap (λ (text : List ℕ). text ++ rest) written
       ∙ append_assoc before (row_text shown oldest founds place (told_of of)) rest
       ∙ ap (λ (text : List ℕ). before ++ text)
-      (sym (ap (rows_from shown oldest founds place) (next_of records place of below is) ∙ rows_from-next shown oldest founds place of (drop (place + 1) records)))
+      (sym (ap (rows_from shown oldest founds place) (next_of records place of below is)
+      ∙ rows_from-next shown oldest founds place of (drop (place + 1) records)))
       ∙ so_far
 
   pub all_rows : length records ≤ place → before ≡ whole
@@ -53,7 +57,8 @@ module _ (shown : Shown) (oldest : ℕ) (founds : List Found) (records : List Re
       (sym (ap (rows_from shown oldest founds place) (drop_of_length-le records past) ∙ rows_from-nil shown oldest founds place))
       ∙ so_far
 
-totals_from-next : (abi : ℕ) (found : Found) (others : List Found) → totals_from abi (found ∷ others) ≡ total_under_text abi found ++ totals_from (abi + 1) others
+totals_from-next : (abi : ℕ) (found : Found) (others : List Found)
+    → totals_from abi (found ∷ others) ≡ total_under_text abi found ++ totals_from (abi + 1) others
 unfolding totals_from
 totals_from-next abi found others = refl
 

@@ -1,5 +1,6 @@
 -- What is said of a record that all versions say the same of.
-use Rattle.std.proofs.Common.{◌≡◌, ◌∙◌, ℕ, ◌<◌, ◌+◌, List, [], ◌∷◌, ◌++◌, Bool, true, false, ◌&&◌, length, drop, get_or, map, refl, sym, ap, subst, ⊎_elim, append_assoc, arith}
+use Rattle.std.proofs.Common.{◌≡◌, ◌∙◌, ℕ, ◌<◌, ◌+◌, List, [], ◌∷◌, ◌++◌, Bool, true, false, ◌&&◌, length, drop, get_or, map, refl, sym, ap, subst, ⊎_elim}
+use Rattle.std.proofs.Common.{append_assoc, arith}
 use Rattle.std.specs.Prelude.{bytes_eq, codes}
 use Rattle.std.specs.List.{list_all}
 use Rattle.std.proofs.lemmas.Bool.{cases_Bool}
@@ -19,12 +20,14 @@ use Rattle.ll_report.specs.Spans.{agree, alone_text, versions_text}
 use Rattle.ll_report.proofs.SpansLeft.{next_of}
 
 -- one version more says the same as those that are left
-pub one_alike : {X : Type 0} (said : Found → X) (same : X) (founds : List Found) (k : ℕ) (found : Found) → (AreSaid said same (drop k founds) → AreSaid said same founds)
+pub one_alike : {X : Type 0} (said : Found → X) (same : X) (founds : List Found) (k : ℕ) (found : Found)
+    → (AreSaid said same (drop k founds) → AreSaid said same founds)
     → k < length founds → found ≡ get_or founds k found → said found ≡ same → AreSaid said same (drop (k + 1) founds) → AreSaid said same founds
 one_alike said same founds k found so_far below is says rest = so_far (subst (AreSaid said same) (sym (next_of founds k found below is)) (says, rest))
 
 module _ {X : Type 0} (said : Found → X) (text : X → List ℕ) (same : X) where
-  texts_alike : (founds : List Found) → AreSaid said same founds → list_all (λ (other : List ℕ). bytes_eq (text same) other) (map (λ (found : Found). text (said found)) founds) ≡ true
+  texts_alike : (founds : List Found) → AreSaid said same founds
+      → list_all (λ (other : List ℕ). bytes_eq (text same) other) (map (λ (found : Found). text (said found)) founds) ≡ true
   texts_alike [] are = refl
   texts_alike (found ∷ others) are =
       let first : bytes_eq (text same) (text (said found)) ≡ true = (bytes_eq-Decides (text same) (text (said found))).1 (ap text (sym are.0)) in
@@ -34,18 +37,21 @@ module _ {X : Type 0} (said : Found → X) (text : X → List ℕ) (same : X) wh
   agree_alike [] are = refl
   agree_alike (found ∷ others) are = rw are.0 (texts_alike others are.1)
 
-  pub versions_alike : (form : Form) (oldest : ℕ) (founds : List Found) → IsSaid said same founds → versions_text form oldest (map (λ (found : Found). text (said found)) founds) ≡ alone_text form (text same)
+  pub versions_alike : (form : Form) (oldest : ℕ) (founds : List Found) → IsSaid said same founds
+      → versions_text form oldest (map (λ (found : Found). text (said found)) founds) ≡ alone_text form (text same)
   versions_alike form oldest [] are = absurd (omega (arith, are.0))
   versions_alike form oldest (found ∷ others) are =
       rw (agree_alike (found ∷ others) are.1) (ap (λ (x : X). alone_text form (text x)) are.1.0)
 
 -- where all answer alike, some version refuses just where all do
 module _ (place : ℕ) (answer : Answer) where
-  none_refused : (founds : List Found) → AreSaid (λ (found : Found). answer_at found place) answer founds → is_refused (verdict_of answer) ≡ false → is_refused_under_some founds place ≡ false
+  none_refused : (founds : List Found) → AreSaid (λ (found : Found). answer_at found place) answer founds → is_refused (verdict_of answer) ≡ false
+      → is_refused_under_some founds place ≡ false
   none_refused [] are none = refl
   none_refused (found ∷ others) are none = rw (are.0, none) (none_refused others are.1 none)
 
-  pub refused_alike : (founds : List Found) → IsSaid (λ (found : Found). answer_at found place) answer founds → is_refused_under_some founds place ≡ is_refused (verdict_of answer)
+  pub refused_alike : (founds : List Found) → IsSaid (λ (found : Found). answer_at found place) answer founds
+      → is_refused_under_some founds place ≡ is_refused (verdict_of answer)
   refused_alike [] are = absurd (omega (arith, are.0))
   refused_alike (found ∷ others) are =
       ⊎_elim
@@ -65,10 +71,15 @@ joined before told blank verdict end behind =
     ∙ ap (λ (text : List ℕ). before ++ (text ++ end ++ behind)) (append_assoc told blank verdict)
 
 -- the row of a record that all versions answer alike
-module _ (shown : Shown) (oldest : ℕ) (founds : List Found) (place : ℕ) (of : Record) (answer : Answer) (are : IsSaid (λ (found : Found). answer_at found place) answer founds) where
+module _ (shown : Shown) (oldest : ℕ) (founds : List Found) (place : ℕ) (of : Record) (answer : Answer)
+    (are : IsSaid (λ (found : Found). answer_at found place) answer founds) where
   left_out_alike : is_row_left_out shown founds place ≡ is_left_out shown (verdict_of answer)
-  left_out_alike =
-      rw (refused_alike place answer founds are, agree_alike (λ (found : Found). answer_at found place) (λ (a : Answer). verdict_text (verdict_of a)) answer founds are.1, and-true shown.differing_alone) refl
+  left_out_alike = rw (
+    refused_alike place answer founds are,
+    agree_alike (λ (found : Found). answer_at found place)
+        (λ (a : Answer). verdict_text (verdict_of a)) answer founds are.1,
+    and-true shown.differing_alone,
+  ) refl
 
   pub row_left_out : is_left_out shown (verdict_of answer) ≡ true → row_text shown oldest founds place (told_of of) ≡ []
   row_left_out out = rw (left_out_alike ∙ out) refl
@@ -77,5 +88,9 @@ module _ (shown : Shown) (oldest : ℕ) (founds : List Found) (place : ℕ) (of 
       → (before ++ line_text (line_of of answer)) ++ behind_line shown.explanations (versions_text Explanations oldest (explanations_said founds place))
       ≡ before ++ row_text shown oldest founds place (told_of of)
   row_written before shows =
-      joined before (told_of of) (codes " ") (verdict_text (verdict_of answer)) (codes "\n") (behind_line shown.explanations (versions_text Explanations oldest (explanations_said founds place)))
-      ∙ rw (left_out_alike ∙ shows, versions_alike (λ (found : Found). answer_at found place) (λ (a : Answer). verdict_text (verdict_of a)) answer Answers oldest founds are) refl
+      joined before (told_of of) (codes " ") (verdict_text (verdict_of answer)) (codes "\n")
+      (behind_line shown.explanations (versions_text Explanations oldest (explanations_said founds place)))
+      ∙ rw (
+        left_out_alike ∙ shows,
+        versions_alike (λ (found : Found). answer_at found place) (λ (a : Answer). verdict_text (verdict_of a)) answer Answers oldest founds are,
+      ) refl

@@ -1,5 +1,6 @@
 -- What is said under the versions that are left.
-use Rattle.std.proofs.Common.{◌≡◌, ◌∙◌, ℕ, ◌+◌, ◌<◌, ◌≤◌, Bool, true, false, not, ◌&&◌, List, [], ◌∷◌, ◌++◌, length, drop, get_or, map, refl, sym, ap, ap₂, append_assoc, append-nil, add-one, drop_of_length-le}
+use Rattle.std.proofs.Common.{◌≡◌, ◌∙◌, ℕ, ◌+◌, ◌<◌, ◌≤◌, Bool, true, false, not, ◌&&◌, List, [], ◌∷◌, ◌++◌, length, drop, get_or, map, refl, sym, ap, ap₂}
+use Rattle.std.proofs.Common.{append_assoc, append-nil, add-one, drop_of_length-le}
 use Rattle.std.specs.Prelude.{bytes_eq}
 use Rattle.std.specs.List.{flat_map, list_all}
 use Rattle.std.proofs.Math.Seq.{drop-cons}
@@ -24,7 +25,8 @@ same_if true differs is so = refl
 same_if false differs is so = cc
 
 spans_from-same : (first last : ℕ) (current next : List ℕ) (others : List (List ℕ)) → bytes_eq current next ≡ true
-    → spans_from (record { first = first; last = last; said = current }) (next ∷ others) ≡ spans_from (record { first = first; last = last + 1; said = current }) others
+    → spans_from (record { first = first; last = last; said = current }) (next ∷ others)
+    ≡ spans_from (record { first = first; last = last + 1; said = current }) others
 unfolding spans_from
 spans_from-same first last current next others same = rw same refl
 
@@ -44,7 +46,8 @@ module _ {A : Type 0} (said : A → List ℕ) (form : Form) (others : List A) (k
   left n first last current = flat_map (span_text form) (spans_from (record { first = first; last = last; said = current }) (map said (drop n others)))
 
   module _ (first last : ℕ) (current before whole : List ℕ) (so_far : before ++ left k first last current ≡ whole) where
-    pub goes_on : (other : A) → k < length others → other ≡ get_or others k other → bytes_eq current (said other) ≡ true → before ++ left (k + 1) first (last + 1) current ≡ whole
+    pub goes_on : (other : A) → k < length others → other ≡ get_or others k other → bytes_eq current (said other) ≡ true
+        → before ++ left (k + 1) first (last + 1) current ≡ whole
     goes_on other below is same =
         ap (λ (spans : List Span). before ++ flat_map (span_text form) spans)
         (sym (ap (λ (xs : List A). spans_from (record { first = first; last = last; said = current }) (map said xs)) (next_of others k other below is)
@@ -52,7 +55,8 @@ module _ {A : Type 0} (said : A → List ℕ) (form : Form) (others : List A) (k
         ∙ so_far
 
     pub ends_here : (other : A) (after : List ℕ) → k < length others → other ≡ get_or others k other → bytes_eq current (said other) ≡ false
-        → after ≡ before ++ span_text form (record { first = first; last = last; said = current }) → after ++ left (k + 1) (last + 1) (last + 1) (said other) ≡ whole
+        → after ≡ before ++ span_text form (record { first = first; last = last; said = current })
+        → after ++ left (k + 1) (last + 1) (last + 1) (said other) ≡ whole
     ends_here other after below is differs written =
         let span : Span = record { first = first; last = last; said = current } in
         let rest : List ℕ = left (k + 1) (last + 1) (last + 1) (said other) in
@@ -63,7 +67,8 @@ module _ {A : Type 0} (said : A → List ℕ) (form : Form) (others : List A) (k
         ∙ spans_from-other first last current (said other) (map said (drop (k + 1) others)) differs))
         ∙ so_far
 
-    pub is_last : (after : List ℕ) → length others ≤ k → after ≡ before ++ span_text form (record { first = first; last = last; said = current }) → after ≡ whole
+    pub is_last : (after : List ℕ) → length others ≤ k
+        → after ≡ before ++ span_text form (record { first = first; last = last; said = current }) → after ≡ whole
     is_last after past written =
         let span : Span = record { first = first; last = last; said = current } in
         written

@@ -37,11 +37,11 @@ numbers_text first last = decimal first ++ (if first == last then [] else codes 
 -- explained there is neither.
 abbrev pub span_text : Form → Span → List ℕ
 span_text Answers span = codes " " ++ numbers_text span.first span.last ++ codes " " ++ span.said
-span_text Explanations span = beneath (numbers_text span.first span.last) span.said
+span_text Explanations span = under (numbers_text span.first span.last) span.said
   where
-    beneath : List ℕ → List ℕ → List ℕ
-    beneath numbers [] = []
-    beneath numbers (byte ∷ bytes) = codes "    abi " ++ numbers ++ codes ":\n" ++ byte ∷ bytes
+    under : List ℕ → List ℕ → List ℕ
+    under numbers [] = []
+    under numbers (byte ∷ bytes) = codes "    abi " ++ numbers ++ codes ":\n" ++ byte ∷ bytes
 
 -- what all versions say is told without their numbers
 abbrev pub alone_text : Form → List ℕ → List ℕ

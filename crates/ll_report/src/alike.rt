@@ -9,7 +9,8 @@ use ll_process::Answer;
 
 /// The answer of all versions to the record at a place, where they answer alike.
 pub(crate) fn common_answer(findings: &[Finding], place: usize) -> Option<Answer>
-    ensures { IfSome result (λ answer. IsSaid (λ found. answer_at found place) answer findings.now) }
+    ensures { IfSome result
+        (λ answer. IsSaid (λ found. answer_at found place) answer findings.now) }
 {
     let Some(first) = findings.first() else {
         return None;
@@ -25,7 +26,8 @@ pub(crate) fn common_answer(findings: &[Finding], place: usize) -> Option<Answer
 
 /// The explanation of all versions of the record at a place, where they explain alike.
 pub(crate) fn common_explanation(findings: &[Finding], place: usize) -> Option<&[u8]>
-    ensures { IfSome result (λ explanation. IsSaid (λ found. explanation_at found place) explanation.now findings.now) }
+    ensures { IfSome result
+        (λ explanation. IsSaid (λ found. explanation_at found place) explanation.now findings.now) }
 {
     let Some(first) = findings.first() else {
         return None;

@@ -62,7 +62,9 @@ impl<'a> Blocks<'a> {
         requires answer { IsAnswerAt self.now.case.now place answer }
         requires trails { AreAt self.now.shown self.now.case.now place self.now }
         ensures { OnOk result (text.new.items ≡ text.old.items
-            ++ behind_line self.now.shown.explanations (text_at self.now.case.now.tree self.now.case.now.abi self.now.case.now.records place)) }
+            ++ behind_line self.now.shown.explanations
+            (text_at self.now.case.now.tree self.now.case.now.abi
+            self.now.case.now.records place)) }
     {
         match &self.trails {
             Some(trails) => push_explanation(alloc, text, self.case, trails, place, answer),
@@ -82,8 +84,10 @@ impl<'a> Blocks<'a> {
         requires place { place < length self.now.case.now.records }
         requires answer { IsAnswerAt self.now.case.now place answer }
         requires trails { AreAt self.now.shown self.now.case.now place self.now }
-        ensures { OnOk result (text.new.items ≡ text.old.items ++ block_text self.now.shown (line_of «record».now answer)
-            (text_at self.now.case.now.tree self.now.case.now.abi self.now.case.now.records place)) }
+        ensures { OnOk result (text.new.items
+            ≡ text.old.items ++ block_text self.now.shown (line_of «record».now answer)
+            (text_at self.now.case.now.tree self.now.case.now.abi
+            self.now.case.now.records place)) }
     {
         if is_hidden(self.shown, &answer) {
             return Ok(());
@@ -116,7 +120,8 @@ pub(crate) fn push_blocks(
 ) -> Result<(), NoMemory>
     requires { answers.now ≡ judged case.now.tree case.now.abi case.now.records }
     ensures { OnOk result (text.new.items ≡ text.old.items
-        ++ blocks_from shown (text_at case.now.tree case.now.abi case.now.records) 0 (lines_of case.now.records answers.now)) }
+        ++ blocks_from shown (text_at case.now.tree case.now.abi case.now.records) 0
+        (lines_of case.now.records answers.now)) }
 {
     let mut blocks = Blocks::new(alloc, case, shown);
     for (place, record) in case.trace().records().iter().enumerate() {

@@ -29,7 +29,8 @@ impl Model for Finding {
 
     ghost Value = { Found };
 
-    ghost view = { λ finding. record { answers = finding.answers.items; explanations = finding.explanations } };
+    ghost view = { λ finding.
+        record { answers = finding.answers.items; explanations = finding.explanations } };
 }
 
 impl Finding {
@@ -43,7 +44,8 @@ impl Finding {
         newer: Option<&Finding>,
     ) -> Result<Finding, NoMemory>
         requires { answers.items ≡ judged case.now.tree case.now.abi case.now.records }
-        ensures { IfOk result (λ found. found ≡ found_under shown case.now.tree case.now.records case.now.abi) }
+        ensures { IfOk result (λ found. found
+            ≡ found_under shown case.now.tree case.now.records case.now.abi) }
     {
         let explanations = if shown.explanations {
             explanations_of(alloc, case, &answers, newer)?
@@ -107,7 +109,8 @@ fn explanations_of(
 ) -> Result<Texts, NoMemory>
     requires { answers.now ≡ judged case.now.tree case.now.abi case.now.records }
     ensures { IfOk result (λ texts. texts
-        ≡ map (text_at case.now.tree case.now.abi case.now.records) (range_with_len 0 (length case.now.records))) }
+        ≡ map (text_at case.now.tree case.now.abi case.now.records)
+        (range_with_len 0 (length case.now.records))) }
 {
     let others = match newer {
         Some(newer) => Some(&newer.explanations),

@@ -9,5 +9,6 @@ ghost use Rattle.ll_report.specs.Report.{report_text};
 
 /// The report on an empty trace.
 pub fn empty_report()
-    ensures { report_text (lines_of [] (judged worked_tree V4 [])) ≡ codes "total 0 allowed 0 refused 0 moot 0\n" }
+    ensures { report_text (lines_of [] (judged worked_tree V4 []))
+        ≡ codes "total 0 allowed 0 refused 0 moot 0\n" }
 {}

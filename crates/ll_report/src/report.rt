@@ -163,7 +163,8 @@ pub(crate) fn push_total(
 
 /// Adds how a record was answered.
 pub(crate) fn push_verdict(text: &mut Vec<u8>, answer: &Answer) -> Result<(), AllocError>
-    ensures { OnOk result (text.new.items ≡ text.old.items ++ verdict_text (verdict_of answer.now)) }
+    ensures { OnOk result (text.new.items
+        ≡ text.old.items ++ verdict_text (verdict_of answer.now)) }
 {
     match answer {
         Answer::Allowed => text.extend_from_slice(b"allowed"),
@@ -178,7 +179,8 @@ pub(crate) fn push_line(
     record: &Record,
     answer: &Answer,
 ) -> Result<(), AllocError>
-    ensures { OnOk result (text.new.items ≡ text.old.items ++ line_text (line_of «record».now answer.now)) }
+    ensures { OnOk result (text.new.items
+        ≡ text.old.items ++ line_text (line_of «record».now answer.now)) }
 {
     push_head(text, record.line, record.pid, record.op.name())?;
     push_verdict(text, answer)?;
@@ -216,9 +218,12 @@ pub(crate) struct Totals {
 impl Totals {
     pub(crate) fn of(answers: &[Answer]) -> Totals
         ensures all { result.all ≡ length answers.now }
-        ensures allowed { result.allowed ≡ count_by (λ answer. words.is_allowed (verdict_of answer)) answers.now }
-        ensures refused { result.refused ≡ count_by (λ answer. words.is_refused (verdict_of answer)) answers.now }
-        ensures moot { result.moot ≡ count_by (λ answer. words.is_moot (verdict_of answer)) answers.now }
+        ensures allowed { result.allowed
+            ≡ count_by (λ answer. words.is_allowed (verdict_of answer)) answers.now }
+        ensures refused { result.refused
+            ≡ count_by (λ answer. words.is_refused (verdict_of answer)) answers.now }
+        ensures moot { result.moot
+            ≡ count_by (λ answer. words.is_moot (verdict_of answer)) answers.now }
     {
         Totals {
             all: answers.len() as u64,

@@ -26,7 +26,8 @@ fn said_under(
     findings: &[Finding],
     place: usize,
 ) -> Result<Vec<Vec<u8>>, AllocError>
-    ensures { IfOk result (λ said. map (λ text. text.items) said.items ≡ said_under form findings.now place) }
+    ensures { IfOk result (λ said. map (λ text. text.items) said.items
+        ≡ said_under form findings.now place) }
 {
     let mut said = Vec::new(alloc);
     for finding in findings {
@@ -80,8 +81,10 @@ impl<'f> Versions<'f> {
     /// Adds what is behind the line of the record at a place.
     fn push_behind(&self, text: &mut Vec<u8>, place: usize) -> Result<(), AllocError>
         requires { self.now.oldest + length self.now.findings.now < 2 ^ 64 }
-        ensures { OnOk result (text.new.items ≡ text.old.items ++ behind_line self.now.shown.explanations
-            (versions_text Explanations self.now.oldest (explanations_said self.now.findings.now place))) }
+        ensures { OnOk result (text.new.items
+            ≡ text.old.items ++ behind_line self.now.shown.explanations
+            (versions_text Explanations self.now.oldest
+            (explanations_said self.now.findings.now place))) }
     {
         if !self.shown.explanations {
             return Ok(());
@@ -105,7 +108,8 @@ impl<'f> Versions<'f> {
         requires few { self.now.oldest + length self.now.findings.now < 2 ^ 64 }
         requires common { IsSaid (λ found. answer_at found place) answer self.now.findings.now }
         ensures { OnOk result (text.new.items ≡ text.old.items
-            ++ row_text self.now.shown self.now.oldest self.now.findings.now place (told_of «record».now)) }
+            ++ row_text self.now.shown self.now.oldest self.now.findings.now place
+            (told_of «record».now)) }
     {
         if is_hidden(self.shown, &answer) {
             return Ok(());
@@ -118,7 +122,8 @@ impl<'f> Versions<'f> {
     fn push_row(&self, text: &mut Vec<u8>, place: usize, record: &Record) -> Result<(), AllocError>
         requires { self.now.oldest + length self.now.findings.now < 2 ^ 64 }
         ensures { OnOk result (text.new.items ≡ text.old.items
-            ++ row_text self.now.shown self.now.oldest self.now.findings.now place (told_of «record».now)) }
+            ++ row_text self.now.shown self.now.oldest self.now.findings.now place
+            (told_of «record».now)) }
     {
         if let Some(answer) = common_answer(self.findings, place) {
             return self.push_common_row(text, place, record, answer);
@@ -148,7 +153,8 @@ impl<'f> Versions<'f> {
     /// Adds the last lines, one a version.
     fn push_totals(&self, text: &mut Vec<u8>) -> Result<(), AllocError>
         requires { self.now.oldest + length self.now.findings.now < 2 ^ 64 }
-        ensures { OnOk result (text.new.items ≡ text.old.items ++ totals_from self.now.oldest self.now.findings.now) }
+        ensures { OnOk result (text.new.items
+            ≡ text.old.items ++ totals_from self.now.oldest self.now.findings.now) }
     {
         let mut abi = self.oldest;
         for finding in self.findings {
@@ -185,8 +191,10 @@ impl Report {
         records: &[Record],
     ) -> Result<Report, AllocError>
         requires { oldest + length findings.now < 2 ^ 64 }
-        ensures text { IfOk result (λ report. report.bytes.items ≡ rows_text shown oldest findings.now records.now) }
-        ensures refused { IfOk result (λ report. report.refused ≡ refused_under_some findings.now records.now) }
+        ensures text { IfOk result
+            (λ report. report.bytes.items ≡ rows_text shown oldest findings.now records.now) }
+        ensures refused { IfOk result
+            (λ report. report.refused ≡ refused_under_some findings.now records.now) }
     {
         let versions = Versions {
             alloc,

@@ -119,7 +119,8 @@ impl<'s> Sayings<'s> {
     pub(crate) fn push_to(&self, text: &mut Vec<u8>) -> Result<(), AllocError>
         requires { self.now.oldest + length self.now.said.now < 2 ^ 64 }
         ensures { OnOk result (text.new.items ≡ text.old.items
-            ++ versions_text self.now.form self.now.oldest (map (λ text. text.items) self.now.said.now)) }
+            ++ versions_text self.now.form self.now.oldest
+            (map (λ text. text.items) self.now.said.now)) }
     {
         match self.said.first() {
             Some(first) if agree(self.said) => push_alone(text, self.form, first),

@@ -1,11 +1,13 @@
 -- Members of a set of bits, place by place: what `|`, `&` and `!` make of them.
-use Rattle.std.proofs.Common.{◌≡◌, ◌≢◌, ℕ, zero, suc, ◌+◌, ◌-◌, ◌%◌, ◌^◌, ◌<◌, ◌≤◌, min, max, Bool, true, false, not, ◌&&◌, ◌||◌, eqb, leb, List, [], ◌∷◌, length, get_or, refl, sym, ap, subst, ◌∙◌, arith, inl, inr, bit_and, bit_or, bit_xor}
+use Rattle.std.proofs.Common.{◌≡◌, ◌≢◌, ℕ, zero, suc, ◌+◌, ◌-◌, ◌%◌, ◌^◌, ◌<◌, ◌≤◌, min, max, Bool, true, false, not, ◌&&◌, ◌||◌, eqb, leb, List, [], ◌∷◌}
+use Rattle.std.proofs.Common.{length, get_or, refl, sym, ap, subst, ◌∙◌, arith, inl, inr, bit_and, bit_or, bit_xor}
 use Rattle.std.specs.Int.{bit_at, w32, bit_not}
 use Rattle.std.specs.List.{list_any, list_all, range_with_len}
 use Rattle.std.proofs.lemmas.Bool.{cases_Bool, cases_lt, cases_eq, and_parts, leb-false, le-leb, lt-leb, lt-ltb, le-ltb, eqb-false, eq-eqb, ne_eqb, false≢true}
 use Rattle.std.specs.Int.Bits.{and_self, xor_assoc, xor_self, xor_add_and}
 use Rattle.std.proofs.lemmas.Nat.{pow_pos, pow_below, or_lt, xor_lt, le_or_l, le_or_r, and_le_l, and_le_r, and_assoc, and_comm, and-not}
-use Rattle.std.proofs.lemmas.Nat.Bits.{bit_at_or, bit_at_and, bit_at_xor, bit_at_not, bit_at-lt, bit_at-zero, bit_at-pow_same, bit_at-pow_other, same_from_bits, same_from_bits_below}
+use Rattle.std.proofs.lemmas.Nat.Bits.{bit_at_or, bit_at_and, bit_at_xor, bit_at_not, bit_at-lt, bit_at-zero, bit_at-pow_same, bit_at-pow_other, same_from_bits}
+use Rattle.std.proofs.lemmas.Nat.Bits.{same_from_bits_below}
 use Rattle.std.proofs.lemmas.List.FromFn.{get_or-range_with_len, length-range_with_len}
 use Rattle.std.proofs.lemmas.List.Folds.{list_any-from_Any}
 use Rattle.ll_rights.specs.Bits.{has_place}
@@ -35,39 +37,37 @@ has_place-other named bits place le = rw (le-ltb place named le) refl
 
 -- a single bit is that place's alone
 pub has_place-power : (named one place : ℕ) → one ≤ named → place ≤ named → has_place named (2 ^ one) place ≡ eqb place one
-has_place-power named one place one_in place_in =
-    elim (cases_lt place named) [
-      | inl lt ↦
-          rw (has_place-named named (2 ^ one) place lt)
-          (elim (cases_eq place one) [
-            | inl same ↦ rw (same, bit_at-pow_same one) (sym (eq-eqb one one refl))
-            | inr differs ↦ rw (bit_at-pow_other one place differs, ne_eqb place one differs) refl
-          ])
-      | inr le ↦
-          let last : place ≡ named = omega arith in
-          rw (has_place-other named (2 ^ one) place le)
-          (elim (cases_eq place one) [
-            | inl same ↦ rw (eq-eqb place one same) (le-leb (2 ^ named) (2 ^ one) (rw (← same, last) (omega arith)))
-            | inr differs ↦ rw (ne_eqb place one differs) (lt-leb (2 ^ named) (2 ^ one) (pow_below one named (omega arith)))
-          ])
-    ]
+has_place-power named one place one_in place_in = elim (cases_lt place named) [
+  | inl lt ↦
+      rw (has_place-named named (2 ^ one) place lt)
+      (elim (cases_eq place one) [
+        | inl same ↦ rw (same, bit_at-pow_same one) (sym (eq-eqb one one refl))
+        | inr differs ↦ rw (bit_at-pow_other one place differs, ne_eqb place one differs) refl
+      ])
+  | inr le ↦
+      let last : place ≡ named = omega arith in
+      rw (has_place-other named (2 ^ one) place le)
+      (elim (cases_eq place one) [
+        | inl same ↦ rw (eq-eqb place one same) (le-leb (2 ^ named) (2 ^ one) (rw (← same, last) (omega arith)))
+        | inr differs ↦ rw (ne_eqb place one differs) (lt-leb (2 ^ named) (2 ^ one) (pow_below one named (omega arith)))
+      ])
+]
 
 or_above : (named a b : ℕ) → leb (2 ^ named) (bit_or a b) ≡ (leb (2 ^ named) a || leb (2 ^ named) b)
-or_above named a b =
-    elim (cases_lt a (2 ^ named)) [
-      | inl low_a ↦ elim (cases_lt b (2 ^ named)) [
-        | inl low_b ↦ rw (lt-leb (2 ^ named) (bit_or a b) (or_lt named a b low_a low_b), lt-leb (2 ^ named) a low_a, lt-leb (2 ^ named) b low_b) refl
-        | inr high_b ↦ rw (le-leb (2 ^ named) (bit_or a b) (omega (arith, le_or_r a b)), lt-leb (2 ^ named) a low_a, le-leb (2 ^ named) b high_b) refl
-      ]
-      | inr high_a ↦ rw (le-leb (2 ^ named) (bit_or a b) (omega (arith, le_or_l a b)), le-leb (2 ^ named) a high_a) refl
-    ]
+or_above named a b = elim (cases_lt a (2 ^ named)) [
+  | inl low_a ↦ elim (cases_lt b (2 ^ named)) [
+    | inl low_b ↦ rw (lt-leb (2 ^ named) (bit_or a b) (or_lt named a b low_a low_b), lt-leb (2 ^ named) a low_a, lt-leb (2 ^ named) b low_b) refl
+    | inr high_b ↦ rw (le-leb (2 ^ named) (bit_or a b) (omega (arith, le_or_r a b)), lt-leb (2 ^ named) a low_a, le-leb (2 ^ named) b high_b) refl
+  ]
+  | inr high_a ↦ rw (le-leb (2 ^ named) (bit_or a b) (omega (arith, le_or_l a b)), le-leb (2 ^ named) a high_a) refl
+]
 
 pub has_place-or : (named a b place : ℕ) → has_place named (bit_or a b) place ≡ (has_place named a place || has_place named b place)
-has_place-or named a b place =
-    elim (cases_lt place named) [
-      | inl lt ↦ rw (has_place-named named (bit_or a b) place lt, has_place-named named a place lt, has_place-named named b place lt, bit_at_or a b place) ((one_of_bits (bit_at a place) (bit_at b place) (bit_at-lt a place) (bit_at-lt b place)).0)
-      | inr le ↦ rw (has_place-other named (bit_or a b) place le, has_place-other named a place le, has_place-other named b place le) (or_above named a b)
-    ]
+has_place-or named a b place = elim (cases_lt place named) [
+  | inl lt ↦ rw (has_place-named named (bit_or a b) place lt, has_place-named named a place lt, has_place-named named b place lt, bit_at_or a b place)
+      ((one_of_bits (bit_at a place) (bit_at b place) (bit_at-lt a place) (bit_at-lt b place)).0)
+  | inr le ↦ rw (has_place-other named (bit_or a b) place le, has_place-other named a place le, has_place-other named b place le) (or_above named a b)
+]
 
 -- what is known has no bit from the first unnamed place on
 pub known_below : (named bits : ℕ) → has_place named bits named ≡ false → bits < 2 ^ named
@@ -78,34 +78,44 @@ and_false true y e = e
 and_false false y e = refl
 
 pub has_place-lacking : (named wanted handled granted place : ℕ) → named ≤ 32 → granted < 2 ^ 32 → handled < 2 ^ named
-    → has_place named (bit_and (bit_and wanted handled) (bit_not w32 granted)) place ≡ (has_place named wanted place && has_place named handled place && not (has_place named granted place))
-has_place-lacking named wanted handled granted place narrow fits known =
-    elim (cases_lt place named) [
-      | inl lt ↦
-          let within : place < 32 = omega arith in
-          rw (has_place-named named (bit_and (bit_and wanted handled) (bit_not w32 granted)) place lt, has_place-named named wanted place lt, has_place-named named handled place lt, has_place-named named granted place lt, bit_at_and (bit_and wanted handled) (bit_not w32 granted) place, bit_at_and wanted handled place, bit_at_not w32 granted place fits within)
-          ((one_of_bits (min (bit_at wanted place) (bit_at handled place)) (1 - bit_at granted place) (omega (arith, bit_at-lt wanted place)) (omega arith)).1
-          ∙ ap (λ (b : Bool). b && eqb (1 - bit_at granted place) 1) ((one_of_bits (bit_at wanted place) (bit_at handled place) (bit_at-lt wanted place) (bit_at-lt handled place)).1)
-          ∙ ap (λ (b : Bool). (eqb (bit_at wanted place) 1 && eqb (bit_at handled place) 1) && b) (one_of_not (bit_at granted place) (bit_at-lt granted place)))
-      | inr le ↦
-          let low : bit_and (bit_and wanted handled) (bit_not w32 granted) < 2 ^ named = omega (arith, and_le_l (bit_and wanted handled) (bit_not w32 granted), and_le_r wanted handled) in
-          let nothing : has_place named handled place ≡ false = has_place-other named handled place le ∙ lt-leb (2 ^ named) handled known in
-          has_place-other named (bit_and (bit_and wanted handled) (bit_not w32 granted)) place le ∙ lt-leb (2 ^ named) (bit_and (bit_and wanted handled) (bit_not w32 granted)) low
-          ∙ sym (ap (λ (b : Bool). b && not (has_place named granted place)) (and_false (has_place named wanted place) (has_place named handled place) nothing))
-    ]
+    → has_place named (bit_and (bit_and wanted handled) (bit_not w32 granted)) place
+    ≡ (has_place named wanted place && has_place named handled place && not (has_place named granted place))
+has_place-lacking named wanted handled granted place narrow fits known = elim (cases_lt place named) [
+  | inl lt ↦
+      let within : place < 32 = omega arith in
+      rw (
+        has_place-named named (bit_and (bit_and wanted handled) (bit_not w32 granted)) place lt,
+        has_place-named named wanted place lt,
+        has_place-named named handled place lt,
+        has_place-named named granted place lt,
+        bit_at_and (bit_and wanted handled) (bit_not w32 granted) place,
+        bit_at_and wanted handled place,
+        bit_at_not w32 granted place fits within,
+      )
+      ((one_of_bits (min (bit_at wanted place) (bit_at handled place)) (1 - bit_at granted place) (omega (arith, bit_at-lt wanted place)) (omega arith)).1
+      ∙ ap (λ (b : Bool). b && eqb (1 - bit_at granted place) 1)
+      ((one_of_bits (bit_at wanted place) (bit_at handled place) (bit_at-lt wanted place) (bit_at-lt handled place)).1)
+      ∙ ap (λ (b : Bool). (eqb (bit_at wanted place) 1 && eqb (bit_at handled place) 1) && b) (one_of_not (bit_at granted place) (bit_at-lt granted place)))
+  | inr le ↦
+      let low : bit_and (bit_and wanted handled) (bit_not w32 granted) < 2 ^ named =
+      omega (arith, and_le_l (bit_and wanted handled) (bit_not w32 granted), and_le_r wanted handled) in
+      let nothing : has_place named handled place ≡ false = has_place-other named handled place le ∙ lt-leb (2 ^ named) handled known in
+      has_place-other named (bit_and (bit_and wanted handled) (bit_not w32 granted)) place le
+      ∙ lt-leb (2 ^ named) (bit_and (bit_and wanted handled) (bit_not w32 granted)) low
+      ∙ sym (ap (λ (b : Bool). b && not (has_place named granted place)) (and_false (has_place named wanted place) (has_place named handled place) nothing))
+]
 
 -- ---- all places
 
 -- a test that no place passes, place by place
 pub any_false : (f : ℕ → Bool) (n place : ℕ) → list_any f (range_with_len 0 n) ≡ false → place < n → f place ≡ false
-any_false f n place none lt =
-    elim (cases_Bool (f place)) [
-      | inl holds ↦
-          let at : get_or (range_with_len 0 n) place place ≡ place = get_or-range_with_len 0 n place place lt ∙ omega arith in
-          let some = list_any-from_Any f (range_with_len 0 n) (place, place, omega (arith, length-range_with_len 0 n), at, holds) in
-          absurd (false≢true (sym none ∙ some))
-      | inr fails ↦ fails
-    ]
+any_false f n place none lt = elim (cases_Bool (f place)) [
+  | inl holds ↦
+      let at : get_or (range_with_len 0 n) place place ≡ place = get_or-range_with_len 0 n place place lt ∙ omega arith in
+      let some = list_any-from_Any f (range_with_len 0 n) (place, place, omega (arith, length-range_with_len 0 n), at, holds) in
+      absurd (false≢true (sym none ∙ some))
+  | inr fails ↦ fails
+]
 
 all_true : (f : ℕ → Bool) (xs : List ℕ) (k : ℕ) → list_all f xs ≡ true → k < length xs → f (get_or xs k 0) ≡ true
 all_true f [] k e lt = absurd (omega arith)
@@ -142,11 +152,10 @@ nothing_from_places named bits none =
     rw bit_at-zero (omega arith))
 
 pub zero_place : (named place : ℕ) → has_place named 0 place ≡ false
-zero_place named place =
-    elim (cases_lt place named) [
-      | inl lt ↦ has_place-named named 0 place lt ∙ ap (λ (k : ℕ). eqb k 1) (bit_at-zero place)
-      | inr le ↦ has_place-other named 0 place le ∙ lt-leb (2 ^ named) 0 (pow_pos named)
-    ]
+zero_place named place = elim (cases_lt place named) [
+  | inl lt ↦ has_place-named named 0 place lt ∙ ap (λ (k : ℕ). eqb k 1) (bit_at-zero place)
+  | inr le ↦ has_place-other named 0 place le ∙ lt-leb (2 ^ named) 0 (pow_pos named)
+]
 
 pub any_none : {X : Type 0} (test : X → Bool) → ((x : X) → test x ≡ false) → (xs : List X) → list_any test xs ≡ false
 any_none test none [] = refl
@@ -154,25 +163,26 @@ any_none test none (x ∷ xs) = rw (none x) (any_none test none xs)
 
 -- a number is 0 exactly if no place of it is a member
 pub is_zero_by_places : (named bits : ℕ) → eqb bits 0 ≡ not (list_any (has_place named bits) (range_with_len 0 (named + 1)))
-is_zero_by_places named bits =
-    elim (cases_eq bits 0) [
-      | inl zero_is ↦ rw zero_is (sym (ap not (any_none (has_place named 0) (zero_place named) (range_with_len 0 (named + 1)))))
-      | inr some ↦
-          rw (ne_eqb bits 0 some)
-          (elim (cases_Bool (list_any (has_place named bits) (range_with_len 0 (named + 1)))) [
-            | inl found ↦ sym (ap not found)
-            | inr none ↦ absurd (some (nothing_from_places named bits none))
-          ])
-    ]
+is_zero_by_places named bits = elim (cases_eq bits 0) [
+  | inl zero_is ↦ rw zero_is (sym (ap not (any_none (has_place named 0) (zero_place named) (range_with_len 0 (named + 1)))))
+  | inr some ↦
+      rw (ne_eqb bits 0 some)
+      (elim (cases_Bool (list_any (has_place named bits) (range_with_len 0 (named + 1)))) [
+        | inl found ↦ sym (ap not found)
+        | inr none ↦ absurd (some (nothing_from_places named bits none))
+      ])
+]
 
 -- what is wanted and handled and not granted is nothing exactly if no place of the three says so
 pub is_lacking_by_places : (named wanted handled granted : ℕ) → named ≤ 32 → granted < 2 ^ 32 → has_place named handled named ≡ false
-    → not (eqb (bit_and (bit_and wanted handled) (bit_not w32 granted)) 0) ≡ list_any (λ place. has_place named wanted place && has_place named handled place && not (has_place named granted place)) (range_with_len 0 (named + 1))
+    → not (eqb (bit_and (bit_and wanted handled) (bit_not w32 granted)) 0)
+    ≡ list_any (λ place. has_place named wanted place && has_place named handled place && not (has_place named granted place)) (range_with_len 0 (named + 1))
 is_lacking_by_places named wanted handled granted narrow fits known =
     let left = bit_and (bit_and wanted handled) (bit_not w32 granted) in
     ap not (is_zero_by_places named left)
     ∙ not_not (list_any (has_place named left) (range_with_len 0 (named + 1)))
-    ∙ any_same (has_place named left) (λ place. has_place named wanted place && has_place named handled place && not (has_place named granted place)) (λ place. has_place-lacking named wanted handled granted place narrow fits (known_below named handled known)) (range_with_len 0 (named + 1))
+    ∙ any_same (has_place named left) (λ place. has_place named wanted place && has_place named handled place && not (has_place named granted place))
+    (λ place. has_place-lacking named wanted handled granted place narrow fits (known_below named handled known)) (range_with_len 0 (named + 1))
 
 implied : (x y : ℕ) → x < 2 → y < 2 → min x y ≡ x → (not (eqb x 1) || eqb y 1) ≡ true
 implied zero y p q e = refl
@@ -208,7 +218,8 @@ is_within_by_places named set whole known =
           elim (cases_lt place named) [
             | inl lt ↦
                 rw (has_place-named named set place lt, has_place-named named whole place lt)
-                (implied (bit_at set place) (bit_at whole place) (bit_at-lt set place) (bit_at-lt whole place) (sym (bit_at_and set whole place) ∙ ap (λ (k : ℕ). bit_at k place) same))
+                (implied (bit_at set place) (bit_at whole place) (bit_at-lt set place) (bit_at-lt whole place)
+                (sym (bit_at_and set whole place) ∙ ap (λ (k : ℕ). bit_at k place) same))
             | inr le ↦ rw (has_place-other named set place le, lt-leb (2 ^ named) set set_low) refl
           ])
           (range_with_len 0 (named + 1))))
@@ -216,11 +227,14 @@ is_within_by_places named set whole known =
           rw (ne_eqb (bit_and set whole) set differs)
           (elim (cases_Bool (list_all test (range_with_len 0 (named + 1)))) [
             | inl all ↦
-                let set_low : set < 2 ^ named = known_below named set (or_from_false (has_place named set named) (has_place named whole named) known (all_at test (named + 1) named all (omega arith))) in
+                let set_low : set < 2 ^ named =
+                known_below named set
+                (or_from_false (has_place named set named) (has_place named whole named) known (all_at test (named + 1) named all (omega arith))) in
                 absurd (differs (same_from_bits_below named (bit_and set whole) set (omega (arith, and_le_l set whole)) set_low
                 (λ i lt.
                 let here : (not (has_place named set i) || has_place named whole i) ≡ true = all_at test (named + 1) i all (omega arith) in
-                let bits : (not (eqb (bit_at set i) 1) || eqb (bit_at whole i) 1) ≡ true = rw (← has_place-named named set i lt, ← has_place-named named whole i lt) here in
+                let bits : (not (eqb (bit_at set i) 1) || eqb (bit_at whole i) 1) ≡ true =
+                rw (← has_place-named named set i lt, ← has_place-named named whole i lt) here in
                 bit_at_and set whole i ∙ min_from_implied (bit_at set i) (bit_at whole i) (bit_at-lt set i) (bit_at-lt whole i) bits)))
             | inr not_all ↦ sym not_all
           ])
@@ -280,16 +294,15 @@ without-twice a n m within =
     ∙ left_twice (bit_at a i) (bit_at n i) (bit_at m i) (bit_at-lt a i) (bit_at-lt m i) among ∙ sym (bit_at-without a m i))
 
 xor_above : (named a b : ℕ) → b < 2 ^ named → leb (2 ^ named) (bit_xor a b) ≡ leb (2 ^ named) a
-xor_above named a b small =
-    elim (cases_lt a (2 ^ named)) [
-      | inl low ↦ rw (lt-leb (2 ^ named) (bit_xor a b) (xor_lt named a b low small), lt-leb (2 ^ named) a low) refl
-      | inr high ↦ elim (cases_lt (bit_xor a b) (2 ^ named)) [
-        | inl low ↦
-            let back : bit_xor (bit_xor a b) b ≡ a = xor_assoc a b b ∙ ap (bit_xor a) (xor_self b) ∙ xor_zero a in
-            absurd (omega (arith, xor_lt named (bit_xor a b) b low small, back))
-        | inr still ↦ rw (le-leb (2 ^ named) (bit_xor a b) still, le-leb (2 ^ named) a high) refl
-      ]
-    ]
+xor_above named a b small = elim (cases_lt a (2 ^ named)) [
+  | inl low ↦ rw (lt-leb (2 ^ named) (bit_xor a b) (xor_lt named a b low small), lt-leb (2 ^ named) a low) refl
+  | inr high ↦ elim (cases_lt (bit_xor a b) (2 ^ named)) [
+    | inl low ↦
+        let back : bit_xor (bit_xor a b) b ≡ a = xor_assoc a b b ∙ ap (bit_xor a) (xor_self b) ∙ xor_zero a in
+        absurd (omega (arith, xor_lt named (bit_xor a b) b low small, back))
+    | inr still ↦ rw (le-leb (2 ^ named) (bit_xor a b) still, le-leb (2 ^ named) a high) refl
+  ]
+]
   where
     xor_zero : (n : ℕ) → bit_xor n 0 ≡ n
     xor_zero n = omega (arith, xor_add_and n 0, and_le_r n 0)
@@ -299,27 +312,31 @@ and_true true c e = sym (ap not e)
 and_true false c e = refl
 
 -- what is left has all places but those that are taken
-pub has_place-without : (named a taken place : ℕ) → taken < 2 ^ named → has_place named (bits_without a taken) place ≡ (has_place named a place && not (has_place named taken place))
-has_place-without named a taken place low =
-    elim (cases_lt place named) [
-      | inl lt ↦
-          rw (has_place-named named (bits_without a taken) place lt, has_place-named named a place lt, has_place-named named taken place lt, bit_at-without a taken place)
-          (one_left (bit_at a place) (bit_at taken place) (bit_at-lt a place) (bit_at-lt taken place))
-      | inr le ↦
-          rw (has_place-other named (bits_without a taken) place le, has_place-other named a place le, without-xor a taken)
-          (xor_above named a (bit_and a taken) (omega (arith, and_le_r a taken))
-          ∙ and_true (leb (2 ^ named) a) (has_place named taken place) (has_place-other named taken place le ∙ lt-leb (2 ^ named) taken low))
-    ]
+pub has_place-without : (named a taken place : ℕ) → taken < 2 ^ named
+    → has_place named (bits_without a taken) place ≡ (has_place named a place && not (has_place named taken place))
+has_place-without named a taken place low = elim (cases_lt place named) [
+  | inl lt ↦
+      rw (
+        has_place-named named (bits_without a taken) place lt,
+        has_place-named named a place lt,
+        has_place-named named taken place lt,
+        bit_at-without a taken place,
+      )
+      (one_left (bit_at a place) (bit_at taken place) (bit_at-lt a place) (bit_at-lt taken place))
+  | inr le ↦
+      rw (has_place-other named (bits_without a taken) place le, has_place-other named a place le, without-xor a taken)
+      (xor_above named a (bit_and a taken) (omega (arith, and_le_r a taken))
+      ∙ and_true (leb (2 ^ named) a) (has_place named taken place) (has_place-other named taken place le ∙ lt-leb (2 ^ named) taken low))
+]
 
 -- what two numbers share, the second of named places alone
 pub has_place-and : (named a b place : ℕ) → b < 2 ^ named → has_place named (bit_and a b) place ≡ (has_place named a place && has_place named b place)
-has_place-and named a b place low =
-    elim (cases_lt place named) [
-      | inl lt ↦
-          rw (has_place-named named (bit_and a b) place lt, has_place-named named a place lt, has_place-named named b place lt, bit_at_and a b place)
-          ((one_of_bits (bit_at a place) (bit_at b place) (bit_at-lt a place) (bit_at-lt b place)).1)
-      | inr le ↦
-          let less : bit_and a b < 2 ^ named = omega (arith, and_le_r a b) in
-          has_place-other named (bit_and a b) place le ∙ lt-leb (2 ^ named) (bit_and a b) less
-          ∙ sym (and_false (has_place named a place) (has_place named b place) (has_place-other named b place le ∙ lt-leb (2 ^ named) b low))
-    ]
+has_place-and named a b place low = elim (cases_lt place named) [
+  | inl lt ↦
+      rw (has_place-named named (bit_and a b) place lt, has_place-named named a place lt, has_place-named named b place lt, bit_at_and a b place)
+      ((one_of_bits (bit_at a place) (bit_at b place) (bit_at-lt a place) (bit_at-lt b place)).1)
+  | inr le ↦
+      let less : bit_and a b < 2 ^ named = omega (arith, and_le_r a b) in
+      has_place-other named (bit_and a b) place le ∙ lt-leb (2 ^ named) (bit_and a b) less
+      ∙ sym (and_false (has_place named a place) (has_place named b place) (has_place-other named b place le ∙ lt-leb (2 ^ named) b low))
+]

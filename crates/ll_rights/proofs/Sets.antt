@@ -36,16 +36,20 @@ net_table = record { numbered = refl; each = net_each; fits = lit≤ tt }
 -- ---- what the code finds by its name
 
 pub fs_named : (text : List ℕ) (all : List FsRight) (found : Option FsRight) → map fs_right all ≡ files.all_rights →
-    found ≡ find (λ right. bytes_eq text (files.name_of (fs_right right))) all → files.only (fs_right (unwrap_or found fs.Other)) ≡ files.only (files.right_named text)
+    found ≡ find (λ right. bytes_eq text (files.name_of (fs_right right))) all
+    → files.only (fs_right (unwrap_or found fs.Other)) ≡ files.only (files.right_named text)
 unfolding files.right_named
 fs_named text all found each is =
-    ap files.only (ap (λ one. fs_right (unwrap_or one fs.Other)) is ∙ first_named_by files.row fs_right fs.Other text all ∙ ap (λ rights. first_named files.row files.other rights text) each)
+    ap files.only (ap (λ one. fs_right (unwrap_or one fs.Other)) is ∙ first_named_by files.row fs_right fs.Other text all
+    ∙ ap (λ rights. first_named files.row files.other rights text) each)
 
 pub net_named : (text : List ℕ) (all : List NetRight) (found : Option NetRight) → map net_right all ≡ network.all_rights →
-    found ≡ find (λ right. bytes_eq text (network.name_of (net_right right))) all → network.only (net_right (unwrap_or found net.Other)) ≡ network.only (network.right_named text)
+    found ≡ find (λ right. bytes_eq text (network.name_of (net_right right))) all
+    → network.only (net_right (unwrap_or found net.Other)) ≡ network.only (network.right_named text)
 unfolding network.right_named
 net_named text all found each is =
-    ap network.only (ap (λ one. net_right (unwrap_or one net.Other)) is ∙ first_named_by network.row net_right net.Other text all ∙ ap (λ rights. first_named network.row network.other rights text) each)
+    ap network.only (ap (λ one. net_right (unwrap_or one net.Other)) is ∙ first_named_by network.row net_right net.Other text all
+    ∙ ap (λ rights. first_named network.row network.other rights text) each)
 
 -- ---- a set of one right has that right and no other
 
@@ -93,6 +97,7 @@ unfolding files.has files.some_right files.all_rights
 fs_is_lacking wanted handled granted fits known = is_lacking fs_table wanted.0 handled.0 granted.0 fits known
 
 pub net_is_lacking : (wanted handled granted : Net) → granted.0 < 2 ^ 32 → network.has handled network.other ≡ false
-    → not (eqb (bit_and (bit_and wanted.0 handled.0) (bit_not w32 granted.0)) 0) ≡ network.is_lacking (network.has wanted) (network.has handled) (network.has granted)
+    → not (eqb (bit_and (bit_and wanted.0 handled.0) (bit_not w32 granted.0)) 0)
+    ≡ network.is_lacking (network.has wanted) (network.has handled) (network.has granted)
 unfolding network.has network.some_right network.all_rights
 net_is_lacking wanted handled granted fits known = is_lacking net_table wanted.0 handled.0 granted.0 fits known

@@ -22,35 +22,43 @@ since_older (Some first) older newer le = elim (cases_Bool (leb first (number_of
 
 -- ---- what is supported of a set, right by right
 
-pub fs_has-supported : (abi : Abi) (set : Fs) (right : files.FsRight) → files.has (supported_fs abi set) right ≡ (files.has set right && (knows_fs abi right || files.is_right right files.other))
+pub fs_has-supported : (abi : Abi) (set : Fs) (right : files.FsRight)
+    → files.has (supported_fs abi set) right ≡ (files.has set right && (knows_fs abi right || files.is_right right files.other))
 unfolding files.has supported_fs
 fs_has-supported abi set right = has-supported fs_table (knows_fs abi) set.0 right
 
-pub net_has-supported : (abi : Abi) (set : Net) (right : network.NetRight) → network.has (supported_net abi set) right ≡ (network.has set right && (knows_net abi right || network.is_right right network.other))
+pub net_has-supported : (abi : Abi) (set : Net) (right : network.NetRight)
+    → network.has (supported_net abi set) right ≡ (network.has set right && (knows_net abi right || network.is_right right network.other))
 unfolding network.has supported_net
 net_has-supported abi set right = has-supported net_table (knows_net abi) set.0 right
 
 -- ---- nothing is taken out where the version knows what is named
 
-pub fs_supported-known : (abi : Abi) (set : Fs) → ((right : files.FsRight) → (files.has set right && not (knows_fs abi right || files.is_right right files.other)) ≡ false) → supported_fs abi set ≡ set
+pub fs_supported-known : (abi : Abi) (set : Fs)
+    → ((right : files.FsRight) → (files.has set right && not (knows_fs abi right || files.is_right right files.other)) ≡ false) → supported_fs abi set ≡ set
 unfolding files.has supported_fs
 fs_supported-known abi set known = ap (λ bits. record { 0 = bits }) (supported-known fs_table (knows_fs abi) set.0 known)
 
-pub net_supported-known : (abi : Abi) (set : Net) → ((right : network.NetRight) → (network.has set right && not (knows_net abi right || network.is_right right network.other)) ≡ false) → supported_net abi set ≡ set
+pub net_supported-known : (abi : Abi) (set : Net) → ((right : network.NetRight)
+    → (network.has set right && not (knows_net abi right || network.is_right right network.other)) ≡ false) → supported_net abi set ≡ set
 unfolding network.has supported_net
 net_supported-known abi set known = ap (λ bits. record { 0 = bits }) (supported-known net_table (knows_net abi) set.0 known)
 
 -- ---- what an older version supports of what a newer one supports
 
-pub fs_supported-older : (older newer : Abi) (set : Fs) → number_of older ≤ number_of newer → supported_fs older (supported_fs newer set) ≡ supported_fs older set
+pub fs_supported-older : (older newer : Abi) (set : Fs) → number_of older ≤ number_of newer
+    → supported_fs older (supported_fs newer set) ≡ supported_fs older set
 unfolding supported_fs
 fs_supported-older older newer set le =
-    ap (λ bits. record { 0 = bits }) (supported-older fs_table (knows_fs older) (knows_fs newer) (λ right. since_older (files.row right).since older newer le) set.0)
+    ap (λ bits. record { 0 = bits })
+    (supported-older fs_table (knows_fs older) (knows_fs newer) (λ right. since_older (files.row right).since older newer le) set.0)
 
-pub net_supported-older : (older newer : Abi) (set : Net) → number_of older ≤ number_of newer → supported_net older (supported_net newer set) ≡ supported_net older set
+pub net_supported-older : (older newer : Abi) (set : Net) → number_of older ≤ number_of newer
+    → supported_net older (supported_net newer set) ≡ supported_net older set
 unfolding supported_net
 net_supported-older older newer set le =
-    ap (λ bits. record { 0 = bits }) (supported-older net_table (knows_net older) (knows_net newer) (λ right. since_older (network.row right).since older newer le) set.0)
+    ap (λ bits. record { 0 = bits })
+    (supported-older net_table (knows_net older) (knows_net newer) (λ right. since_older (network.row right).since older newer le) set.0)
 
 -- ---- the code takes out what the known rights lack of all named ones
 
@@ -58,10 +66,12 @@ pub fs_supported_lacking : (abi : Abi) (known set : Fs) (taken left : ℕ) → (
     taken ≡ bits_without (bits_of files.row files.named_rights) known.0 → left ≡ bits_without set.0 taken → record { 0 = left } ≡ supported_fs abi set
 unfolding files.has supported_fs
 fs_supported_lacking abi known set taken left same is_taken is_left =
-    ap (λ bits. record { 0 = bits }) (is_left ∙ ap (bits_without set.0) is_taken ∙ supported-lacking fs_table (knows_fs abi) known.0 (same files.other) same set.0)
+    ap (λ bits. record { 0 = bits }) (is_left ∙ ap (bits_without set.0) is_taken
+    ∙ supported-lacking fs_table (knows_fs abi) known.0 (same files.other) same set.0)
 
 pub net_supported_lacking : (abi : Abi) (known set : Net) (taken left : ℕ) → ((right : network.NetRight) → network.has known right ≡ knows_net abi right) →
     taken ≡ bits_without (bits_of network.row network.named_rights) known.0 → left ≡ bits_without set.0 taken → record { 0 = left } ≡ supported_net abi set
 unfolding network.has supported_net
 net_supported_lacking abi known set taken left same is_taken is_left =
-    ap (λ bits. record { 0 = bits }) (is_left ∙ ap (bits_without set.0) is_taken ∙ supported-lacking net_table (knows_net abi) known.0 (same network.other) same set.0)
+    ap (λ bits. record { 0 = bits }) (is_left ∙ ap (bits_without set.0) is_taken
+    ∙ supported-lacking net_table (knows_net abi) known.0 (same network.other) same set.0)

@@ -1,5 +1,6 @@
 -- Sets of rights by any table of rights, from the places of their bits.
-use Rattle.std.proofs.Common.{◌≡◌, ℕ, ◌+◌, ◌^◌, ◌<◌, ◌≤◌, Bool, true, false, not, ◌&&◌, ◌||◌, eqb, List, [], ◌∷◌, ◌++◌, map, filter, get_or, find, refl, sym, ap, ◌∙◌, arith, bit_and, inl, inr}
+use Rattle.std.proofs.Common.{◌≡◌, ℕ, ◌+◌, ◌^◌, ◌<◌, ◌≤◌, Bool, true, false, not, ◌&&◌, ◌||◌, eqb, List, [], ◌∷◌, ◌++◌, map, filter, get_or, find, refl, sym}
+use Rattle.std.proofs.Common.{ap, ◌∙◌, arith, bit_and, inl, inr}
 use Rattle.std.specs.Prelude.{bytes_eq, unwrap_or}
 use Rattle.std.specs.Int.{w32, bit_not}
 use Rattle.std.specs.List.{list_any, list_all, range_with_len}
@@ -9,7 +10,8 @@ use Rattle.std.proofs.lemmas.Nat.{and_comm}
 use Rattle.ll_rights.specs.Bits.{has_place}
 use Rattle.ll_rights.specs.Sets.{Row, first_named}
 use Rattle.ll_rights.specs.BitSets.{bits_of, bits_without}
-use Rattle.ll_rights.proofs.Places.{any_none, all_each, has_place-or, has_place-power, has_place-without, has_place-and, without-twice, zero_place, known_below, is_zero_by_places, is_lacking_by_places, is_within_by_places}
+use Rattle.ll_rights.proofs.Places.{any_none, all_each, has_place-or, has_place-power, has_place-without, has_place-and, without-twice, zero_place, known_below}
+use Rattle.ll_rights.proofs.Places.{is_zero_by_places, is_lacking_by_places, is_within_by_places}
 
 -- what holds of each right of a table: its bit finds it, some named right has its bit unless it is `other`, which has the last
 abbrev pub Stands : {R : Type 0} → (R → Row) → List R → R → R → Type 0
@@ -118,7 +120,8 @@ module _ {R : Type 0} {row : R → Row} {named : List R} {other : R} (is : IsTab
 
   -- what is wanted, handled and not granted
   pub is_lacking : (wanted handled granted : ℕ) → granted < 2 ^ 32 → has handled other ≡ false
-      → not (eqb (bit_and (bit_and wanted handled) (bit_not w32 granted)) 0) ≡ list_any (λ right. has wanted right && has handled right && not (has granted right)) all
+      → not (eqb (bit_and (bit_and wanted handled) (bit_not w32 granted)) 0)
+      ≡ list_any (λ right. has wanted right && has handled right && not (has granted right)) all
   is_lacking wanted handled granted narrow known =
       let test : ℕ → Bool = λ place. has_place count wanted place && has_place count handled place && not (has_place count granted place) in
       is_lacking_by_places count wanted handled granted is.fits narrow known ∙ sym (any-map test bit all ∙ ap (list_any test) is.numbered)
@@ -154,8 +157,10 @@ module _ {R : Type 0} {row : R → Row} {named : List R} {other : R} (is : IsTab
     supported-known bits known =
         let none : (right : R) → has (bit_and bits unknown) right ≡ false = λ right.
         has_place-and count bits unknown (bit right) (chosen-low (λ right. not (knows right)))
-        ∙ ap (λ b. has bits right && b) (has-chosen (λ right. not (knows right)) right) ∙ nothing (has bits right) (knows right) (is_right right other) (known right) in
-        let zero_is : bit_and bits unknown ≡ 0 = eqb-true (bit_and bits unknown) 0 (is_empty (bit_and bits unknown) ∙ ap not (any_none (has (bit_and bits unknown)) none all)) in
+        ∙ ap (λ b. has bits right && b) (has-chosen (λ right. not (knows right)) right)
+        ∙ nothing (has bits right) (knows right) (is_right right other) (known right) in
+        let zero_is : bit_and bits unknown ≡ 0 =
+        eqb-true (bit_and bits unknown) 0 (is_empty (bit_and bits unknown) ∙ ap not (any_none (has (bit_and bits unknown)) none all)) in
         omega (arith, zero_is)
 
     -- bits that lack just what is known: those of all named rights without those of the known ones
@@ -163,7 +168,8 @@ module _ {R : Type 0} {row : R → Row} {named : List R} {other : R} (is : IsTab
         (bits : ℕ) → bits_without bits (bits_without (bits_of row named) known) ≡ supported bits
     supported-lacking known no_other same bits =
         ap (bits_without bits) (same_known (bits_without (bits_of row named) known) unknown
-        (has_lacking other ∙ and_false (not (knows other)) (is_right other other) itself) (λ right. has_lacking right ∙ sym (has-chosen (λ right. not (knows right)) right)))
+        (has_lacking other ∙ and_false (not (knows other)) (is_right other other) itself)
+        (λ right. has_lacking right ∙ sym (has-chosen (λ right. not (knows right)) right)))
       where
         swapped : (a b : Bool) → (a && b) ≡ (b && a)
         swapped true true = refl
@@ -182,7 +188,8 @@ module _ {R : Type 0} {row : R → Row} {named : List R} {other : R} (is : IsTab
       (bits : ℕ) → bits_without (bits_without bits (unknown newer)) (unknown older) ≡ bits_without bits (unknown older)
   supported-older older newer more bits = without-twice bits (unknown newer) (unknown older)
       (shared (unknown newer) (unknown older) (chosen-known (λ right. not (older right)))
-      (λ right. rw (has-chosen (λ right. not (newer right)) right, has-chosen (λ right. not (older right)) right) (fewer (older right) (newer right) (is_right right other) (more right))))
+      (λ right. rw (has-chosen (λ right. not (newer right)) right, has-chosen (λ right. not (older right)) right)
+      (fewer (older right) (newer right) (is_right right other) (more right))))
     where
       fewer : (o n c : Bool) → (not o || n) ≡ true → (not (not n && not c) || (not o && not c)) ≡ true
       fewer o true c e = refl

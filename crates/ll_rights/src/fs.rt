@@ -237,7 +237,8 @@ impl Fs {
     #[tactic(auto, using(crate::proofs::Sets::fs_is_lacking))]
     pub fn lacks(self, handled: Fs, granted: Fs) -> bool
         requires known { rights.has handled rights.other ≡ false }
-        ensures { result ≡ rights.is_lacking (rights.has self) (rights.has handled) (rights.has granted) }
+        ensures { result
+            ≡ rights.is_lacking (rights.has self) (rights.has handled) (rights.has granted) }
     {
         self.0 & handled.0 & !granted.0 != 0
     }
@@ -245,7 +246,8 @@ impl Fs {
 
 /// The first of some rights that a text names.
 fn named(among: &[FsRight], name: &str) -> Option<FsRight>
-    ensures { result ≡ find (λ right. bytes_eq name.now (rights.name_of (fs_right right))) among.now }
+    ensures { result
+        ≡ find (λ right. bytes_eq name.now (rights.name_of (fs_right right))) among.now }
 {
     among.iter().copied().find(|right| name == right.name())
 }

@@ -27,25 +27,35 @@ pub fn file_rights()
 
 /// A set of one right has that right alone, and a union has what either set has.
 pub fn sets_by_rights()
-    ensures only_fs { (right one : files.FsRight) → files.has (files.only one) right ≡ files.is_right right one }
-    ensures united_fs { (a b : FsSet) (right : files.FsRight) → files.has (files.united a b) right ≡ (files.has a right || files.has b right) }
-    ensures only_net { (right one : network.NetRight) → network.has (network.only one) right ≡ network.is_right right one }
-    ensures united_net { (a b : NetSet) (right : network.NetRight) → network.has (network.united a b) right ≡ (network.has a right || network.has b right) }
+    ensures only_fs { (right one : files.FsRight)
+        → files.has (files.only one) right ≡ files.is_right right one }
+    ensures united_fs { (a b : FsSet) (right : files.FsRight)
+        → files.has (files.united a b) right ≡ (files.has a right || files.has b right) }
+    ensures only_net { (right one : network.NetRight)
+        → network.has (network.only one) right ≡ network.is_right right one }
+    ensures united_net { (a b : NetSet) (right : network.NetRight)
+        → network.has (network.united a b) right ≡ (network.has a right || network.has b right) }
 {}
 
 /// What is supported of a set are the rights of it that the version knows, and the right of any other name. So a version
 /// that knows all named rights of a set leaves the set as it is, and an older version keeps as much of what a newer one
 /// left as of the whole.
 pub fn supported_sets()
-    ensures fs { (abi : Version) (set : FsSet) (right : files.FsRight) → files.has (supported_fs abi set) right
+    ensures fs { (abi : Version) (set : FsSet) (right : files.FsRight)
+        → files.has (supported_fs abi set) right
         ≡ (files.has set right && (knows_fs abi right || files.is_right right files.other)) }
-    ensures net { (abi : Version) (set : NetSet) (right : network.NetRight) → network.has (supported_net abi set) right
+    ensures net { (abi : Version) (set : NetSet) (right : network.NetRight)
+        → network.has (supported_net abi set) right
         ≡ (network.has set right && (knows_net abi right || network.is_right right network.other)) }
     ensures known_fs { (abi : Version) (set : FsSet)
-        → ((right : files.FsRight) → (files.has set right && not (knows_fs abi right || files.is_right right files.other)) ≡ false)
+        → ((right : files.FsRight)
+        → (files.has set right && not (knows_fs abi right || files.is_right right files.other))
+        ≡ false)
         → supported_fs abi set ≡ set }
     ensures known_net { (abi : Version) (set : NetSet)
-        → ((right : network.NetRight) → (network.has set right && not (knows_net abi right || network.is_right right network.other)) ≡ false)
+        → ((right : network.NetRight)
+        → (network.has set right
+        && not (knows_net abi right || network.is_right right network.other)) ≡ false)
         → supported_net abi set ≡ set }
     ensures older_fs { (older newer : Version) (set : FsSet) → number_of older ≤ number_of newer
         → supported_fs older (supported_fs newer set) ≡ supported_fs older set }

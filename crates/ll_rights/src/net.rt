@@ -74,7 +74,8 @@ impl Flags for Net {
 
     ghost exact = { ⊤ };
 
-    ghost table = { (codes "BIND_TCP", 0x1) ∷ (codes "CONNECT_TCP", 0x2) ∷ (codes "OTHER", 0x4) ∷ [] };
+    ghost table = { (codes "BIND_TCP", 0x1) ∷ (codes "CONNECT_TCP", 0x2)
+        ∷ (codes "OTHER", 0x4) ∷ [] };
 
     ghost set_of = { λ set. set.0 };
 
@@ -147,7 +148,8 @@ impl Net {
     #[tactic(auto, using(crate::proofs::Sets::net_is_lacking))]
     pub fn lacks(self, handled: Net, granted: Net) -> bool
         requires known { rights.has handled rights.other ≡ false }
-        ensures { result ≡ rights.is_lacking (rights.has self) (rights.has handled) (rights.has granted) }
+        ensures { result
+            ≡ rights.is_lacking (rights.has self) (rights.has handled) (rights.has granted) }
     {
         self.0 & handled.0 & !granted.0 != 0
     }
@@ -155,7 +157,8 @@ impl Net {
 
 /// The first of some rights that a text names.
 fn named(among: &[NetRight], name: &str) -> Option<NetRight>
-    ensures { result ≡ find (λ right. bytes_eq name.now (rights.name_of (net_right right))) among.now }
+    ensures { result
+        ≡ find (λ right. bytes_eq name.now (rights.name_of (net_right right))) among.now }
 {
     among.iter().copied().find(|right| name == right.name())
 }

@@ -33,13 +33,12 @@ sum_by-processes weight (job ∷ rest) =
 -- what a job taken out adds to what is left
 held_weighs : (weight : ℕ → ℕ) (before rest : List Job) (job : Job) → IsPermutation before (job ∷ rest)
     → sum_by weight (processes_of rest) + weight job.process.0 ≡ sum_by weight (processes_of before)
-held_weighs weight before rest job taken =
-    omega (
-      arith,
-      sum_by_popped (λ (one : Job). weight one.process.0) job before rest taken,
-      sum_by-processes weight rest,
-      sum_by-processes weight before,
-    )
+held_weighs weight before rest job taken = omega (
+  arith,
+  sum_by_popped (λ (one : Job). weight one.process.0) job before rest taken,
+  sum_by-processes weight rest,
+  sum_by-processes weight before,
+)
 
 pub record TakenOut (of : Matter) (rest : List Job) (job : Job) : Type 0 where
   pub its_case : job.case.now ≡ of
@@ -53,15 +52,19 @@ taken_out of before rest job taken all =
       rest_of = All-tail (λ (one : Job). one.case.now ≡ of) job rest both;
     }
 
-pub judged_more : (of : Matter) (before rest after : List Job) (job : Job) (pieces : List Piece) (piece : Piece) → IsPermutation before (job ∷ rest) → piece.case.now ≡ job.case.now → AllJobsOf job.case.now after
-    → SharesOut job.case.now.records job.process.0 (numbers piece.processes.items) (processes_of rest) (processes_of after) → AreShared of before pieces → AreShared of after (pieces ++ piece ∷ [])
+pub judged_more : (of : Matter) (before rest after : List Job) (job : Job) (pieces : List Piece) (piece : Piece) → IsPermutation before (job ∷ rest)
+    → piece.case.now ≡ job.case.now → AllJobsOf job.case.now after
+    → SharesOut job.case.now.records job.process.0 (numbers piece.processes.items) (processes_of rest) (processes_of after) → AreShared of before pieces
+    → AreShared of after (pieces ++ piece ∷ [])
 judged_more of before rest after job pieces piece taken same all shares so_far =
     let of_case : job.case.now ≡ of = (taken_out of before rest job taken so_far.jobs_of).its_case in
     record {
       jobs_of = subst (λ (case : Matter). AllJobsOf case after) of_case all;
       pieces_of = All-push (λ (one : Piece). one.case.now ≡ of) pieces piece so_far.pieces_of (same ∙ of_case);
       shared = λ weight.
-          let here = subst (λ (case : Matter). SharesOut case.records job.process.0 (numbers piece.processes.items) (processes_of rest) (processes_of after)) of_case shares in
+          let here =
+          subst (λ (case : Matter). SharesOut case.records job.process.0 (numbers piece.processes.items) (processes_of rest) (processes_of after))
+          of_case shares in
           rw (processes_in-push pieces piece, kids-append of.records (processes_in pieces) (numbers piece.processes.items))
           (omega (
             arith,
@@ -82,7 +85,8 @@ judged_all of held pieces numbered none all process there =
     (λ weight. omega (arith, all.shared weight, ap (λ (xs : List Job). sum_by weight (processes_of xs)) none)) process there
 
 -- the children of processes weigh at most what these weigh
-kids_weigh : (records : List Record) (n : ℕ) (processes : List ℕ) → IsNumbered records → process_count records ≤ n → sum_by (weight n) (kids records processes) + length processes ≤ sum_by (weight n) processes
+kids_weigh : (records : List Record) (n : ℕ) (processes : List ℕ) → IsNumbered records → process_count records ≤ n
+    → sum_by (weight n) (kids records processes) + length processes ≤ sum_by (weight n) processes
 unfolding weight_of
 kids_weigh records n [] numbered all = rw (no_kids records) (omega arith)
 kids_weigh records n (p ∷ ps) numbered all =
@@ -99,14 +103,16 @@ some_stands : (processes : List ProcessId) (first : ProcessId) → slice_get pro
 some_stands [] first at = absurd (none-some first at)
 some_stands (p ∷ ps) first at = omega arith
 
-pub weighs_less : (of : Matter) (before rest after : List Job) (job : Job) (piece : Piece) → IsNumbered of.records → IsPermutation before (job ∷ rest) → AllJobsOf of before
+pub weighs_less : (of : Matter) (before rest after : List Job) (job : Job) (piece : Piece) → IsNumbered of.records
+    → IsPermutation before (job ∷ rest) → AllJobsOf of before
     → slice_get piece.processes.items 0 ≡ Some job.process
     → SharesOut job.case.now.records job.process.0 (numbers piece.processes.items) (processes_of rest) (processes_of after)
     → weight_of (process_count of.records) (processes_of after) < weight_of (process_count of.records) (processes_of before)
 unfolding weight_of
 weighs_less of before rest after job piece numbered taken all first shares =
     let n : ℕ = process_count of.records in
-    let here = subst (λ (case : Matter). SharesOut case.records job.process.0 (numbers piece.processes.items) (processes_of rest) (processes_of after)) (taken_out of before rest job taken all).its_case shares in
+    let here = subst (λ (case : Matter). SharesOut case.records job.process.0 (numbers piece.processes.items) (processes_of rest) (processes_of after))
+    (taken_out of before rest job taken all).its_case shares in
     omega (
       arith,
       weighed of.records job.process.0 (numbers piece.processes.items) (processes_of rest) (processes_of after) here (weight n),

@@ -64,7 +64,9 @@ impl<'c> Hand<'c> for Keeper<'c> {
 fn greatest(jobs: &[Job<'_>]) -> Option<usize>
     ensures none { IfNone result (jobs.now ≡ []) }
     ensures there { IfSome result (λ place. place < length jobs.now) }
-    ensures greatest { IfSome result (λ place. (none : OneJob) → All (λ other. other.process.0 ≤ (slice_index_or jobs.now place none).process.0) jobs.now) }
+    ensures greatest { IfSome result (λ place. (none : OneJob)
+        → All (λ other. other.process.0
+        ≤ (slice_index_or jobs.now place none).process.0) jobs.now) }
 {
     if jobs.is_empty() {
         return None;
@@ -82,8 +84,10 @@ impl<'c> Keeper<'c> {
     /// Takes out the job of the greatest process number.
     pub fn take_greatest(&mut self) -> Option<Job<'c>>
         ensures none { IfNone result (self.old.jobs.items ≡ []) }
-        ensures taken { IfSome result (λ job. IsPermutation self.old.jobs.items (job ∷ self.new.jobs.items)) }
-        ensures greatest { IfSome result (λ job. All (λ other. other.process.0 ≤ job.process.0) self.old.jobs.items) }
+        ensures taken { IfSome result
+            (λ job. IsPermutation self.old.jobs.items (job ∷ self.new.jobs.items)) }
+        ensures greatest { IfSome result
+            (λ job. All (λ other. other.process.0 ≤ job.process.0) self.old.jobs.items) }
         ensures wanted { self.new.wanted ≡ self.old.wanted }
     {
         let place = greatest(&self.jobs)?;

@@ -17,7 +17,8 @@ pub fn judge_greatest_first(
     wanted: Wanted,
 ) -> Result<Vec<Piece<'_>>, NoMemory>
     ensures of_case { IfOk result (λ pieces. AllOf case.now pieces.items) }
-    ensures each_once { IfOk result (λ pieces. (process : ℕ) → process < process_count case.now.records
+    ensures each_once { IfOk result (λ pieces. (process : ℕ)
+        → process < process_count case.now.records
         → times process (processes_in pieces.items) ≡ 1) }
 {
     let jobs = case.roots(alloc)?;

@@ -32,27 +32,46 @@ module _ (tree : List Entry) (abi : Abi) (rs : ℕ) where
   unfolding is_on_rulesets answer effect
   create_empty_creates = record { on_rulesets = refl; allowed = λ rulesets s free. rw free refl; creates = λ rulesets s. refl }
 
-  pub path_adds : (path : List ℕ) (fs : Fs) → AddsTo tree abi (calls.AddPath rs path fs) rs (λ one. add_path_refusal tree one (place tree path) fs) (λ other. with_rule_at tree other (place tree path) fs)
+  pub path_adds : (path : List ℕ) (fs : Fs) → AddsTo tree abi (calls.AddPath rs path fs) rs (λ one. add_path_refusal tree one (place tree path) fs)
+      (λ other. with_rule_at tree other (place tree path) fs)
   unfolding is_on_rulesets answer add_path_answer effect
-  path_adds path fs = record { on_rulesets = refl; unheld = λ rulesets s none. rw none refl; answers = λ rulesets s one other held same. rw (held, ← same.same_files) refl; adds = λ rulesets s. refl }
+  path_adds path fs = record {
+    on_rulesets = refl;
+    unheld = λ rulesets s none. rw none refl;
+    answers = λ rulesets s one other held same. rw (held, ← same.same_files) refl;
+    adds = λ rulesets s. refl;
+  }
 
-  pub port_adds : (port : ℕ) (net : Net) → AddsTo tree abi (calls.AddPort rs port net) rs (λ one. add_port_refusal abi one port net) (λ other. with_port_rule other port net)
+  pub port_adds : (port : ℕ) (net : Net)
+      → AddsTo tree abi (calls.AddPort rs port net) rs (λ one. add_port_refusal abi one port net) (λ other. with_port_rule other port net)
   unfolding is_on_rulesets answer add_port_answer effect
-  port_adds port net = record { on_rulesets = refl; unheld = λ rulesets s none. rw none refl; answers = λ rulesets s one other held same. rw (held, ← same.same_network) refl; adds = λ rulesets s. refl }
+  port_adds port net = record {
+    on_rulesets = refl;
+    unheld = λ rulesets s none. rw none refl;
+    answers = λ rulesets s one other held same. rw (held, ← same.same_network) refl;
+    adds = λ rulesets s. refl;
+  }
 
-same_with_rule_at : (tree : List Entry) (a b : RulesOn Path) (at : Place) (rights : Fs) → SameRules a b → SameRules (with_rule_at tree a at rights) (with_rule_at tree b at rights)
+same_with_rule_at : (tree : List Entry) (a b : RulesOn Path) (at : Place) (rights : Fs) → SameRules a b
+    → SameRules (with_rule_at tree a at rights) (with_rule_at tree b at rights)
 same_with_rule_at tree a b (Node node) rights same = SameRules-with_file_rule a b (path_at tree node) rights same
 same_with_rule_at tree a b (Gap node) rights same = same
 same_with_rule_at tree a b Nowhere rights same = same
 
 module _ (tree : List Entry) (one next : RulesOn ℕ) where
-  pub path_stays : (at : Place) (fs : Fs) → IsPathAdded tree at fs one next → AreInTree tree next × ((other : Layer) → IsSame tree one other → IsSame tree next (with_rule_at tree other at fs))
-  path_stays at fs added =
-      (added.1, λ other same. SameRules-trans (in_tree tree next) (with_rule_at tree (in_tree tree one) at fs) (with_rule_at tree other at fs) added.0 (same_with_rule_at tree (in_tree tree one) other at fs same))
+  pub path_stays : (at : Place) (fs : Fs) → IsPathAdded tree at fs one next
+      → AreInTree tree next × ((other : Layer) → IsSame tree one other → IsSame tree next (with_rule_at tree other at fs))
+  path_stays at fs added = (
+    added.1,
+    λ other same. SameRules-trans (in_tree tree next) (with_rule_at tree (in_tree tree one) at fs) (with_rule_at tree other at fs) added.0
+        (same_with_rule_at tree (in_tree tree one) other at fs same),
+  )
 
-  pub port_stays : (port : ℕ) (net : Net) → GrantsOnPort one next port net → AreInTree tree one → AreInTree tree next × ((other : Layer) → IsSame tree one other → IsSame tree next (with_port_rule other port net))
+  pub port_stays : (port : ℕ) (net : Net) → GrantsOnPort one next port net → AreInTree tree one
+      → AreInTree tree next × ((other : Layer) → IsSame tree one other → IsSame tree next (with_port_rule other port net))
   port_stays port net added inside = (
     rw added.kept_rules inside,
     λ other same.
-        SameRules-trans (in_tree tree next) (with_port_rule (in_tree tree one) port net) (with_port_rule other port net) (SameRules-from_port tree one next port net added) (SameRules-with_port_rule (in_tree tree one) other port net same),
+        SameRules-trans (in_tree tree next) (with_port_rule (in_tree tree one) port net) (with_port_rule other port net)
+        (SameRules-from_port tree one next port net added) (SameRules-with_port_rule (in_tree tree one) other port net same),
   )

@@ -1,5 +1,6 @@
 -- The pass over all records: what holds before the first one, and after one more.
-use Rattle.std.proofs.Common.{◌≡◌, ℕ, ◌+◌, ◌<◌, List, [], ◌∷◌, ◌++◌, length, false, Option, Some, None, get_or, refl, sym, ◌∙◌, ap, arith, inl, inr, length-append}
+use Rattle.std.proofs.Common.{◌≡◌, ℕ, ◌+◌, ◌<◌, List, [], ◌∷◌, ◌++◌, length, false, Option, Some, None, get_or, refl, sym, ◌∙◌, ap, arith, inl, inr}
+use Rattle.std.proofs.Common.{length-append}
 use Rattle.std.specs.List.{slice_get}
 use Rattle.std.proofs.lemmas.Bool.{cases_eq, eq-eqb, ne_eqb}
 use Rattle.std.proofs.lemmas.List.{get_or_append_left}
@@ -46,14 +47,16 @@ settled_none tree abi records pass of_tree of_abi rulesets layers tables = recor
   fits = λ k r note at noted. absurd (cc);
 }
 
-frozen_stays : (tree : List Entry) (abi : Abi) (old new : List (RulesOn ℕ)) (world : World) (process : ℕ) (id : LayerId) (rules : Option Layer) → Extends old new →
+frozen_stays : (tree : List Entry) (abi : Abi) (old new : List (RulesOn ℕ)) (world : World) (process : ℕ) (id : LayerId) (rules : Option Layer)
+    → Extends old new →
     IsFrozen (met_by tree abi old world process) (Some id) rules → IsFrozen (met_by tree abi new world process) (Some id) rules
 unfolding IsFrozen
 frozen_stays tree abi old new world process id None extends frozen = frozen
 frozen_stays tree abi old new world process id (Some rules) extends frozen =
     let none : RulesOn ℕ = without_rules files.no_right network.no_right in
     let longer : length new ≡ length old + length extends.more = rw extends.is_more (simp length-append) in
-    let same : layer_at new id ≡ layer_at old id = ap (λ (xs : List (RulesOn ℕ)). get_or xs id.0 none) extends.is_more ∙ get_or_append_left old extends.more none id.0 frozen.0 in
+    let same : layer_at new id ≡ layer_at old id =
+    ap (λ (xs : List (RulesOn ℕ)). get_or xs id.0 none) extends.is_more ∙ get_or_append_left old extends.more none id.0 frozen.0 in
     (omega (arith, longer, frozen.0), rw same frozen.1)
 
 -- a note still fits when layers were appended
@@ -61,7 +64,8 @@ note_stays : (tree : List Entry) (abi : Abi) (old new : List (RulesOn ℕ)) (wor
     NoteFits (met_by tree abi old world process) op note → NoteFits (met_by tree abi new world process) op note
 unfolding NoteFits answered
 note_stays tree abi old new world process op (Answered a) extends fits = fits
-note_stays tree abi old new world process op (Frozen id) extends fits = frozen_stays tree abi old new world process id (enforced world.rulesets op (world.processes process)) extends fits
+note_stays tree abi old new world process op (Frozen id) extends fits =
+    frozen_stays tree abi old new world process id (enforced world.rulesets op (world.processes process)) extends fits
 note_stays tree abi old new world process op Open extends fits = fits
 
 -- after one record more
@@ -91,7 +95,8 @@ settled_next tree abi records k r old new notes note at so_far settles =
             rw (← it, ← same, place) fits
         | inr earlier ↦
             let before : slice_get (notes ++ note ∷ []) j ≡ slice_get notes j = rw (slice_get-push notes j note, ne_eqb j (length notes) earlier) refl in
-            note_stays tree abi old.store.layers new.store.layers (world_at tree abi records j) s.process.0 s.op other settles.layers (so_far.fits j s other at_s (sym before ∙ noted))
+            note_stays tree abi old.store.layers new.store.layers (world_at tree abi records j) s.process.0 s.op other settles.layers
+            (so_far.fits j s other at_s (sym before ∙ noted))
       ];
     }
 

@@ -1,6 +1,7 @@
 -- What a list has at each place after one write; what the processes hold after one of them holds or closes a ruleset; and
 -- a ruleset that names a layer stays that layer.
-use Rattle.std.proofs.Common.{◌≡◌, ℕ, suc, zero, ◌<◌, List, [], ◌∷◌, ◌++◌, length, Some, cond, refl, arith, eqb, subst, All, ◌+◌, Option, get_or, inl, inr, nat_cmp, length-set, length-append, Result, sym, ◌∙◌, ap, OnOk, OnErr}
+use Rattle.std.proofs.Common.{◌≡◌, ℕ, suc, zero, ◌<◌, List, [], ◌∷◌, ◌++◌, length, Some, cond, refl, arith, eqb, subst, All, ◌+◌, Option, get_or, inl, inr}
+use Rattle.std.proofs.Common.{nat_cmp, length-set, length-append, Result, sym, ◌∙◌, ap, OnOk, OnErr}
 use Rattle.std.proofs.Math.ListN.{set}
 use Rattle.std.proofs.Math.Dec.{eqb-suc-zero, eqb-zero-suc, eqb-suc-suc}
 use Rattle.std.specs.List.{slice_get, AllZip}
@@ -101,9 +102,11 @@ pub extends_same : (layers : List (RulesOn ℕ)) → Extends layers layers
 extends_same layers = record { more = []; is_more = search Rattle.std.proofs.Common.rules; one = omega arith }
 
 -- a place of the store, as contracts see it
-module _ (stored : List Stored) (layers : List (RulesOn ℕ)) (stock : Stock) (view_is : stock_of stored layers ≡ stock) (place : ℕ) (there : place < length stock.rulesets) (one : Stored) (read : one ≡ get_or stored place one) where
+module _ (stored : List Stored) (layers : List (RulesOn ℕ)) (stock : Stock) (view_is : stock_of stored layers ≡ stock) (place : ℕ)
+    (there : place < length stock.rulesets) (one : Stored) (read : one ≡ get_or stored place one) where
   stands : slice_get stored place ≡ Some one
-  stands = slice_get_read stored (length stored) place one refl (omega (arith, there, ap (λ (s : Stock). length s.rulesets) view_is, length-map stored (λ (one : Stored). one.«ruleset»))) read
+  stands = slice_get_read stored (length stored) place one refl
+      (omega (arith, there, ap (λ (s : Stock). length s.rulesets) view_is, length-map stored (λ (one : Stored). one.«ruleset»))) read
 
   ruleset_stands : slice_get (rulesets_of stored) place ≡ Some one.«ruleset»
   ruleset_stands = rw (slice_get-map (λ (one : Stored). one.«ruleset») stored place, stands) refl
@@ -124,15 +127,19 @@ module _ (stored : List Stored) (layers : List (RulesOn ℕ)) (stock : Stock) (v
   }
 
   -- it is frozen to a new layer
-  pub freezes : (next : Stored) (id : LayerId) → next.«ruleset» ≡ one.«ruleset» → id.0 ≡ length layers → Freezes stock (stock_of (set stored place next) (layers ++ one.«ruleset» ∷ [])) place id
+  pub freezes : (next : Stored) (id : LayerId) → next.«ruleset» ≡ one.«ruleset» → id.0 ≡ length layers
+      → Freezes stock (stock_of (set stored place next) (layers ++ one.«ruleset» ∷ [])) place id
   freezes next id same last = rw (← view_is) record {
     layer = rw (slice_get-push layers id.0 one.«ruleset», eq-eqb id.0 (length layers) last) (sym ruleset_stands);
-    rulesets = map-set (λ (one : Stored). one.«ruleset») stored place next ∙ rw same (sym (map-set (λ (one : Stored). one.«ruleset») stored place one)) ∙ ap rulesets_of same_there;
+    rulesets = map-set (λ (one : Stored). one.«ruleset») stored place next ∙ rw same (sym (map-set (λ (one : Stored). one.«ruleset») stored place one))
+        ∙ ap rulesets_of same_there;
     layers = record { more = one.«ruleset» ∷ []; is_more = refl; one = omega arith };
-    inside = λ tree rulesets layers_in. All-push (AreInTree tree) layers one.«ruleset» layers_in (all_there (AreInTree tree) (rulesets_of stored) place one.«ruleset» rulesets ruleset_stands);
+    inside = λ tree rulesets layers_in.
+        All-push (AreInTree tree) layers one.«ruleset» layers_in (all_there (AreInTree tree) (rulesets_of stored) place one.«ruleset» rulesets ruleset_stands);
   }
 
-  pub frozen_now : (next : Stored) → ((id : LayerId) → next.frozen ≡ Some id → id.0 ≡ length layers) → next.«ruleset» ≡ one.«ruleset» → AreFrozen stored layers → AreFrozen (set stored place next) (layers ++ one.«ruleset» ∷ [])
+  pub frozen_now : (next : Stored) → ((id : LayerId) → next.frozen ≡ Some id → id.0 ≡ length layers) → next.«ruleset» ≡ one.«ruleset» → AreFrozen stored layers
+      → AreFrozen (set stored place next) (layers ++ one.«ruleset» ∷ [])
   frozen_now next last same are =
       All-set (IsFrozenTo (layers ++ one.«ruleset» ∷ [])) stored place next
       (λ id named. rw (slice_get-push layers id.0 one.«ruleset», eq-eqb id.0 (length layers) (last id named), same) refl)
@@ -142,12 +149,15 @@ module _ (stored : List Stored) (layers : List (RulesOn ℕ)) (stock : Stock) (v
       rw (slice_get-push layers id.0 one.«ruleset», ne_eqb id.0 (length layers) (λ same. omega arith)) at) stored are)
 
   pub adds_rule : (fault : RulesOn ℕ → Option RuleFault) (IsAdded : RulesOn ℕ → RulesOn ℕ → Type 0) (result : Result (Unit {0}) RuleFault) (next : Stored) →
-      MatchOption (fault one.«ruleset») (IsOkUnless result faults.Memory) (λ f. result ≡ Result.Err f) → OnOk result (IsAdded one.«ruleset» next.«ruleset») → OnErr result (next ≡ one) →
+      MatchOption (fault one.«ruleset») (IsOkUnless result faults.Memory) (λ f. result ≡ Result.Err f) → OnOk result (IsAdded one.«ruleset» next.«ruleset»)
+      → OnErr result (next ≡ one) →
       AddsRule fault IsAdded result place stock (stock_of (set stored place next) layers)
   adds_rule fault IsAdded result next told ok err = rw (← view_is) record {
     before = one.«ruleset»;
     was = ruleset_stands;
     told = told;
-    added = on_ok_weaker result (λ is. record { after = next.«ruleset»; changed = rw (map-set (λ (one : Stored). one.«ruleset») stored place next) refl; is_now = is }) ok;
+    added =
+        on_ok_weaker result
+        (λ is. record { after = next.«ruleset»; changed = rw (map-set (λ (one : Stored). one.«ruleset») stored place next) refl; is_now = is }) ok;
     refused = on_err_weaker result (λ same. ap (λ (s : Stored). stock_of (set stored place s) layers) same ∙ ap (λ all. stock_of all layers) same_there) err;
   }

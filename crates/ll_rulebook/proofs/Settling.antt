@@ -1,5 +1,6 @@
 -- How the pass goes on agreeing with the world, whatever a call does.
-use Rattle.std.proofs.Common.{◌≡◌, ℕ, ◌+◌, ◌<◌, ◌≤◌, List, [], ◌∷◌, ◌++◌, length, Bool, true, false, Option, Some, None, Result, Ok, Err, cond, eqb, refl, sym, ◌∙◌, ap, arith, inl, inr, All, subst, get_or, length-append, length-set}
+use Rattle.std.proofs.Common.{◌≡◌, ℕ, ◌+◌, ◌<◌, ◌≤◌, List, [], ◌∷◌, ◌++◌, length, Bool, true, false, Option, Some, None, Result, Ok, Err, cond, eqb, refl, sym}
+use Rattle.std.proofs.Common.{◌∙◌, ap, arith, inl, inr, All, subst, get_or, length-append, length-set}
 use Rattle.std.specs.Prelude.{nat_eq}
 use Rattle.std.specs.List.{slice_get, AllZip}
 use Rattle.std.specs.Map.{update}
@@ -47,11 +48,13 @@ use Rattle.ll_rulebook.proofs.Frozen.{extends_same, holds_same, zip_push, zip_se
 pub record AddsTo (tree : List Entry) (abi : Abi) (op : Op) (rs : ℕ) (refusal : RulesOn ℕ → Option RuleRefusal) (f : Layer → Layer) : Type 0 where
   pub on_rulesets : is_on_rulesets op ≡ true
   pub unheld : (rulesets : List Layer) (s : State) → s.held rs ≡ None → answer tree abi rulesets op s ≡ fails BadFd
-  pub answers : (rulesets : List Layer) (s : State) (one : RulesOn ℕ) (other : Layer) → named rulesets (s.held rs) ≡ Some other → IsSame tree one other → answer tree abi rulesets op s ≡ of_rule_refusal (refusal one)
+  pub answers : (rulesets : List Layer) (s : State) (one : RulesOn ℕ) (other : Layer) → named rulesets (s.held rs) ≡ Some other → IsSame tree one other
+      → answer tree abi rulesets op s ≡ of_rule_refusal (refusal one)
   pub adds : (rulesets : List Layer) (s : State) → effect tree rulesets op s ≡ leaves_rulesets (changed_at rulesets (s.held rs) f) s
 
 -- the note of a call that adds a rule tells what refuses it
-answer_told : (refusal : Option RuleRefusal) (outcome : Result (Unit {0}) RuleFault) (note : Note) → MatchOption (option_map fault_of refusal) (IsOkUnless outcome faults.Memory) (λ f. outcome ≡ Err f) →
+answer_told : (refusal : Option RuleRefusal) (outcome : Result (Unit {0}) RuleFault) (note : Note)
+    → MatchOption (option_map fault_of refusal) (IsOkUnless outcome faults.Memory) (λ f. outcome ≡ Err f) →
     IsAnswerTo outcome note → note ≡ Answered (of_rule_refusal refusal)
 answer_told None (Ok done) note told is = is
 answer_told None (Err (faults.Errno error)) note told is = absurd (cc)
@@ -85,8 +88,10 @@ chosen false x y s t q now before = before
 pub renamed : (f g : ℕ → Option ℕ) (rs q : ℕ) (v w : Option ℕ) → f q ≡ g q → v ≡ w → update nat_eq f rs v q ≡ update nat_eq g rs w q
 renamed f g rs q v w same place = ap (λ (x : Option ℕ). cond (eqb rs q) x (f q)) place ∙ ap (λ (x : Option ℕ). cond (eqb rs q) w x) same
 
-pub held_there : (rs n q place : ℕ) (v : Option ℕ) (f : ℕ → Option ℕ) → update nat_eq f rs v q ≡ Some place → (v ≡ Some place → place < n) → (f q ≡ Some place → place < n) → place < n
-held_there rs n q place v f is now before = elim (cases_cond (eqb rs q) v (f q) (Some place) (sym is)) [ inl here ↦ now (sym here) | inr there ↦ before (sym there) ]
+pub held_there : (rs n q place : ℕ) (v : Option ℕ) (f : ℕ → Option ℕ) → update nat_eq f rs v q ≡ Some place → (v ≡ Some place → place < n)
+    → (f q ≡ Some place → place < n) → place < n
+held_there rs n q place v f is now before =
+    elim (cases_cond (eqb rs q) v (f q) (Some place) (sym is)) [ inl here ↦ now (sym here) | inr there ↦ before (sym there) ]
 
 module _ (process : ℕ) (op : Op) (old : Pass) (sound : IsSound old) where
   abbrev after : Stock → Tables → Pass
@@ -108,16 +113,19 @@ module _ (process : ℕ) (op : Op) (old : Pass) (sound : IsSound old) where
   }
 
   agrees_after : (s : Stock) (t : Tables) (w : World) (rulesets : List Layer) (count total at number : ℕ) (held : ℕ → Option ℕ) (state : State) → Agrees old w →
-      AllZip (IsSame old.tree.now) s.rulesets rulesets → NowHolds old.tables.held.items t.held.items count at held → count ≡ total → at ≡ number → ((q : ℕ) → held q ≡ state.held q) →
+      AllZip (IsSame old.tree.now) s.rulesets rulesets → NowHolds old.tables.held.items t.held.items count at held → count ≡ total → at ≡ number
+      → ((q : ℕ) → held q ≡ state.held q) →
       Agrees (after s t) (record { rulesets = rulesets; count = total; processes = with_state w.processes number state })
   agrees_after s t w rulesets count total at number held state agrees same holds all own held_is = record {
     rulesets = same;
     count = holds.counted ∙ all;
-    held = λ p q. holds.holds p q ∙ rw own (chosen (eqb p number) (held q) (held_by old.tables.held.items p q) state (w.processes p) q (held_is q) (agrees.held p q));
+    held = λ p q. holds.holds p q
+        ∙ rw own (chosen (eqb p number) (held q) (held_by old.tables.held.items p q) state (w.processes p) q (held_is q) (agrees.held p q));
   }
 
   -- what an allowed call makes of the world
-  step_is : (w : World) (e : Effect) → answer old.tree.now old.abi w.rulesets op (w.processes process) ≡ Allowed → effect old.tree.now w.rulesets op (w.processes process) ≡ e →
+  step_is : (w : World) (e : Effect) → answer old.tree.now old.abi w.rulesets op (w.processes process) ≡ Allowed
+      → effect old.tree.now w.rulesets op (w.processes process) ≡ e →
       step old.tree.now old.abi w process op ≡ affected w process e
   unfolding step answer_in
   step_is w e allowed is = rw (allowed, is) refl
@@ -125,7 +133,8 @@ module _ (process : ℕ) (op : Op) (old : Pass) (sound : IsSound old) where
   -- ---- a call that changes nothing of what the pass keeps
 
   -- it isn't allowed
-  pub settles_refused : (a : Answer) → is_on_rulesets op ≡ true → (a ≡ Allowed → ⊥) → ((w : World) → Agrees old w → a ≡ answer old.tree.now old.abi w.rulesets op (w.processes process)) →
+  pub settles_refused : (a : Answer) → is_on_rulesets op ≡ true → (a ≡ Allowed → ⊥)
+      → ((w : World) → Agrees old w → a ≡ answer old.tree.now old.abi w.rulesets op (w.processes process)) →
       Settles process op old old (Answered a)
   unfolding NoteFits answered answer_in
   settles_refused a on refused is = record {
@@ -141,7 +150,8 @@ module _ (process : ℕ) (op : Op) (old : Pass) (sound : IsSound old) where
   agrees_quiet : (layers : List (RulesOn ℕ)) (w : World) (a : Answer) (e : Effect) → Agrees old w → IsQuiet (w.processes process) e →
       Agrees (after (record old.store { layers = layers }) old.tables) (if_allowed a (affected w process e) w)
   agrees_quiet layers w Allowed (leaves next) agrees quiet =
-      agrees_after (record old.store { layers = layers }) old.tables w w.rulesets _ w.count process process _ next agrees agrees.rulesets (holds_same old.tables.held.items process) agrees.count refl
+      agrees_after (record old.store { layers = layers }) old.tables w w.rulesets _ w.count process process _ next agrees agrees.rulesets
+      (holds_same old.tables.held.items process) agrees.count refl
       (λ q. agrees.held process q ∙ ap (λ (h : ℕ → Option ℕ). h q) (sym quiet))
   agrees_quiet layers w Allowed (leaves_rulesets rulesets next) agrees quiet = absurd quiet
   agrees_quiet layers w Allowed (begins child) agrees quiet = absurd quiet
@@ -158,12 +168,15 @@ module _ (process : ℕ) (op : Op) (old : Pass) (sound : IsSound old) where
     same_abi = refl;
     sound = record { places = sound.places; rulesets = sound.rulesets; layers = inside };
     layers = extends;
-    agrees = λ w agrees. agrees_quiet layers w (answer old.tree.now old.abi w.rulesets op (w.processes process)) (effect old.tree.now w.rulesets op (w.processes process)) agrees (quiet w.rulesets (w.processes process));
+    agrees = λ w agrees. agrees_quiet layers w (answer old.tree.now old.abi w.rulesets op (w.processes process))
+        (effect old.tree.now w.rulesets op (w.processes process)) agrees (quiet w.rulesets (w.processes process));
     fits = fits;
   }
 
-  pub settles_frozen : (s : Stock) (at : ℕ) (id : LayerId) → ((rulesets : List Layer) (s : State) → IsQuiet s (effect old.tree.now rulesets op s)) → at < length old.store.rulesets → Freezes old.store s at id →
-      ((w : World) → Agrees old w → enforced w.rulesets op (w.processes process) ≡ slice_get w.rulesets at) → Settles process op old (after s old.tables) (Frozen id)
+  pub settles_frozen : (s : Stock) (at : ℕ) (id : LayerId) → ((rulesets : List Layer) (s : State) → IsQuiet s (effect old.tree.now rulesets op s))
+      → at < length old.store.rulesets → Freezes old.store s at id →
+      ((w : World) → Agrees old w → enforced w.rulesets op (w.processes process) ≡ slice_get w.rulesets at)
+      → Settles process op old (after s old.tables) (Frozen id)
   unfolding NoteFits IsFrozen
   settles_frozen s at id quiet within freezes enforces =
       let none : RulesOn ℕ = without_rules files.no_right network.no_right in
@@ -176,7 +189,8 @@ module _ (process : ℕ) (op : Op) (old : Pass) (sound : IsSound old) where
 
   -- ---- a ruleset is created, and held under a free number
 
-  pub settles_created : (t : Tables) (rs : ℕ) (fs : Fs) (net : Net) (at : ℕ) → Creates old.tree.now old.abi rs fs net op → held_by old.tables.held.items process rs ≡ None →
+  pub settles_created : (t : Tables) (rs : ℕ) (fs : Fs) (net : Net) (at : ℕ) → Creates old.tree.now old.abi rs fs net op
+      → held_by old.tables.held.items process rs ≡ None →
       at ≡ length old.store.rulesets → Holds old.tables.held.items t.held.items process rs (Some at) →
       Settles process op old (after (with_created old.store (without_rules fs net)) t) (Answered Allowed)
   unfolding NoteFits answered
@@ -188,13 +202,16 @@ module _ (process : ℕ) (op : Op) (old : Pass) (sound : IsSound old) where
         same_tree = refl;
         same_abi = refl;
         sound = sound_after (with_created old.store one) t _ process _ holds
-            (λ q place is. held_there rs _ q place (Some at) (held_by old.tables.held.items process) is (λ same. let it : at ≡ place = cc in omega arith) (λ held. let earlier : place < length old.store.rulesets = sound.places process q place held in omega arith))
+            (λ q place is. held_there rs _ q place (Some at) (held_by old.tables.held.items process) is (λ same. let it : at ≡ place = cc in omega arith)
+            (λ held. let earlier : place < length old.store.rulesets = sound.places process q place held in omega arith))
             (omega arith) (All-push (AreInTree old.tree.now) old.store.rulesets one sound.rulesets (λ k default within. absurd (omega arith))) sound.layers;
         layers = extends_same old.store.layers;
         agrees = λ w agrees. rw (step_is w _ (allowed w agrees) (creates.creates w.rulesets (w.processes process)))
             (agrees_after (with_created old.store one) t w _ _ w.count process process _ _ agrees
-            (zip_push (IsSame old.tree.now) old.store.rulesets w.rulesets one (without_rules fs net) agrees.rulesets (SameRules-refl (without_rules fs net))) holds agrees.count refl
-            (λ q. renamed (held_by old.tables.held.items process) (w.processes process).held rs q _ _ (agrees.held process q) (ap (λ (n : ℕ). Some n) (last ∙ sym (AllZip-long (IsSame old.tree.now) old.store.rulesets w.rulesets agrees.rulesets)))));
+            (zip_push (IsSame old.tree.now) old.store.rulesets w.rulesets one (without_rules fs net) agrees.rulesets (SameRules-refl (without_rules fs net)))
+            holds agrees.count refl
+            (λ q. renamed (held_by old.tables.held.items process) (w.processes process).held rs q _ _ (agrees.held process q)
+            (ap (λ (n : ℕ). Some n) (last ∙ sym (AllZip-long (IsSame old.tree.now) old.store.rulesets w.rulesets agrees.rulesets)))));
         fits = λ w agrees. (creates.on_rulesets, sym (allowed w agrees));
       }
 
@@ -204,7 +221,8 @@ module _ (process : ℕ) (op : Op) (old : Pass) (sound : IsSound old) where
       ((q place : ℕ) → held q ≡ Some place → place < length old.store.rulesets) → fit (after old.store t) note →
       ((w : World) → Agrees old w → answer old.tree.now old.abi w.rulesets op (w.processes process) ≡ Allowed) →
       ((w : World) → Agrees old w → (state : State) × (total number : ℕ) × (count ≡ total) × (at ≡ number) × ((q : ℕ) → held q ≡ state.held q)
-      × (affected w process (effect old.tree.now w.rulesets op (w.processes process)) ≡ record { rulesets = w.rulesets; count = total; processes = with_state w.processes number state })) →
+      × (affected w process (effect old.tree.now w.rulesets op (w.processes process))
+      ≡ record { rulesets = w.rulesets; count = total; processes = with_state w.processes number state })) →
       Settles process op old (after old.store t) note
   settles_tables t count at held note holds there fits allowed does = record {
     same_tree = refl;
@@ -213,7 +231,8 @@ module _ (process : ℕ) (op : Op) (old : Pass) (sound : IsSound old) where
     layers = extends_same old.store.layers;
     agrees = λ w agrees.
         let (state, total, number, all, own, held_is, next) = does w agrees in
-        rw (step_is w _ (allowed w agrees) refl, next) (agrees_after old.store t w w.rulesets count total at number held state agrees agrees.rulesets holds all own held_is);
+        rw (step_is w _ (allowed w agrees) refl, next)
+        (agrees_after old.store t w w.rulesets count total at number held state agrees agrees.rulesets holds all own held_is);
     fits = fits;
   }
 
@@ -221,19 +240,25 @@ module _ (process : ℕ) (op : Op) (old : Pass) (sound : IsSound old) where
 
   module _ (rs : ℕ) (refusal : RulesOn ℕ → Option RuleRefusal) (f : Layer → Layer) (call : AddsTo old.tree.now old.abi op rs refusal f) where
     pub settles_unheld : held_by old.tables.held.items process rs ≡ None → Settles process op old old (Answered (fails BadFd))
-    settles_unheld none = settles_refused (fails BadFd) call.on_rulesets (λ is. cc) (λ w agrees. sym (call.unheld w.rulesets (w.processes process) (sym (agrees.held process rs) ∙ none)))
+    settles_unheld none = settles_refused (fails BadFd) call.on_rulesets (λ is. cc)
+        (λ w agrees. sym (call.unheld w.rulesets (w.processes process) (sym (agrees.held process rs) ∙ none)))
 
     module _ (at : ℕ) (held : held_by old.tables.held.items process rs ≡ Some at) where
       -- what the ruleset is in the world
       met : (one : RulesOn ℕ) → slice_get old.store.rulesets at ≡ Some one → (w : World) → Agrees old w →
           (other : Layer) × (slice_get w.rulesets at ≡ Some other) × IsSame old.tree.now one other × ((w.processes process).held rs ≡ Some at)
-      met one was w agrees = let (other, stands, same) = zip_at (IsSame old.tree.now) old.store.rulesets w.rulesets at one agrees.rulesets was in (other, stands, same, sym (agrees.held process rs) ∙ held)
+      met one was w agrees = let (other, stands, same) = zip_at (IsSame old.tree.now) old.store.rulesets w.rulesets at one agrees.rulesets was in
+          (other, stands, same, sym (agrees.held process rs) ∙ held)
 
-      answer_is : (one : RulesOn ℕ) → slice_get old.store.rulesets at ≡ Some one → (w : World) → Agrees old w → of_rule_refusal (refusal one) ≡ answer old.tree.now old.abi w.rulesets op (w.processes process)
-      answer_is one was w agrees = let (other, stands, same, it) = met one was w agrees in sym (call.answers w.rulesets (w.processes process) one other (rw it stands) same)
+      answer_is : (one : RulesOn ℕ) → slice_get old.store.rulesets at ≡ Some one → (w : World) → Agrees old w
+          → of_rule_refusal (refusal one) ≡ answer old.tree.now old.abi w.rulesets op (w.processes process)
+      answer_is one was w agrees = let (other, stands, same, it) = met one was w agrees in
+          sym (call.answers w.rulesets (w.processes process) one other (rw it stands) same)
 
-      settles_added : (s : Stock) (one : RulesOn ℕ) (IsNow : RulesOn ℕ → Type 0) → slice_get old.store.rulesets at ≡ Some one → of_rule_refusal (refusal one) ≡ Allowed → Becomes old.store s at IsNow →
-          ((next : RulesOn ℕ) → IsNow next → AreInTree old.tree.now next × ((other : Layer) → IsSame old.tree.now one other → IsSame old.tree.now next (f other))) →
+      settles_added : (s : Stock) (one : RulesOn ℕ) (IsNow : RulesOn ℕ → Type 0) → slice_get old.store.rulesets at ≡ Some one
+          → of_rule_refusal (refusal one) ≡ Allowed → Becomes old.store s at IsNow →
+          ((next : RulesOn ℕ) → IsNow next → AreInTree old.tree.now next
+          × ((other : Layer) → IsSame old.tree.now one other → IsSame old.tree.now next (f other))) →
           Settles process op old (after s old.tables) (Answered Allowed)
       unfolding NoteFits answered
       settles_added s one IsNow was none now stays = rw now.changed record {
@@ -256,7 +281,8 @@ module _ (process : ℕ) (op : Op) (old : Pass) (sound : IsSound old) where
 
       pub settles_rule : (s : Stock) (IsAdded : RulesOn ℕ → RulesOn ℕ → Type 0) (outcome : Result (Unit {0}) RuleFault) (note : Note) →
           AddsRule (λ one. option_map fault_of (refusal one)) IsAdded outcome at old.store s → IsAnswerTo outcome note →
-          ((one next : RulesOn ℕ) → slice_get old.store.rulesets at ≡ Some one → IsAdded one next → AreInTree old.tree.now next × ((other : Layer) → IsSame old.tree.now one other → IsSame old.tree.now next (f other))) →
+          ((one next : RulesOn ℕ) → slice_get old.store.rulesets at ≡ Some one → IsAdded one next
+          → AreInTree old.tree.now next × ((other : Layer) → IsSame old.tree.now one other → IsSame old.tree.now next (f other))) →
           Settles process op old (after s old.tables) note
       settles_rule s IsAdded (Ok done) note adds is stays =
           let told : note ≡ Answered (of_rule_refusal (refusal adds.before)) = answer_told (refusal adds.before) (Ok done) note adds.told is in
@@ -264,4 +290,5 @@ module _ (process : ℕ) (op : Op) (old : Pass) (sound : IsSound old) where
           rw is (settles_added s adds.before (IsAdded adds.before) adds.was none adds.added (λ next. stays adds.before next adds.was))
       settles_rule s IsAdded (Err fault) note adds is stays =
           let told : note ≡ Answered (of_rule_refusal (refusal adds.before)) = answer_told (refusal adds.before) (Err fault) note adds.told is in
-          rw (adds.refused, told) (settles_refused (of_rule_refusal (refusal adds.before)) call.on_rulesets (λ allowed. refused_told fault note is (told ∙ ap Answered allowed)) (answer_is adds.before adds.was))
+          rw (adds.refused, told) (settles_refused (of_rule_refusal (refusal adds.before)) call.on_rulesets
+          (λ allowed. refused_told fault note is (told ∙ ap Answered allowed)) (answer_is adds.before adds.was))

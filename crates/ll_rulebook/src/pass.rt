@@ -76,8 +76,10 @@ impl<'t> Pass<'t> {
         requires there { process < length self.old.tables.held.items }
         requires sound { IsSound self.old }
         requires free { held_by self.old.tables.held.items process rs ≡ None }
-        ensures { IfOk result (λ note. (fs : Fs) (net : Net) (op : Op) → created ≡ without_rules fs net
-            → Creates self.old.tree.now self.old.abi rs fs net op → Settles process op self.old self.new note) }
+        ensures { IfOk result (λ note. (fs : Fs) (net : Net) (op : Op)
+            → created ≡ without_rules fs net
+            → Creates self.old.tree.now self.old.abi rs fs net op
+            → Settles process op self.old self.new note) }
     {
         let place = self.store.add(created)?;
         self.tables.hold(process, rs, place)?;
@@ -179,7 +181,8 @@ impl<'t> Pass<'t> {
     /// A process begins that the trace starts with; it holds nothing.
     fn start(&mut self, alloc: Global) -> Result<Note, NoMemory>
         requires { IsSound self.old }
-        ensures { IfOk result (λ note. (process : ℕ) (nnp admin : Bool) → Settles process (Op.Start nnp admin) self.old self.new note) }
+        ensures { IfOk result (λ note. (process : ℕ) (nnp admin : Bool)
+            → Settles process (Op.Start nnp admin) self.old self.new note) }
     {
         self.tables.start(alloc)?;
         Ok(Note::Open)
@@ -189,7 +192,8 @@ impl<'t> Pass<'t> {
     fn fork(&mut self, process: usize) -> Result<Note, NoMemory>
         requires there { process < length self.old.tables.held.items }
         requires sound { IsSound self.old }
-        ensures { IfOk result (λ note. (child : ℕ) → Settles process (Op.Fork child) self.old self.new note) }
+        ensures { IfOk result (λ note. (child : ℕ)
+            → Settles process (Op.Fork child) self.old self.new note) }
     {
         self.tables.fork(process)?;
         Ok(Note::Open)
@@ -199,7 +203,8 @@ impl<'t> Pass<'t> {
     /// layer that its ruleset is frozen to.
     #[tactic(auto, unfolding(ll_trace::specs::Entries::is_start))]
     pub(crate) fn settle(&mut self, alloc: Global, record: &Record) -> Result<Note, NoMemory>
-        requires there { is_start «record».now.op ≡ false → «record».now.process.0 < length self.old.tables.held.items }
+        requires there { is_start «record».now.op ≡ false
+            → «record».now.process.0 < length self.old.tables.held.items }
         requires sound { IsSound self.old }
         requires room { length self.old.store.layers < 2 ^ 32 }
         ensures { IfOk result (Settles «record».now.process.0 «record».now.op self.old self.new) }
@@ -231,10 +236,12 @@ impl<'t> Pass<'t> {
         record: &Record,
         notes: &mut Vec<Note>,
     ) -> Result<(), NoMemory>
-        requires there { is_start «record».now.op ≡ false → «record».now.process.0 < length self.old.tables.held.items }
+        requires there { is_start «record».now.op ≡ false
+            → «record».now.process.0 < length self.old.tables.held.items }
         requires sound { IsSound self.old }
         requires room { length self.old.store.layers < 2 ^ 32 }
-        ensures { OnOk result (Adds notes.old.items notes.new.items (Settles «record».now.process.0 «record».now.op self.old self.new)) }
+        ensures { OnOk result (Adds notes.old.items notes.new.items
+            (Settles «record».now.process.0 «record».now.op self.old self.new)) }
     {
         notes.reserve(1)?;
         match self.settle(alloc, record)? {
@@ -254,7 +261,8 @@ impl<'t> Pass<'t> {
         requires begins { HasSettled self.old.tree.now self.old.abi records.now 0 self.old [] }
         requires are_records { AreRecords records.now }
         requires few { length records.now < 2 ^ 32 }
-        ensures { IfOk result (λ notes. HasSettled self.old.tree.now self.old.abi records.now (length records.now) self.new notes.items) }
+        ensures { IfOk result (λ notes. HasSettled self.old.tree.now self.old.abi records.now
+            (length records.now) self.new notes.items) }
     {
         let mut notes = Vec::new(alloc);
         for record in records {

@@ -26,7 +26,8 @@ impl Rulebook {
     /// The rulebook of a trace on a tree: the answer to each record that creates, changes or closes a
     /// ruleset, and the layer of each record that restricts its process by a ruleset it holds.
     pub fn of(alloc: Global, tree: &Tree, trace: &Trace, abi: Abi) -> Result<Rulebook, NoMemory>
-        ensures { IfOk result (λ book. IsSettled tree.now abi trace.now book.layers.items book.notes.items) }
+        ensures { IfOk result
+            (λ book. IsSettled tree.now abi trace.now book.layers.items book.notes.items) }
     {
         let mut pass = Pass::new(alloc, tree, abi);
         let notes = pass.settle_all(alloc, trace.records())?;

@@ -26,9 +26,11 @@ impl Stored {
     fn add_path(&mut self, tree: &Tree, at: Place, files: Fs) -> Result<(), RuleFault>
         requires place { IsOfTree tree.now at }
         requires within { AreInTree tree.now self.old.ruleset }
-        ensures fault { MatchOption (add_path_fault tree.now self.old.ruleset at files) (IsOkUnless result RuleFault.Memory) (λ fault. result ≡ Err fault) }
+        ensures fault { MatchOption (add_path_fault tree.now self.old.ruleset at files)
+            (IsOkUnless result RuleFault.Memory) (λ fault. result ≡ Err fault) }
         ensures ok { OnOk result (IsPathAdded tree.now at files self.old.ruleset self.new.ruleset) }
-        ensures frozen { (layers : List (RulesOn ℕ)) → IsFrozenTo layers self.old → IsFrozenTo layers self.new }
+        ensures frozen { (layers : List (RulesOn ℕ)) → IsFrozenTo layers self.old
+            → IsFrozenTo layers self.new }
         ensures err { OnErr result (self.new ≡ self.old) }
     {
         self.ruleset.add_path(tree, at, files)?;
@@ -38,9 +40,11 @@ impl Stored {
 
     /// Adds a rule for a port; the ruleset then is no longer what it was frozen to.
     fn add_port(&mut self, abi: Abi, port: u64, network: Net) -> Result<(), RuleFault>
-        ensures fault { MatchOption (add_port_fault abi self.old.ruleset port network) (IsOkUnless result RuleFault.Memory) (λ fault. result ≡ Err fault) }
+        ensures fault { MatchOption (add_port_fault abi self.old.ruleset port network)
+            (IsOkUnless result RuleFault.Memory) (λ fault. result ≡ Err fault) }
         ensures ok { OnOk result (GrantsOnPort self.old.ruleset self.new.ruleset port network) }
-        ensures frozen { (layers : List (RulesOn ℕ)) → IsFrozenTo layers self.old → IsFrozenTo layers self.new }
+        ensures frozen { (layers : List (RulesOn ℕ)) → IsFrozenTo layers self.old
+            → IsFrozenTo layers self.new }
         ensures err { OnErr result (self.new ≡ self.old) }
     {
         self.ruleset.add_port(abi, port, network)?;

@@ -38,7 +38,8 @@ impl Tables {
         place: usize,
     ) -> Result<(), AllocError>
         requires { process < length self.old.held.items }
-        ensures { OnOk result (Holds self.old.held.items self.new.held.items process number (Some place)) }
+        ensures { OnOk result
+            (Holds self.old.held.items self.new.held.items process number (Some place)) }
     {
         self.held[process].insert(number, place)?;
         Ok(())
@@ -64,7 +65,8 @@ impl Tables {
     /// One process more, which holds what its parent holds.
     pub(crate) fn fork(&mut self, parent: usize) -> Result<(), AllocError>
         requires { parent < length self.old.held.items }
-        ensures { OnOk result (Begins self.old.held.items self.new.held.items (held_by self.old.held.items parent)) }
+        ensures { OnOk result
+            (Begins self.old.held.items self.new.held.items (held_by self.old.held.items parent)) }
     {
         let held = self.held[parent].clone()?;
         self.held.push(held)?;

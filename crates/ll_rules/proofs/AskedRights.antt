@@ -12,7 +12,8 @@ none_asked right = has_nothing right
 pub one_asked : (set : Fs) (one right : FsRight) → set ≡ only one → has set right ≡ (is_right right one || false)
 one_asked set one right is = ap (λ (own : Fs). has own right) is ∙ fs_has-only right one ∙ sym (or_false (is_right right one))
 
-pub two_asked : (set first second : Fs) (one another right : FsRight) → set ≡ united first second → first ≡ only one → second ≡ only another → has set right ≡ (is_right right one || (is_right right another || false))
+pub two_asked : (set first second : Fs) (one another right : FsRight) → set ≡ united first second → first ≡ only one → second ≡ only another
+    → has set right ≡ (is_right right one || (is_right right another || false))
 two_asked set first second one another right is a b =
     ap (λ (own : Fs). has own right) is
     ∙ fs_has-united first second right

@@ -23,7 +23,8 @@ is_prefix-root [] = refl
 is_prefix-root (name ∷ names) = refl
 
 -- a prefix is the path itself, or one of its front
-is_prefix-split : (path : Path) (first : List ℕ) (others : Path) → is_prefix path (first ∷ others) ≡ (path_eq path (first ∷ others) || is_prefix path (front (first ∷ others)))
+is_prefix-split : (path : Path) (first : List ℕ) (others : Path)
+    → is_prefix path (first ∷ others) ≡ (path_eq path (first ∷ others) || is_prefix path (front (first ∷ others)))
 unfolding is_prefix path_eq front
 is_prefix-split [] first [] = refl
 is_prefix-split [] first (next ∷ others) = refl
@@ -38,7 +39,8 @@ pub granted-split : (rules : RulesOn Path) (first : List ℕ) (others : Path) (r
 unfolding granted granted_on
 granted-split rules first others right =
     let path = first ∷ others in
-    list_any-agree (λ rule. is_prefix rule.0 path && has rule.1 right) (λ rule. (path_eq rule.0 path && has rule.1 right) || (is_prefix rule.0 (front path) && has rule.1 right))
+    list_any-agree (λ rule. is_prefix rule.0 path && has rule.1 right)
+    (λ rule. (path_eq rule.0 path && has rule.1 right) || (is_prefix rule.0 (front path) && has rule.1 right))
     (λ rule.
     ap (λ (b : Bool). b && has rule.1 right) (is_prefix-split rule.0 first others)
     ∙ or_and (path_eq rule.0 path) (is_prefix rule.0 (front path)) (has rule.1 right)) rules.file_rules
@@ -52,8 +54,10 @@ granted-root rules right =
 
 -- ---- by nodes
 
-on_nodes : (tree : List Entry) (rules : List (ℕ × Fs)) (here : NodeId) (right : FsRight) → IsTree tree → IsNode tree here → All (λ number. number < length tree) (map (λ rule. rule.0) rules)
-    → list_any (λ rule. path_eq (rule_on_path tree rule).0 (path_at tree here) && has rule.1 right) rules ≡ list_any (λ rule. eqb here.0 rule.0 && has rule.1 right) rules
+on_nodes : (tree : List Entry) (rules : List (ℕ × Fs)) (here : NodeId) (right : FsRight) → IsTree tree → IsNode tree here
+    → All (λ number. number < length tree) (map (λ rule. rule.0) rules)
+    → list_any (λ rule. path_eq (rule_on_path tree rule).0 (path_at tree here) && has rule.1 right) rules
+    ≡ list_any (λ rule. eqb here.0 rule.0 && has rule.1 right) rules
 on_nodes tree [] here right listed inside within = refl
 on_nodes tree (rule ∷ rules) here right listed inside within =
     let first : IsNode tree (node rule.0) = All-head (λ (number : ℕ). number < length tree) rule.0 (map (λ other. other.0) rules) within in
@@ -72,7 +76,8 @@ or_same : (b : Bool) → b ≡ (b || b)
 or_same true = refl
 or_same false = refl
 
-pub from_path : (rules : RulesOn Path) (path above : Path) (here : Bool) (right : FsRight) → granted_on rules path right ≡ here → above ≡ front path → granted rules path right ≡ (here || granted rules above right)
+pub from_path : (rules : RulesOn Path) (path above : Path) (here : Bool) (right : FsRight) → granted_on rules path right ≡ here → above ≡ front path
+    → granted rules path right ≡ (here || granted rules above right)
 unfolding front
 from_path rules [] above here right on is =
     let root = granted-root rules right ∙ on in
@@ -83,7 +88,8 @@ from_path rules (first ∷ others) above here right on is =
     ∙ ap (λ (path : Path). here || granted rules path right) (sym is)
 
 -- one step of the climb
-pub climbed : (tree : List Entry) (rules : RulesOn ℕ) (here : NodeId) (up : Option NodeId) (right : FsRight) → IsTree tree → IsNode tree here → AreInTree tree rules
+pub climbed : (tree : List Entry) (rules : RulesOn ℕ) (here : NodeId) (up : Option NodeId) (right : FsRight) → IsTree tree
+    → IsNode tree here → AreInTree tree rules
     → IfNone up (path_at tree here ≡ []) → IfSome up (StandsIn tree here)
     → granted (in_tree tree rules) (path_at tree here) right ≡ (granted_on_node rules here right || granted_above tree rules up right)
 unfolding granted_above
@@ -94,10 +100,12 @@ climbed tree rules here None right listed inside within top below =
     ∙ granted_on-node tree rules here right listed inside within
     ∙ sym (or_false (granted_on_node rules here right))
 climbed tree rules here (Some above) right listed inside within top below =
-    from_path (in_tree tree rules) (path_at tree here) (path_at tree above) (granted_on_node rules here right) right (granted_on-node tree rules here right listed inside within) below.is_front
+    from_path (in_tree tree rules) (path_at tree here) (path_at tree above) (granted_on_node rules here right) right
+    (granted_on-node tree rules here right listed inside within) below.is_front
 
 -- past a node on which nothing is granted the same is granted
-pub passed : (tree : List Entry) (rules : RulesOn ℕ) (here : NodeId) (up : Option NodeId) (right : FsRight) → IsTree tree → IsNode tree here → AreInTree tree rules
+pub passed : (tree : List Entry) (rules : RulesOn ℕ) (here : NodeId) (up : Option NodeId) (right : FsRight) → IsTree tree
+    → IsNode tree here → AreInTree tree rules
     → IfNone up (path_at tree here ≡ []) → IfSome up (StandsIn tree here)
     → granted_on_node rules here right ≡ false → granted_above tree rules up right ≡ granted_above tree rules (Some here) right
 unfolding granted_above

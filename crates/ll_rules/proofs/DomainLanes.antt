@@ -1,5 +1,6 @@
 -- The lanes of a domain: a row of them filled place by place, what is left of them on a climb, and the layers whose lanes are filled.
-use Rattle.std.proofs.Common.{◌≡◌, ℕ, zero, suc, ◌+◌, ◌*◌, ◌^◌, ◌<◌, ◌≤◌, Bool, true, false, not, ◌&&◌, ◌||◌, cond, eqb, List, [], ◌∷◌, ◌++◌, map, length, get_or, take, refl, sym, ap, subst, ◌∙◌, arith, inl, inr, append_assoc, append-nil, mul_comm, bit_and, bit_or, ◌/◌, ◌%◌}
+use Rattle.std.proofs.Common.{◌≡◌, ℕ, zero, suc, ◌+◌, ◌*◌, ◌^◌, ◌<◌, ◌≤◌, Bool, true, false, not, ◌&&◌, ◌||◌, cond, eqb, List, [], ◌∷◌, ◌++◌, map, length}
+use Rattle.std.proofs.Common.{get_or, take, refl, sym, ap, subst, ◌∙◌, arith, inl, inr, append_assoc, append-nil, mul_comm, bit_and, bit_or, ◌/◌, ◌%◌}
 use Rattle.std.specs.Int.{bit_at}
 use Rattle.std.proofs.lemmas.Nat.Bits.{shr_and_one}
 use Rattle.std.specs.Prelude.{All, Option, Some, None, IfSome, IfNone}
@@ -39,26 +40,26 @@ use Rattle.ll_rules.proofs.Marks.{neither_bit}
 
 module _ (P : ℕ → ℕ → Type 0) (row : List ℕ) (place value : ℕ) (inside : place < length row) where
   pub row_next : ((p : ℕ) → p < place → P p (get_or row p 0)) → P place value → (p : ℕ) → p < place + 1 → P p (get_or (set row place value) p 0)
-  row_next before here p lt =
-      elim (cases_eq p place) [
-        | inl same ↦ rw (same, get_or-set_same row place value 0 inside) here
-        | inr differs ↦ rw (get_or-set_other row place p value 0 differs) (before p (omega arith))
-      ]
+  row_next before here p lt = elim (cases_eq p place) [
+    | inl same ↦ rw (same, get_or-set_same row place value 0 inside) here
+    | inr differs ↦ rw (get_or-set_other row place p value 0 differs) (before p (omega arith))
+  ]
 
 pub row_rest : (row : List ℕ) (place value : ℕ) → ((p : ℕ) → place ≤ p → get_or row p 0 ≡ 0) → (p : ℕ) → place + 1 ≤ p → get_or (set row place value) p 0 ≡ 0
 row_rest row place value rest p le = get_or-set_other row place p value 0 (λ same. absurd (omega arith)) ∙ rest p (omega arith)
 
 -- the places that are still to come are as they were before
-pub row_still : (row before : List ℕ) (place value : ℕ) → ((p : ℕ) → place ≤ p → get_or row p 0 ≡ get_or before p 0) → (p : ℕ) → place + 1 ≤ p → get_or (set row place value) p 0 ≡ get_or before p 0
+pub row_still : (row before : List ℕ) (place value : ℕ) → ((p : ℕ) → place ≤ p → get_or row p 0 ≡ get_or before p 0) → (p : ℕ) → place + 1 ≤ p
+    → get_or (set row place value) p 0 ≡ get_or before p 0
 row_still row before place value rest p le = get_or-set_other row place p value 0 (λ same. absurd (omega arith)) ∙ rest p (omega arith)
 
 -- nothing in any place where nothing is in all together
-pub row_nothing : (row : List ℕ) (place value all : ℕ) → place < length row → ((p : ℕ) → p < place → all ≡ 0 → get_or row p 0 ≡ 0) → (p : ℕ) → p < place + 1 → bit_or all value ≡ 0 → get_or (set row place value) p 0 ≡ 0
-row_nothing row place value all inside before p lt none =
-    elim (cases_eq p place) [
-      | inl same ↦ rw (same, get_or-set_same row place value 0 inside) (omega (arith, le_or_r all value))
-      | inr differs ↦ rw (get_or-set_other row place p value 0 differs) (before p (omega arith) (omega (arith, le_or_l all value)))
-    ]
+pub row_nothing : (row : List ℕ) (place value all : ℕ) → place < length row → ((p : ℕ) → p < place → all ≡ 0 → get_or row p 0 ≡ 0) → (p : ℕ) → p < place + 1
+    → bit_or all value ≡ 0 → get_or (set row place value) p 0 ≡ 0
+row_nothing row place value all inside before p lt none = elim (cases_eq p place) [
+  | inl same ↦ rw (same, get_or-set_same row place value 0 inside) (omega (arith, le_or_r all value))
+  | inr differs ↦ rw (get_or-set_other row place p value 0 differs) (before p (omega arith) (omega (arith, le_or_l all value)))
+]
 
 -- ---- the layers of a domain
 
@@ -67,7 +68,8 @@ module _ (layers : List (RulesOn ℕ)) (ids : List LayerId) where
   layer_in-named place d inside = get_or-map (layer_at layers) ids place d (without_rules files.no_right network.no_right) inside
 
   pub layer_in-past : (place : ℕ) → length ids ≤ place → layer_in (domain_of layers ids) place ≡ without_rules files.no_right network.no_right
-  layer_in-past place past = get_or_past (map (layer_at layers) ids) place (without_rules files.no_right network.no_right) (omega (arith, length-map ids (layer_at layers)))
+  layer_in-past place past =
+      get_or_past (map (layer_at layers) ids) place (without_rules files.no_right network.no_right) (omega (arith, length-map ids (layer_at layers)))
 
 nothing_is_empty : files.is_empty files.no_right ≡ true
 nothing_is_empty = sym (fs_is_empty files.no_right)
@@ -80,43 +82,45 @@ pub nothing_granted : (here : NodeId) (right : FsRight) → granted_on_node (wit
 unfolding granted_on_node
 nothing_granted here right = refl
 
-module _ (layers : List (RulesOn ℕ)) (ids : List LayerId) (row : List ℕ) (count : ℕ) (all : length ids ≤ count) (rest : (place : ℕ) → count ≤ place → get_or row place 0 ≡ 0) where
+module _ (layers : List (RulesOn ℕ)) (ids : List LayerId) (row : List ℕ) (count : ℕ) (all : length ids ≤ count) (rest : (place : ℕ) → count ≤ place
+    → get_or row place 0 ≡ 0) where
   -- a row of what the layers handle, all places together
   pub all_handled : ((place : ℕ) → place < count → (right : FsRight) → has (lane row place) right ≡ handles (layer_in (domain_of layers ids) place) right)
       → (place : ℕ) (right : FsRight) → has (lane row place) right ≡ handles (layer_in (domain_of layers ids) place) right
-  all_handled so_far place right =
-      elim (cases_lt place count) [
-        | inl inside ↦ so_far place inside right
-        | inr past ↦
-            nothing_in (get_or row place 0) right (rest place past)
-            ∙ sym (ap (λ (rules : RulesOn ℕ). handles rules right) (layer_in-past layers ids place (omega arith)) ∙ nothing_handled ℕ right)
-      ]
+  all_handled so_far place right = elim (cases_lt place count) [
+    | inl inside ↦ so_far place inside right
+    | inr past ↦
+        nothing_in (get_or row place 0) right (rest place past)
+        ∙ sym (ap (λ (rules : RulesOn ℕ). handles rules right) (layer_in-past layers ids place (omega arith)) ∙ nothing_handled ℕ right)
+  ]
 
   -- a row of what the layers handle of some rights, all places together
-  pub all_asked : (wanted : Fs) → ((place : ℕ) → place < count → (right : FsRight) → has (lane row place) right ≡ (handles (layer_in (domain_of layers ids) place) right && has wanted right))
+  pub all_asked : (wanted : Fs) → ((place : ℕ) → place < count → (right : FsRight)
+      → has (lane row place) right ≡ (handles (layer_in (domain_of layers ids) place) right && has wanted right))
       → (place : ℕ) (right : FsRight) → has (lane row place) right ≡ (handles (layer_in (domain_of layers ids) place) right && has wanted right)
-  all_asked wanted so_far place right =
-      elim (cases_lt place count) [
-        | inl inside ↦ so_far place inside right
-        | inr past ↦
-            nothing_in (get_or row place 0) right (rest place past)
-            ∙ sym (ap (λ (b : Bool). b && has wanted right) (ap (λ (rules : RulesOn ℕ). handles rules right) (layer_in-past layers ids place (omega arith)) ∙ nothing_handled ℕ right))
-      ]
+  all_asked wanted so_far place right = elim (cases_lt place count) [
+    | inl inside ↦ so_far place inside right
+    | inr past ↦
+        nothing_in (get_or row place 0) right (rest place past)
+        ∙ sym (ap (λ (b : Bool). b && has wanted right) (ap (λ (rules : RulesOn ℕ). handles rules right) (layer_in-past layers ids place (omega arith))
+        ∙ nothing_handled ℕ right))
+  ]
 
 -- what is left of lanes once their layers were asked on a node, all places together
 pub all_left : (layers : List (RulesOn ℕ)) (ids : List LayerId) (before after : List ℕ) (count : ℕ) → length ids ≤ count → (here : NodeId)
-    → ((place : ℕ) → place < count → (right : FsRight) → has (lane after place) right ≡ (has (lane before place) right && not (granted_on_node (layer_in (domain_of layers ids) place) here right)))
+    → ((place : ℕ) → place < count → (right : FsRight)
+    → has (lane after place) right ≡ (has (lane before place) right && not (granted_on_node (layer_in (domain_of layers ids) place) here right)))
     → ((place : ℕ) → count ≤ place → get_or after place 0 ≡ get_or before place 0)
-    → (place : ℕ) (right : FsRight) → has (lane after place) right ≡ (has (lane before place) right && not (granted_on_node (layer_in (domain_of layers ids) place) here right))
-all_left layers ids before after count all here so_far rest place right =
-    elim (cases_lt place count) [
-      | inl inside ↦ so_far place inside right
-      | inr past ↦
-          ap (λ (bits : ℕ). has (set_of bits) right) (rest place past)
-          ∙ sym (and_true (has (lane before place) right))
-          ∙ ap (λ (b : Bool). has (lane before place) right && not b)
-          (sym (ap (λ (rules : RulesOn ℕ). granted_on_node rules here right) (layer_in-past layers ids place (omega arith)) ∙ nothing_granted here right))
-    ]
+    → (place : ℕ) (right : FsRight) → has (lane after place) right
+    ≡ (has (lane before place) right && not (granted_on_node (layer_in (domain_of layers ids) place) here right))
+all_left layers ids before after count all here so_far rest place right = elim (cases_lt place count) [
+  | inl inside ↦ so_far place inside right
+  | inr past ↦
+      ap (λ (bits : ℕ). has (set_of bits) right) (rest place past)
+      ∙ sym (and_true (has (lane before place) right))
+      ∙ ap (λ (b : Bool). has (lane before place) right && not b)
+      (sym (ap (λ (rules : RulesOn ℕ). granted_on_node rules here right) (layer_in-past layers ids place (omega arith)) ∙ nothing_granted here right))
+]
 
 -- ---- marks of all layers together
 
@@ -124,18 +128,22 @@ module _ (layers : List (RulesOn ℕ)) (ids : List LayerId) (here : NodeId) wher
   -- one layer more: where neither its marks nor those before it have the node's, no layer so far has a rule on the node
   pub unmarked_next : (place marks more : ℕ) (d : LayerId) (rules : RulesOn ℕ) → place < length ids → rules ≡ layer_at layers (get_or ids place d)
       → (eqb (bit_at more (here.0 % 64)) 1 ≡ false → (right : FsRight) → granted_on_node rules here right ≡ false)
-      → ((p : ℕ) → p < place → eqb (bit_at marks (here.0 % 64)) 1 ≡ false → (right : FsRight) → granted_on_node (layer_in (domain_of layers ids) p) here right ≡ false)
-      → (p : ℕ) → p < place + 1 → eqb (bit_at (bit_or marks more) (here.0 % 64)) 1 ≡ false → (right : FsRight) → granted_on_node (layer_in (domain_of layers ids) p) here right ≡ false
+      → ((p : ℕ) → p < place → eqb (bit_at marks (here.0 % 64)) 1 ≡ false → (right : FsRight)
+      → granted_on_node (layer_in (domain_of layers ids) p) here right ≡ false)
+      → (p : ℕ) → p < place + 1 → eqb (bit_at (bit_or marks more) (here.0 % 64)) 1 ≡ false → (right : FsRight)
+      → granted_on_node (layer_in (domain_of layers ids) p) here right ≡ false
   unmarked_next place marks more d rules inside is own before p lt unmarked right =
       let parts = neither_bit marks more (here.0 % 64) unmarked in
       elim (cases_eq p place) [
-        | inl same ↦ rw same (ap (λ (others : RulesOn ℕ). granted_on_node others here right) (layer_in-named layers ids place d inside ∙ sym is) ∙ own parts.1 right)
+        | inl same ↦
+            rw same (ap (λ (others : RulesOn ℕ). granted_on_node others here right) (layer_in-named layers ids place d inside ∙ sym is) ∙ own parts.1 right)
         | inr differs ↦ before p (omega arith) parts.0 right
       ]
 
   -- where no layer of the domain has the node's mark, none has a rule on the node
   pub unmarked_all : (count marks number : ℕ) → length ids ≤ count → number ≡ here.0 → eqb (bit_and (marks / 2 ^ (number % 64)) 1) 1 ≡ false
-      → ((p : ℕ) → p < count → eqb (bit_at marks (here.0 % 64)) 1 ≡ false → (right : FsRight) → granted_on_node (layer_in (domain_of layers ids) p) here right ≡ false)
+      → ((p : ℕ) → p < count → eqb (bit_at marks (here.0 % 64)) 1 ≡ false → (right : FsRight)
+      → granted_on_node (layer_in (domain_of layers ids) p) here right ≡ false)
       → (p : ℕ) (right : FsRight) → granted_on_node (layer_in (domain_of layers ids) p) here right ≡ false
   unmarked_all count marks number all is unmarked so_far p right =
       let own : eqb (bit_and (marks / 2 ^ (here.0 % 64)) 1) 1 ≡ false = rw is at unmarked in
@@ -156,12 +164,14 @@ unfolding parent_of front
 nodes_up-front [] above up tree is found = absurd cc
 nodes_up-front (name ∷ names) above up tree is found = omega (arith, ap length is, length-front name names)
 
-pub nodes_up-step : (tree : List Entry) (here : NodeId) (up : Option NodeId) → up ≡ parent_at tree here → IfSome up (StandsIn tree here) → nodes_up tree up + 1 ≤ nodes_up tree (Some here)
+pub nodes_up-step : (tree : List Entry) (here : NodeId) (up : Option NodeId) → up ≡ parent_at tree here → IfSome up (StandsIn tree here)
+    → nodes_up tree up + 1 ≤ nodes_up tree (Some here)
 unfolding nodes_up parent_at
 nodes_up-step tree here None found below = omega arith
 nodes_up-step tree here (Some above) found below = omega (arith, nodes_up-front (path_at tree here) (path_at tree above) above tree below.is_front found)
 
-pub count_begins : (tree : List Entry) (here : NodeId) (layers start : ℕ) → start + layers * nodes_up tree (Some here) ≤ start + layers * (depth_at tree here + 1)
+pub count_begins : (tree : List Entry) (here : NodeId) (layers start : ℕ)
+    → start + layers * nodes_up tree (Some here) ≤ start + layers * (depth_at tree here + 1)
 unfolding nodes_up depth_at
 count_begins tree here layers start = omega arith
 
@@ -173,7 +183,8 @@ nodes_here tree here layers =
     omega arith
 
 -- one node further up, and at most one look-up for each layer more
-pub count_goes_on : (tree : List Entry) (here : NodeId) (up : Option NodeId) (layers before after bound : ℕ) → up ≡ parent_at tree here → IfSome up (StandsIn tree here)
+pub count_goes_on : (tree : List Entry) (here : NodeId) (up : Option NodeId) (layers before after bound : ℕ) → up ≡ parent_at tree here
+    → IfSome up (StandsIn tree here)
     → after ≤ before + layers → before + layers * nodes_up tree (Some here) ≤ bound → after + layers * nodes_up tree up ≤ bound
 count_goes_on tree here up layers before after bound found below more so_far =
     let step : layers * (nodes_up tree up + 1) ≤ layers * nodes_up tree (Some here) = mul-le-mul_left layers (nodes_up-step tree here up found below) in
@@ -191,7 +202,8 @@ few_look_ups layers depth few low =
 abbrev pub left_above : List Entry → RulesOn ℕ → Option NodeId → FsRight → Bool → Bool
 left_above tree rules at right has_it = has_it && not (granted_above tree rules at right)
 
-pub left_begins : (tree : List Entry) (rules : RulesOn ℕ) (here : NodeId) (right : FsRight) (has_it : Bool) → left_above tree rules (Some here) right has_it ≡ (has_it && not (granted (in_tree tree rules) (path_at tree here) right))
+pub left_begins : (tree : List Entry) (rules : RulesOn ℕ) (here : NodeId) (right : FsRight) (has_it : Bool)
+    → left_above tree rules (Some here) right has_it ≡ (has_it && not (granted (in_tree tree rules) (path_at tree here) right))
 unfolding granted_above
 left_begins tree rules here right has_it = refl
 
@@ -200,9 +212,11 @@ and_split true true above = refl
 and_split true false above = refl
 and_split false rule above = refl
 
-pub left_goes_on : (tree : List Entry) (rules : RulesOn ℕ) (here : NodeId) (up : Option NodeId) (right : FsRight) (before after total : Bool) → IsTree tree → IsNode tree here → AreInTree tree rules
+pub left_goes_on : (tree : List Entry) (rules : RulesOn ℕ) (here : NodeId) (up : Option NodeId) (right : FsRight) (before after total : Bool) → IsTree tree
+    → IsNode tree here → AreInTree tree rules
     → IfNone up (path_at tree here ≡ []) → IfSome up (StandsIn tree here)
-    → after ≡ (before && not (granted_on_node rules here right)) → left_above tree rules (Some here) right before ≡ total → left_above tree rules up right after ≡ total
+    → after ≡ (before && not (granted_on_node rules here right)) → left_above tree rules (Some here) right before ≡ total
+    → left_above tree rules up right after ≡ total
 left_goes_on tree rules here up right before after total listed inside within top below is so_far =
     ap (λ (b : Bool). b && not (granted_above tree rules up right)) is
     ∙ sym (and_split before (granted_on_node rules here right) (granted_above tree rules up right))
@@ -211,7 +225,8 @@ left_goes_on tree rules here up right before after total listed inside within to
     ∙ so_far
 
 -- what is left stays where nothing that is granted was passed
-pub left_passed : (tree : List Entry) (rules : RulesOn ℕ) (at up : Option NodeId) (right : FsRight) (has_it total : Bool) → granted_above tree rules up right ≡ granted_above tree rules at right
+pub left_passed : (tree : List Entry) (rules : RulesOn ℕ) (at up : Option NodeId) (right : FsRight) (has_it total : Bool)
+    → granted_above tree rules up right ≡ granted_above tree rules at right
     → left_above tree rules at right has_it ≡ total → left_above tree rules up right has_it ≡ total
 left_passed tree rules at up right has_it total is so_far = ap (λ (b : Bool). has_it && not b) is ∙ so_far
 
@@ -221,22 +236,27 @@ and_comm true false = refl
 and_comm false true = refl
 and_comm false false = refl
 
-pub left_ends : (tree : List Entry) (rules : RulesOn ℕ) (right : FsRight) (has_it total : Bool) → left_above tree rules None right has_it ≡ total → has_it ≡ total
+pub left_ends : (tree : List Entry) (rules : RulesOn ℕ) (right : FsRight) (has_it total : Bool)
+    → left_above tree rules None right has_it ≡ total → has_it ≡ total
 unfolding granted_above
 left_ends tree rules right has_it total so_far = sym (and_true has_it) ∙ so_far
 
 -- of nothing nothing is left
-pub left_nothing : (tree : List Entry) (rules : RulesOn ℕ) (at : Option NodeId) (right : FsRight) (has_it total : Bool) → has_it ≡ false → left_above tree rules at right has_it ≡ total → has_it ≡ total
+pub left_nothing : (tree : List Entry) (rules : RulesOn ℕ) (at : Option NodeId) (right : FsRight) (has_it total : Bool) → has_it ≡ false
+    → left_above tree rules at right has_it ≡ total → has_it ≡ total
 left_nothing tree rules at right has_it total none so_far = none ∙ sym (ap (λ (b : Bool). b && not (granted_above tree rules at right)) none) ∙ so_far
 
 -- without rules nothing is granted
-nothing_above : (tree : List Entry) (rules : RulesOn ℕ) (at : Option NodeId) (right : FsRight) → rules ≡ without_rules files.no_right network.no_right → granted_above tree rules at right ≡ false
+nothing_above : (tree : List Entry) (rules : RulesOn ℕ) (at : Option NodeId) (right : FsRight) → rules ≡ without_rules files.no_right network.no_right
+    → granted_above tree rules at right ≡ false
 unfolding granted_above granted
 nothing_above tree rules None right is = refl
 nothing_above tree rules (Some up) right is = rw is refl
 
-pub left_unasked : (tree : List Entry) (rules : RulesOn ℕ) (at : Option NodeId) (right : FsRight) (has_it total : Bool) → rules ≡ without_rules files.no_right network.no_right → left_above tree rules at right has_it ≡ total → has_it ≡ total
-left_unasked tree rules at right has_it total is so_far = sym (and_true has_it) ∙ sym (ap (λ (b : Bool). has_it && not b) (nothing_above tree rules at right is)) ∙ so_far
+pub left_unasked : (tree : List Entry) (rules : RulesOn ℕ) (at : Option NodeId) (right : FsRight) (has_it total : Bool)
+    → rules ≡ without_rules files.no_right network.no_right → left_above tree rules at right has_it ≡ total → has_it ≡ total
+left_unasked tree rules at right has_it total is so_far =
+    sym (and_true has_it) ∙ sym (ap (λ (b : Bool). has_it && not b) (nothing_above tree rules at right is)) ∙ so_far
 
 -- the layers of a domain have their rules in the tree
 pub all_in : (tree : List Entry) (layers : List (RulesOn ℕ)) (id : LayerId) → All (AreInTree tree) layers → AreInTree tree (layer_at layers id)
@@ -247,16 +267,18 @@ all_in tree layers id all =
       | inr past ↦ subst (AreInTree tree) (sym (get_or_past layers id.0 nowhere past)) (All-nil (λ (number : ℕ). number < length tree))
     ]
 
-pub layer_in-within : (tree : List Entry) (layers : List (RulesOn ℕ)) (ids : List LayerId) (place : ℕ) → All (AreInTree tree) layers → AreInTree tree (layer_in (domain_of layers ids) place)
-layer_in-within tree layers ids place all =
-    elim (cases_lt place (length ids)) [
-      | inl inside ↦ subst (AreInTree tree) (sym (layer_in-named layers ids place (record { 0 = 0 }) inside)) (all_in tree layers (get_or ids place (record { 0 = 0 })) all)
-      | inr past ↦ subst (AreInTree tree) (sym (layer_in-past layers ids place past)) (All-nil (λ (number : ℕ). number < length tree))
-    ]
+pub layer_in-within : (tree : List Entry) (layers : List (RulesOn ℕ)) (ids : List LayerId) (place : ℕ) → All (AreInTree tree) layers
+    → AreInTree tree (layer_in (domain_of layers ids) place)
+layer_in-within tree layers ids place all = elim (cases_lt place (length ids)) [
+  | inl inside ↦ subst (AreInTree tree) (sym (layer_in-named layers ids place (record { 0 = 0 }) inside))
+      (all_in tree layers (get_or ids place (record { 0 = 0 })) all)
+  | inr past ↦ subst (AreInTree tree) (sym (layer_in-past layers ids place past)) (All-nil (λ (number : ℕ). number < length tree))
+]
 
 -- ---- the layers whose lanes are filled
 
-numbers_from-snoc : {L : Type 0} (test : L → Bool) (number : ℕ) (xs : List L) (x : L) → numbers_from test number (xs ++ x ∷ []) ≡ numbers_from test number xs ++ cond (test x) ((number + length xs) ∷ []) []
+numbers_from-snoc : {L : Type 0} (test : L → Bool) (number : ℕ) (xs : List L) (x : L)
+    → numbers_from test number (xs ++ x ∷ []) ≡ numbers_from test number xs ++ cond (test x) ((number + length xs) ∷ []) []
 unfolding numbers_from
 numbers_from-snoc test number [] x =
     let same : number + 0 ≡ number = omega arith in
@@ -265,7 +287,8 @@ numbers_from-snoc test number (y ∷ ys) x =
     let same : number + 1 + length ys ≡ number + suc (length ys) = omega arith in
     rw (numbers_from-snoc test (number + 1) ys x, append_assoc, same) refl
 
-module _ {L : Type 0} (test : L → Bool) (passes : ℕ → Bool) (domain : List L) (d : L) (nowhere : test d ≡ false) (agree : (place : ℕ) → place < 16 → passes (suc place) ≡ test (get_or domain place d)) where
+module _ {L : Type 0} (test : L → Bool) (passes : ℕ → Bool) (domain : List L) (d : L) (nowhere : test d ≡ false) (agree : (place : ℕ) → place < 16
+    → passes (suc place) ≡ test (get_or domain place d)) where
   passing_first : (count : ℕ) → count ≤ 16 → passing_upto passes count ≡ numbers_from test 1 (take count domain)
   unfolding passing_upto numbers_from
   passing_first zero few = refl
@@ -290,15 +313,20 @@ not_not true = refl
 not_not false = refl
 
 -- the layers of a domain whose lanes hold what a test finds
-pub filled_numbers : (lanes : List ℕ) (layers : List (RulesOn ℕ)) (ids : List LayerId) (test : RulesOn ℕ → Bool) → length ids ≤ 16 → test (without_rules files.no_right network.no_right) ≡ false
-    → ((place : ℕ) → some_right (has (lane lanes place)) ≡ test (layer_in (domain_of layers ids) place)) → numbers_passing (is_filled lanes) ≡ numbers_from test 1 (domain_of layers ids)
+pub filled_numbers : (lanes : List ℕ) (layers : List (RulesOn ℕ)) (ids : List LayerId) (test : RulesOn ℕ → Bool) → length ids ≤ 16
+    → test (without_rules files.no_right network.no_right) ≡ false
+    → ((place : ℕ) → some_right (has (lane lanes place)) ≡ test (layer_in (domain_of layers ids) place))
+    → numbers_passing (is_filled lanes) ≡ numbers_from test 1 (domain_of layers ids)
 unfolding is_filled
 filled_numbers lanes layers ids test few nowhere same =
-    passing_all test (is_filled lanes) (domain_of layers ids) (without_rules files.no_right network.no_right) nowhere (λ place inside. not_not (some_right (has (lane lanes place))) ∙ same place) (omega (arith, length-map ids (layer_at layers)))
+    passing_all test (is_filled lanes) (domain_of layers ids) (without_rules files.no_right network.no_right) nowhere
+    (λ place inside. not_not (some_right (has (lane lanes place))) ∙ same place) (omega (arith, length-map ids (layer_at layers)))
 
 -- a domain's layers that pass a test, with their rules on paths
-pub filled_in_tree : (tree : List Entry) (lanes : List ℕ) (layers : List (RulesOn ℕ)) (ids : List LayerId) (test : RulesOn Path → Bool) → length ids ≤ 16 → test (in_tree tree (without_rules files.no_right network.no_right)) ≡ false
-    → ((place : ℕ) → some_right (has (lane lanes place)) ≡ test (in_tree tree (layer_in (domain_of layers ids) place))) → numbers_passing (is_filled lanes) ≡ numbers_from test 1 (all_in_tree tree (domain_of layers ids))
+pub filled_in_tree : (tree : List Entry) (lanes : List ℕ) (layers : List (RulesOn ℕ)) (ids : List LayerId) (test : RulesOn Path → Bool) → length ids ≤ 16
+    → test (in_tree tree (without_rules files.no_right network.no_right)) ≡ false
+    → ((place : ℕ) → some_right (has (lane lanes place)) ≡ test (in_tree tree (layer_in (domain_of layers ids) place)))
+    → numbers_passing (is_filled lanes) ≡ numbers_from test 1 (all_in_tree tree (domain_of layers ids))
 filled_in_tree tree lanes layers ids test few nowhere same =
     filled_numbers lanes layers ids (λ rules. test (in_tree tree rules)) few nowhere same ∙ sym (numbers_from-map test (in_tree tree) 1 (domain_of layers ids))
 
@@ -308,15 +336,20 @@ pub none_lacking : (wanted granted : FsRight → Bool) → is_lacking wanted (ha
 unfolding some_right all_rights named_rights
 none_lacking wanted granted =
     some_agree (λ right. wanted right && handles (without_rules {P = Path} files.no_right network.no_right) right && not (granted right)) (λ right. false)
-    (λ right. ap (λ (b : Bool). wanted right && b && not (granted right)) (nothing_handled Path right) ∙ ap (λ (b : Bool). b && not (granted right)) (and_none (wanted right)))
+    (λ right. ap (λ (b : Bool). wanted right && b && not (granted right)) (nothing_handled Path right)
+    ∙ ap (λ (b : Bool). b && not (granted right)) (and_none (wanted right)))
 
 pub refusing_lanes : (tree : List Entry) (layers : List (RulesOn ℕ)) (ids : List LayerId) (path : Path) (wanted : Fs) (lanes : List ℕ) → length ids ≤ 16
-    → ((place : ℕ) (right : FsRight) → has (lane lanes place) right ≡ ((handles (layer_in (domain_of layers ids) place) right && has wanted right) && not (granted (in_tree tree (layer_in (domain_of layers ids) place)) path right)))
+    → ((place : ℕ) (right : FsRight) → has (lane lanes place) right
+    ≡ ((handles (layer_in (domain_of layers ids) place) right && has wanted right)
+    && not (granted (in_tree tree (layer_in (domain_of layers ids) place)) path right)))
     → numbers_passing (is_filled lanes) ≡ refusing (all_in_tree tree (domain_of layers ids)) path wanted
 refusing_lanes tree layers ids path wanted lanes few same =
     filled_in_tree tree lanes layers ids (λ layer. lacks layer path wanted) few (none_lacking (has wanted) _)
-    (λ place. some_agree (has (lane lanes place)) (λ right. has wanted right && handles (layer_in (domain_of layers ids) place) right && not (granted (in_tree tree (layer_in (domain_of layers ids) place)) path right))
-    (λ right. same place right ∙ ap (λ (b : Bool). b && not (granted (in_tree tree (layer_in (domain_of layers ids) place)) path right)) (and_comm (handles (layer_in (domain_of layers ids) place) right) (has wanted right))))
+    (λ place. some_agree (has (lane lanes place)) (λ right. has wanted right && handles (layer_in (domain_of layers ids) place) right
+    && not (granted (in_tree tree (layer_in (domain_of layers ids) place)) path right))
+    (λ right. same place right ∙ ap (λ (b : Bool). b && not (granted (in_tree tree (layer_in (domain_of layers ids) place)) path right))
+    (and_comm (handles (layer_in (domain_of layers ids) place) right) (has wanted right))))
 
 -- a domain of one layer refuses where its lane holds anything
 pub refusing_alone : (tree : List Entry) (layer : RulesOn ℕ) (path : Path) (wanted : Fs) (left : ℕ)

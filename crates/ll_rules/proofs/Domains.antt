@@ -1,5 +1,6 @@
 -- The numbers of the layers of a domain that pass a test, one layer after another.
-use Rattle.std.proofs.Common.{◌≡◌, ℕ, ◌+◌, ◌<◌, ◌≤◌, Bool, true, false, not, cond, List, [], ◌∷◌, ◌++◌, map, length, get_or, drop, refl, sym, ap, ◌∙◌, arith, append_assoc, append-nil, add-one}
+use Rattle.std.proofs.Common.{◌≡◌, ℕ, ◌+◌, ◌<◌, ◌≤◌, Bool, true, false, not, cond, List, [], ◌∷◌, ◌++◌, map, length, get_or, drop, refl, sym, ap, ◌∙◌, arith}
+use Rattle.std.proofs.Common.{append_assoc, append-nil, add-one}
 use Rattle.std.specs.Prelude.{All}
 use Rattle.std.proofs.lemmas.List.Elements.{All-append, All-cons, All-nil, All-weaker}
 use Rattle.std.proofs.lemmas.List.{drop_all}
@@ -12,32 +13,38 @@ use Rattle.ll_rules.specs.Checks.{numbers_from, lacks_on_port, refusing_port, re
 use Rattle.ll_rules.specs.KeptLayers.{layer_at, domain_of}
 
 -- the layers that a list of names stands for
-pub numbers_from-map : {A B : Type 0} (test : B → Bool) (h : A → B) (number : ℕ) (xs : List A) → numbers_from test number (map h xs) ≡ numbers_from (λ x. test (h x)) number xs
+pub numbers_from-map : {A B : Type 0} (test : B → Bool) (h : A → B) (number : ℕ) (xs : List A)
+    → numbers_from test number (map h xs) ≡ numbers_from (λ x. test (h x)) number xs
 unfolding numbers_from
 numbers_from-map test h number [] = refl
 numbers_from-map test h number (x ∷ xs) = ap (λ (rest : List ℕ). cond (test (h x)) (number ∷ []) [] ++ rest) (numbers_from-map test h (number + 1) xs)
 
 -- one layer more
 pub noted_next : {A : Type 0} (test : A → Bool) (all : List A) (place : ℕ) (d : A) (so_far next total : List ℕ) (refuses : Bool) → place < length all
-    → refuses ≡ test (get_or all place d) → next ≡ so_far ++ cond refuses ((place + 1) ∷ []) [] → so_far ++ numbers_from test (place + 1) (drop place all) ≡ total
+    → refuses ≡ test (get_or all place d) → next ≡ so_far ++ cond refuses ((place + 1) ∷ []) []
+    → so_far ++ numbers_from test (place + 1) (drop place all) ≡ total
     → next ++ numbers_from test (place + 1 + 1) (drop (place + 1) all) ≡ total
 unfolding numbers_from
 noted_next test all place d so_far next total refuses inside tells noted before =
     let here : drop place all ≡ get_or all place d ∷ drop (place + 1) all = rw add-one (drop-cons all place d inside) in
-    let split : so_far ++ (cond (test (get_or all place d)) ((place + 1) ∷ []) [] ++ numbers_from test (place + 1 + 1) (drop (place + 1) all)) ≡ total = rw here at before in
+    let split : so_far ++ (cond (test (get_or all place d)) ((place + 1) ∷ []) [] ++ numbers_from test (place + 1 + 1) (drop (place + 1) all)) ≡ total =
+    rw here at before in
     rw (noted, tells, append_assoc) split
 
 -- no layer is left
-pub noted_all : {A : Type 0} (test : A → Bool) (all : List A) (place : ℕ) (so_far total : List ℕ) → length all ≤ place → so_far ++ numbers_from test (place + 1) (drop place all) ≡ total → so_far ≡ total
+pub noted_all : {A : Type 0} (test : A → Bool) (all : List A) (place : ℕ) (so_far total : List ℕ) → length all ≤ place
+    → so_far ++ numbers_from test (place + 1) (drop place all) ≡ total → so_far ≡ total
 unfolding numbers_from
 noted_all test all place so_far total done before =
     let nothing : drop place all ≡ [] = drop_all place all done in
     sym (append-nil so_far) ∙ (rw nothing at before)
 
 -- what is noted stays below the next number
-pub noted_below : (so_far next : List ℕ) (place : ℕ) (refuses : Bool) → next ≡ so_far ++ cond refuses ((place + 1) ∷ []) [] → All (λ number. number < place + 1) so_far → All (λ number. number < place + 1 + 1) next
+pub noted_below : (so_far next : List ℕ) (place : ℕ) (refuses : Bool) → next ≡ so_far ++ cond refuses ((place + 1) ∷ []) []
+    → All (λ number. number < place + 1) so_far → All (λ number. number < place + 1 + 1) next
 noted_below so_far next place refuses noted below =
-    rw noted (All-append (λ (number : ℕ). number < place + 1 + 1) so_far (cond refuses ((place + 1) ∷ []) []) (All-weaker (λ (number : ℕ). number < place + 1) (λ (number : ℕ). number < place + 1 + 1) (λ number less. omega arith) so_far below) (last refuses))
+    rw noted (All-append (λ (number : ℕ). number < place + 1 + 1) so_far (cond refuses ((place + 1) ∷ []) [])
+    (All-weaker (λ (number : ℕ). number < place + 1) (λ (number : ℕ). number < place + 1 + 1) (λ number less. omega arith) so_far below) (last refuses))
   where
     last : (refuses : Bool) → All (λ number. number < place + 1 + 1) (cond refuses ((place + 1) ∷ []) [])
     last true = All-cons (λ (number : ℕ). number < place + 1 + 1) (place + 1) [] (omega arith) (All-nil (λ (number : ℕ). number < place + 1 + 1))
@@ -49,7 +56,8 @@ noted_below so_far next place refuses noted below =
 unfoldable pub refuses_on_port : List (RulesOn ℕ) → ℕ → Net → LayerId → Bool
 refuses_on_port layers port wanted id = lacks_on_port (layer_at layers id) port wanted
 
-pub refusing_port_by_name : (layers : List (RulesOn ℕ)) (ids : List LayerId) (port : ℕ) (wanted : Net) → numbers_from (refuses_on_port layers port wanted) 1 ids ≡ refusing_port (domain_of layers ids) port wanted
+pub refusing_port_by_name : (layers : List (RulesOn ℕ)) (ids : List LayerId) (port : ℕ) (wanted : Net)
+    → numbers_from (refuses_on_port layers port wanted) 1 ids ≡ refusing_port (domain_of layers ids) port wanted
 unfolding refuses_on_port
 refusing_port_by_name layers ids port wanted = sym (numbers_from-map (λ layer. lacks_on_port layer port wanted) (layer_at layers) 1 ids)
 
@@ -57,6 +65,7 @@ refusing_port_by_name layers ids port wanted = sym (numbers_from-map (λ layer. 
 unfoldable pub refuses_mount : List (RulesOn ℕ) → LayerId → Bool
 refuses_mount layers id = not (is_empty (layer_at layers id).handled_files)
 
-pub refusing_mount_by_name : (layers : List (RulesOn ℕ)) (ids : List LayerId) → numbers_from (refuses_mount layers) 1 ids ≡ refusing_mount (domain_of layers ids)
+pub refusing_mount_by_name : (layers : List (RulesOn ℕ)) (ids : List LayerId)
+    → numbers_from (refuses_mount layers) 1 ids ≡ refusing_mount (domain_of layers ids)
 unfolding refuses_mount
 refusing_mount_by_name layers ids = sym (numbers_from-map (λ layer. not (is_empty layer.handled_files)) (layer_at layers) 1 ids)

@@ -1,5 +1,6 @@
 -- The sets of rights in lanes, and what the vector operations make of them.
-use Rattle.std.proofs.Common.{◌≡◌, ℕ, zero, suc, ◌-◌, ◌%◌, ◌^◌, ◌<◌, ◌≤◌, lit<, lit≤, subst, Bool, true, false, not, ◌&&◌, ◌||◌, cond, eqb, List, [], ◌∷◌, map, length, get_or, replicate, refl, sym, ap, ◌∙◌, arith, inl, inr, bit_and, bit_or, w32, Fits}
+use Rattle.std.proofs.Common.{◌≡◌, ℕ, zero, suc, ◌-◌, ◌%◌, ◌^◌, ◌<◌, ◌≤◌, lit<, lit≤, subst, Bool, true, false, not, ◌&&◌, ◌||◌, cond, eqb, List, [], ◌∷◌, map}
+use Rattle.std.proofs.Common.{length, get_or, replicate, refl, sym, ap, ◌∙◌, arith, inl, inr, bit_and, bit_or, w32, Fits}
 use Rattle.std.specs.Int.{bit_at, bit_not}
 use Rattle.std.specs.Int.Bits.{and_self}
 use Rattle.std.proofs.lemmas.Bool.{cases_lt, lt-leb}
@@ -47,12 +48,12 @@ unnamed_none x right unnamed =
     has_place-other (bit_of other) (bit_and x named_bits) (bit_of right) unnamed ∙ lt-leb (2 ^ bit_of other) (bit_and x named_bits) low
 
 -- what a lane has, by the bits of the rights that have a name
-by_named : (x : ℕ) (right : FsRight) (is : Bool) → (bit_of right < bit_of other → eqb (bit_at x (bit_of right)) 1 ≡ is) → (bit_of other ≤ bit_of right → is ≡ false) → has (set_of x) right ≡ is
-by_named x right is named unnamed =
-    elim (cases_lt (bit_of right) (bit_of other)) [
-      | inl lt ↦ named_bit x right lt ∙ named lt
-      | inr le ↦ unnamed_none x right le ∙ sym (unnamed le)
-    ]
+by_named : (x : ℕ) (right : FsRight) (is : Bool) → (bit_of right < bit_of other → eqb (bit_at x (bit_of right)) 1 ≡ is)
+    → (bit_of other ≤ bit_of right → is ≡ false) → has (set_of x) right ≡ is
+by_named x right is named unnamed = elim (cases_lt (bit_of right) (bit_of other)) [
+  | inl lt ↦ named_bit x right lt ∙ named lt
+  | inr le ↦ unnamed_none x right le ∙ sym (unnamed le)
+]
 
 pub nothing_in : (x : ℕ) (right : FsRight) → x ≡ 0 → has (set_of x) right ≡ false
 nothing_in x right none = ap (λ (bits : ℕ). has (set_of bits) right) none ∙ has_nothing right
@@ -65,7 +66,8 @@ and_same : (b c : Bool) → (b && b && c) ≡ (b && c)
 and_same true c = refl
 and_same false c = refl
 
-pub without_bits : (x g : ℕ) (right : FsRight) → x < 2 ^ 32 → g < 2 ^ 32 → has (set_of (bit_and x (bit_not w32 g))) right ≡ (has (set_of x) right && not (has (set_of g) right))
+pub without_bits : (x g : ℕ) (right : FsRight) → x < 2 ^ 32 → g < 2 ^ 32
+    → has (set_of (bit_and x (bit_not w32 g))) right ≡ (has (set_of x) right && not (has (set_of g) right))
 without_bits x g right fits taken_fits =
     let place = bit_of right in
     by_named (bit_and x (bit_not w32 g)) right (has (set_of x) right && not (has (set_of g) right))
@@ -75,7 +77,13 @@ without_bits x g right fits taken_fits =
     ap (λ (bits : ℕ). has_place 32 (bit_and bits (bit_not w32 g)) place) (sym (and_self x))
     ∙ has_place-lacking 32 x x g place (lit≤ tt) taken_fits fits
     ∙ and_same (has_place 32 x place) (not (has_place 32 g place)) in
-    rw (named_bit x right named, named_bit g right named, ← has_place-named 32 (bit_and x (bit_not w32 g)) place inside, ← has_place-named 32 x place inside, ← has_place-named 32 g place inside) taken)
+    rw (
+      named_bit x right named,
+      named_bit g right named,
+      ← has_place-named 32 (bit_and x (bit_not w32 g)) place inside,
+      ← has_place-named 32 x place inside,
+      ← has_place-named 32 g place inside,
+    ) taken)
     (λ unnamed. rw (unnamed_none x right unnamed) refl)
 
 pub both_bits : (x w : ℕ) (right : FsRight) → w < 2 ^ 32 → has (set_of (bit_and x w)) right ≡ (has (set_of x) right && has (set_of w) right)
@@ -84,7 +92,13 @@ both_bits x w right fits =
     by_named (bit_and x w) right (has (set_of x) right && has (set_of w) right)
     (λ named.
     let inside : place < 32 = omega arith in
-    rw (named_bit x right named, named_bit w right named, ← has_place-named 32 (bit_and x w) place inside, ← has_place-named 32 x place inside, ← has_place-named 32 w place inside)
+    rw (
+      named_bit x right named,
+      named_bit w right named,
+      ← has_place-named 32 (bit_and x w) place inside,
+      ← has_place-named 32 x place inside,
+      ← has_place-named 32 w place inside,
+    )
     (has_place-and 32 x w place fits))
     (λ unnamed. rw (unnamed_none x right unnamed) refl)
 
@@ -94,7 +108,13 @@ either_bits x y right =
     let place = bit_of right in
     by_named (bit_or x y) right (has (set_of x) right || has (set_of y) right)
     (λ named.
-    rw (named_bit x right named, named_bit y right named, ← has_place-named named_count (bit_or x y) place named, ← has_place-named named_count x place named, ← has_place-named named_count y place named)
+    rw (
+      named_bit x right named,
+      named_bit y right named,
+      ← has_place-named named_count (bit_or x y) place named,
+      ← has_place-named named_count x place named,
+      ← has_place-named named_count y place named,
+    )
     (has_place-or named_count x y place))
     (λ unnamed. rw (unnamed_none x right unnamed, unnamed_none y right unnamed) refl)
 
@@ -104,54 +124,59 @@ unfolding has
 named_of set right named = named_bit set.0 right named ∙ sym (has_place-named (bit_of other) set.0 (bit_of right) named)
 
 -- what the named rights of a set and a lane have in common is what the set and the lane have
-pub alike_in_lane : (x w : ℕ) (set : Fs) (right : FsRight) (test : Bool → Bool) → ((one : FsRight) → bit_of one < bit_of other → has (set_of w) one ≡ has set one)
+pub alike_in_lane : (x w : ℕ) (set : Fs) (right : FsRight) (test : Bool → Bool)
+    → ((one : FsRight) → bit_of one < bit_of other → has (set_of w) one ≡ has set one)
     → (has (set_of x) right && test (has (set_of w) right)) ≡ (has (set_of x) right && test (has set right))
-alike_in_lane x w set right test same =
-    elim (cases_lt (bit_of right) (bit_of other)) [
-      | inl named ↦ ap (λ (b : Bool). has (set_of x) right && test b) (same right named)
-      | inr unnamed ↦ rw (unnamed_none x right unnamed) refl
-    ]
+alike_in_lane x w set right test same = elim (cases_lt (bit_of right) (bit_of other)) [
+  | inl named ↦ ap (λ (b : Bool). has (set_of x) right && test b) (same right named)
+  | inr unnamed ↦ rw (unnamed_none x right unnamed) refl
+]
 
 -- known rights as a lane
-pub known_bits : (set : Fs) (w : ℕ) (right : FsRight) → ((one : FsRight) → bit_of one < bit_of other → has (set_of w) one ≡ has set one) → has set other ≡ false → has (set_of w) right ≡ has set right
+pub known_bits : (set : Fs) (w : ℕ) (right : FsRight) → ((one : FsRight) → bit_of one < bit_of other → has (set_of w) one ≡ has set one) → has set other ≡ false
+    → has (set_of w) right ≡ has set right
 unfolding has
-known_bits set w right same known =
-    elim (cases_lt (bit_of right) (bit_of other)) [
-      | inl named ↦ same right named
-      | inr unnamed ↦
-          let last : bit_of right ≡ bit_of other = omega (arith, (fs_table.each right).2) in
-          unnamed_none w right unnamed ∙ sym (ap (has_place (bit_of other) set.0) last ∙ known)
-    ]
+known_bits set w right same known = elim (cases_lt (bit_of right) (bit_of other)) [
+  | inl named ↦ same right named
+  | inr unnamed ↦
+      let last : bit_of right ≡ bit_of other = omega (arith, (fs_table.each right).2) in
+      unnamed_none w right unnamed ∙ sym (ap (has_place (bit_of other) set.0) last ∙ known)
+]
 
 -- ---- all lanes
 
 -- a row that is made lane by lane of two others
 module _ (f : ℕ → ℕ → ℕ) (xs ys : List ℕ) (whole : length xs ≡ 16) (also : length ys ≡ 16) (place : ℕ) (right : FsRight) (is : Bool) where
-  by_lane : (place < 16 → has (set_of (f (get_or xs place 0) (get_or ys place 0))) right ≡ is) → (16 ≤ place → is ≡ false) → has (lane (zip2 f xs ys) place) right ≡ is
-  by_lane inside past =
-      elim (cases_lt place 16) [
-        | inl lt ↦ ap (λ (bits : ℕ). has (set_of bits) right) (get_or-zip2 f xs ys place 0 0 0 (omega arith) (omega arith)) ∙ inside lt
-        | inr le ↦ nothing_in (get_or (zip2 f xs ys) place 0) right (get_or_past (zip2 f xs ys) place 0 (omega (arith, length-zip2 f xs ys (whole ∙ sym also)))) ∙ sym (past le)
-      ]
+  by_lane : (place < 16 → has (set_of (f (get_or xs place 0) (get_or ys place 0))) right ≡ is) → (16 ≤ place → is ≡ false)
+      → has (lane (zip2 f xs ys) place) right ≡ is
+  by_lane inside past = elim (cases_lt place 16) [
+    | inl lt ↦ ap (λ (bits : ℕ). has (set_of bits) right) (get_or-zip2 f xs ys place 0 0 0 (omega arith) (omega arith)) ∙ inside lt
+    | inr le ↦ nothing_in (get_or (zip2 f xs ys) place 0) right (get_or_past (zip2 f xs ys) place 0 (omega (arith, length-zip2 f xs ys (whole ∙ sym also))))
+        ∙ sym (past le)
+  ]
 
 nothing_past : (xs : List ℕ) (place : ℕ) (right : FsRight) → length xs ≡ 16 → 16 ≤ place → has (lane xs place) right ≡ false
 nothing_past xs place right whole past = nothing_in (get_or xs place 0) right (get_or_past xs place 0 (omega arith))
 
-pub lanes_either : (xs ys : List ℕ) → AreLanes xs → AreLanes ys → (place : ℕ) (right : FsRight) → has (lane (zip2 bit_or xs ys) place) right ≡ (has (lane xs place) right || has (lane ys place) right)
+pub lanes_either : (xs ys : List ℕ) → AreLanes xs → AreLanes ys → (place : ℕ) (right : FsRight)
+    → has (lane (zip2 bit_or xs ys) place) right ≡ (has (lane xs place) right || has (lane ys place) right)
 lanes_either xs ys whole also place right =
     by_lane bit_or xs ys whole.0 also.0 place right (has (lane xs place) right || has (lane ys place) right)
     (λ inside. either_bits (get_or xs place 0) (get_or ys place 0) right)
     (λ past. rw (nothing_past xs place right whole.0 past, nothing_past ys place right also.0 past) refl)
 
-pub lanes_without : (xs gs : List ℕ) → AreLanes xs → AreLanes gs → (place : ℕ) (right : FsRight) → has (lane (zip2 bit_and xs (map (bit_not w32) gs)) place) right ≡ (has (lane xs place) right && not (has (lane gs place) right))
+pub lanes_without : (xs gs : List ℕ) → AreLanes xs → AreLanes gs → (place : ℕ) (right : FsRight)
+    → has (lane (zip2 bit_and xs (map (bit_not w32) gs)) place) right ≡ (has (lane xs place) right && not (has (lane gs place) right))
 lanes_without xs gs whole also place right =
-    by_lane bit_and xs (map (bit_not w32) gs) whole.0 (length-map gs (bit_not w32) ∙ also.0) place right (has (lane xs place) right && not (has (lane gs place) right))
+    by_lane bit_and xs (map (bit_not w32) gs) whole.0 (length-map gs (bit_not w32) ∙ also.0) place right
+    (has (lane xs place) right && not (has (lane gs place) right))
     (λ inside.
     rw (get_or-map (bit_not w32) gs place 0 0 (omega (arith, also.0)))
     (without_bits (get_or xs place 0) (get_or gs place 0) right (lane_fits xs place whole) (lane_fits gs place also)))
     (λ past. rw (nothing_past xs place right whole.0 past) refl)
 
-pub lanes_within : (xs : List ℕ) (w : ℕ) (set : Fs) → AreLanes xs → w < 2 ^ 32 → ((one : FsRight) → bit_of one < bit_of other → has (set_of w) one ≡ has set one)
+pub lanes_within : (xs : List ℕ) (w : ℕ) (set : Fs) → AreLanes xs → w < 2 ^ 32
+    → ((one : FsRight) → bit_of one < bit_of other → has (set_of w) one ≡ has set one)
     → (place : ℕ) (right : FsRight) → has (lane (zip2 bit_and xs (replicate 16 w)) place) right ≡ (has (lane xs place) right && has set right)
 lanes_within xs w set whole fits same place right =
     by_lane bit_and xs (replicate 16 w) whole.0 (length-replicate 16 w) place right (has (lane xs place) right && has set right)
@@ -161,11 +186,10 @@ lanes_within xs w set whole fits same place right =
     (λ past. rw (nothing_past xs place right whole.0 past) refl)
 
 pub nothing_anywhere : (place : ℕ) (right : FsRight) → has (lane (replicate 16 0) place) right ≡ false
-nothing_anywhere place right =
-    elim (cases_lt place 16) [
-      | inl inside ↦ nothing_in (get_or (replicate 16 0) place 0) right (get_or-replicate 16 place 0 0 inside)
-      | inr past ↦ nothing_past (replicate 16 0) place right (length-replicate {A = ℕ} 16 0) past
-    ]
+nothing_anywhere place right = elim (cases_lt place 16) [
+  | inl inside ↦ nothing_in (get_or (replicate 16 0) place 0) right (get_or-replicate 16 place 0 0 inside)
+  | inr past ↦ nothing_past (replicate 16 0) place right (length-replicate {A = ℕ} 16 0) past
+]
 
 -- ---- which lanes are filled
 
@@ -185,7 +209,8 @@ pub mask_is : (xs : List ℕ) (named : ℕ) → length xs ≡ 16 → named ≡ n
 mask_is xs named whole same =
     let kept : ℕ → ℕ = λ bits. bit_and bits named in
     let long : length (map kept xs) ≡ 16 = length-map xs kept ∙ whole in
-    rw (zip2_splat bit_and xs 16 named whole) (bitmask_splat w32 (λ a b. not (eqb a b)) (map kept xs) 16 0 long (lit≤ tt) ∙ ap mask_l (map-map (λ x. not (eqb x 0)) kept xs) ∙ rw same refl)
+    rw (zip2_splat bit_and xs 16 named whole) (bitmask_splat w32 (λ a b. not (eqb a b)) (map kept xs) 16 0 long (lit≤ tt)
+    ∙ ap mask_l (map-map (λ x. not (eqb x 0)) kept xs) ∙ rw same refl)
 
 pub mask_small : (xs : List ℕ) → length xs ≡ 16 → mask_l (map is_named xs) < 2 ^ 16
 mask_small xs whole = subst (λ (n : ℕ). mask_l (map is_named xs) < 2 ^ n) (length-map xs is_named ∙ whole) (mask_l-lt (map is_named xs))
@@ -197,7 +222,8 @@ mask_places xs place whole inside =
     ∙ get_or-map is_named xs place 0 false (omega arith)
     ∙ ap not (fs_is_empty (lane xs place))
 
-pub filled_places : (xs : List ℕ) (places : ℕ) → ((place : ℕ) → place < 16 → eqb (bit_at places place) 1 ≡ not (is_empty (lane xs place))) → numbers_passing (is_at_place places) ≡ numbers_passing (is_filled xs)
+pub filled_places : (xs : List ℕ) (places : ℕ) → ((place : ℕ) → place < 16 → eqb (bit_at places place) 1 ≡ not (is_empty (lane xs place)))
+    → numbers_passing (is_at_place places) ≡ numbers_passing (is_filled xs)
 unfolding is_filled is_at_place
 filled_places xs places same = passing_upto-agree (is_at_place places) (is_filled xs) 16 each where
   each : (number : ℕ) → 0 < number → number ≤ 16 → is_at_place places number ≡ is_filled xs number

@@ -1,5 +1,6 @@
 -- Which numbers are in a set of layers, and how a set changes with its bits.
-use Rattle.std.proofs.Common.{◌≡◌, ◌≢◌, ℕ, zero, suc, ◌-◌, ◌*◌, ◌/◌, ◌%◌, ◌^◌, ◌<◌, ◌≤◌, Bool, true, false, ◌&&◌, ◌||◌, eqb, cond, List, [], ◌∷◌, ◌++◌, length, refl, sym, ap, ◌∙◌, arith, inl, inr, bit_and, bit_or, append-nil, ◌⊎◌}
+use Rattle.std.proofs.Common.{◌≡◌, ◌≢◌, ℕ, zero, suc, ◌-◌, ◌*◌, ◌/◌, ◌%◌, ◌^◌, ◌<◌, ◌≤◌, Bool, true, false, ◌&&◌, ◌||◌, eqb, cond, List, [], ◌∷◌, ◌++◌, length}
+use Rattle.std.proofs.Common.{refl, sym, ap, ◌∙◌, arith, inl, inr, bit_and, bit_or, append-nil, ◌⊎◌}
 use Rattle.std.specs.Prelude.{All}
 use Rattle.std.specs.Int.{bit_at}
 use Rattle.std.proofs.lemmas.Bool.{cases_eq, eq-eqb, ne_eqb, eqb-true, false≢true, or_cases, or_right, false_from_ne_true}
@@ -17,7 +18,8 @@ is_among-one : (b : Bool) (m n : ℕ) → is_among n (cond b (m ∷ []) []) ≡ 
 is_among-one true m n = or_false (eqb m n)
 is_among-one false m n = refl
 
-step_of : (test : ℕ → Bool) (bound number : ℕ) → is_among number (passing_upto test (suc bound)) ≡ (is_among number (passing_upto test bound) || (test (suc bound) && eqb (suc bound) number))
+step_of : (test : ℕ → Bool) (bound number : ℕ)
+    → is_among number (passing_upto test (suc bound)) ≡ (is_among number (passing_upto test bound) || (test (suc bound) && eqb (suc bound) number))
 unfolding passing_upto
 step_of test bound number =
     list_any-append (λ other. eqb other number) (passing_upto test bound) (cond (test (suc bound)) (suc bound ∷ []) [])
@@ -41,18 +43,19 @@ is_among-zero test (suc bound) =
 -- a number from 1 to the bound is there if it passes
 pub is_among-passing_upto : (test : ℕ → Bool) (bound number : ℕ) → 0 < number → number ≤ bound → is_among number (passing_upto test bound) ≡ test number
 is_among-passing_upto test zero number pos le = absurd (omega arith)
-is_among-passing_upto test (suc bound) number pos le =
-    elim (cases_eq (suc bound) number) [
-      | inl same ↦
-          step_of test bound number
-          ∙ rw (is_among-above test bound number (omega arith), eq-eqb (suc bound) number same, same) (and_true (test number))
-      | inr differs ↦
-          step_of test bound number
-          ∙ rw (is_among-passing_upto test bound number pos (omega arith), ne_eqb (suc bound) number differs, and_none (test (suc bound))) (or_false (test number))
-    ]
+is_among-passing_upto test (suc bound) number pos le = elim (cases_eq (suc bound) number) [
+  | inl same ↦
+      step_of test bound number
+      ∙ rw (is_among-above test bound number (omega arith), eq-eqb (suc bound) number same, same) (and_true (test number))
+  | inr differs ↦
+      step_of test bound number
+      ∙ rw (is_among-passing_upto test bound number pos (omega arith), ne_eqb (suc bound) number differs, and_none (test (suc bound)))
+      (or_false (test number))
+]
 
 -- two tests that agree from 1 to the bound pass the same numbers
-pub passing_upto-agree : (t u : ℕ → Bool) (bound : ℕ) → ((number : ℕ) → 0 < number → number ≤ bound → t number ≡ u number) → passing_upto t bound ≡ passing_upto u bound
+pub passing_upto-agree : (t u : ℕ → Bool) (bound : ℕ) → ((number : ℕ) → 0 < number → number ≤ bound → t number ≡ u number)
+    → passing_upto t bound ≡ passing_upto u bound
 unfolding passing_upto
 passing_upto-agree t u zero same = refl
 passing_upto-agree t u (suc bound) same =
@@ -65,15 +68,20 @@ pub passing_upto-one_more : (t u : ℕ → Bool) (bound one : ℕ) → 0 < one �
     → passing_upto u bound ≡ passing_upto t bound ++ one ∷ []
 unfolding passing_upto
 passing_upto-one_more t u zero one pos le below here none none_above = absurd (omega arith)
-passing_upto-one_more t u (suc bound) one pos le below here none none_above =
-    elim (cases_eq (suc bound) one) [
-      | inl same ↦
-          rw (passing_upto-agree u t bound (λ number p q. below number p (omega arith)), same, here, none one (omega arith) (omega arith))
-          (ap (λ (xs : List ℕ). xs ++ one ∷ []) (sym (append-nil (passing_upto t bound))))
-      | inr differs ↦
-          rw (none_above (suc bound) (omega arith) (omega arith), none (suc bound) (omega arith) (omega arith), append-nil (passing_upto u bound), append-nil (passing_upto t bound))
-          (passing_upto-one_more t u bound one pos (omega arith) below here (λ number p q. none number p (omega arith)) (λ number p q. none_above number p (omega arith)))
-    ]
+passing_upto-one_more t u (suc bound) one pos le below here none none_above = elim (cases_eq (suc bound) one) [
+  | inl same ↦
+      rw (passing_upto-agree u t bound (λ number p q. below number p (omega arith)), same, here, none one (omega arith) (omega arith))
+      (ap (λ (xs : List ℕ). xs ++ one ∷ []) (sym (append-nil (passing_upto t bound))))
+  | inr differs ↦
+      rw (
+        none_above (suc bound) (omega arith) (omega arith),
+        none (suc bound) (omega arith) (omega arith),
+        append-nil (passing_upto u bound),
+        append-nil (passing_upto t bound),
+      )
+      (passing_upto-one_more t u bound one pos (omega arith) below here (λ number p q. none number p (omega arith))
+      (λ number p q. none_above number p (omega arith)))
+]
 
 -- ---- sets kept as bits
 
@@ -112,7 +120,8 @@ unfolding is_at_place
 is_at_place-or a b zero = refl
 is_at_place-or a b (suc place) =
     let last : place < suc place = omega arith in
-    rw (← has_place-named (suc place) (bit_or a b) place last, ← has_place-named (suc place) a place last, ← has_place-named (suc place) b place last) (has_place-or (suc place) a b place)
+    rw (← has_place-named (suc place) (bit_or a b) place last, ← has_place-named (suc place) a place last, ← has_place-named (suc place) b place last)
+    (has_place-or (suc place) a b place)
 
 -- the bits of two sets together
 pub union_kept : (a b : Inside) → numbers_passing (is_at_place (bit_or a.places b.places)) ≡ united_numbers (numbers_of a) (numbers_of b)
@@ -135,11 +144,10 @@ is_at_place-power_other place (suc other) differs =
 
 below_from_among : (numbers : List ℕ) (number bound : ℕ) → is_among number numbers ≡ true → All (λ other. other < bound) numbers → number < bound
 below_from_among [] number bound among all = absurd (false≢true among)
-below_from_among (x ∷ xs) number bound among all =
-    elim (or_cases (eqb x number) (is_among number xs) among) [
-      | inl same ↦ omega (arith, eqb-true x number same, All-head (λ (other : ℕ). other < bound) x xs all)
-      | inr later ↦ below_from_among xs number bound later (All-tail (λ (other : ℕ). other < bound) x xs all)
-    ]
+below_from_among (x ∷ xs) number bound among all = elim (or_cases (eqb x number) (is_among number xs) among) [
+  | inl same ↦ omega (arith, eqb-true x number same, All-head (λ (other : ℕ). other < bound) x xs all)
+  | inr later ↦ below_from_among xs number bound later (All-tail (λ (other : ℕ). other < bound) x xs all)
+]
 
 -- one bit more, above the others
 pub noted_kept : (set : Inside) (place : ℕ) → suc place ≤ 16 → All (λ other. other < suc place) (numbers_of set)
@@ -154,7 +162,11 @@ noted_kept set place le above =
     (λ number p q. rw (is_at_place-or set.places (2 ^ place) number, is_at_place-power_other place number (λ same. omega arith)) (or_false (t number)))
     (rw (is_at_place-or set.places (2 ^ place) (suc place), is_at_place-power_same place) (or_right (t (suc place)) true refl))
     none
-    (λ number p q. rw (is_at_place-or set.places (2 ^ place) number, is_at_place-power_other place number (λ same. omega arith), none number (omega arith) q) refl)
+    (λ number p q. rw (
+      is_at_place-or set.places (2 ^ place) number,
+      is_at_place-power_other place number (λ same. omega arith),
+      none number (omega arith) q,
+    ) refl)
 
 -- ---- a set by its bits again
 

@@ -51,7 +51,8 @@ module _ {X : Type 0} where
       let parts = both_true (is_lt (nat_cmp key rule.0)) (below_all nat_cmp key rules) above in
       rw (unsigned_ties key rule.0 ∙ less_apart (nat_cmp key rule.0) parts.0) (none_above key p rules parts.1)
 
-  any_at-find : (key : ℕ) (p : X → Bool) (rules : List (ℕ × X)) → T (is_sorted nat_cmp rules) → list_any (λ rule. eqb key rule.0 && p rule.1) rules ≡ option_map_or p (find nat_cmp key rules) false
+  any_at-find : (key : ℕ) (p : X → Bool) (rules : List (ℕ × X)) → T (is_sorted nat_cmp rules)
+      → list_any (λ rule. eqb key rule.0 && p rule.1) rules ≡ option_map_or p (find nat_cmp key rules) false
   any_at-find key p [] sorted = refl
   any_at-find key p (rule ∷ rules) sorted =
       let parts = both_true (below_all nat_cmp rule.0 rules) (is_sorted nat_cmp rules) sorted in
@@ -64,8 +65,10 @@ module _ {X : Type 0} where
       ]
 
   -- all that a map of rules grants at a key is what a look-up finds
-  pub any_at-get : (rules : FinMap nat_cmp X) (key : ℕ) (p : X → Bool) → list_any (λ rule. eqb key rule.0 && p rule.1) (entries rules) ≡ option_map_or p (get rules key) false
-  any_at-get rules key p = any_at-find key p (entries rules) (entries_sorted rules) ∙ ap (λ (found : Option X). option_map_or p found false) (sym (get-entries rules key))
+  pub any_at-get : (rules : FinMap nat_cmp X) (key : ℕ) (p : X → Bool)
+      → list_any (λ rule. eqb key rule.0 && p rule.1) (entries rules) ≡ option_map_or p (get rules key) false
+  any_at-get rules key p =
+      any_at-find key p (entries rules) (entries_sorted rules) ∙ ap (λ (found : Option X). option_map_or p found false) (sym (get-entries rules key))
 
   none_below : (key : ℕ) (rules : List (ℕ × X)) → T (below_all nat_cmp key rules) → find nat_cmp key rules ≡ None
   none_below key [] below = refl
@@ -75,19 +78,21 @@ module _ {X : Type 0} where
 
 module _ {X : Type 0} (key : ℕ) (value : X) (picks : ℕ → Bool) (p : X → Bool) (q : Bool) where
   -- what an entry that is found passes, some entry passes
-  absorbed : (rules : List (ℕ × X)) → ((picks key && (option_map_or p (find nat_cmp key rules) false || q)) || list_any (λ rule. picks rule.0 && p rule.1) rules) ≡ ((picks key && q) || list_any (λ rule. picks rule.0 && p rule.1) rules)
+  absorbed : (rules : List (ℕ × X))
+      → ((picks key && (option_map_or p (find nat_cmp key rules) false || q)) || list_any (λ rule. picks rule.0 && p rule.1) rules)
+      ≡ ((picks key && q) || list_any (λ rule. picks rule.0 && p rule.1) rules)
   absorbed [] = refl
-  absorbed (rule ∷ rules) =
-      elim (cases_Bool (eqb key rule.0)) [
-        | inl here ↦
-            rw (← unsigned_ties key rule.0, here, ← eqb-true key rule.0 here)
-            (again (picks key) (p rule.1) q (list_any (λ other. picks other.0 && p other.1) rules))
-        | inr elsewhere ↦
-            rw (← unsigned_ties key rule.0, elsewhere)
-            (past_first (picks key && (option_map_or p (find nat_cmp key rules) false || q)) (picks rule.0 && p rule.1) (list_any (λ other. picks other.0 && p other.1) rules)
-            ∙ ap (λ (b : Bool). (picks rule.0 && p rule.1) || b) (absorbed rules)
-            ∙ past_first (picks rule.0 && p rule.1) (picks key && q) (list_any (λ other. picks other.0 && p other.1) rules))
-      ]
+  absorbed (rule ∷ rules) = elim (cases_Bool (eqb key rule.0)) [
+    | inl here ↦
+        rw (← unsigned_ties key rule.0, here, ← eqb-true key rule.0 here)
+        (again (picks key) (p rule.1) q (list_any (λ other. picks other.0 && p other.1) rules))
+    | inr elsewhere ↦
+        rw (← unsigned_ties key rule.0, elsewhere)
+        (past_first (picks key && (option_map_or p (find nat_cmp key rules) false || q)) (picks rule.0 && p rule.1)
+        (list_any (λ other. picks other.0 && p other.1) rules)
+        ∙ ap (λ (b : Bool). (picks rule.0 && p rule.1) || b) (absorbed rules)
+        ∙ past_first (picks rule.0 && p rule.1) (picks key && q) (list_any (λ other. picks other.0 && p other.1) rules))
+  ]
     where
       again : (f p q rest : Bool) → ((f && (p || q)) || ((f && p) || rest)) ≡ ((f && q) || ((f && p) || rest))
       again true true true rest = refl
@@ -100,7 +105,9 @@ module _ {X : Type 0} (key : ℕ) (value : X) (picks : ℕ → Bool) (p : X → 
       → list_any (λ rule. picks rule.0 && p rule.1) (put nat_cmp key value rules) ≡ ((picks key && q) || list_any (λ rule. picks rule.0 && p rule.1) rules)
   any-put [] more = rw more refl
   any-put (rule ∷ rules) more =
-      elim (nat_cmp key rule.0) as (λ o. nat_cmp key rule.0 ≡ o → list_any (λ other. picks other.0 && p other.1) (by_order o ((key, value) ∷ rule ∷ rules) ((rule.0, value) ∷ rules) (rule ∷ put nat_cmp key value rules)) ≡ ((picks key && q) || list_any (λ other. picks other.0 && p other.1) (rule ∷ rules))) [
+      elim (nat_cmp key rule.0) as (λ o. nat_cmp key rule.0 ≡ o
+      → list_any (λ other. picks other.0 && p other.1) (by_order o ((key, value) ∷ rule ∷ rules) ((rule.0, value) ∷ rules)
+      (rule ∷ put nat_cmp key value rules)) ≡ ((picks key && q) || list_any (λ other. picks other.0 && p other.1) (rule ∷ rules))) [
         | Less ↦ λ is. rw more (absorbed (rule ∷ rules))
         | Equal ↦ λ is.
             let here : eqb key rule.0 ≡ true = unsigned_ties key rule.0 ∙ ap is_eq is in
@@ -113,7 +120,8 @@ module _ {X : Type 0} (key : ℕ) (value : X) (picks : ℕ → Bool) (p : X → 
 
   -- what is put at a key passes more than what was there
   pub any-insert : (rules : FinMap nat_cmp X) → p value ≡ (option_map_or p (get rules key) false || q)
-      → list_any (λ rule. picks rule.0 && p rule.1) (entries (insert rules key value)) ≡ ((picks key && q) || list_any (λ rule. picks rule.0 && p rule.1) (entries rules))
+      → list_any (λ rule. picks rule.0 && p rule.1) (entries (insert rules key value))
+      ≡ ((picks key && q) || list_any (λ rule. picks rule.0 && p rule.1) (entries rules))
   any-insert rules more =
       ap (λ (es : List (ℕ × X)). list_any (λ rule. picks rule.0 && p rule.1) es) (entries-insert nat_cmp_total rules key value)
       ∙ any-put (entries rules) (more ∙ ap (λ (found : Option X). option_map_or p found false || q) (get-entries rules key))
@@ -123,7 +131,8 @@ pub no_entries : {X : Type 0} (rules : FinMap nat_cmp X) → rules ≡ empty →
 no_entries {X} rules is = nil_from_length (entries rules) (sym (len-entries rules) ∙ ap len is ∙ len-empty nat_cmp X)
 
 -- the rule that a look-up finds grants what all rules on that node grant
-pub rule_found : (rules : RulesOn ℕ) (kept : FinMap nat_cmp Fs) (here : NodeId) (found : Fs) → entries kept ≡ rules.file_rules → found ≡ unwrap_or (get kept here.0) no_right
+pub rule_found : (rules : RulesOn ℕ) (kept : FinMap nat_cmp Fs) (here : NodeId) (found : Fs) → entries kept ≡ rules.file_rules
+    → found ≡ unwrap_or (get kept here.0) no_right
     → (right : FsRight) → has found right ≡ granted_on_node rules here right
 unfolding granted_on_node
 rule_found rules kept here found same is right =
@@ -137,6 +146,7 @@ rule_found rules kept here found same is right =
     by_option (Some rule) = refl
 
 -- where a look-up finds no rule nothing is granted
-pub nothing_found : (rules : RulesOn ℕ) (kept : FinMap nat_cmp Fs) (here : NodeId) → entries kept ≡ rules.file_rules → None ≡ get kept here.0 → (right : FsRight) → granted_on_node rules here right ≡ false
+pub nothing_found : (rules : RulesOn ℕ) (kept : FinMap nat_cmp Fs) (here : NodeId) → entries kept ≡ rules.file_rules → None ≡ get kept here.0
+    → (right : FsRight) → granted_on_node rules here right ≡ false
 nothing_found rules kept here same none right =
     sym (rule_found rules kept here no_right same (ap (λ (rule : Option Fs). unwrap_or rule no_right) none) right) ∙ has_nothing right

@@ -12,7 +12,8 @@ pub none_marked : (number : ℕ) → is_marked (replicate 64 0) number ≡ false
 unfolding is_marked
 none_marked number =
     let small : number / 64 % 64 < 64 = omega arith in
-    ap (λ (word : ℕ). eqb (bit_at word (number % 64)) 1) (get_or-replicate 64 (number / 64 % 64) 0 0 small) ∙ ap (λ (bit : ℕ). eqb bit 1) (bit_at-zero (number % 64))
+    ap (λ (word : ℕ). eqb (bit_at word (number % 64)) 1) (get_or-replicate 64 (number / 64 % 64) 0 0 small)
+    ∙ ap (λ (bit : ℕ). eqb bit 1) (bit_at-zero (number % 64))
 
 module _ (words : List ℕ) (number : ℕ) (whole : length words ≡ 64) where
   abbrev pub marked : List ℕ
@@ -22,7 +23,10 @@ module _ (words : List ℕ) (number : ℕ) (whole : length words ≡ 64) where
   unfolding is_marked
   marked_this =
       let inside : number / 64 % 64 < length words = omega arith in
-      rw (get_or-set_same words (number / 64 % 64) (bit_or (get_or words (number / 64 % 64) 0) (1 * 2 ^ (number % 64) % 2 ^ 64)) 0 inside, bit_at_set_same w64 (get_or words (number / 64 % 64) 0) (number % 64) (omega arith)) refl
+      rw (
+        get_or-set_same words (number / 64 % 64) (bit_or (get_or words (number / 64 % 64) 0) (1 * 2 ^ (number % 64) % 2 ^ 64)) 0 inside,
+        bit_at_set_same w64 (get_or words (number / 64 % 64) 0) (number % 64) (omega arith),
+      ) refl
 
   pub marked_still : (other : ℕ) → is_marked words other ≡ true → is_marked marked other ≡ true
   unfolding is_marked
@@ -43,12 +47,14 @@ module _ (words : List ℕ) (number : ℕ) (whole : length words ≡ 64) where
 
 -- a bit that two numbers have not together neither has
 pub neither_bit : (a b i : ℕ) → eqb (bit_at (bit_or a b) i) 1 ≡ false → (eqb (bit_at a i) 1 ≡ false) × (eqb (bit_at b i) 1 ≡ false)
-neither_bit a b i none = (other_than_one (bit_at a i) (λ one. omega (arith, bit_at_or a b i, bit_at-lt b i)), other_than_one (bit_at b i) (λ one. omega (arith, bit_at_or a b i, bit_at-lt a i))) where
+neither_bit a b i none = (
+  other_than_one (bit_at a i) (λ one. omega (arith, bit_at_or a b i, bit_at-lt b i)),
+  other_than_one (bit_at b i) (λ one. omega (arith, bit_at_or a b i, bit_at-lt a i)),
+) where
   other_than_one : (bit : ℕ) → (bit ≡ 1 → bit_at (bit_or a b) i ≡ 1) → eqb bit 1 ≡ false
-  other_than_one bit together =
-      elim (cases_eq bit 1) [
-        | inl one ↦
-            let has_it : eqb (bit_at (bit_or a b) i) 1 ≡ true = eq-eqb (bit_at (bit_or a b) i) 1 (together one) in
-            absurd cc
-        | inr other ↦ ne_eqb bit 1 other
-      ]
+  other_than_one bit together = elim (cases_eq bit 1) [
+    | inl one ↦
+        let has_it : eqb (bit_at (bit_or a b) i) 1 ≡ true = eq-eqb (bit_at (bit_or a b) i) 1 (together one) in
+        absurd cc
+    | inr other ↦ ne_eqb bit 1 other
+  ]

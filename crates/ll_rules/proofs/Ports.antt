@@ -29,7 +29,8 @@ by_option : (rule : Option Net) (right : NetRight) → has (unwrap_or rule no_ri
 by_option None right = has_nothing right
 by_option (Some rule) right = refl
 
-pub port_rule_found : {P : Type 0} (rules : RulesOn P) (kept : FinMap nat_cmp Net) (port : ℕ) (found : Net) → entries kept ≡ rules.port_rules → found ≡ unwrap_or (get kept port) no_right
+pub port_rule_found : {P : Type 0} (rules : RulesOn P) (kept : FinMap nat_cmp Net) (port : ℕ) (found : Net) → entries kept ≡ rules.port_rules
+    → found ≡ unwrap_or (get kept port) no_right
     → (right : NetRight) → has found right ≡ granted_on_port rules port right
 port_rule_found rules kept port found same is right =
     ap (λ (set : Net). has set right) is
@@ -37,7 +38,8 @@ port_rule_found rules kept port found same is right =
     ∙ sym (granted_by_get rules kept port right same)
 
 -- the rule of a port grants more
-pub port_rule_put : {P : Type 0} (old new : RulesOn P) (kept : FinMap nat_cmp Net) (port : ℕ) (set had now : Net) → entries kept ≡ old.port_rules → new ≡ record old { port_rules = entries (insert kept port now) }
+pub port_rule_put : {P : Type 0} (old new : RulesOn P) (kept : FinMap nat_cmp Net) (port : ℕ) (set had now : Net) → entries kept ≡ old.port_rules
+    → new ≡ record old { port_rules = entries (insert kept port now) }
     → ((right : NetRight) → has had right ≡ granted_on_port old port right) → now ≡ united had set → GrantsOnPort old new port set
 unfolding granted_on_port
 port_rule_put {P} old new kept port set had now kept_old is was joined = record {
@@ -51,4 +53,5 @@ port_rule_put {P} old new kept port set had now kept_old is was joined = record 
 }
   where
     passes : (right : NetRight) → has now right ≡ (option_map_or (λ rule. has rule right) (get kept port) false || has set right)
-    passes right = ap (λ (rule : Net). has rule right) joined ∙ net_has-united had set right ∙ ap (λ (b : Bool). b || has set right) (was right ∙ granted_by_get old kept port right kept_old)
+    passes right = ap (λ (rule : Net). has rule right) joined ∙ net_has-united had set right
+        ∙ ap (λ (b : Bool). b || has set right) (was right ∙ granted_by_get old kept port right kept_old)

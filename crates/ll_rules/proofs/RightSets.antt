@@ -23,7 +23,9 @@ pub fs_within_known : (set whole : Fs) → files.is_within set whole ≡ true �
 unfolding files.every_right files.all_rights
 fs_within_known set whole within none =
     let test : files.FsRight → Bool = λ right. not (files.has set right) || files.has whole right in
-    let last : list_all test (files.other ∷ []) ≡ true = (and_parts (list_all test files.named_rights) (list_all test (files.other ∷ [])) (sym (list_all-append test files.named_rights (files.other ∷ [])) ∙ within)).1 in
+    let last : list_all test (files.other ∷ []) ≡ true =
+    (and_parts (list_all test files.named_rights) (list_all test (files.other ∷ []))
+    (sym (list_all-append test files.named_rights (files.other ∷ [])) ∙ within)).1 in
     none_from_implied (files.has set files.other) (files.has whole files.other) (and_parts (test files.other) true last).0 none
 
 pub net_within_known : (set whole : Net) → network.is_within set whole ≡ true → network.has whole network.other ≡ false → network.has set network.other ≡ false
@@ -40,10 +42,12 @@ empty_refer : (set : Fs) → files.is_empty set ≡ true → files.has set files
 unfolding files.some_right files.all_rights files.named_rights
 empty_refer set empty =
     false_from_ne_true (files.has set files.refer)
-    (λ there. false≢true (sym (not-true (list_any (files.has set) files.all_rights) empty) ∙ list_any_at (files.has set) files.all_rights (files.bit_of files.refer) files.other (lit< tt) there))
+    (λ there. false≢true (sym (not-true (list_any (files.has set) files.all_rights) empty)
+    ∙ list_any_at (files.has set) files.all_rights (files.bit_of files.refer) files.other (lit< tt) there))
 
 -- a layer without any right for files handles none
-pub handled_none : (rules : RulesOn ℕ) (set : Fs) → set ≡ rules.handled_files → files.is_empty set ≡ true → (right : files.FsRight) → files.has set right ≡ handles rules right
+pub handled_none : (rules : RulesOn ℕ) (set : Fs) → set ≡ rules.handled_files → files.is_empty set ≡ true → (right : files.FsRight)
+    → files.has set right ≡ handles rules right
 handled_none rules set same empty right = ap (λ (own : Fs). files.has own right) same ∙ as_handled right where
   none : files.is_empty rules.handled_files ≡ true
   none = sym (ap (λ (own : Fs). files.is_empty own) same) ∙ empty
@@ -53,7 +57,8 @@ handled_none rules set same empty right = ap (λ (own : Fs). files.has own right
   as_handled right = refl
 
 -- one with any handles moves beside its own
-pub handled_some : (rules : RulesOn ℕ) (set handled : Fs) → set ≡ rules.handled_files → files.is_empty set ≡ false → handled ≡ files.united set (files.only files.refer)
+pub handled_some : (rules : RulesOn ℕ) (set handled : Fs) → set ≡ rules.handled_files → files.is_empty set ≡ false
+    → handled ≡ files.united set (files.only files.refer)
     → (right : files.FsRight) → files.has handled right ≡ handles rules right
 handled_some rules set handled same some is right =
     ap (λ (own : Fs). files.has own right) (is ∙ ap (λ (own : Fs). files.united own (files.only files.refer)) same)

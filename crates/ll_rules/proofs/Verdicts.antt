@@ -14,7 +14,8 @@ use Rattle.ll_rules.specs.Checks.{numbers_where}
 use Rattle.ll_rules.specs.Moves.{source_of, destination_of, denies, holds_back, refused_by, move_verdict}
 
 -- where some layers refuse, it doesn't matter what would be answered else
-refused_alike : (error : Errno) (layers : List ℕ) (next other : Verdict) → (length layers == 0) ≡ false → refused_by error layers next ≡ refused_by error layers other
+refused_alike : (error : Errno) (layers : List ℕ) (next other : Verdict) → (length layers == 0) ≡ false
+    → refused_by error layers next ≡ refused_by error layers other
 refused_alike error [] next other some = absurd (false≢true (sym some))
 refused_alike error (layer ∷ layers) next other some = refl
 
@@ -30,6 +31,7 @@ module _ (tree : List Entry) (domain : List (RulesOn Path)) (move : Move) (denie
   unfolding move_verdict
   within_verdict same = rw (← denied_is, ← source_is, ← destination_is, same) refl
 
-  pub apart_verdict : path_eq source destination ≡ false → (held : List ℕ) → held ≡ numbers_where (holds_back tree move) domain → refused_by Acces denied (refused_by XDev held Passed) ≡ move_verdict tree domain move
+  pub apart_verdict : path_eq source destination ≡ false → (held : List ℕ) → held ≡ numbers_where (holds_back tree move) domain
+      → refused_by Acces denied (refused_by XDev held Passed) ≡ move_verdict tree domain move
   unfolding move_verdict
   apart_verdict apart held held_is = rw (← denied_is, ← source_is, ← destination_is, apart, ← held_is) refl

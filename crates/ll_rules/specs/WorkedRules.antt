@@ -64,19 +64,25 @@ these_on_ports (right ∷ rights) = network.united (network.only right) (these_o
 
 -- what is handled for files, and on which paths what is granted
 abbrev pub layer : List FsRight → List (Path × List FsRight) → RulesOn Path
-layer handled granted = record { handled_files = these handled; handled_network = network.no_right; file_rules = map (λ rule. (rule.0, these rule.1)) granted; port_rules = [] }
+layer handled granted =
+    record { handled_files = these handled; handled_network = network.no_right; file_rules = map (λ rule. (rule.0, these rule.1)) granted; port_rules = [] }
 
 -- what is handled for the network, and on which ports what is granted
 abbrev pub port_layer : List NetRight → List (ℕ × List NetRight) → RulesOn Path
-port_layer handled granted = record { handled_files = files.no_right; handled_network = these_on_ports handled; file_rules = []; port_rules = map (λ rule. (rule.0, these_on_ports rule.1)) granted }
+port_layer handled granted = record {
+  handled_files = files.no_right;
+  handled_network = these_on_ports handled;
+  file_rules = [];
+  port_rules = map (λ rule. (rule.0, these_on_ports rule.1)) granted;
+}
 
 -- reading, of files and of directories, without a rule
 abbrev pub reading : RulesOn Path
 reading = layer (files.read_file ∷ files.read_dir ∷ []) []
 
 -- two rules on the way to one file, each with half of what it needs to be read and written
-abbrev pub parted : RulesOn Path
-parted = layer (files.read_file ∷ files.write_file ∷ []) ((a, files.write_file ∷ []) ∷ (a_f, files.read_file ∷ []) ∷ [])
+abbrev pub two_rules : RulesOn Path
+two_rules = layer (files.read_file ∷ files.write_file ∷ []) ((a, files.write_file ∷ []) ∷ (a_f, files.read_file ∷ []) ∷ [])
 
 -- two layers, each of which grants reading in one directory
 abbrev pub two_layers : List (RulesOn Path)
@@ -108,3 +114,15 @@ exchanged object there = record { moved = object; target = Over there; how = Exc
 -- what one layer answers a move
 abbrev pub answer : RulesOn Path → Move → Verdict
 answer only_layer move = move_verdict worked_tree (only_layer ∷ []) move
+
+-- All that unfolds when checks run on worked rules.
+unfoldable pub checking : Unit {0}
+unfolding
+    Rattle.ll_rights.specs.Rights.only Rattle.ll_rights.specs.Rights.united Rattle.ll_rights.specs.Rights.has Rattle.ll_rights.specs.Rights.some_right
+    Rattle.ll_rights.specs.Rights.every_right Rattle.ll_rights.specs.Rights.all_rights Rattle.ll_rights.specs.Rights.named_rights
+    Rattle.ll_rights.specs.NetRights.only Rattle.ll_rights.specs.NetRights.united Rattle.ll_rights.specs.NetRights.has
+    Rattle.ll_rights.specs.NetRights.some_right Rattle.ll_rights.specs.NetRights.every_right Rattle.ll_rights.specs.NetRights.all_rights
+    Rattle.ll_lines.specs.Paths.front Rattle.ll_lines.specs.Paths.path_eq Rattle.ll_lines.specs.Paths.is_prefix Rattle.ll_tree.specs.Trees.path_at
+    Rattle.ll_tree.specs.Trees.kind_at these these_on_ports Rattle.ll_rules.specs.Layers.granted Rattle.ll_rules.specs.Layers.granted_on_port
+    Rattle.ll_rules.specs.Checks.numbers_from Rattle.ll_rules.specs.Moves.move_verdict
+checking = tt

@@ -33,8 +33,11 @@ impl<'a> Alone<'a> {
         requires room { look_ups.old + nodes_up self.now.tree.now from < 2 ^ 64 }
         ensures inside { IfSome result (IsNode self.now.tree.now) }
         ensures above { nodes_up self.now.tree.now result ≤ nodes_up self.now.tree.now from }
-        ensures passed { (right : FsRight) → granted_above self.now.tree.now self.now.layer.now result right ≡ granted_above self.now.tree.now self.now.layer.now from right }
-        ensures count { look_ups.new + nodes_up self.now.tree.now result ≤ look_ups.old + nodes_up self.now.tree.now from }
+        ensures passed { (right : FsRight)
+            → granted_above self.now.tree.now self.now.layer.now result right
+            ≡ granted_above self.now.tree.now self.now.layer.now from right }
+        ensures count { look_ups.new + nodes_up self.now.tree.now result
+            ≤ look_ups.old + nodes_up self.now.tree.now from }
     {
         let mut at = from;
         while let Some(here) = at {
@@ -51,7 +54,11 @@ impl<'a> Alone<'a> {
     /// look-ups that took. It isn't asked for nothing.
     fn climb(&self, node: NodeId, lane: u32) -> (u32, u64)
         requires { IsNode self.now.tree.now node }
-        ensures left { (right : FsRight) → has (set_of result.0) right ≡ (has (set_of lane) right && not (granted (in_tree self.now.tree.now self.now.layer.now) (path_at self.now.tree.now node) right)) }
+        ensures left { (right : FsRight)
+            → has (set_of result.0) right
+            ≡ (has (set_of lane) right
+            && not (granted (in_tree self.now.tree.now self.now.layer.now)
+            (path_at self.now.tree.now node) right)) }
         ensures count { result.1 ≤ depth_at self.now.tree.now node + 1 }
     {
         // The depth has 32 bits, so the count has room.
@@ -75,7 +82,9 @@ impl<'a> Alone<'a> {
     /// What `check_path_counted` answers for a domain of this layer.
     pub(crate) fn check(&self, node: NodeId, wanted: Fs) -> (LayerSet, u64)
         requires { IsNode self.now.tree.now node }
-        ensures answer { result.0 ≡ refusing (all_in_tree self.now.tree.now (self.now.layer.now ∷ [])) (path_at self.now.tree.now node) wanted }
+        ensures answer { result.0
+            ≡ refusing (all_in_tree self.now.tree.now (self.now.layer.now ∷ []))
+            (path_at self.now.tree.now node) wanted }
         ensures look_ups { result.1 ≤ depth_at self.now.tree.now node + 1 }
     {
         let (left, look_ups) = self.climb(node, asked_of(self.layer, wanted));

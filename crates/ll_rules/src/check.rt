@@ -36,7 +36,8 @@ pub fn check_path(
     requires domain { IsDomainOf layers.now domain.now }
     requires rules { All (AreInTree tree.now) layers.now }
     requires node { IsNode tree.now node }
-    ensures { result ≡ refusing (all_in_tree tree.now (domain_of layers.now domain.now)) (path_at tree.now node) wanted }
+    ensures { result ≡ refusing (all_in_tree tree.now (domain_of layers.now domain.now))
+        (path_at tree.now node) wanted }
 {
     check_path_counted(tree, layers, domain, node, wanted).0
 }
@@ -53,7 +54,8 @@ pub fn check_path_counted(
     requires domain { IsDomainOf layers.now domain.now }
     requires rules { All (AreInTree tree.now) layers.now }
     requires node { IsNode tree.now node }
-    ensures answer { result.0 ≡ refusing (all_in_tree tree.now (domain_of layers.now domain.now)) (path_at tree.now node) wanted }
+    ensures answer { result.0 ≡ refusing (all_in_tree tree.now (domain_of layers.now domain.now))
+        (path_at tree.now node) wanted }
     ensures look_ups { result.1 ≤ length domain.now * (depth_at tree.now node + 1) }
 {
     let ids = domain.layers();

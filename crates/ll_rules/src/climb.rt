@@ -29,7 +29,8 @@ fn handled_bits(layer: &Layer) -> u32
 
 /// What one layer handles of some rights, as the bits of a lane.
 pub(crate) fn asked_of(layer: &Layer, wanted: Fs) -> u32
-    ensures { (right : FsRight) → has (set_of result) right ≡ (handles layer.now right && has wanted right) }
+    ensures { (right : FsRight)
+        → has (set_of result) right ≡ (handles layer.now right && has wanted right) }
 {
     handled_bits(layer) & bits_of(wanted)
 }
@@ -37,7 +38,8 @@ pub(crate) fn asked_of(layer: &Layer, wanted: Fs) -> u32
 /// What is left in a lane once its layer was asked for its rule on a node. It isn't asked for nothing.
 pub(crate) fn left_of(layer: &Layer, node: NodeId, lane: u32, look_ups: &mut u64) -> u32
     requires room { look_ups.old + 1 < 2 ^ 64 }
-    ensures left { (right : FsRight) → has (set_of result) right ≡ (has (set_of lane) right && not (granted_on_node layer.now node right)) }
+    ensures left { (right : FsRight) → has (set_of result) right
+        ≡ (has (set_of lane) right && not (granted_on_node layer.now node right)) }
     ensures count { look_ups.new ≤ look_ups.old + 1 }
 {
     if lane == 0 {
@@ -49,7 +51,8 @@ pub(crate) fn left_of(layer: &Layer, node: NodeId, lane: u32, look_ups: &mut u64
 impl<'a> Stack<'a> {
     /// What each layer handles, in its lane.
     pub(crate) fn handled_in(&self) -> [u32; MOST_LAYERS]
-        ensures { (place : ℕ) (right : FsRight) → has (lane result place) right ≡ handles (stacked self.now place) right }
+        ensures { (place : ℕ) (right : FsRight)
+            → has (lane result place) right ≡ handles (stacked self.now place) right }
     {
         let mut row = [0; MOST_LAYERS];
         for (place, id) in self.ids.iter().enumerate() {
@@ -60,7 +63,8 @@ impl<'a> Stack<'a> {
 
     /// What each layer handles of some rights, in its lane.
     pub(crate) fn asked_in(&self, wanted: Fs) -> [u32; MOST_LAYERS]
-        ensures { (place : ℕ) (right : FsRight) → has (lane result place) right ≡ (handles (stacked self.now place) right && has wanted right) }
+        ensures { (place : ℕ) (right : FsRight) → has (lane result place) right
+            ≡ (handles (stacked self.now place) right && has wanted right) }
     {
         let mut row = [0; MOST_LAYERS];
         for (place, id) in self.ids.iter().enumerate() {
@@ -72,8 +76,12 @@ impl<'a> Stack<'a> {
     /// Asks each layer for its rule on a node, where its lane isn't empty, and takes from the lane what the rule
     /// grants. Answers whether anything is left in the lanes of these layers, and how many look-ups that took.
     pub(crate) fn ask_on(&self, node: NodeId, lanes: &mut [u32; MOST_LAYERS]) -> (bool, u64)
-        ensures left { (place : ℕ) (right : FsRight) → has (lane lanes.new place) right ≡ (has (lane lanes.old place) right && not (granted_on_node (stacked self.now place) node right)) }
-        ensures none { result.0 ≡ false → (place : ℕ) → place < length self.now.ids.now → (right : FsRight) → has (lane lanes.new place) right ≡ false }
+        ensures left { (place : ℕ) (right : FsRight)
+            → has (lane lanes.new place) right
+            ≡ (has (lane lanes.old place) right
+            && not (granted_on_node (stacked self.now place) node right)) }
+        ensures none { result.0 ≡ false → (place : ℕ) → place < length self.now.ids.now
+            → (right : FsRight) → has (lane lanes.new place) right ≡ false }
         ensures count { result.1 ≤ length self.now.ids.now }
     {
         let mut look_ups = 0;
@@ -94,8 +102,10 @@ impl<'a> Stack<'a> {
     /// On which of two nodes some layer may have a rule, by the filters of all of them. Each layer is taken once for
     /// both nodes.
     fn marked_of(&self, lower: NodeId, upper: NodeId) -> (bool, bool)
-        ensures lower { result.0 ≡ false → (place : ℕ) (right : FsRight) → granted_on_node (stacked self.now place) lower right ≡ false }
-        ensures upper { result.1 ≡ false → (place : ℕ) (right : FsRight) → granted_on_node (stacked self.now place) upper right ≡ false }
+        ensures lower { result.0 ≡ false → (place : ℕ) (right : FsRight)
+            → granted_on_node (stacked self.now place) lower right ≡ false }
+        ensures upper { result.1 ≡ false → (place : ℕ) (right : FsRight)
+            → granted_on_node (stacked self.now place) upper right ≡ false }
     {
         let mut at_lower = 0;
         let mut at_upper = 0;
@@ -119,11 +129,15 @@ impl<'a> Stack<'a> {
         look_ups: &mut u64,
     ) -> Option<NodeId>
         requires from { IfSome from (IsNode self.now.tree.now) }
-        requires room { look_ups.old + length self.now.ids.now * nodes_up self.now.tree.now from < 2 ^ 64 }
+        requires room { look_ups.old + length self.now.ids.now * nodes_up self.now.tree.now from
+            < 2 ^ 64 }
         ensures inside { IfSome result (IsNode self.now.tree.now) }
         ensures above { nodes_up self.now.tree.now result ≤ nodes_up self.now.tree.now from }
-        ensures passed { (place : ℕ) (right : FsRight) → granted_above self.now.tree.now (stacked self.now place) result right ≡ granted_above self.now.tree.now (stacked self.now place) from right }
-        ensures count { look_ups.new + length self.now.ids.now * nodes_up self.now.tree.now result ≤ look_ups.old + length self.now.ids.now * nodes_up self.now.tree.now from }
+        ensures passed { (place : ℕ) (right : FsRight)
+            → granted_above self.now.tree.now (stacked self.now place) result right
+            ≡ granted_above self.now.tree.now (stacked self.now place) from right }
+        ensures count { look_ups.new + length self.now.ids.now * nodes_up self.now.tree.now result
+            ≤ look_ups.old + length self.now.ids.now * nodes_up self.now.tree.now from }
     {
         let asked = self.count_filled(lanes);
         let mut at = from;
@@ -147,8 +161,10 @@ impl<'a> Stack<'a> {
 
     /// Whether the lane of some layer holds anything.
     fn is_any_filled(&self, lanes: &[u32; MOST_LAYERS]) -> bool
-        ensures exact { result ≡ list_any (λ bits. not (bits == 0)) (take (length self.now.ids.now) lanes.now) }
-        ensures none { result ≡ false → (place : ℕ) → place < length self.now.ids.now → (right : FsRight) → has (lane lanes.now place) right ≡ false }
+        ensures exact { result
+            ≡ list_any (λ bits. not (bits == 0)) (take (length self.now.ids.now) lanes.now) }
+        ensures none { result ≡ false → (place : ℕ) → place < length self.now.ids.now
+            → (right : FsRight) → has (lane lanes.now place) right ≡ false }
     {
         for place in 0..self.ids.len() {
             if lanes[place] != 0 {
@@ -160,7 +176,8 @@ impl<'a> Stack<'a> {
 
     /// Of how many layers the lanes hold anything.
     fn count_filled(&self, lanes: &[u32; MOST_LAYERS]) -> u64
-        ensures exact { result ≡ count_by (λ bits. not (bits == 0)) (take (length self.now.ids.now) lanes.now) }
+        ensures exact { result
+            ≡ count_by (λ bits. not (bits == 0)) (take (length self.now.ids.now) lanes.now) }
         ensures few { result ≤ length self.now.ids.now }
     {
         let mut filled = 0;
@@ -174,7 +191,11 @@ impl<'a> Stack<'a> {
     /// look-ups that took. A layer whose lane is empty isn't asked any more.
     pub(crate) fn climb(&self, node: NodeId, lanes: &mut [u32; MOST_LAYERS]) -> u64
         requires { IsNode self.now.tree.now node }
-        ensures left { (place : ℕ) (right : FsRight) → has (lane lanes.new place) right ≡ (has (lane lanes.old place) right && not (granted (in_tree self.now.tree.now (stacked self.now place)) (path_at self.now.tree.now node) right)) }
+        ensures left { (place : ℕ) (right : FsRight)
+            → has (lane lanes.new place) right
+            ≡ (has (lane lanes.old place) right
+            && not (granted (in_tree self.now.tree.now (stacked self.now place))
+            (path_at self.now.tree.now node) right)) }
         ensures count { result ≤ length self.now.ids.now * (depth_at self.now.tree.now node + 1) }
         ensures little { result ≤ 2 ^ 40 }
     {

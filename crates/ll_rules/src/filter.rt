@@ -43,7 +43,8 @@ impl Filter {
     /// Marks a number.
     pub(crate) fn mark(&mut self, number: u32)
         ensures marked { is_marked self.new.words number ≡ true }
-        ensures kept { (other : ℕ) → is_marked self.old.words other ≡ true → is_marked self.new.words other ≡ true }
+        ensures kept { (other : ℕ) → is_marked self.old.words other ≡ true
+            → is_marked self.new.words other ≡ true }
     {
         let place = (number / 64 % 64) as usize;
         self.words[place] |= 1 << (number % 64);
@@ -92,7 +93,8 @@ impl Marks {
     /// Marks a number. A filter that others share is copied first; without memory no mark is lost.
     pub(crate) fn mark(&mut self, number: u32) -> Result<(), AllocError>
         ensures marked { OnOk result (has_mark self.new number ≡ true) }
-        ensures kept { (other : ℕ) → has_mark self.old other ≡ true → has_mark self.new other ≡ true }
+        ensures kept { (other : ℕ) → has_mark self.old other ≡ true
+            → has_mark self.new other ≡ true }
     {
         match &mut self.filter {
             Some(filter) => Arc::make_mut(filter)?.mark(number),
@@ -107,7 +109,8 @@ impl Marks {
 
     /// The same marks once more; both share the filter.
     pub(crate) fn again(&self) -> Result<Marks, AllocError>
-        ensures { IfOk result (λ again. (number : ℕ) → has_mark again number ≡ has_mark self.now number) }
+        ensures { IfOk result (λ again. (number : ℕ)
+            → has_mark again number ≡ has_mark self.now number) }
     {
         let filter = match &self.filter {
             Some(filter) => Some(Arc::try_clone(filter)?),

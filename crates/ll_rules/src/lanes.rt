@@ -20,7 +20,8 @@ fn named_bits() -> u32
 
 /// A set of rights as a lane, which keeps those that have a name.
 pub(crate) fn bits_of(rights: Fs) -> u32
-    ensures { (right : FsRight) → bit_of right < bit_of other → has (set_of result) right ≡ has rights right }
+    ensures { (right : FsRight) → bit_of right < bit_of other
+        → has (set_of result) right ≡ has rights right }
 {
     rights.bits()
 }
@@ -41,28 +42,32 @@ pub(crate) fn no_rights() -> u32x16
 
 /// Each lane without what is granted in it.
 pub(crate) fn without(lanes: u32x16, granted: u32x16) -> u32x16
-    ensures { (place : ℕ) (right : FsRight) → has (lane result place) right ≡ (has (lane lanes place) right && not (has (lane granted place) right)) }
+    ensures { (place : ℕ) (right : FsRight) → has (lane result place) right
+        ≡ (has (lane lanes place) right && not (has (lane granted place) right)) }
 {
     lanes & !granted
 }
 
 /// What is in either of two lanes.
 pub(crate) fn either(first: u32x16, second: u32x16) -> u32x16
-    ensures { (place : ℕ) (right : FsRight) → has (lane result place) right ≡ (has (lane first place) right || has (lane second place) right) }
+    ensures { (place : ℕ) (right : FsRight) → has (lane result place) right
+        ≡ (has (lane first place) right || has (lane second place) right) }
 {
     first | second
 }
 
 /// What each lane has of one set.
 pub(crate) fn within(lanes: u32x16, rights: Fs) -> u32x16
-    ensures { (place : ℕ) (right : FsRight) → has (lane result place) right ≡ (has (lane lanes place) right && has rights right) }
+    ensures { (place : ℕ) (right : FsRight)
+        → has (lane result place) right ≡ (has (lane lanes place) right && has rights right) }
 {
     lanes & u32x16::splat(bits_of(rights))
 }
 
 /// The places of the lanes that hold a right, as bits.
 fn places(lanes: u32x16) -> u16
-    ensures { (place : ℕ) → place < 16 → (bit_at result place == 1) ≡ not (is_empty (lane lanes place)) }
+    ensures { (place : ℕ) → place < 16
+        → (bit_at result place == 1) ≡ not (is_empty (lane lanes place)) }
 {
     let named = lanes & u32x16::splat(named_bits());
     named.simd_ne(u32x16::splat(0)).to_bitmask() as u16

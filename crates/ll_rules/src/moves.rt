@@ -95,7 +95,8 @@ fn kind_of_target(tree: &Tree, target: Target) -> Option<Kind>
 /// What a move asks of the directory that the object is in.
 #[tactic(auto, using(crate::proofs::AskedRights::none_asked, crate::proofs::AskedRights::one_asked))]
 fn asked_of_source(how: How, moved: Kind, there: Option<Kind>) -> Fs
-    ensures { (right : FsRight) → has result right ≡ list_any (is_right right) (asked_there how moved there) }
+    ensures { (right : FsRight)
+        → has result right ≡ list_any (is_right right) (asked_there how moved there) }
 {
     match how {
         How::Rename => moved.remove_right(),
@@ -110,7 +111,8 @@ fn asked_of_source(how: How, moved: Kind, there: Option<Kind>) -> Fs
 /// What a move asks of the directory that it goes to.
 #[tactic(auto, using(crate::proofs::AskedRights::one_asked))]
 fn asked_of_destination(moved: Kind, there: Option<Kind>) -> Fs
-    ensures { (right : FsRight) → has result right ≡ list_any (is_right right) (asked_here moved there) }
+    ensures { (right : FsRight)
+        → has result right ≡ list_any (is_right right) (asked_here moved there) }
 {
     match there {
         None => moved.make_right(),
@@ -124,7 +126,11 @@ pub fn leaving(tree: &Tree, attempt: &Move) -> Asked
     requires target { IsTargetIn tree.now attempt.now.target }
     ensures inside { IsNode tree.now result.directory }
     ensures path { path_at tree.now result.directory ≡ source_of tree.now attempt.now }
-    ensures rights { (right : FsRight) → has result.rights right ≡ list_any (is_right right) (asked_there attempt.now.how (kind_at tree.now attempt.now.moved) (kind_there tree.now attempt.now.target)) }
+    ensures rights { (right : FsRight)
+        → has result.rights right
+        ≡ list_any (is_right right)
+        (asked_there attempt.now.how (kind_at tree.now attempt.now.moved)
+        (kind_there tree.now attempt.now.target)) }
     ensures tree { IsTree tree.now }
 {
     let moved = tree.kind(attempt.moved);
@@ -140,8 +146,13 @@ pub fn entering(tree: &Tree, attempt: &Move) -> Asked
     requires moved { IsNode tree.now attempt.now.moved }
     requires target { IsTargetIn tree.now attempt.now.target }
     ensures inside { IsNode tree.now result.directory }
-    ensures path { path_at tree.now result.directory ≡ destination_path tree.now attempt.now.target }
-    ensures rights { (right : FsRight) → has result.rights right ≡ list_any (is_right right) (asked_here (kind_at tree.now attempt.now.moved) (kind_there tree.now attempt.now.target)) }
+    ensures path { path_at tree.now result.directory
+        ≡ destination_path tree.now attempt.now.target }
+    ensures rights { (right : FsRight)
+        → has result.rights right
+        ≡ list_any (is_right right)
+        (asked_here (kind_at tree.now attempt.now.moved)
+        (kind_there tree.now attempt.now.target)) }
 {
     let moved = tree.kind(attempt.moved);
     let there = kind_of_target(tree, attempt.target);
@@ -176,7 +187,8 @@ pub fn check_move(tree: &Tree, layers: &[Layer], domain: &Domain, attempt: &Move
     requires rules { All (AreInTree tree.now) layers.now }
     requires moved { IsNode tree.now attempt.now.moved }
     requires target { IsTargetIn tree.now attempt.now.target }
-    ensures { result ≡ move_verdict tree.now (all_in_tree tree.now (domain_of layers.now domain.now)) attempt.now }
+    ensures { result ≡ move_verdict tree.now
+        (all_in_tree tree.now (domain_of layers.now domain.now)) attempt.now }
 {
     check_move_counted(tree, layers, domain, attempt).0
 }
@@ -194,8 +206,11 @@ pub fn check_move_counted(
     requires rules { All (AreInTree tree.now) layers.now }
     requires moved { IsNode tree.now attempt.now.moved }
     requires target { IsTargetIn tree.now attempt.now.target }
-    ensures answer { result.0 ≡ move_verdict tree.now (all_in_tree tree.now (domain_of layers.now domain.now)) attempt.now }
-    ensures look_ups { result.1 ≤ length domain.now * (length (source_of tree.now attempt.now) + 1 + (length (destination_path tree.now attempt.now.target) + 1) + 2) }
+    ensures answer { result.0 ≡ move_verdict tree.now
+        (all_in_tree tree.now (domain_of layers.now domain.now)) attempt.now }
+    ensures look_ups { result.1
+        ≤ length domain.now * (length (source_of tree.now attempt.now) + 1
+        + (length (destination_path tree.now attempt.now.target) + 1) + 2) }
 {
     let stack = Stack {
         tree,

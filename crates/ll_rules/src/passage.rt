@@ -32,7 +32,8 @@ impl Lacking {
     /// What each layer denies of what a move asks of the two directories.
     pub(crate) fn denied(&self, from: Asked, to: Asked) -> u32x16
         ensures { (place : ℕ) (right : FsRight) → has (lane result place) right
-            ≡ ((has (lane self.now.source place) right && has from.rights right) || (has (lane self.now.destination place) right && has to.rights right)) }
+            ≡ ((has (lane self.now.source place) right && has from.rights right)
+            || (has (lane self.now.destination place) right && has to.rights right)) }
     {
         let at_source = within(u32x16::from_array(self.source), from.rights);
         let at_destination = within(u32x16::from_array(self.destination), to.rights);
@@ -42,7 +43,8 @@ impl Lacking {
 
 /// Of some lanes the rights that count for an object of a kind.
 fn counting_for(kind: Kind, lanes: u32x16) -> u32x16
-    ensures { (place : ℕ) (right : FsRight) → has (lane result place) right ≡ (has (lane lanes place) right && (is_dir kind || is_file_right right)) }
+    ensures { (place : ℕ) (right : FsRight) → has (lane result place) right
+        ≡ (has (lane lanes place) right && (is_dir kind || is_file_right right)) }
 {
     if is_directory(kind) {
         lanes
@@ -55,8 +57,10 @@ impl<'a> Stack<'a> {
     /// What the layers handle and don't grant on a directory, in lanes, and how many look-ups it took to tell.
     fn lacking_on(&self, directory: NodeId) -> ([u32; MOST_LAYERS], u64)
         requires { IsNode self.now.tree.now directory }
-        ensures lacking { AreLacking self.now.tree.now (layers_of self.now) (path_at self.now.tree.now directory) result.0 }
-        ensures count { result.1 ≤ length self.now.ids.now * (depth_at self.now.tree.now directory + 1) }
+        ensures lacking { AreLacking self.now.tree.now (layers_of self.now)
+            (path_at self.now.tree.now directory) result.0 }
+        ensures count { result.1
+            ≤ length self.now.ids.now * (depth_at self.now.tree.now directory + 1) }
         ensures little { result.1 ≤ 2 ^ 40 }
     {
         let mut lacking = self.handled_in();
@@ -69,9 +73,13 @@ impl<'a> Stack<'a> {
     pub(crate) fn lacking_of(&self, source: NodeId, destination: NodeId) -> (Lacking, u64)
         requires source { IsNode self.now.tree.now source }
         requires destination { IsNode self.now.tree.now destination }
-        ensures source { AreLacking self.now.tree.now (layers_of self.now) (path_at self.now.tree.now source) result.0.source }
-        ensures destination { AreLacking self.now.tree.now (layers_of self.now) (path_at self.now.tree.now destination) result.0.destination }
-        ensures count { result.1 ≤ length self.now.ids.now * (depth_at self.now.tree.now source + 1 + (depth_at self.now.tree.now destination + 1)) }
+        ensures source { AreLacking self.now.tree.now (layers_of self.now)
+            (path_at self.now.tree.now source) result.0.source }
+        ensures destination { AreLacking self.now.tree.now (layers_of self.now)
+            (path_at self.now.tree.now destination) result.0.destination }
+        ensures count { result.1
+            ≤ length self.now.ids.now * (depth_at self.now.tree.now source + 1
+            + (depth_at self.now.tree.now destination + 1)) }
         ensures little { result.1 ≤ 2 ^ 41 }
     {
         let (at_source, first) = self.lacking_on(source);
@@ -93,7 +101,8 @@ impl<'a> Stack<'a> {
     fn gained(&self, object: NodeId, here: u32x16, there: u32x16) -> (u32x16, u64)
         requires { IsNode self.now.tree.now object }
         ensures gained { (place : ℕ) (right : FsRight) → has (lane result.0 place) right
-            ≡ (((has (lane here place) right && not (has (lane there place) right)) && (is_dir (kind_at self.now.tree.now object) || is_file_right right))
+            ≡ (((has (lane here place) right && not (has (lane there place) right))
+            && (is_dir (kind_at self.now.tree.now object) || is_file_right right))
             && not (granted_on_node (stacked self.now place) object right)) }
         ensures count { result.1 ≤ length self.now.ids.now }
     {
@@ -113,9 +122,13 @@ pub(crate) struct Passage<'a> {
     pub(crate) lacking: Lacking,
     ghost tree: { IsTree stack.tree.now } by { Prim.hlevel props },
     ghost moved: { IsNode stack.tree.now attempt.moved },
-    ghost target: { IsTargetIn stack.tree.now attempt.target } by { IsTargetIn-once stack.tree.now attempt.target },
-    ghost at_source: { AreLacking stack.tree.now (layers_of stack) (source_of stack.tree.now attempt) lacking.source } by { Prim.hlevel props },
-    ghost at_destination: { AreLacking stack.tree.now (layers_of stack) (destination_of stack.tree.now attempt.target) lacking.destination } by { Prim.hlevel props },
+    ghost target: { IsTargetIn stack.tree.now attempt.target } by { IsTargetIn-once
+        stack.tree.now attempt.target },
+    ghost at_source: { AreLacking stack.tree.now (layers_of stack)
+        (source_of stack.tree.now attempt) lacking.source } by { Prim.hlevel props },
+    ghost at_destination: { AreLacking stack.tree.now (layers_of stack)
+        (destination_of stack.tree.now attempt.target)
+        lacking.destination } by { Prim.hlevel props },
 }
 
 impl<'a> Passage<'a> {
@@ -123,7 +136,9 @@ impl<'a> Passage<'a> {
     /// many look-ups it took to tell.
     fn other_gained(&self) -> (u32x16, u64)
         ensures gained { (place : ℕ) → some_right (has (lane result.0 place))
-            ≡ other_gains self.now.stack.tree.now self.now.attempt (in_tree self.now.stack.tree.now (stacked self.now.stack place)) self.now.attempt.how self.now.attempt.target }
+            ≡ other_gains self.now.stack.tree.now self.now.attempt
+            (in_tree self.now.stack.tree.now (stacked self.now.stack place)) self.now.attempt.how
+            self.now.attempt.target }
         ensures count { result.1 ≤ length self.now.stack.ids.now }
     {
         let source = u32x16::from_array(self.lacking.source);
@@ -140,7 +155,9 @@ impl<'a> Passage<'a> {
     /// The layers that keep the move from leaving the directory: those under which the right to move files between
     /// directories is missing, or an object would gain a right. And how many look-ups it took to tell.
     pub(crate) fn held_back(&self) -> (LayerSet, u64)
-        ensures held { result.0 ≡ numbers_where (holds_back self.now.stack.tree.now self.now.attempt) (all_in_tree self.now.stack.tree.now (layers_of self.now.stack)) }
+        ensures held { result.0
+            ≡ numbers_where (holds_back self.now.stack.tree.now self.now.attempt)
+            (all_in_tree self.now.stack.tree.now (layers_of self.now.stack)) }
         ensures count { result.1 ≤ length self.now.stack.ids.now * 2 }
     {
         let source = u32x16::from_array(self.lacking.source);

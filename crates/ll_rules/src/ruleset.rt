@@ -40,9 +40,15 @@ impl Model for Layer {
 
     ghost Value = { RulesOn ℕ };
 
-    ghost view = { λ a. record { handled_files = a.files; handled_network = a.network; file_rules = finite.entries a.on_nodes; port_rules = finite.entries a.on_ports } };
+    ghost view = { λ a. record {
+      handled_files = a.files;
+      handled_network = a.network;
+      file_rules = finite.entries a.on_nodes;
+      port_rules = finite.entries a.on_ports;
+    } };
 
-    ghost invariant = { λ a. (for_files.has a.files for_files.other ≡ false) × (for_ports.has a.network for_ports.other ≡ false)
+    ghost invariant = { λ a. (for_files.has a.files for_files.other ≡ false)
+        × (for_ports.has a.network for_ports.other ≡ false)
         × AreMarked a.marks a.on_nodes };
 }
 
@@ -79,7 +85,8 @@ impl Layer {
     #[cold]
     #[inline(never)]
     fn rule_in_map(&self, number: u32) -> Fs
-        ensures { (right : FsRight) → has result right ≡ granted_on_node self.now (node number) right }
+        ensures { (right : FsRight)
+            → has result right ≡ granted_on_node self.now (node number) right }
     {
         self.on_nodes
             .get(number as u64)
@@ -109,7 +116,8 @@ impl Layer {
     /// The filter's marks of 64 nodes together: where the bit at the rest of a node's number by 64 is no one, there
     /// is no rule on the node.
     pub(crate) fn marks_beside(&self, node: NodeId) -> u64
-        ensures { (bit_at result (node.0 % 64) == 1) ≡ false → (right : FsRight) → granted_on_node self.now node right ≡ false }
+        ensures { (bit_at result (node.0 % 64) == 1) ≡ false → (right : FsRight)
+            → granted_on_node self.now node right ≡ false }
     {
         self.marks.beside(node.index())
     }
@@ -138,7 +146,8 @@ impl Layer {
 
     /// The rights that the rule on a port grants; none where there is no rule.
     fn rule_on_port(&self, port: u16) -> Net
-        ensures { (right : for_ports.NetRight) → for_ports.has result right ≡ granted_on_port self.now port right }
+        ensures { (right : for_ports.NetRight)
+            → for_ports.has result right ≡ granted_on_port self.now port right }
     {
         self.on_ports.get(port as u64).copied().unwrap_or(Net::NONE)
     }
@@ -301,8 +310,10 @@ impl Ruleset {
     pub fn add_path(&mut self, tree: &Tree, place: Place, files: Fs) -> Result<(), RuleFault>
         requires place { IsOfTree tree.now place }
         requires within { AreInTree tree.now self.old }
-        ensures fault { MatchOption (add_path_fault tree.now self.old place files) (IsOkUnless result RuleFault.Memory) (λ fault. result ≡ Err fault) }
-        ensures ok { OnOk result (SameRules (in_tree tree.now self.new) (with_rule_at tree.now (in_tree tree.now self.old) place files)) }
+        ensures fault { MatchOption (add_path_fault tree.now self.old place files)
+            (IsOkUnless result RuleFault.Memory) (λ fault. result ≡ Err fault) }
+        ensures ok { OnOk result (SameRules (in_tree tree.now self.new)
+            (with_rule_at tree.now (in_tree tree.now self.old) place files)) }
         ensures err { OnErr result (self.new ≡ self.old) }
         ensures in_tree { AreInTree tree.now self.new }
     {
@@ -334,7 +345,8 @@ impl Ruleset {
     /// no rules for ports, else `ENOMSG` if there is no right, else `EINVAL` if one isn't handled or the
     /// port is above 65,535. Two rules on one port grant the rights of both.
     pub fn add_port(&mut self, abi: Abi, port: u64, network: Net) -> Result<(), RuleFault>
-        ensures fault { MatchOption (add_port_fault abi self.old port network) (IsOkUnless result RuleFault.Memory) (λ fault. result ≡ Err fault) }
+        ensures fault { MatchOption (add_port_fault abi self.old port network)
+            (IsOkUnless result RuleFault.Memory) (λ fault. result ≡ Err fault) }
         ensures ok { OnOk result (GrantsOnPort self.old self.new port network) }
         ensures err { OnErr result (self.new ≡ self.old) }
     {

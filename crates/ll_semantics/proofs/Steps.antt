@@ -1,5 +1,6 @@
 -- What one call does to a world: to the state of its own process, to the one it starts, and to all others.
-use Rattle.std.proofs.Common.{◌≡◌, ◌≢◌, ℕ, ◌+◌, true, false, cond, List, [], ◌∷◌, take, Some, None, refl, sym, ap, ◌∙◌, inl, inr, arith, zero, suc, length, add-one}
+use Rattle.std.proofs.Common.{◌≡◌, ◌≢◌, ℕ, ◌+◌, true, false, cond, List, [], ◌∷◌, take, Some, None, refl, sym, ap, ◌∙◌, inl, inr, arith, zero, suc, length}
+use Rattle.std.proofs.Common.{add-one}
 use Rattle.std.proofs.lemmas.Bool.{cases_eq, eq-eqb, ne_eqb}
 use Rattle.ll_rights.specs.declared.abi.Abi.{Abi}
 use Rattle.ll_tree.specs.Trees.{Entry}
@@ -47,7 +48,8 @@ affected-other w process p (leaves_rulesets rulesets s) other older = with_state
 affected-other w process p (begins s) other older = with_state-other w.processes w.count p s older
 
 -- where no process begins, only the own one's state can change
-affected-unbegun : (w : World) (process p : ℕ) (e : Effect) → begun_by e ≡ None → (affected w process e).processes p ≡ with_state w.processes process (state_by e (w.processes process)) p
+affected-unbegun : (w : World) (process p : ℕ) (e : Effect) → begun_by e ≡ None
+    → (affected w process e).processes p ≡ with_state w.processes process (state_by e (w.processes process)) p
 unfolding begun_by state_by
 affected-unbegun w process p nothing none = sym (with_state-same w.processes process p)
 affected-unbegun w process p (leaves s) none = refl
@@ -55,7 +57,8 @@ affected-unbegun w process p (leaves_rulesets rulesets s) none = refl
 affected-unbegun w process p (begins child) none = absurd (cc)
 
 -- where one begins, it has the next number, and the others are as they were
-affected-begun : (w : World) (process p : ℕ) (e : Effect) (child : State) → begun_by e ≡ Some child → (affected w process e).processes p ≡ with_state w.processes w.count child p
+affected-begun : (w : World) (process p : ℕ) (e : Effect) (child : State) → begun_by e ≡ Some child
+    → (affected w process e).processes p ≡ with_state w.processes w.count child p
 unfolding begun_by
 affected-begun w process p nothing child is = absurd (cc)
 affected-begun w process p (leaves after) child is = absurd (cc)
@@ -114,13 +117,15 @@ step-rulesets tree abi w process op =
 -- ---- what starts a process
 
 -- only a start and a fork begin a process, and both are allowed
-pub begun_is_allowed : (tree : List Entry) (abi : Abi) (rulesets : List Layer) (op : Op) (s child : State) → started tree rulesets op s ≡ Some child → answer tree abi rulesets op s ≡ Allowed
+pub begun_is_allowed : (tree : List Entry) (abi : Abi) (rulesets : List Layer) (op : Op) (s child : State) → started tree rulesets op s ≡ Some child
+    → answer tree abi rulesets op s ≡ Allowed
 unfolding started begun_by effect answer
 begun_is_allowed tree abi rulesets (Start nnp admin) s child is = refl
 begun_is_allowed tree abi rulesets (Fork c) s child is = refl
 begun_is_allowed tree abi rulesets op s child is = absurd (cc)
 
-pub step-begun : (tree : List Entry) (abi : Abi) (w : World) (process : ℕ) (op : Op) (p : ℕ) (child : State) → started tree w.rulesets op (w.processes process) ≡ Some child
+pub step-begun : (tree : List Entry) (abi : Abi) (w : World) (process : ℕ) (op : Op) (p : ℕ) (child : State)
+    → started tree w.rulesets op (w.processes process) ≡ Some child
     → (step tree abi w process op).processes p ≡ with_state w.processes w.count child p
 unfolding step answer_in started
 step-begun tree abi w process op p child is =
@@ -128,7 +133,8 @@ step-begun tree abi w process op p child is =
     ap (λ (a : Answer). (if_allowed a (affected w process does) w).processes p) (begun_is_allowed tree abi w.rulesets op (w.processes process) child is)
     ∙ affected-begun w process p does child is
 
-pub step-new : (tree : List Entry) (abi : Abi) (w : World) (process : ℕ) (op : Op) (child : State) → started tree w.rulesets op (w.processes process) ≡ Some child
+pub step-new : (tree : List Entry) (abi : Abi) (w : World) (process : ℕ) (op : Op) (child : State)
+    → started tree w.rulesets op (w.processes process) ≡ Some child
     → (step tree abi w process op).processes w.count ≡ child
 step-new tree abi w process op child is = step-begun tree abi w process op w.count child is ∙ with_state-own w.processes w.count child
 
@@ -153,7 +159,8 @@ pub count-step : (tree : List Entry) (abi : Abi) (w : World) (process : ℕ) (op
 unfolding step answer_in answer effect is_starting
 count-step tree abi w process (Start nnp admin) = refl
 count-step tree abi w process (Fork child) = refl
-count-step tree abi w process op = count_kept (answer tree abi w.rulesets op (w.processes process)) (affected w process (effect tree w.rulesets op (w.processes process))) w refl
+count-step tree abi w process op =
+    count_kept (answer tree abi w.rulesets op (w.processes process)) (affected w process (effect tree w.rulesets op (w.processes process))) w refl
 
 count-world_after : (tree : List Entry) (abi : Abi) (w : World) (rs : List Record) → (world_after tree abi w rs).count ≡ w.count + process_count rs
 unfolding world_after process_count
@@ -179,13 +186,15 @@ unfolding answer is_start
 answer-start tree abi rulesets (Start nnp admin) s holds = refl
 answer-start tree abi rulesets op s holds = cc
 
-pub state_after-start : (tree : List Entry) (abi : Abi) (rulesets : List Layer) (op : Op) (s : State) → is_start op ≡ true → state_after tree abi rulesets op s ≡ s
+pub state_after-start : (tree : List Entry) (abi : Abi) (rulesets : List Layer) (op : Op) (s : State) → is_start op ≡ true
+    → state_after tree abi rulesets op s ≡ s
 unfolding state_after answer change state_by effect is_start
 state_after-start tree abi rulesets (Start nnp admin) s holds = refl
 state_after-start tree abi rulesets op s holds = cc
 
 -- a fork leaves its process as it was, and the child begins with the same state
-pub state_after-fork : (tree : List Entry) (abi : Abi) (rulesets : List Layer) (op : Op) (s : State) → is_fork op ≡ true → state_after tree abi rulesets op s ≡ s
+pub state_after-fork : (tree : List Entry) (abi : Abi) (rulesets : List Layer) (op : Op) (s : State) → is_fork op ≡ true
+    → state_after tree abi rulesets op s ≡ s
 unfolding state_after answer change state_by effect is_fork
 state_after-fork tree abi rulesets (Fork child) s holds = refl
 state_after-fork tree abi rulesets op s holds = cc
@@ -202,12 +211,14 @@ kept_unless Allowed after before other = absurd (other refl)
 kept_unless Moot after before other = refl
 kept_unless (Refused error numbers) after before other = refl
 
-pub world_kept : (tree : List Entry) (abi : Abi) (w : World) (process : ℕ) (op : Op) → answer_in tree abi w process op ≢ Allowed → step tree abi w process op ≡ w
+pub world_kept : (tree : List Entry) (abi : Abi) (w : World) (process : ℕ) (op : Op) → answer_in tree abi w process op ≢ Allowed
+    → step tree abi w process op ≡ w
 unfolding step
 world_kept tree abi w process op other =
     kept_unless (answer_in tree abi w process op) (affected w process (effect tree w.rulesets op (w.processes process))) w other
 
-pub begins_allowed : (tree : List Entry) (abi : Abi) (w : World) (process : ℕ) (op : Op) (child : State) → effect tree w.rulesets op (w.processes process) ≡ begins child → answer_in tree abi w process op ≡ Allowed
+pub begins_allowed : (tree : List Entry) (abi : Abi) (w : World) (process : ℕ) (op : Op) (child : State)
+    → effect tree w.rulesets op (w.processes process) ≡ begins child → answer_in tree abi w process op ≡ Allowed
 unfolding answer_in started begun_by
 begins_allowed tree abi w process op child is =
     begun_is_allowed tree abi w.rulesets op (w.processes process) child (ap (λ (e : Effect). begun_by e) is)
@@ -219,24 +230,28 @@ unfolding judged_from
 length-judged_from tree abi w [] = refl
 length-judged_from tree abi w (r ∷ rs) = ap suc (length-judged_from tree abi (step tree abi w r.process.0 r.op) rs)
 
-pub judged_from-at : (tree : List Entry) (abi : Abi) (w : World) (rs : List Record) (k : ℕ) (r : Record) → slice_get rs k ≡ Some r → slice_get (judged_from tree abi w rs) k ≡ Some (answer_in tree abi (world_after tree abi w (take k rs)) r.process.0 r.op)
+pub judged_from-at : (tree : List Entry) (abi : Abi) (w : World) (rs : List Record) (k : ℕ) (r : Record) → slice_get rs k ≡ Some r
+    → slice_get (judged_from tree abi w rs) k ≡ Some (answer_in tree abi (world_after tree abi w (take k rs)) r.process.0 r.op)
 unfolding judged_from world_after
 judged_from-at tree abi w [] k r at = cc
 judged_from-at tree abi w (x ∷ rs) zero r at = cc
 judged_from-at tree abi w (x ∷ rs) (suc k) r at = judged_from-at tree abi (step tree abi w x.process.0 x.op) rs k r at
 
-pub world_after-more : (tree : List Entry) (abi : Abi) (w : World) (rs : List Record) (k : ℕ) (r : Record) → slice_get rs k ≡ Some r → world_after tree abi w (take (suc k) rs) ≡ step tree abi (world_after tree abi w (take k rs)) r.process.0 r.op
+pub world_after-more : (tree : List Entry) (abi : Abi) (w : World) (rs : List Record) (k : ℕ) (r : Record) → slice_get rs k ≡ Some r
+    → world_after tree abi w (take (suc k) rs) ≡ step tree abi (world_after tree abi w (take k rs)) r.process.0 r.op
 unfolding world_after
 world_after-more tree abi w [] k r at = cc
 world_after-more tree abi w (x ∷ rs) zero r at = cc
 world_after-more tree abi w (x ∷ rs) (suc k) r at = world_after-more tree abi (step tree abi w x.process.0 x.op) rs k r at
 
-pub world_at-more : (tree : List Entry) (abi : Abi) (records : List Record) (k : ℕ) (r : Record) → slice_get records k ≡ Some r → world_at tree abi records (k + 1) ≡ step tree abi (world_at tree abi records k) r.process.0 r.op
+pub world_at-more : (tree : List Entry) (abi : Abi) (records : List Record) (k : ℕ) (r : Record) → slice_get records k ≡ Some r
+    → world_at tree abi records (k + 1) ≡ step tree abi (world_at tree abi records k) r.process.0 r.op
 unfolding world_at
 world_at-more tree abi records k r at = rw add-one (world_after-more tree abi empty_world records k r at)
 
 -- each answer of a trace is that of the world before its record
-pub judged-at : (tree : List Entry) (abi : Abi) (records : List Record) (k : ℕ) (r : Record) → slice_get records k ≡ Some r → slice_get (judged tree abi records) k ≡ Some (answer_in tree abi (world_at tree abi records k) r.process.0 r.op)
+pub judged-at : (tree : List Entry) (abi : Abi) (records : List Record) (k : ℕ) (r : Record) → slice_get records k ≡ Some r
+    → slice_get (judged tree abi records) k ≡ Some (answer_in tree abi (world_at tree abi records k) r.process.0 r.op)
 unfolding judged world_at
 judged-at tree abi records k r at = judged_from-at tree abi empty_world records k r at
 

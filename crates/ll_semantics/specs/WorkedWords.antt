@@ -99,3 +99,20 @@ goes_over = renames (codes "/a/f") (codes "/b/h")
 -- each record of a trace is answered as it says
 abbrev pub IsAnswered : Abi → List (Record × Answer) → Type 0
 IsAnswered abi trace = judged worked_tree abi (map (λ pair. pair.0) trace) ≡ map (λ pair. pair.1) trace
+
+-- All that unfolds when worked traces are judged.
+unfoldable pub judging : Unit {0}
+unfolding
+    Rattle.ll_rules.specs.WorkedRules.checking Rattle.ll_lines.specs.Paths.path_of Rattle.ll_lines.specs.Paths.after_slash Rattle.ll_lines.specs.Paths.names_in
+    Rattle.ll_lines.specs.Paths.is_name Rattle.ll_tree.specs.Trees.place Rattle.ll_tree.specs.Trees.place_of Rattle.ll_tree.specs.Trees.place_or_gap
+    Rattle.ll_tree.specs.Trees.gap_in Rattle.ll_tree.specs.Trees.node_at Rattle.ll_tree.specs.Trees.position_of Rattle.ll_tree.specs.Trees.parent_at
+    Rattle.ll_tree.specs.Trees.parent_of Rattle.ll_semantics.specs.Worlds.judged Rattle.ll_semantics.specs.Worlds.judged_from
+    Rattle.ll_semantics.specs.Worlds.step Rattle.ll_semantics.specs.Worlds.answer_in Rattle.ll_semantics.specs.States.fresh
+    Rattle.ll_semantics.specs.Answers.answer Rattle.ll_semantics.specs.Answers.create_answer Rattle.ll_semantics.specs.Answers.add_path_answer
+    Rattle.ll_semantics.specs.Answers.add_port_answer Rattle.ll_semantics.specs.Answers.restrict_answer Rattle.ll_semantics.specs.Answers.ftruncate_answer
+    Rattle.ll_semantics.specs.Answers.ioctl_answer Rattle.ll_semantics.specs.Effects.effect Rattle.ll_semantics.specs.Effects.opened
+    Rattle.ll_semantics.specs.Effects.opened_kind Rattle.ll_semantics.specs.Requests.wanted Rattle.ll_semantics.specs.Requests.asks
+    Rattle.ll_semantics.specs.Requests.open_kind Rattle.ll_semantics.specs.Requests.regular_kind Rattle.ll_semantics.specs.Requests.remove_from
+    Rattle.ll_semantics.specs.Moves.rename_move Rattle.ll_semantics.specs.Moves.rename_to Rattle.ll_semantics.specs.Moves.rename_into
+    Rattle.ll_semantics.specs.Moves.rename_onto Rattle.ll_semantics.specs.Moves.link_move Rattle.ll_semantics.specs.Moves.link_to
+judging = tt

@@ -16,7 +16,8 @@ ghost use Rattle.ll_semantics.specs.Worlds.{World, answer_in, step};
 pub fn only_allowed_records_change_the_world()
     ensures unchanged { (tree : List Entry) (abi : Abi) (world : World) (process : ℕ) (op : Op)
         → answer_in tree abi world process op ≢ Allowed → step tree abi world process op ≡ world }
-    ensures begun { (tree : List Entry) (abi : Abi) (world : World) (process : ℕ) (op : Op) (begun : State)
+    ensures begun { (tree : List Entry) (abi : Abi) (world : World) (process : ℕ)
+        (op : Op) (begun : State)
         → effect tree world.rulesets op (world.processes process) ≡ begins begun
         → answer_in tree abi world process op ≡ Allowed }
 {}

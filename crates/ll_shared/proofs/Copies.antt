@@ -26,7 +26,8 @@ module _ {V : Type 0} (old copy : Four V) where
       ap (λ f. found_in f q) same ∙ told q ∙ ap (λ o. if q == key then value else o) (found_in_copy is q)
 
   -- where there is no copy, nothing changes
-  pub uncopied : {T E S D : Type 0} (made : Result T E) (returned : Result S D) (error : E) → made ≡ Err error → OnErr made ((copy ≡ old) ⊎ SameFour old copy) → OnErr returned ((q : ℕ) → found_in copy q ≡ found_in old q)
+  pub uncopied : {T E S D : Type 0} (made : Result T E) (returned : Result S D) (error : E) → made ≡ Err error → OnErr made ((copy ≡ old) ⊎ SameFour old copy)
+      → OnErr returned ((q : ℕ) → found_in copy q ≡ found_in old q)
   uncopied made returned error was is = on_err returned (found_in_copy (IfErr-at_err (λ _. (copy ≡ old) ⊎ SameFour old copy) was is))
 
   -- and where the copy is given nothing, nothing changes

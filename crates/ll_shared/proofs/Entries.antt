@@ -1,5 +1,6 @@
 -- The entries of a tree of forks are what is found in it.
-use Rattle.std.proofs.Common.{◌≡◌, ℕ, ◌+◌, ◌*◌, ◌/◌, ◌%◌, ◌<◌, ◌==◌, false, ◌&&◌, List, [], ◌∷◌, ◌++◌, map, Bor, is_some, Option, Some, None, cond, if◌then◌else◌, inl, inr, refl, sym, ap, ◌∙◌, arith}
+use Rattle.std.proofs.Common.{◌≡◌, ℕ, ◌+◌, ◌*◌, ◌/◌, ◌%◌, ◌<◌, ◌==◌, false, ◌&&◌, List, [], ◌∷◌, ◌++◌, map, Bor, is_some, Option, Some, None, cond}
+use Rattle.std.proofs.Common.{if◌then◌else◌, inl, inr, refl, sym, ap, ◌∙◌, arith}
 use Rattle.std.specs.declared.result.Result.{Result}
 use Rattle.std.specs.Result.{IfOk}
 use Rattle.std.specs.Option.{option_copied}
@@ -38,26 +39,26 @@ module _ {V : Type 0} where
       rw (unsigned_tied, split_key q e.0 bits small, find_under q bits es small) (grind (arith, nat_tests))
 
   four_places : (q : ℕ) (a b c d : Option V) →
-      or_else (or_else (or_else (if q % 4 == 0 then a else None) (if q % 4 == 1 then b else None)) (if q % 4 == 2 then c else None)) (if q % 4 == 3 then d else None) ≡ chosen q a b c d
+      or_else (or_else (or_else (if q % 4 == 0 then a else None) (if q % 4 == 1 then b else None)) (if q % 4 == 2 then c else None))
+      (if q % 4 == 3 then d else None) ≡ chosen q a b c d
   four_places q a b c d = grind (arith, nat_tests)
 
   find-entries : (node : Node V) (q : ℕ) → find nat_cmp q (entries node) ≡ found node q
   find-entries Empty q = refl
   find-entries (Leaf key value) q = rw unsigned_tied refl
-  find-entries (Fork' p a b c d) q =
-      rw (
-        find_append,
-        find_append,
-        find_append,
-        find_under q 0 (entries a) (omega arith),
-        find_under q 1 (entries b) (omega arith),
-        find_under q 2 (entries c) (omega arith),
-        find_under q 3 (entries d) (omega arith),
-        find-entries a (q / 4),
-        find-entries b (q / 4),
-        find-entries c (q / 4),
-        find-entries d (q / 4),
-      )
+  find-entries (Fork' p a b c d) q = rw (
+    find_append,
+    find_append,
+    find_append,
+    find_under q 0 (entries a) (omega arith),
+    find_under q 1 (entries b) (omega arith),
+    find_under q 2 (entries c) (omega arith),
+    find_under q 3 (entries d) (omega arith),
+    find-entries a (q / 4),
+    find-entries b (q / 4),
+    find-entries c (q / 4),
+    find-entries d (q / 4),
+  )
       (four_places q _ _ _ _)
 
   -- what the map has is what the tree finds
@@ -77,11 +78,14 @@ module _ {V : Type 0} where
     -- a tree that finds a new value for one key is the map in which it was inserted
     pub inserted : (value : V) → ((q : ℕ) → found new q ≡ (if q == key then Some value else found old q))
         → from_entries {R = nat_cmp} (entries new) ≡ insert (from_entries (entries old)) key value
-    inserted value is = same_map nat_cmp_total nat_cmp-IsAntisymmetric _ _ (λ q. get_found new q ∙ is q ∙ sym (rw (get-insert nat_cmp_total, unsigned_tied, get_found) refl))
+    inserted value is =
+        same_map nat_cmp_total nat_cmp-IsAntisymmetric _ _ (λ q. get_found new q ∙ is q ∙ sym (rw (get-insert nat_cmp_total, unsigned_tied, get_found) refl))
 
     -- and one that finds none for it any more is the map from which it was removed
-    pub removed : ((q : ℕ) → found new q ≡ (if q == key then None else found old q)) → from_entries {R = nat_cmp} (entries new) ≡ remove (from_entries (entries old)) key
-    removed is = same_map nat_cmp_total nat_cmp-IsAntisymmetric _ _ (λ q. get_found new q ∙ is q ∙ sym (rw (get-remove nat_cmp_total, unsigned_tied, get_found) refl))
+    pub removed : ((q : ℕ) → found new q ≡ (if q == key then None else found old q))
+        → from_entries {R = nat_cmp} (entries new) ≡ remove (from_entries (entries old)) key
+    removed is =
+        same_map nat_cmp_total nat_cmp-IsAntisymmetric _ _ (λ q. get_found new q ∙ is q ∙ sym (rw (get-remove nat_cmp_total, unsigned_tied, get_found) refl))
 
     -- the same key by key
     pub each : (value : Option V) → ((q : ℕ) → found new q ≡ (if q == key then value else found old q))
@@ -89,7 +93,8 @@ module _ {V : Type 0} where
     each value is q = rw (get_found, get_found, turned key q) (is q)
 
   -- where a look-up found nothing, the map has nothing
-  pub nothing_there : (looked : Option (Bor V)) (node : Node V) (map : FinMap nat_cmp V) (key : ℕ) → is_some looked ≡ false → option_copied looked ≡ found node key
+  pub nothing_there : (looked : Option (Bor V)) (node : Node V) (map : FinMap nat_cmp V) (key : ℕ) → is_some looked ≡ false
+      → option_copied looked ≡ found node key
       → from_entries (entries node) ≡ map → get map key ≡ None
   nothing_there None node map key none found_is view_is = ap (λ m. get m key) (sym view_is) ∙ get_found node key ∙ sym found_is
   nothing_there (Some value) node map key none found_is view_is = grind (arith, none)
@@ -103,4 +108,5 @@ module _ {V : Type 0} (map : FinMap nat_cmp V) (key : ℕ) (absent : get map key
   ]
 
   pub absent_removed : map ≡ remove map key
-  absent_removed = same_map nat_cmp_total nat_cmp-IsAntisymmetric _ _ (λ q. absent_each q ∙ sym (get-remove nat_cmp_total map key q ∙ ap (λ b. cond b None (get map q)) (unsigned_tied q key ∙ turned q key)))
+  absent_removed = same_map nat_cmp_total nat_cmp-IsAntisymmetric _ _
+      (λ q. absent_each q ∙ sym (get-remove nat_cmp_total map key q ∙ ap (λ b. cond b None (get map q)) (unsigned_tied q key ∙ turned q key)))

@@ -66,7 +66,8 @@ impl<V: Copy> SharedMap<V> {
     pub fn insert(&mut self, key: u64, value: V) -> Result<Option<V>, AllocError>
         ensures old { IfOk result (λ old. old ≡ finite.get self.old key) }
         ensures ok { OnOk result (self.new ≡ finite.insert self.old key value) }
-        ensures each { OnOk result ((q : ℕ) → finite.get self.new q ≡ (if key == q then Some value else finite.get self.old q)) }
+        ensures each { OnOk result ((q : ℕ)
+            → finite.get self.new q ≡ (if key == q then Some value else finite.get self.old q)) }
         ensures err { OnErr result (self.new ≡ self.old) }
     {
         self.root.put(self.alloc, key, Some(value))
@@ -77,7 +78,8 @@ impl<V: Copy> SharedMap<V> {
     pub fn remove(&mut self, key: u64) -> Result<Option<V>, AllocError>
         ensures old { IfOk result (λ old. old ≡ finite.get self.old key) }
         ensures ok { OnOk result (self.new ≡ finite.remove self.old key) }
-        ensures each { OnOk result ((q : ℕ) → finite.get self.new q ≡ (if key == q then None else finite.get self.old q)) }
+        ensures each { OnOk result ((q : ℕ)
+            → finite.get self.new q ≡ (if key == q then None else finite.get self.old q)) }
         ensures err { OnErr result (self.new ≡ self.old) }
     {
         if self.root.get(key).is_none() {

@@ -80,7 +80,8 @@ impl<V: Copy> Node<V> {
         value: Option<V>,
     ) -> Result<Option<V>, AllocError>
         ensures old { IfOk result (λ old. old ≡ found self.old key) }
-        ensures ok { OnOk result ((q : ℕ) → found self.new q ≡ (if q == key then value else found self.old q)) }
+        ensures ok { OnOk result ((q : ℕ)
+            → found self.new q ≡ (if q == key then value else found self.old q)) }
         ensures err { OnErr result ((q : ℕ) → found self.new q ≡ found self.old q) }
     {
         match self {
@@ -137,8 +138,10 @@ impl<V> Four<V> {
 
     /// The one of the four under two lowest bits. The choices only pick a reference, so they are made without jumps.
     fn pick(&self, bits: u64) -> &Node<V>
-        ensures found { (key : ℕ) → bits ≡ key % 4 → found result.now (key / 4) ≡ found_in self.now key }
-        ensures steps { (key : ℕ) → bits ≡ key % 4 → steps_in self.now key ≡ 1 + 2 * steps result.now (key / 4) }
+        ensures found { (key : ℕ) → bits ≡ key % 4
+            → found result.now (key / 4) ≡ found_in self.now key }
+        ensures steps { (key : ℕ) → bits ≡ key % 4
+            → steps_in self.now key ≡ 1 + 2 * steps result.now (key / 4) }
     {
         let low = if bits == 0 { &self.zero } else { &self.one };
         let high = if bits == 2 { &self.two } else { &self.three };
@@ -172,7 +175,8 @@ impl<V: Copy> Four<V> {
     #[cycle(put)]
     fn put(&mut self, alloc: Global, key: u64, value: Option<V>) -> Result<Option<V>, AllocError>
         ensures old { IfOk result (λ old. old ≡ found_in self.old key) }
-        ensures ok { OnOk result ((q : ℕ) → found_in self.new q ≡ (if q == key then value else found_in self.old q)) }
+        ensures ok { OnOk result ((q : ℕ)
+            → found_in self.new q ≡ (if q == key then value else found_in self.old q)) }
         ensures err { OnErr result ((q : ℕ) → found_in self.new q ≡ found_in self.old q) }
     {
         let rest = key / 4;

@@ -31,7 +31,8 @@ use Rattle.ll_semantics.specs.Notes.{NoteFits, IsFrozen, is_on_rulesets, enforce
 
 -- ---- the place that a text names
 
-gap_if : (tree : List Entry) (up : NodeId) (is_directory : Bool) → is_dir (kind_at tree up) ≡ is_directory → IsNode tree up → IsPlace tree (if is_directory then places.Gap up else places.Nowhere)
+gap_if : (tree : List Entry) (up : NodeId) (is_directory : Bool) → is_dir (kind_at tree up) ≡ is_directory → IsNode tree up
+    → IsPlace tree (if is_directory then places.Gap up else places.Nowhere)
 gap_if tree up true directory there = (there, is_dir-Dir (kind_at tree up) directory)
 gap_if tree up false directory there = tt
 
@@ -81,20 +82,25 @@ left-still at (calls.Dup fd to) still = absurd (false≢true still)
 left-still at (calls.Close fd) still = absurd (false≢true still)
 left-still at op still = if_allowed-same (answer at.tree at.abi at.rulesets op at.state) at.state
 
-pub Agrees-still : (at : Situation) (own : OwnState) (op : Op) → Agrees at.tree at.layers own at.state → is_still op ≡ true → Agrees at.tree at.layers own (left at op)
+pub Agrees-still : (at : Situation) (own : OwnState) (op : Op) → Agrees at.tree at.layers own at.state → is_still op ≡ true
+    → Agrees at.tree at.layers own (left at op)
 Agrees-still at own op agrees still = subst (λ (s : State). Agrees at.tree at.layers own s) (sym (left-still at op still)) agrees
 
 -- ---- calls on rulesets, which change the rulesets that their process holds and nothing else of its state
 
-Agrees-if_allowed : (at : Situation) (own : OwnState) (a : Answer) (after before : State) → Agrees at.tree at.layers own after → Agrees at.tree at.layers own before → Agrees at.tree at.layers own (if_allowed a after before)
+Agrees-if_allowed : (at : Situation) (own : OwnState) (a : Answer) (after before : State) → Agrees at.tree at.layers own after
+    → Agrees at.tree at.layers own before → Agrees at.tree at.layers own (if_allowed a after before)
 Agrees-if_allowed at own Allowed after before first second = first
 Agrees-if_allowed at own Moot after before first second = second
 Agrees-if_allowed at own (Refused error numbers) after before first second = second
 
-Agrees-with_held : (at : Situation) (own : OwnState) (s : State) (rs : ℕ) (held : Option ℕ) → Agrees at.tree at.layers own s → Agrees at.tree at.layers own (with_held s rs held)
-Agrees-with_held at own s rs held agrees = record { no_new_privs = agrees.no_new_privs; admin = agrees.admin; places = agrees.places; domain = agrees.domain; descriptors = agrees.descriptors }
+Agrees-with_held : (at : Situation) (own : OwnState) (s : State) (rs : ℕ) (held : Option ℕ) → Agrees at.tree at.layers own s
+    → Agrees at.tree at.layers own (with_held s rs held)
+Agrees-with_held at own s rs held agrees =
+    record { no_new_privs = agrees.no_new_privs; admin = agrees.admin; places = agrees.places; domain = agrees.domain; descriptors = agrees.descriptors }
 
-Agrees-changed : (at : Situation) (own : OwnState) (op : Op) → Agrees at.tree at.layers own at.state → is_on_rulesets op ≡ true → Agrees at.tree at.layers own (change at.tree at.rulesets op at.state)
+Agrees-changed : (at : Situation) (own : OwnState) (op : Op) → Agrees at.tree at.layers own at.state → is_on_rulesets op ≡ true
+    → Agrees at.tree at.layers own (change at.tree at.rulesets op at.state)
 unfolding change state_by effect is_on_rulesets
 Agrees-changed at own (calls.Create rs fs net) agrees on = Agrees-with_held at own at.state rs _ agrees
 Agrees-changed at own (calls.AddPath rs path fs) agrees on = agrees
@@ -103,10 +109,12 @@ Agrees-changed at own (calls.CloseRs rs) agrees on = Agrees-with_held at own at.
 Agrees-changed at own (calls.CreateEmpty rs) agrees on = Agrees-with_held at own at.state rs _ agrees
 Agrees-changed at own op agrees on = absurd (false≢true on)
 
-pub Agrees-on_rulesets : (at : Situation) (own : OwnState) (op : Op) → Agrees at.tree at.layers own at.state → is_on_rulesets op ≡ true → Agrees at.tree at.layers own (left at op)
+pub Agrees-on_rulesets : (at : Situation) (own : OwnState) (op : Op) → Agrees at.tree at.layers own at.state → is_on_rulesets op ≡ true
+    → Agrees at.tree at.layers own (left at op)
 unfolding left state_after
 Agrees-on_rulesets at own op agrees on =
-    Agrees-if_allowed at own (answer at.tree at.abi at.rulesets op at.state) (change at.tree at.rulesets op at.state) at.state (Agrees-changed at own op agrees on) agrees
+    Agrees-if_allowed at own (answer at.tree at.abi at.rulesets op at.state) (change at.tree at.rulesets op at.state) at.state
+    (Agrees-changed at own op agrees on) agrees
 
 -- ---- a process that restricts itself
 

@@ -1,6 +1,7 @@
 -- What the layers that are kept of a domain answer is what the same layers answer, one by one, in a state; and what
 -- restricting itself answers a process.
-use Rattle.std.proofs.Common.{◌≡◌, ℕ, List, Option, Some, None, refl, ap, sym, ◌≢◌, ◌||◌, ◌<◌, ◌≤◌, inl, inr, leb, true, false, [], ◌∷◌, ◌++◌, length, ◌∙◌, arith}
+use Rattle.std.proofs.Common.{◌≡◌, ℕ, List, Option, Some, None, refl, ap, sym, ◌≢◌, ◌||◌, ◌<◌, ◌≤◌, inl, inr, leb, true, false, [], ◌∷◌, ◌++◌, length, ◌∙◌}
+use Rattle.std.proofs.Common.{arith}
 use Rattle.std.specs.List.{AllZip}
 use Rattle.ll_rights.specs.declared.kind.Kind.{Kind}
 use Rattle.ll_rights.specs.declared.kind.Kind.TheVariants.{Reg, Char, Block}
@@ -35,19 +36,22 @@ use Rattle.ll_state.specs.Agreement.{Agrees}
 use Rattle.ll_semantics.specs.Notes.{IsFrozen}
 
 -- ports and mounts ask no path, so that the kept layers are asked as they are
-pub refusing_port_in_tree : (tree : List Entry) (kept : List (RulesOn ℕ)) (port : ℕ) (wanted : Net) → refusing_port kept port wanted ≡ refusing_port (all_in_tree tree kept) port wanted
+pub refusing_port_in_tree : (tree : List Entry) (kept : List (RulesOn ℕ)) (port : ℕ) (wanted : Net)
+    → refusing_port kept port wanted ≡ refusing_port (all_in_tree tree kept) port wanted
 refusing_port_in_tree tree kept port wanted = sym (refusing_port-in_tree tree kept port wanted)
 
 pub refusing_mount_in_tree : (tree : List Entry) (kept : List (RulesOn ℕ)) → refusing_mount kept ≡ refusing_mount (all_in_tree tree kept)
 refusing_mount_in_tree tree kept = sym (refusing_mount-in_tree tree kept)
 
-pub port_same : (a b : List Layer) (port : ℕ) (wanted : Net) → AllZip SameRules a b → refused_by Acces (refusing_port a port wanted) ≡ refused_by Acces (refusing_port b port wanted)
+pub port_same : (a b : List Layer) (port : ℕ) (wanted : Net) → AllZip SameRules a b
+    → refused_by Acces (refusing_port a port wanted) ≡ refused_by Acces (refusing_port b port wanted)
 port_same a b port wanted same = ap (refused_by Acces) (refusing_port-same a b same port wanted)
 
 pub mount_same : (a b : List Layer) → AllZip SameRules a b → refused_by Perm (refusing_mount a) ≡ refused_by Perm (refusing_mount b)
 mount_same a b same = ap (refused_by Perm) (refusing_mount-same a b same)
 
-pub request_same : (tree : List Entry) (a b : List Layer) (request : Option Request) → AllZip SameRules a b → of_request tree a request ≡ of_request tree b request
+pub request_same : (tree : List Entry) (a b : List Layer) (request : Option Request) → AllZip SameRules a b
+    → of_request tree a request ≡ of_request tree b request
 request_same tree a b None same = refl
 request_same tree a b (Some request) same = ap (refused_by Acces) (refusing-same a b same (path_at tree request.node) request.rights)
 
@@ -66,7 +70,8 @@ module _ (tree : List Entry) (a b : List Layer) (same : AllZip SameRules a b) wh
   kind_same Block node mode = cc (refusing-same a b same (path_at tree node) (only ioctl_dev))
   kind_same kind node mode = refl
 
-pub opened_same : (tree : List Entry) (a b : List Layer) (place : Place) (mode : Mode) → AllZip SameRules a b → opened tree a place mode ≡ opened tree b place mode
+pub opened_same : (tree : List Entry) (a b : List Layer) (place : Place) (mode : Mode) → AllZip SameRules a b
+    → opened tree a place mode ≡ opened tree b place mode
 unfolding opened
 opened_same tree a b (Node node) mode same = kind_same tree a b same (kind_at tree node) node mode
 opened_same tree a b (Gap directory) mode same = file_same tree a b same (path_at tree directory) mode
@@ -85,22 +90,26 @@ restrict_denied s None denied = rw denied refl
 restrict_denied s (Some rules) denied = rw denied refl
 
 -- one that may, and holds no ruleset
-pub restrict_unheld : (at : Situation) (s : State) (rules : Option Layer) → may_restrict s ≡ true → IsFrozen at None rules → fails BadFd ≡ restrict_answer s rules
+pub restrict_unheld : (at : Situation) (s : State) (rules : Option Layer) → may_restrict s ≡ true → IsFrozen at None rules
+    → fails BadFd ≡ restrict_answer s rules
 unfolding restrict_answer IsFrozen
 restrict_unheld at s None may frozen = rw may refl
 restrict_unheld at s (Some rules) may frozen = absurd frozen
 
 -- one that may, and has sixteen layers or more
-pub restrict_full : (at : Situation) (id : LayerId) (s : State) (rules : Option Layer) → may_restrict s ≡ true → 16 ≤ length s.domain → IsFrozen at (Some id) rules → fails TooBig ≡ restrict_answer s rules
+pub restrict_full : (at : Situation) (id : LayerId) (s : State) (rules : Option Layer) → may_restrict s ≡ true → 16 ≤ length s.domain
+    → IsFrozen at (Some id) rules → fails TooBig ≡ restrict_answer s rules
 unfolding restrict_answer IsFrozen
 restrict_full at id s None may full frozen = absurd frozen
 restrict_full at id s (Some rules) may full frozen = rw (may, le-leb 16 (length s.domain) full) refl
 
 has_room : (layers : ℕ) → layers ≤ 16 → layers ≢ 16 → leb 16 layers ≡ false
-has_room layers most other = elim (leb_tells 16 layers) [ inl full ↦ absurd (other (let more : 16 ≤ layers = full.1 in omega (arith, most, more))) | inr room ↦ room.0 ]
+has_room layers most other =
+    elim (leb_tells 16 layers) [ inl full ↦ absurd (other (let more : 16 ≤ layers = full.1 in omega (arith, most, more))) | inr room ↦ room.0 ]
 
 -- one that may, and has fewer
-pub restrict_allowed : (at : Situation) (id : LayerId) (s : State) (rules : Option Layer) → may_restrict s ≡ true → length s.domain ≤ 16 → length s.domain ≢ 16 → IsFrozen at (Some id) rules → Allowed ≡ restrict_answer s rules
+pub restrict_allowed : (at : Situation) (id : LayerId) (s : State) (rules : Option Layer) → may_restrict s ≡ true → length s.domain ≤ 16 → length s.domain ≢ 16
+    → IsFrozen at (Some id) rules → Allowed ≡ restrict_answer s rules
 unfolding restrict_answer IsFrozen
 restrict_allowed at id s None may most other frozen = absurd frozen
 restrict_allowed at id s (Some rules) may most other frozen = rw (may, has_room (length s.domain) most other) refl
@@ -112,7 +121,8 @@ length-domain at own s agrees =
     ∙ length_all_zip SameRules (all_in_tree at.tree (domain_of at.layers own.domain)) s.domain agrees.domain
 
 -- one layer more, which is the ruleset as it is now
-pub Agrees-with_layer : (at : Situation) (own : OwnState) (s : State) (id : LayerId) (rules : Option Layer) (domain : List LayerId) → Agrees at.tree at.layers own s → IsFrozen at (Some id) rules → domain ≡ own.domain ++ id ∷ []
+pub Agrees-with_layer : (at : Situation) (own : OwnState) (s : State) (id : LayerId) (rules : Option Layer) (domain : List LayerId)
+    → Agrees at.tree at.layers own s → IsFrozen at (Some id) rules → domain ≡ own.domain ++ id ∷ []
     → Agrees at.tree at.layers (record own { domain = domain }) (with_layer s rules)
 unfolding IsFrozen
 Agrees-with_layer at own s id None domain agrees frozen more = absurd frozen
@@ -120,7 +130,12 @@ Agrees-with_layer at own s id (Some rules) domain agrees frozen more = record {
   no_new_privs = agrees.no_new_privs;
   admin = agrees.admin;
   places = rw more (All-push (λ (other : LayerId). other.0 < length at.layers) own.domain id agrees.places frozen.0);
-  domain = rw (more, map-append (layer_at at.layers) own.domain (id ∷ []), map-append (in_tree at.tree) (domain_of at.layers own.domain) (layer_at at.layers id ∷ []))
-      (AllZip-push SameRules (all_in_tree at.tree (domain_of at.layers own.domain)) s.domain (in_tree at.tree (layer_at at.layers id)) rules agrees.domain frozen.1);
+  domain = rw (
+    more,
+    map-append (layer_at at.layers) own.domain (id ∷ []),
+    map-append (in_tree at.tree) (domain_of at.layers own.domain) (layer_at at.layers id ∷ []),
+  )
+      (AllZip-push SameRules (all_in_tree at.tree (domain_of at.layers own.domain)) s.domain
+      (in_tree at.tree (layer_at at.layers id)) rules agrees.domain frozen.1);
   descriptors = agrees.descriptors;
 }

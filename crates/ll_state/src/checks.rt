@@ -22,7 +22,8 @@ impl<'a> ConfinedCall<'a> {
     /// The layers of the domain that lack something of what is wanted on a node.
     fn refusing(&self, node: NodeId, wanted: Fs) -> LayerSet
         requires { IsNode self.now.call.tree.now node }
-        ensures { result ≡ refusing (confining self.now) (path_at self.now.call.tree.now node) wanted }
+        ensures { result
+            ≡ refusing (confining self.now) (path_at self.now.call.tree.now node) wanted }
     {
         check_path(self.call.tree, self.call.layers, self.domain, node, wanted)
     }
@@ -42,7 +43,9 @@ impl<'a> ConfinedCall<'a> {
     #[tactic(auto, unfolding(ll_rights::specs::Rights::only))]
     fn opened_file(&self, node: NodeId, mode: Mode) -> Descriptor
         requires { IsNode self.now.call.tree.now node }
-        ensures { result ≡ opened_file (refusing (confining self.now) (path_at self.now.call.tree.now node) (only truncate)) mode }
+        ensures { result
+            ≡ opened_file (refusing (confining self.now)
+            (path_at self.now.call.tree.now node) (only truncate)) mode }
     {
         match mode {
             Mode::Read => unrestricted(Sort::Other),
@@ -57,7 +60,8 @@ impl<'a> ConfinedCall<'a> {
     #[tactic(auto, unfolding(ll_semantics::specs::Effects::opened_kind, ll_rights::specs::Rights::only))]
     fn opened_node(&self, node: NodeId, mode: Mode) -> Descriptor
         requires { IsNode self.now.call.tree.now node }
-        ensures { result ≡ opened_kind self.now.call.tree.now (confining self.now) (kind_at self.now.call.tree.now node) node mode }
+        ensures { result ≡ opened_kind self.now.call.tree.now (confining self.now)
+            (kind_at self.now.call.tree.now node) node mode }
     {
         match self.call.tree.kind(node) {
             Kind::Reg => self.opened_file(node, mode),

@@ -53,7 +53,8 @@ impl OwnState {
     /// The state of a process that a trace begins with.
     #[tactic(auto, unfolding(ll_semantics::specs::States::fresh))]
     pub fn fresh(alloc: Global, no_new_privs: bool, admin: bool) -> OwnState
-        ensures { (tree : List Entry) (layers : List (RulesOn ℕ)) → Agrees tree layers result (fresh no_new_privs admin) }
+        ensures { (tree : List Entry) (layers : List (RulesOn ℕ))
+            → Agrees tree layers result (fresh no_new_privs admin) }
     {
         OwnState {
             no_new_privs,
@@ -65,7 +66,8 @@ impl OwnState {
 
     /// The state of a process that this one forks, which inherits all of it (landlock(7), "Inheritance").
     pub fn forked(&self) -> Result<OwnState, NoMemory>
-        ensures { IfOk result (λ child. (tree : List Entry) (layers : List (RulesOn ℕ)) (state : State) → Agrees tree layers self.now state → Agrees tree layers child state) }
+        ensures { IfOk result (λ child. (tree : List Entry) (layers : List (RulesOn ℕ))
+            (state : State) → Agrees tree layers self.now state → Agrees tree layers child state) }
     {
         Ok(OwnState {
             no_new_privs: self.no_new_privs,

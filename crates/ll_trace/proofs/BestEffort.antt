@@ -1,5 +1,6 @@
 -- What best effort leaves of the records of a trace: their lines, pids and processes, and which of them start or end a process.
-use Rattle.std.proofs.Common.{◌≡◌, ℕ, zero, suc, ◌+◌, ◌≤◌, Bool, true, false, not, ◌&&◌, List, [], ◌∷◌, ◌++◌, length, get_or, map, take, drop, Option, Some, None, cond, refl, sym, ap, ◌∙◌, if◌then◌else◌}
+use Rattle.std.proofs.Common.{◌≡◌, ℕ, zero, suc, ◌+◌, ◌≤◌, Bool, true, false, not, ◌&&◌, List, [], ◌∷◌, ◌++◌, length, get_or, map, take, drop, Option, Some}
+use Rattle.std.proofs.Common.{None, cond, refl, sym, ap, ◌∙◌, if◌then◌else◌}
 use Rattle.std.specs.Prelude.{slice_get}
 use Rattle.std.proofs.lemmas.Option.{none-some, same_Some}
 use Rattle.std.proofs.lemmas.List.{append-nil, drop_all, length-map, take-map, take_all}
@@ -56,7 +57,8 @@ module _ (abi : Abi) where
   role-kept : (op : Op) → role (at_best_effort abi op) ≡ role op
   unfolding at_best_effort role is_start is_exit pid_started is_starting forked_by first_place paths_of
   role-kept (calls.Create rs fs net) =
-      of_both role (files.is_empty (supported_fs abi fs) && network.is_empty (supported_net abi net) && not (files.is_empty fs && network.is_empty net)) _ _ _ refl refl
+      of_both role (files.is_empty (supported_fs abi fs) && network.is_empty (supported_net abi net) && not (files.is_empty fs && network.is_empty net))
+      _ _ _ refl refl
   role-kept (calls.AddPath rs path fs) = of_both role (files.is_empty (supported_fs abi fs) && not (files.is_empty fs)) _ _ _ refl refl
   role-kept (calls.AddPort rs port net) = of_both role (network.is_empty (supported_net abi net) && not (network.is_empty net)) _ _ _ refl refl
   role-kept op = refl
@@ -99,8 +101,14 @@ module _ (abi : Abi) where
 
   misplacement-kept : (past : List Entry) (entry : Entry) → misplacement (map entry_kept past) (entry_kept entry) ≡ misplacement past entry
   unfolding entry_kept
-  misplacement-kept past entry =
-      rw (is_start-kept entry.op, pid_started-kept entry.op entry.pid, is_live-kept past entry.pid, twice-kept past (pid_started entry.op entry.pid), count-kept past, length-map past entry_kept) refl
+  misplacement-kept past entry = rw (
+    is_start-kept entry.op,
+    pid_started-kept entry.op entry.pid,
+    is_live-kept past entry.pid,
+    twice-kept past (pid_started entry.op entry.pid),
+    count-kept past,
+    length-map past entry_kept,
+  ) refl
 
   placed-kept : (past es : List Entry) → ArePlaced past es → ArePlaced (map entry_kept past) (map entry_kept es)
   placed-kept past [] placed = tt
@@ -115,7 +123,8 @@ module _ (abi : Abi) where
   record-kept : (past : List Entry) (entry : Entry) → record_of (map entry_kept past) (entry_kept entry) ≡ record_at_best_effort abi (record_of past entry)
   unfolding entry_kept
   record-kept past entry =
-      ap (λ (process : ℕ). record { line = entry.line; process = record { 0 = process }; pid = entry.pid; op = at_best_effort abi entry.op }) (process-kept past entry)
+      ap (λ (process : ℕ). record { line = entry.line; process = record { 0 = process }; pid = entry.pid; op = at_best_effort abi entry.op })
+      (process-kept past entry)
 
   records-kept : (past es : List Entry) → records_after (map entry_kept past) (map entry_kept es) ≡ records_at_best_effort abi (records_after past es)
   records-kept past [] = refl
@@ -124,12 +133,15 @@ module _ (abi : Abi) where
       ∙ ap (λ (rs : List Record). record_at_best_effort abi (record_of past entry) ∷ rs) (records-kept (entry ∷ past) es)
 
   -- the places that records name first are those that they name at best effort
-  pub first_places-kept : (tree : List trees.Entry) (records : List Record) (places : List Place) → AreFirstPlaces tree records places → AreFirstPlaces tree (records_at_best_effort abi records) places
+  pub first_places-kept : (tree : List trees.Entry) (records : List Record) (places : List Place) → AreFirstPlaces tree records places
+      → AreFirstPlaces tree (records_at_best_effort abi records) places
   unfolding role
   first_places-kept tree [] places are k one r at_place at_record = absurd (none-some r at_record)
   first_places-kept tree (first ∷ rest) [] are k one r at_place at_record = absurd (none-some one at_place)
-  first_places-kept tree (first ∷ rest) (p ∷ ps) are zero one r at_place at_record = are 0 one first at_place refl ∙ sym (ap (λ of. of.place tree) (role-kept first.op)) ∙ ap (λ (s : Record). first_place tree s.op) (same_Some _ _ at_record)
-  first_places-kept tree (first ∷ rest) (p ∷ ps) are (suc k) one r at_place at_record = first_places-kept tree rest ps (λ j other s here there. are (suc j) other s here there) k one r at_place at_record
+  first_places-kept tree (first ∷ rest) (p ∷ ps) are zero one r at_place at_record =
+      are 0 one first at_place refl ∙ sym (ap (λ of. of.place tree) (role-kept first.op)) ∙ ap (λ (s : Record). first_place tree s.op) (same_Some _ _ at_record)
+  first_places-kept tree (first ∷ rest) (p ∷ ps) are (suc k) one r at_place at_record =
+      first_places-kept tree rest ps (λ j other s here there. are (suc j) other s here there) k one r at_place at_record
 
   entries-kept : (records : List Record) → map entry_of (records_at_best_effort abi records) ≡ map entry_kept (map entry_of records)
   unfolding entry_kept
@@ -138,7 +150,8 @@ module _ (abi : Abi) where
 
   pub are_records-kept : (records : List Record) → AreRecords records → AreRecords (records_at_best_effort abi records)
   are_records-kept records are =
-      let placed : ArePlaced [] (map entry_of (records_at_best_effort abi records)) = rw (entries-kept records) (placed-kept [] (map entry_of records) are.placed) in
+      let placed : ArePlaced [] (map entry_of (records_at_best_effort abi records)) =
+      rw (entries-kept records) (placed-kept [] (map entry_of records) are.placed) in
       let processes : records_at_best_effort abi records ≡ records_after [] (map entry_of (records_at_best_effort abi records)) =
       ap (records_at_best_effort abi) are.processes ∙ sym (records-kept [] (map entry_of records)) ∙ ap (records_after []) (sym (entries-kept records)) in
       record { placed = placed; processes = processes; numbered = are_numbered (records_at_best_effort abi records) placed processes }
@@ -167,7 +180,8 @@ module _ (abi : Abi) where
   kept_there None = None
   kept_there (Some r) = Some (record_at_best_effort abi r)
 
-  number-kept : (records : List Record) (k : ℕ) (r : Option Record) → number_if is_starting (records_at_best_effort abi records) k (kept_there r) ≡ number_if is_starting records k r
+  number-kept : (records : List Record) (k : ℕ) (r : Option Record)
+      → number_if is_starting (records_at_best_effort abi records) k (kept_there r) ≡ number_if is_starting records k r
   unfolding number_if kept_there
   number-kept records k None = refl
   number-kept records k (Some r) = rw (is_starting-kept r.op, take-map (record_at_best_effort abi) k records, starting-kept (take k records)) refl
@@ -180,7 +194,8 @@ module _ (abi : Abi) where
 
   started-kept : (records : List Record) (k : ℕ) → started_at (records_at_best_effort abi records) k ≡ started_at records k
   unfolding started_at
-  started-kept records k = ap (number_if is_starting (records_at_best_effort abi records) k) (there-kept records k) ∙ number-kept records k (slice_get records k)
+  started-kept records k =
+      ap (number_if is_starting (records_at_best_effort abi records) k) (there-kept records k) ∙ number-kept records k (slice_get records k)
 
   pub indexes-kept : (tables : Tables) (records : List Record) → Indexes tables records → Indexes tables (records_at_best_effort abi records)
   unfolding own_records
@@ -190,11 +205,15 @@ module _ (abi : Abi) where
     places = λ process. indexes.places process ∙ sym (own-kept process 0 records);
     by_start = record {
       one_each = indexes.by_start.one_each ∙ sym (starting-kept records);
-      start = λ process below. started-kept records (get_or tables.starts.items process 0) ∙ indexes.by_start.start process (rw (← starting-kept records) below);
+      start =
+          λ process below. started-kept records (get_or tables.starts.items process 0) ∙ indexes.by_start.start process (rw (← starting-kept records) below);
     };
   }
 
   -- all records were looked at
-  pub all_done : (records done : List Record) (k : ℕ) → length records ≤ k → done ≡ map (record_at_best_effort abi) (take k records) ++ drop k records → done ≡ records_at_best_effort abi records
+  pub all_done : (records done : List Record) (k : ℕ) → length records ≤ k → done ≡ map (record_at_best_effort abi) (take k records) ++ drop k records
+      → done ≡ records_at_best_effort abi records
   all_done records done k all is =
-      is ∙ ap (λ (rs : List Record). map (record_at_best_effort abi) rs ++ drop k records) (take_all k records all) ∙ ap (λ (rs : List Record). map (record_at_best_effort abi) records ++ rs) (drop_all k records all) ∙ append-nil (map (record_at_best_effort abi) records)
+      is ∙ ap (λ (rs : List Record). map (record_at_best_effort abi) rs ++ drop k records) (take_all k records all)
+      ∙ ap (λ (rs : List Record). map (record_at_best_effort abi) records ++ rs) (drop_all k records all)
+      ∙ append-nil (map (record_at_best_effort abi) records)

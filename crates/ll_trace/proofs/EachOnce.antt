@@ -1,5 +1,6 @@
 -- Processes that are the roots together with the children of their own members are all processes, each once.
-use Rattle.std.proofs.Common.{◌≡◌, ℕ, ◌+◌, ◌<◌, cond, eqb, List, [], ◌∷◌, ◌++◌, refl, inl, inr, arith, zero, suc, Bool, true, false, map, Option, Some, None, sym, ap, ◌∙◌}
+use Rattle.std.proofs.Common.{◌≡◌, ℕ, ◌+◌, ◌<◌, cond, eqb, List, [], ◌∷◌, ◌++◌, refl, inl, inr, arith, zero, suc, Bool, true, false, map, Option, Some, None}
+use Rattle.std.proofs.Common.{sym, ap, ◌∙◌}
 use Rattle.std.specs.Prelude.{◌==◌, sum_by, slice_get, filter}
 use Rattle.std.specs.List.{flat_map, filter_map, cons_option}
 use Rattle.std.proofs.lemmas.Bool.{cases_eq, eq-eqb, ne_eqb, cases_Bool}
@@ -8,7 +9,8 @@ use Rattle.std.proofs.lemmas.List.Sums.{sum_by-append, sum_by-cons}
 use Rattle.ll_trace.specs.Processes.{times, is_start, is_fork, process_count, forked_at, own_from, own_records, children, kids, root_of, roots, IsNumbered}
 use Rattle.std.proofs.lemmas.Option.{cond_some, none-some, same_Some}
 use Rattle.ll_trace.specs.declared.record.Record.{Record}
-use Rattle.ll_trace.proofs.Numbers.{start-starts, fork-starts, starts_alone, fork_no_start, StartedAt, forked_at-is, forked_at-from, forked_at-none, started_once, start_of}
+use Rattle.ll_trace.proofs.Numbers.{start-starts, fork-starts, starts_alone, fork_no_start, StartedAt, forked_at-is, forked_at-from, forked_at-none}
+use Rattle.ll_trace.proofs.Numbers.{started_once, start_of}
 
 -- ---- how often a process is in a list, and that equal counts add up to equal sums
 
@@ -37,7 +39,8 @@ times-none p f none (q ∷ qs) = rw flat_map-cons (omega (arith, times-append p 
 
 pub times-each : (p parent : ℕ) (f : ℕ → List ℕ) → ((q : ℕ) → times p (f q) ≡ times parent (q ∷ [])) → (qs : List ℕ) → times p (flat_map f qs) ≡ times parent qs
 times-each p parent f each [] = rw (times-nil p, times-nil parent) refl
-times-each p parent f each (q ∷ qs) = rw flat_map-cons (omega (arith, times-append p (f q) (flat_map f qs), each q, times-each p parent f each qs, times-cons parent q qs))
+times-each p parent f each (q ∷ qs) =
+    rw flat_map-cons (omega (arith, times-append p (f q) (flat_map f qs), each q, times-each p parent f each qs, times-cons parent q qs))
 
 -- a list without the first place at which a process is
 without : ℕ → List ℕ → List ℕ
@@ -98,34 +101,32 @@ module _ (gives : ℕ → Record → Option ℕ) (p : ℕ) where
   none_among : (b : ℕ) (rs : List Record) → ((j : ℕ) (r : Record) → slice_get rs j ≡ Some r → gives (b + j) r ≡ Some p → ⊥) → times p (among gives b rs) ≡ 0
   unfolding among
   none_among b [] none = times-nil p
-  none_among b (r ∷ rs) none =
-      omega (
-        arith,
-        times-option p (gives b r) (among gives (b + 1) rs),
-        not_given p (gives b r) (λ is. none 0 r refl (sym (here b r) ∙ is)),
-        none_among (b + 1) rs (λ j x at is. none (suc j) x at (next b j x is)),
-      )
+  none_among b (r ∷ rs) none = omega (
+    arith,
+    times-option p (gives b r) (among gives (b + 1) rs),
+    not_given p (gives b r) (λ is. none 0 r refl (sym (here b r) ∙ is)),
+    none_among (b + 1) rs (λ j x at is. none (suc j) x at (next b j x is)),
+  )
 
   -- where one place alone gives the process
-  once_among : (b : ℕ) (rs : List Record) (k : ℕ) (r : Record) → slice_get rs k ≡ Some r → ((j : ℕ) (x : Record) → slice_get rs j ≡ Some x → gives (b + j) x ≡ Some p → j ≡ k)
+  once_among : (b : ℕ) (rs : List Record) (k : ℕ) (r : Record) → slice_get rs k ≡ Some r
+      → ((j : ℕ) (x : Record) → slice_get rs j ≡ Some x → gives (b + j) x ≡ Some p → j ≡ k)
       → times p (among gives b rs) ≡ given p (gives (b + k) r)
   unfolding among
   once_among b [] k r at alone = absurd (none-some r at)
-  once_among b (x ∷ rs) zero r at alone =
-      omega (
-        arith,
-        times-option p (gives b x) (among gives (b + 1) rs),
-        none_among (b + 1) rs (λ j y there is. (let no : suc j ≡ 0 = alone (suc j) y there (next b j y is) in omega (arith, no))),
-        ap (given p) (here b x ∙ ap (gives (b + 0)) (same_Some x r at)),
-      )
-  once_among b (x ∷ rs) (suc k) r at alone =
-      omega (
-        arith,
-        times-option p (gives b x) (among gives (b + 1) rs),
-        not_given p (gives b x) (λ is. (let no : 0 ≡ suc k = alone 0 x refl (sym (here b x) ∙ is) in omega (arith, no))),
-        once_among (b + 1) rs k r at (λ j y there is. (let same : suc j ≡ suc k = alone (suc j) y there (next b j y is) in omega (arith, same))),
-        ap (λ n. given p (gives n r)) (let same : b + 1 + k ≡ b + suc k = omega arith in same),
-      )
+  once_among b (x ∷ rs) zero r at alone = omega (
+    arith,
+    times-option p (gives b x) (among gives (b + 1) rs),
+    none_among (b + 1) rs (λ j y there is. (let no : suc j ≡ 0 = alone (suc j) y there (next b j y is) in omega (arith, no))),
+    ap (given p) (here b x ∙ ap (gives (b + 0)) (same_Some x r at)),
+  )
+  once_among b (x ∷ rs) (suc k) r at alone = omega (
+    arith,
+    times-option p (gives b x) (among gives (b + 1) rs),
+    not_given p (gives b x) (λ is. (let no : 0 ≡ suc k = alone 0 x refl (sym (here b x) ∙ is) in omega (arith, no))),
+    once_among (b + 1) rs k r at (λ j y there is. (let same : suc j ≡ suc k = alone (suc j) y there (next b j y is) in omega (arith, same))),
+    ap (λ n. given p (gives n r)) (let same : b + 1 + k ≡ b + suc k = omega arith in same),
+  )
 
 -- ---- the children of a process, and the roots
 
@@ -138,7 +139,8 @@ children_among records q b [] = refl
 children_among records q b (r ∷ rs) = own (eqb r.process.0 q) (children_among records q (b + 1) rs)
   where
     own : (is : Bool) → filter_map (forked_at records) (own_from q (b + 1) rs) ≡ among (child_of records q) (b + 1) rs
-        → filter_map (forked_at records) (cond is (b ∷ own_from q (b + 1) rs) (own_from q (b + 1) rs)) ≡ cons_option (cond is (forked_at records b) None) (among (child_of records q) (b + 1) rs)
+        → filter_map (forked_at records) (cond is (b ∷ own_from q (b + 1) rs) (own_from q (b + 1) rs))
+        ≡ cons_option (cond is (forked_at records b) None) (among (child_of records q) (b + 1) rs)
     own true rest = ap (λ xs. cons_option (forked_at records b) xs) rest
     own false rest = rest
 
@@ -148,7 +150,8 @@ roots_among b [] = refl
 roots_among b (r ∷ rs) = begun (is_start r.op) (roots_among (b + 1) rs)
   where
     begun : (is : Bool) → roots rs ≡ among (λ k x. root_of (Some x)) (b + 1) rs
-        → map (λ (x : Record). x.process.0) (cond is (r ∷ filter (λ (x : Record). is_start x.op) rs) (filter (λ (x : Record). is_start x.op) rs)) ≡ cons_option (cond is (Some r.process.0) None) (among (λ k x. root_of (Some x)) (b + 1) rs)
+        → map (λ (x : Record). x.process.0) (cond is (r ∷ filter (λ (x : Record). is_start x.op) rs) (filter (λ (x : Record). is_start x.op) rs))
+        ≡ cons_option (cond is (Some r.process.0) None) (among (λ k x. root_of (Some x)) (b + 1) rs)
     begun true rest = ap (λ xs. r.process.0 ∷ xs) rest
     begun false rest = rest
 
@@ -173,13 +176,16 @@ module _ (records : List Record) (p k : ℕ) (numbered : IsNumbered records) (on
       ap (times p) (children_among records q 0 records)
       ∙ once_among (child_of records q) p 0 records k one.of one.at
       (λ i r at is.
-      let forked = forked_at-is records i p ((let same : i ≡ 0 + i = omega arith in ap (forked_at records) same) ∙ some_of (eqb r.process.0 q) (forked_at records (0 + i)) p is) in
+      let forked =
+      forked_at-is records i p ((let same : i ≡ 0 + i = omega arith in ap (forked_at records) same)
+      ∙ some_of (eqb r.process.0 q) (forked_at records (0 + i)) p is) in
       started_once records i k p (record { of = forked.of; at = forked.at; kind = fork-starts forked.of.op forked.kind; number = forked.number }) one)
       ∙ (let same : 0 + k ≡ k = omega arith in ap (λ n. given p (cond (eqb one.of.process.0 q) (forked_at records n) None)) same)
 
   -- ---- each once
 
-  once_started : (processes : List ℕ) → times p processes ≡ times p (roots records) + times p (kids records processes) → is_start one.of.op ≡ true → times p processes ≡ 1
+  once_started : (processes : List ℕ) → times p processes ≡ times p (roots records) + times p (kids records processes)
+      → is_start one.of.op ≡ true → times p processes ≡ 1
   unfolding root_of kids given
   once_started processes all starts =
       let no_fork : is_fork one.of.op ≡ false = elim (cases_Bool (is_fork one.of.op)) [
@@ -188,21 +194,26 @@ module _ (records : List Record) (p k : ℕ) (numbered : IsNumbered records) (on
       ] in
       let none : (q : ℕ) → times p (children records q) ≡ 0 = λ q. children-count q ∙ not_given p (cond (eqb one.of.process.0 q) (forked_at records k) None)
       (λ is. none-some p (sym (forked_at-none records k one.of one.at no_fork) ∙ some_of (eqb one.of.process.0 q) (forked_at records k) p is)) in
-      let root : times p (roots records) ≡ 1 = roots-count ∙ rw starts (times-same p one.of.process.0 (numbered.begins k one.of one.at starts ∙ sym one.number)) in
+      let root : times p (roots records) ≡ 1 =
+      roots-count ∙ rw starts (times-same p one.of.process.0 (numbered.begins k one.of one.at starts ∙ sym one.number)) in
       omega (arith, all, root, times-none p (children records) none processes)
 
-  once_forked : (processes : List ℕ) → times p processes ≡ times p (roots records) + times p (kids records processes) → is_start one.of.op ≡ false → times p processes ≡ times one.of.process.0 processes
+  once_forked : (processes : List ℕ) → times p processes ≡ times p (roots records) + times p (kids records processes) → is_start one.of.op ≡ false
+      → times p processes ≡ times one.of.process.0 processes
   unfolding root_of kids given
   once_forked processes all goes =
-      let child : forked_at records k ≡ Some p = forked_at-from records k one.of one.at (starts_alone one.of.op one.kind goes) ∙ ap (λ n. Some n) (sym one.number) in
+      let child : forked_at records k ≡ Some p =
+      forked_at-from records k one.of one.at (starts_alone one.of.op one.kind goes) ∙ ap (λ n. Some n) (sym one.number) in
       let each : (q : ℕ) → times p (children records q) ≡ times one.of.process.0 (q ∷ []) = λ q. elim (cases_eq one.of.process.0 q) [
         | inl own ↦ rw (children-count q, eq-eqb one.of.process.0 q own, child) (omega (arith, times-same p p refl, times-same one.of.process.0 q (sym own)))
-        | inr other ↦ rw (children-count q, ne_eqb one.of.process.0 q other) (omega (arith, times-nil p, times-other one.of.process.0 q (λ same. other (sym same))))
+        | inr other ↦
+            rw (children-count q, ne_eqb one.of.process.0 q other) (omega (arith, times-nil p, times-other one.of.process.0 q (λ same. other (sym same))))
       ] in
       let root : times p (roots records) ≡ 0 = roots-count ∙ rw goes (times-nil p) in
       omega (arith, all, root, times-each p one.of.process.0 (children records) each processes)
 
-pub each_once : (records : List Record) (processes : List ℕ) → IsNumbered records → ((p : ℕ) → times p processes ≡ times p (roots records) + times p (kids records processes)) → (p : ℕ) → p < process_count records → times p processes ≡ 1
+pub each_once : (records : List Record) (processes : List ℕ) → IsNumbered records
+    → ((p : ℕ) → times p processes ≡ times p (roots records) + times p (kids records processes)) → (p : ℕ) → p < process_count records → times p processes ≡ 1
 each_once records processes numbered all p there = below (suc p) p (omega arith) there
   where
     below : (n q : ℕ) → q < n → q < process_count records → times q processes ≡ 1
@@ -217,7 +228,8 @@ each_once records processes numbered all p there = below (suc p) p (omega arith)
         ]
 
 -- where the sums of all weights agree, so do the counts
-pub each_once_weighed : (records : List Record) (processes : List ℕ) → IsNumbered records → ((weight : ℕ → ℕ) → sum_by weight processes ≡ sum_by weight (roots records) + sum_by weight (kids records processes))
+pub each_once_weighed : (records : List Record) (processes : List ℕ) → IsNumbered records
+    → ((weight : ℕ → ℕ) → sum_by weight processes ≡ sum_by weight (roots records) + sum_by weight (kids records processes))
     → (p : ℕ) → p < process_count records → times p processes ≡ 1
 unfolding times
 each_once_weighed records processes numbered shared = each_once records processes numbered (λ p. shared (λ other. cond (eqb other p) 1 0))

@@ -11,7 +11,8 @@ runs-stopped : (owner : Option Owner) → runs (stopped owner) ≡ false
 runs-stopped None = refl
 runs-stopped (Some owner) = refl
 
-runs-cases : (a b : Bool) (new : Owner) (old : Option Owner) (live : Bool) → new.running ≡ true → runs old ≡ live → runs (cond a (Some new) (cond b (stopped old) old)) ≡ cond a true (cond b false live)
+runs-cases : (a b : Bool) (new : Owner) (old : Option Owner) (live : Bool) → new.running ≡ true → runs old ≡ live
+    → runs (cond a (Some new) (cond b (stopped old) old)) ≡ cond a true (cond b false live)
 runs-cases true b new old live starts same = starts
 runs-cases false true new old live starts same = runs-stopped old
 runs-cases false false new old live starts same = same
@@ -19,13 +20,15 @@ runs-cases false false new old live starts same = same
 pub is_running : (past : List Entry) (pid : ℕ) → runs (owner_of past pid) ≡ is_live past pid
 is_running [] pid = refl
 is_running (entry ∷ past) pid =
-    runs-cases (is_start_of pid entry) (is_end_of pid entry) (record { process = record { 0 = process_count past }; running = true }) (owner_of past pid) (is_live past pid) refl (is_running past pid)
+    runs-cases (is_start_of pid entry) (is_end_of pid entry) (record { process = record { 0 = process_count past }; running = true }) (owner_of past pid)
+    (is_live past pid) refl (is_running past pid)
 
 number-stopped : (owner : Option Owner) → number (stopped owner) ≡ number owner
 number-stopped None = refl
 number-stopped (Some owner) = refl
 
-number-cases : (a b : Bool) (new : Owner) (old : Option Owner) (named : Option ℕ) → number old ≡ named → number (cond a (Some new) (cond b (stopped old) old)) ≡ cond a (Some new.process.0) named
+number-cases : (a b : Bool) (new : Owner) (old : Option Owner) (named : Option ℕ) → number old ≡ named
+    → number (cond a (Some new) (cond b (stopped old) old)) ≡ cond a (Some new.process.0) named
 number-cases true b new old named same = refl
 number-cases false true new old named same = rw number-stopped same
 number-cases false false new old named same = same
@@ -33,7 +36,8 @@ number-cases false false new old named same = same
 pub is_named : (past : List Entry) (pid : ℕ) → number (owner_of past pid) ≡ process_named past pid
 is_named [] pid = refl
 is_named (entry ∷ past) pid =
-    number-cases (is_start_of pid entry) (is_end_of pid entry) (record { process = record { 0 = process_count past }; running = true }) (owner_of past pid) (process_named past pid) (is_named past pid)
+    number-cases (is_start_of pid entry) (is_end_of pid entry) (record { process = record { 0 = process_count past }; running = true }) (owner_of past pid)
+    (process_named past pid) (is_named past pid)
 
 -- what starts a process is no exit
 pub started_not_exit : (op : Op) (pid started : ℕ) → pid_started op pid ≡ Some started → is_exit op ≡ false
@@ -51,7 +55,8 @@ owner-stops : (entry : Entry) (past : List Entry) (q : ℕ) (old : Option Owner)
     → cond (eqb entry.pid q) (stopped old) old ≡ owner_of (entry ∷ past) q
 owner-stops entry past q old starts exits is = rw (starts, exits, is) refl
 
-owner-stays : (entry : Entry) (past : List Entry) (q : ℕ) (old : Option Owner) → started_pid entry ≡ None → is_exit entry.op ≡ false → old ≡ owner_of past q → old ≡ owner_of (entry ∷ past) q
+owner-stays : (entry : Entry) (past : List Entry) (q : ℕ) (old : Option Owner) → started_pid entry ≡ None → is_exit entry.op ≡ false → old ≡ owner_of past q
+    → old ≡ owner_of (entry ∷ past) q
 owner-stays entry past q old starts stays is = rw (starts, stays) is
 
 pub noted_begin : (old new : Reader) (entry : Entry) (pid : ℕ) → IsKept old → started_pid entry ≡ Some pid → Begins old new pid → IsNoted old new entry
@@ -63,7 +68,8 @@ noted_begin old new entry pid kept starts begins = record {
   records = begins.records;
 }
 
-pub noted_stop : (old new : Reader) (entry : Entry) → IsKept old → started_pid entry ≡ None → is_exit entry.op ≡ true → Stops old new entry.pid → IsNoted old new entry
+pub noted_stop : (old new : Reader) (entry : Entry) → IsKept old → started_pid entry ≡ None → is_exit entry.op ≡ true
+    → Stops old new entry.pid → IsNoted old new entry
 noted_stop old new entry kept starts exits stops = record {
   follows = record {
     count = stops.count ∙ rw starts kept.follows.count;

@@ -6,7 +6,8 @@ use Rattle.ll_lines.specs.Reading.{first_fault, entries_of, IsGood}
 use Rattle.ll_lines.specs.OneWay.{ReadsInOneWay}
 use Rattle.ll_lines.proofs.ReadingLemmas.{in_one_way as format_in_one_way}
 use Rattle.ll_trace.specs.declared.record.Record.{Record}
-use Rattle.ll_trace.specs.Entries.{Entry, entry_at, is_start_of, is_end_of, is_live, is_live_pid, is_unknown, is_twice, is_too_many, misplacement, started_pid, trace_file}
+use Rattle.ll_trace.specs.Entries.{Entry, entry_at, is_start_of, is_end_of, is_live, is_live_pid, is_unknown, is_twice, is_too_many, misplacement, started_pid}
+use Rattle.ll_trace.specs.Entries.{trace_file}
 use Rattle.ll_trace.specs.Records.{entry_of, records_after, IsTrace}
 use Rattle.ll_trace.specs.SingleUse.{is_used, is_used_pid, is_used_again, strict_misplacement, strict_file, IsStrictTrace}
 
@@ -29,7 +30,8 @@ unused_pid : (past : List Entry) (started : Option ℕ) → is_used_pid past sta
 unused_pid past None e = refl
 unused_pid past (Some pid) e = unused (is_live past pid) (is_used past pid) (live_is_used past pid) e
 
-weaker : (a b c d : Bool) → cond a (Some UnknownProcess) (cond b (Some Twice) (cond c (Some TooMany) None)) ≡ None → (b ≡ false → d ≡ false) → cond a (Some UnknownProcess) (cond d (Some Twice) (cond c (Some TooMany) None)) ≡ None
+weaker : (a b c d : Bool) → cond a (Some UnknownProcess) (cond b (Some Twice) (cond c (Some TooMany) None)) ≡ None → (b ≡ false → d ≡ false)
+    → cond a (Some UnknownProcess) (cond d (Some Twice) (cond c (Some TooMany) None)) ≡ None
 weaker true b c d e later = absurd (cc)
 weaker false true c d e later = absurd (cc)
 weaker false false true d e later = absurd (cc)
@@ -40,7 +42,8 @@ pub placed_by_strict : (past : List Entry) (entry : Entry) → strict_misplaceme
 placed_by_strict past entry none =
     weaker (is_unknown past entry) (is_used_again past entry) (is_too_many past entry) (is_twice past entry) none (unused_pid past (started_pid entry))
 
-faultless_line : (earlier : List Entry) (read : Result Entry Cause) → first_fault read (λ entry. strict_misplacement (reverse earlier) entry) ≡ None → first_fault read (λ entry. misplacement (reverse earlier) entry) ≡ None
+faultless_line : (earlier : List Entry) (read : Result Entry Cause) → first_fault read (λ entry. strict_misplacement (reverse earlier) entry) ≡ None
+    → first_fault read (λ entry. misplacement (reverse earlier) entry) ≡ None
 faultless_line earlier (Err cause) e = e
 faultless_line earlier (Ok entry) e = placed_by_strict (reverse earlier) entry e
 
@@ -65,7 +68,8 @@ trace_of_entries bytes entries good =
 
 -- a trace file is read in one way
 pub in_one_way : ReadsInOneWay trace_file IsTrace
-in_one_way = format_in_one_way trace_file IsTrace (records_after []) trace_of_entries (λ bytes records trace. record { entries = map entry_of records; good = trace.reads; is = trace.processes })
+in_one_way = format_in_one_way trace_file IsTrace (records_after []) trace_of_entries
+    (λ bytes records trace. record { entries = map entry_of records; good = trace.reads; is = trace.processes })
 
 pub one_trace : (bytes : List ℕ) (a b : List Record) → IsTrace bytes a → IsTrace bytes b → a ≡ b
 one_trace = in_one_way.one

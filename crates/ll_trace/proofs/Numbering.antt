@@ -1,5 +1,6 @@
 -- The processes of a trace that was read are numbered in the order of the records that start them.
-use Rattle.std.proofs.Common.{◌≡◌, ℕ, zero, suc, ◌+◌, ◌<◌, ◌≤◌, Bool, true, false, not, ◌&&◌, cond, List, [], ◌∷◌, take, map, Option, Some, None, refl, sym, ap, ◌∙◌, subst, inl, inr, arith, if◌then◌else◌, ◌||◌, length, lit≤}
+use Rattle.std.proofs.Common.{◌≡◌, ℕ, zero, suc, ◌+◌, ◌<◌, ◌≤◌, Bool, true, false, not, ◌&&◌, cond, List, [], ◌∷◌, take, map, Option, Some, None, refl, sym, ap}
+use Rattle.std.proofs.Common.{◌∙◌, subst, inl, inr, arith, if◌then◌else◌, ◌||◌, length, lit≤}
 use Rattle.std.specs.Prelude.{slice_get, is_some, unwrap_or, nat_le}
 use Rattle.std.proofs.lemmas.Bool.{cases_Bool, leb-false}
 use Rattle.std.proofs.lemmas.Option.{none-some, same_Some}
@@ -24,7 +25,8 @@ counted-if : (b : Bool) (n : ℕ) → (if b then n + 1 else n) ≡ cond b 1 0 + 
 counted-if true n = omega arith
 counted-if false n = omega arith
 
-pub count-cons : (entry : Entry) (past : List Entry) → entries.process_count (entry ∷ past) ≡ cond (is_some (started_pid entry)) 1 0 + entries.process_count past
+pub count-cons : (entry : Entry) (past : List Entry)
+    → entries.process_count (entry ∷ past) ≡ cond (is_some (started_pid entry)) 1 0 + entries.process_count past
 count-cons entry past = counted-if (is_some (started_pid entry)) (entries.process_count past)
 
 one_more : (b : Bool) → b ≡ true → (n : ℕ) → n < cond b 1 0 + n
@@ -37,17 +39,23 @@ no_less false n = omega arith
 
 live_named : (past : List Entry) (pid : ℕ) → is_live past pid ≡ true → unwrap_or (process_named past pid) 0 < entries.process_count past
 live_named [] pid live = cc
-live_named (entry ∷ past) pid live =
-    elim (cases_Bool (is_start_of pid entry)) [
-      | inl starts ↦
-          subst (λ (b : Bool). unwrap_or (if b then Some (entries.process_count past) else process_named past pid) 0 < entries.process_count (entry ∷ past)) (sym starts)
-          (omega (arith, count-cons entry past, one_more (is_some (started_pid entry)) (is_pid-some pid (started_pid entry) starts) (entries.process_count past)))
-      | inr goes ↦
-          (let still : (if is_end_of pid entry then false else is_live past pid) ≡ true = subst (λ (b : Bool). (if b then true else (if is_end_of pid entry then false else is_live past pid)) ≡ true) goes live in
-          let before : is_live past pid ≡ true = not_ended (is_end_of pid entry) (is_live past pid) still in
-          subst (λ (b : Bool). unwrap_or (if b then Some (entries.process_count past) else process_named past pid) 0 < entries.process_count (entry ∷ past)) (sym goes)
-          (omega (arith, count-cons entry past, no_less (is_some (started_pid entry)) (entries.process_count past), live_named past pid before)))
-    ]
+live_named (entry ∷ past) pid live = elim (cases_Bool (is_start_of pid entry)) [
+  | inl starts ↦
+      subst (λ (b : Bool). unwrap_or (if b then Some (entries.process_count past) else process_named past pid) 0
+      < entries.process_count (entry ∷ past)) (sym starts)
+      (omega (
+        arith,
+        count-cons entry past,
+        one_more (is_some (started_pid entry)) (is_pid-some pid (started_pid entry) starts) (entries.process_count past),
+      ))
+  | inr goes ↦
+      (let still : (if is_end_of pid entry then false else is_live past pid)
+      ≡ true = subst (λ (b : Bool). (if b then true else (if is_end_of pid entry then false else is_live past pid)) ≡ true) goes live in
+      let before : is_live past pid ≡ true = not_ended (is_end_of pid entry) (is_live past pid) still in
+      subst (λ (b : Bool). unwrap_or (if b then Some (entries.process_count past) else process_named past pid) 0
+      < entries.process_count (entry ∷ past)) (sym goes)
+      (omega (arith, count-cons entry past, no_less (is_some (started_pid entry)) (entries.process_count past), live_named past pid before)))
+]
   where
     not_ended : (e l : Bool) → (if e then false else l) ≡ true → l ≡ true
     not_ended true l holds = cc
@@ -65,9 +73,11 @@ placed_live past entry placed goes = not_unknown (is_start entry.op) (is_live pa
 
 -- the process of a record after the past
 own_process : (past : List Entry) (entry : Entry) → is_start entry.op ≡ true → process_of past entry ≡ entries.process_count past
-own_process past entry starts = subst (λ (b : Bool). (if b then entries.process_count past else unwrap_or (process_named past entry.pid) 0) ≡ entries.process_count past) (sym starts) refl
+own_process past entry starts =
+    subst (λ (b : Bool). (if b then entries.process_count past else unwrap_or (process_named past entry.pid) 0) ≡ entries.process_count past) (sym starts) refl
 
-named_process : (past : List Entry) (entry : Entry) → misplacement past entry ≡ None → is_start entry.op ≡ false → process_of past entry < entries.process_count past
+named_process : (past : List Entry) (entry : Entry) → misplacement past entry ≡ None → is_start entry.op ≡ false
+    → process_of past entry < entries.process_count past
 named_process past entry placed goes =
     subst (λ (b : Bool). (if b then entries.process_count past else unwrap_or (process_named past entry.pid) 0) < entries.process_count past) (sym goes)
     (live_named past entry.pid (placed_live past entry placed goes))
@@ -81,10 +91,12 @@ same_tail : (x y : Record) (xs ys : List Record) → x ∷ xs ≡ y ∷ ys → x
 same_tail x y xs ys same = cc
 
 -- a record more counts as its entry does
-pub count-record : (past : List Entry) (x : Record) (rs : List Record) → entries.process_count (entry_of x ∷ past) + process_count rs ≡ entries.process_count past + process_count (x ∷ rs)
+pub count-record : (past : List Entry) (x : Record) (rs : List Record)
+    → entries.process_count (entry_of x ∷ past) + process_count rs ≡ entries.process_count past + process_count (x ∷ rs)
 count-record past x rs = omega (arith, count-cons (entry_of x) past, process_count-cons x rs, ap (λ b. (let n : ℕ = cond b 1 0 in n)) (starting-op x.op x.pid))
 
-numbered_start : (past : List Entry) (rs : List Record) (k : ℕ) (r : Record) → rs ≡ records_after past (map entry_of rs) → slice_get rs k ≡ Some r → is_start r.op ≡ true → r.process.0 ≡ entries.process_count past + process_count (take k rs)
+numbered_start : (past : List Entry) (rs : List Record) (k : ℕ) (r : Record) → rs ≡ records_after past (map entry_of rs) → slice_get rs k ≡ Some r
+    → is_start r.op ≡ true → r.process.0 ≡ entries.process_count past + process_count (take k rs)
 numbered_start past [] k r same at starts = absurd (none-some r at)
 numbered_start past (x ∷ xs) zero r same at starts =
     let here : x ≡ r = same_Some x r at in
@@ -92,22 +104,30 @@ numbered_start past (x ∷ xs) zero r same at starts =
     let start : is_start x.op ≡ true = ap (λ (y : Record). is_start y.op) here ∙ starts in
     omega (arith, no_count (x ∷ xs), ap (λ (y : Record). y.process.0) (sym here), ap (λ (y : Record). y.process.0) own, own_process past (entry_of x) start)
 numbered_start past (x ∷ xs) (suc k) r same at starts =
-    numbered_start (entry_of x ∷ past) xs k r (same_tail x (record_of past (entry_of x)) xs (records_after (entry_of x ∷ past) (map entry_of xs)) same) at starts
+    numbered_start (entry_of x ∷ past) xs k r
+    (same_tail x (record_of past (entry_of x)) xs (records_after (entry_of x ∷ past) (map entry_of xs)) same) at starts
     ∙ count-record past x (take k xs)
 
-numbered_other : (past : List Entry) (rs : List Record) (k : ℕ) (r : Record) → rs ≡ records_after past (map entry_of rs) → ArePlaced past (map entry_of rs) → slice_get rs k ≡ Some r → is_start r.op ≡ false → r.process.0 < entries.process_count past + process_count (take k rs)
+numbered_other : (past : List Entry) (rs : List Record) (k : ℕ) (r : Record) → rs ≡ records_after past (map entry_of rs) → ArePlaced past (map entry_of rs)
+    → slice_get rs k ≡ Some r → is_start r.op ≡ false → r.process.0 < entries.process_count past + process_count (take k rs)
 numbered_other past [] k r same placed at goes = absurd (none-some r at)
 numbered_other past (x ∷ xs) zero r same placed at goes =
     let here : x ≡ r = same_Some x r at in
     let own : x ≡ record_of past (entry_of x) = same_head x (record_of past (entry_of x)) xs (records_after (entry_of x ∷ past) (map entry_of xs)) same in
     let other : is_start x.op ≡ false = ap (λ (y : Record). is_start y.op) here ∙ goes in
-    omega (arith, no_count (x ∷ xs), ap (λ (y : Record). y.process.0) (sym here), ap (λ (y : Record). y.process.0) own, named_process past (entry_of x) placed.0 other)
-numbered_other past (x ∷ xs) (suc k) r same placed at goes =
     omega (
       arith,
-      count-record past x (take k xs),
-      numbered_other (entry_of x ∷ past) xs k r (same_tail x (record_of past (entry_of x)) xs (records_after (entry_of x ∷ past) (map entry_of xs)) same) placed.1 at goes,
+      no_count (x ∷ xs),
+      ap (λ (y : Record). y.process.0) (sym here),
+      ap (λ (y : Record). y.process.0) own,
+      named_process past (entry_of x) placed.0 other,
     )
+numbered_other past (x ∷ xs) (suc k) r same placed at goes = omega (
+  arith,
+  count-record past x (take k xs),
+  numbered_other (entry_of x ∷ past) xs k r (same_tail x (record_of past (entry_of x)) xs (records_after (entry_of x ∷ past) (map entry_of xs)) same)
+      placed.1 at goes,
+)
 
 pub are_numbered : (records : List Record) → ArePlaced [] (map entry_of records) → records ≡ records_after [] (map entry_of records) → IsNumbered records
 are_numbered records placed same = record {
@@ -129,8 +149,10 @@ room true starts c e = absurd (cc)
 room false true c e = (refl, λ _. e)
 room false false c e = (refl, λ no. absurd (cc))
 
-has_room : (past : List Entry) (entry : Entry) → misplacement past entry ≡ None → (nat_le 1000000 (length past) ≡ false) × (is_some (started_pid entry) ≡ true → nat_le 65536 (entries.process_count past) ≡ false)
-has_room past entry none = room (nat_le 1000000 (length past)) (is_some (started_pid entry)) (nat_le 65536 (entries.process_count past)) (fits (is_unknown past entry) (is_twice past entry) (is_too_many past entry) none)
+has_room : (past : List Entry) (entry : Entry) → misplacement past entry ≡ None
+    → (nat_le 1000000 (length past) ≡ false) × (is_some (started_pid entry) ≡ true → nat_le 65536 (entries.process_count past) ≡ false)
+has_room past entry none = room (nat_le 1000000 (length past)) (is_some (started_pid entry)) (nat_le 65536 (entries.process_count past))
+    (fits (is_unknown past entry) (is_twice past entry) (is_too_many past entry) none)
 
 few : (past es : List Entry) → ArePlaced past es → length past ≤ 1000000 → length past + length es ≤ 1000000
 few past [] placed le = omega arith
@@ -145,11 +167,13 @@ count_next : (b : Bool) (count : ℕ) → count ≤ 65536 → (b ≡ true → co
 count_next true count le lt = let below : count < 65536 = lt refl in omega arith
 count_next false count le lt = omega arith
 
-few_started : (past es : List Entry) → ArePlaced past es → entries.process_count past ≤ 65536 → entries.process_count past + process_count (records_after past es) ≤ 65536
+few_started : (past es : List Entry) → ArePlaced past es → entries.process_count past ≤ 65536
+    → entries.process_count past + process_count (records_after past es) ≤ 65536
 few_started past [] placed le = omega (arith, no_count [])
 few_started past (entry ∷ es) placed le =
     let here : cond (is_some (started_pid entry)) 1 0 + entries.process_count past ≤ 65536 =
-    count_next (is_some (started_pid entry)) (entries.process_count past) le (λ starts. leb-false 65536 (entries.process_count past) ((has_room past entry placed.0).1 starts)) in
+    count_next (is_some (started_pid entry)) (entries.process_count past) le
+    (λ starts. leb-false 65536 (entries.process_count past) ((has_room past entry placed.0).1 starts)) in
     let more : entries.process_count (entry ∷ past) ≤ 65536 = omega (arith, here, count-cons entry past) in
     omega (arith, few_started (entry ∷ past) es placed.1 more, count-record past (record_of past entry) (records_after (entry ∷ past) es))
 

@@ -1,10 +1,12 @@
 -- The numbers of processes: how many are started before a record, and which record starts each.
-use Rattle.std.proofs.Common.{◌≡◌, ℕ, Bool, true, false, refl, ap, ◌≢◌, zero, suc, ◌+◌, ◌<◌, ◌≤◌, cond, eqb, List, [], ◌∷◌, ◌++◌, length, take, Option, Some, None, sym, ◌∙◌, subst, inl, inr, arith}
+use Rattle.std.proofs.Common.{◌≡◌, ℕ, Bool, true, false, refl, ap, ◌≢◌, zero, suc, ◌+◌, ◌<◌, ◌≤◌, cond, eqb, List, [], ◌∷◌, ◌++◌, length, take, Option, Some}
+use Rattle.std.proofs.Common.{None, sym, ◌∙◌, subst, inl, inr, arith}
 use Rattle.std.specs.Prelude.{is_some, slice_get}
 use Rattle.ll_trace.specs.declared.op.Op.{Op}
 use Rattle.ll_trace.specs.declared.op.Op.TheVariants.{Start, Fork}
 use Rattle.ll_trace.specs.Entries.{is_start, pid_started}
-use Rattle.ll_trace.specs.Processes.{is_fork, is_starting, is_start, process_count, number_if, started_at, forked_at, forked_by, parents, only, parent_of, IsNumbered}
+use Rattle.ll_trace.specs.Processes.{is_fork, is_starting, is_start, process_count, number_if, started_at, forked_at, forked_by, parents, only, parent_of}
+use Rattle.ll_trace.specs.Processes.{IsNumbered}
 use Rattle.std.proofs.Math.Dec.{eqb-suc-zero, eqb-zero-suc, eqb-suc-suc}
 use Rattle.std.proofs.lemmas.Bool.{cases_lt, cases_eq, eq-eqb, ne_eqb}
 use Rattle.std.proofs.lemmas.List.{take-append-le, take_all}
@@ -71,7 +73,8 @@ pub process_count-push : (rs : List Record) (r : Record) → process_count (rs +
 unfolding process_count
 process_count-push rs r = sum_by_push (λ (x : Record). cond (is_starting x.op) 1 0) rs r
 
-pub count-more : (rs : List Record) (k : ℕ) (r : Record) → slice_get rs k ≡ Some r → process_count (take (suc k) rs) ≡ process_count (take k rs) + cond (is_starting r.op) 1 0
+pub count-more : (rs : List Record) (k : ℕ) (r : Record) → slice_get rs k ≡ Some r
+    → process_count (take (suc k) rs) ≡ process_count (take k rs) + cond (is_starting r.op) 1 0
 count-more [] k r at = cc
 count-more (x ∷ rs) zero r at =
     let same : x ≡ r = same_Some x r at in
@@ -83,7 +86,8 @@ counts_one true holds = refl
 counts_one false holds = cc
 
 -- one process more
-pub count-started : (rs : List Record) (k : ℕ) (r : Record) → slice_get rs k ≡ Some r → is_starting r.op ≡ true → process_count (take (suc k) rs) ≡ process_count (take k rs) + 1
+pub count-started : (rs : List Record) (k : ℕ) (r : Record) → slice_get rs k ≡ Some r → is_starting r.op ≡ true
+    → process_count (take (suc k) rs) ≡ process_count (take k rs) + 1
 count-started rs k r at starts = omega (arith, count-more rs k r at, counts_one (is_starting r.op) starts)
 
 nil_count : (m : ℕ) → process_count (take m []) ≡ 0
@@ -122,7 +126,8 @@ StartedAt = KindAt is_starting
 abbrev pub ForkedAt : List Record → ℕ → ℕ → Type 0
 ForkedAt = KindAt is_fork
 
-kind_at : (is_kind : Op → Bool) (rs : List Record) (k p : ℕ) (o : Option Record) → slice_get rs k ≡ o → number_if is_kind rs k o ≡ Some p → KindAt is_kind rs k p
+kind_at : (is_kind : Op → Bool) (rs : List Record) (k p : ℕ) (o : Option Record) → slice_get rs k ≡ o
+    → number_if is_kind rs k o ≡ Some p → KindAt is_kind rs k p
 unfolding number_if
 kind_at is_kind rs k p None at is = absurd (none-some p is)
 kind_at is_kind rs k p (Some r) at is =
@@ -137,7 +142,8 @@ pub forked_at-is : (rs : List Record) (k p : ℕ) → forked_at rs k ≡ Some p 
 unfolding forked_at
 forked_at-is rs k p is = kind_at is_fork rs k p (slice_get rs k) refl is
 
-pub started_at-from : (rs : List Record) (k : ℕ) (r : Record) → slice_get rs k ≡ Some r → is_starting r.op ≡ true → started_at rs k ≡ Some (process_count (take k rs))
+pub started_at-from : (rs : List Record) (k : ℕ) (r : Record) → slice_get rs k ≡ Some r → is_starting r.op ≡ true
+    → started_at rs k ≡ Some (process_count (take k rs))
 unfolding started_at number_if
 started_at-from rs k r at starts = rw (at, starts) refl
 
@@ -151,14 +157,13 @@ forked_at-none rs k r at forks = rw (at, forks) refl
 
 -- a process is started by one record
 pub started_once : (rs : List Record) (j k p : ℕ) → StartedAt rs j p → StartedAt rs k p → j ≡ k
-started_once rs j k p one two =
-    elim (cases_lt j k) [
-      | inl less ↦ absurd (omega (arith, count-started rs j one.of one.at one.kind, count-le rs (suc j) k (omega arith), one.number, two.number))
-      | inr more ↦ elim (cases_lt k j) [
-        | inl less ↦ absurd (omega (arith, count-started rs k two.of two.at two.kind, count-le rs (suc k) j (omega arith), one.number, two.number))
-        | inr other ↦ omega arith
-      ]
-    ]
+started_once rs j k p one two = elim (cases_lt j k) [
+  | inl less ↦ absurd (omega (arith, count-started rs j one.of one.at one.kind, count-le rs (suc j) k (omega arith), one.number, two.number))
+  | inr more ↦ elim (cases_lt k j) [
+    | inl less ↦ absurd (omega (arith, count-started rs k two.of two.at two.kind, count-le rs (suc k) j (omega arith), one.number, two.number))
+    | inr other ↦ omega arith
+  ]
+]
 
 -- a record's process is there after it
 pub numbered_below : (rs : List Record) (k : ℕ) (r : Record) → IsNumbered rs → slice_get rs k ≡ Some r → r.process.0 < process_count (take (suc k) rs)
@@ -175,18 +180,21 @@ not_own_before rs j k p r numbered one less at same =
 
 -- each number below the count is that of a process which some record starts
 later_start : (r : Record) (rs : List Record) (n p : ℕ) → n ≡ cond (is_starting r.op) 1 0 → (k : ℕ) × StartedAt rs k p → (k : ℕ) × StartedAt (r ∷ rs) k (n + p)
-later_start r rs n p counts (k, one) = (suc k, record { of = one.of; at = one.at; kind = one.kind; number = omega (arith, one.number, process_count-cons r (take k rs)) })
+later_start r rs n p counts (k, one) =
+    (suc k, record { of = one.of; at = one.at; kind = one.kind; number = omega (arith, one.number, process_count-cons r (take k rs)) })
 
 pub start_of : (rs : List Record) (p : ℕ) → p < process_count rs → (k : ℕ) × StartedAt rs k p
 start_of [] p below = absurd (omega (arith, nil_count 0, below))
 start_of (r ∷ rs) p below = by_start (is_starting r.op) refl p refl below (λ q less. start_of rs q less)
   where
-    by_start : (b : Bool) → is_starting r.op ≡ b → (q : ℕ) → q ≡ p → q < process_count (r ∷ rs) → ((q : ℕ) → q < process_count rs → (k : ℕ) × StartedAt rs k q) → (k : ℕ) × StartedAt (r ∷ rs) k q
+    by_start : (b : Bool) → is_starting r.op ≡ b → (q : ℕ) → q ≡ p → q < process_count (r ∷ rs) → ((q : ℕ) → q < process_count rs → (k : ℕ) × StartedAt rs k q)
+        → (k : ℕ) × StartedAt (r ∷ rs) k q
     by_start true starts zero same less rest = (0, record { of = r; at = refl; kind = starts; number = sym (no_count (r ∷ rs)) })
     by_start true starts (suc q) same less rest =
         let one : (let n : ℕ = 1 in n ≡ cond (is_starting r.op) 1 0) = sym (counts_one (is_starting r.op) starts) in
         let next : 1 + q ≡ suc q = omega arith in
-        subst (λ (m : ℕ). (k : ℕ) × StartedAt (r ∷ rs) k m) next (later_start r rs 1 q one (rest q (omega (arith, process_count-cons r rs, counts_one (is_starting r.op) starts))))
+        subst (λ (m : ℕ). (k : ℕ) × StartedAt (r ∷ rs) k m) next
+        (later_start r rs 1 q one (rest q (omega (arith, process_count-cons r rs, counts_one (is_starting r.op) starts))))
     by_start false fails q same less rest =
         let none : (let n : ℕ = 0 in n ≡ cond (is_starting r.op) 1 0) = ap (λ b. (let n : ℕ = cond b 1 0 in n)) (sym fails) in
         let next : 0 + q ≡ q = omega arith in
@@ -200,16 +208,24 @@ slice_get-push [] (suc j) x = rw eqb-suc-zero refl
 slice_get-push (first ∷ xs) zero x = rw eqb-zero-suc refl
 slice_get-push (first ∷ xs) (suc j) x = rw eqb-suc-suc (slice_get-push xs j x)
 
-pub started_at-push : (rs : List Record) (r : Record) (k : ℕ) → started_at (rs ++ r ∷ []) k ≡ cond (eqb k (length rs)) (cond (is_starting r.op) (Some (process_count rs)) None) (started_at rs k)
+pub started_at-push : (rs : List Record) (r : Record) (k : ℕ)
+    → started_at (rs ++ r ∷ []) k ≡ cond (eqb k (length rs)) (cond (is_starting r.op) (Some (process_count rs)) None) (started_at rs k)
 unfolding started_at number_if
 started_at-push rs r k = elim (cases_eq k (length rs)) [
-  | inl same ↦ rw (slice_get-push rs k r, eq-eqb k (length rs) same, same, take-append-le (length rs) rs (r ∷ []) (omega arith), take_all (length rs) rs (omega arith)) refl
+  | inl same ↦ rw (
+    slice_get-push rs k r,
+    eq-eqb k (length rs) same,
+    same,
+    take-append-le (length rs) rs (r ∷ []) (omega arith),
+    take_all (length rs) rs (omega arith),
+  ) refl
   | inr other ↦ rw (slice_get-push rs k r, ne_eqb k (length rs) other) (kept (slice_get rs k) refl)
 ]
   where
     kept : (o : Option Record) → slice_get rs k ≡ o → number_if is_starting (rs ++ r ∷ []) k o ≡ number_if is_starting rs k o
     kept None at = refl
-    kept (Some x) at = ap (λ (taken : List Record). cond (is_starting x.op) (Some (process_count taken)) None) (take-append-le k rs (r ∷ []) (let within : k < length rs = slice_get_within rs k x at in omega arith))
+    kept (Some x) at = ap (λ (taken : List Record). cond (is_starting x.op) (Some (process_count taken)) None)
+        (take-append-le k rs (r ∷ []) (let within : k < length rs = slice_get_within rs k x at in omega arith))
 
 -- ---- parents
 
@@ -231,7 +247,8 @@ unfolding parents process_count
 length-parents [] = refl
 length-parents (r ∷ rs) = omega (arith, length-first (is_starting r.op) (forked_by r.op r.process) (parents rs), length-parents rs, process_count-cons r rs)
 
-later_parent : (b : Bool) (parent : Option ProcessId) (others : List (Option ProcessId)) (n : ℕ) → slice_get (cond b (parent ∷ others) others) (cond b 1 0 + n) ≡ slice_get others n
+later_parent : (b : Bool) (parent : Option ProcessId) (others : List (Option ProcessId)) (n : ℕ)
+    → slice_get (cond b (parent ∷ others) others) (cond b 1 0 + n) ≡ slice_get others n
 later_parent true parent others n = ap (λ k. slice_get (parent ∷ others) k) (let next : 1 + n ≡ suc n = omega arith in next)
 later_parent false parent others n = ap (λ k. slice_get others k) (let same : 0 + n ≡ n = omega arith in same)
 
@@ -240,11 +257,13 @@ pub parent_at : (rs : List Record) (k p : ℕ) (one : StartedAt rs k p) → slic
 unfolding parents
 parent_at rs k p one = ap (λ n. slice_get (parents rs) n) one.number ∙ told rs k one.of one.at one.kind
   where
-    told : (rs : List Record) (k : ℕ) (r : Record) → slice_get rs k ≡ Some r → is_starting r.op ≡ true → slice_get (parents rs) (process_count (take k rs)) ≡ Some (forked_by r.op r.process)
+    told : (rs : List Record) (k : ℕ) (r : Record) → slice_get rs k ≡ Some r → is_starting r.op ≡ true
+        → slice_get (parents rs) (process_count (take k rs)) ≡ Some (forked_by r.op r.process)
     told [] k r at starts = cc
     told (first ∷ rs) zero r at starts = let same : first ≡ r = same_Some first r at in rw (no_count (first ∷ rs), same, starts) refl
     told (first ∷ rs) (suc k) r at starts =
-        rw (process_count-cons first (take k rs)) (later_parent (is_starting first.op) (forked_by first.op first.process) (parents rs) (process_count (take k rs)) ∙ told rs k r at starts)
+        rw (process_count-cons first (take k rs))
+        (later_parent (is_starting first.op) (forked_by first.op first.process) (parents rs) (process_count (take k rs)) ∙ told rs k r at starts)
 
 forked_from : (op : Op) (own parent : ProcessId) → forked_by op own ≡ Some parent → (own ≡ parent) × (is_start op ≡ false)
 unfolding forked_by is_start

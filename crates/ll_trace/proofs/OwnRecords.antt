@@ -64,7 +64,8 @@ rising p b (r ∷ rs) (suc j) (suc l) i k at there less = elim (cases_eq r.proce
 ]
 
 -- each own record has its place
-has_place : (p b : ℕ) (rs : List Record) (m : ℕ) (r : Record) → slice_get rs m ≡ Some r → r.process.0 ≡ p → (j : ℕ) × (slice_get (own_from p b rs) j ≡ Some (b + m))
+has_place : (p b : ℕ) (rs : List Record) (m : ℕ) (r : Record) → slice_get rs m ≡ Some r → r.process.0 ≡ p
+    → (j : ℕ) × (slice_get (own_from p b rs) j ≡ Some (b + m))
 has_place p b [] m r at own = absurd (none-some r at)
 has_place p b (x ∷ rs) zero r at own =
     let here : x.process.0 ≡ p = ap (λ (y : Record). y.process.0) (same_Some x r at) ∙ own in
@@ -104,7 +105,8 @@ module _ (records : List Record) (p : ℕ) where
       by_place (zero, there) = omega (arith, same_Some i m (sym first ∙ there))
       by_place (suc j, there) = omega (arith, own_rising 0 (suc j) i m first there (omega arith))
 
-  pub next_own : (j i k m : ℕ) (r : Record) → slice_get (own_records records p) j ≡ Some i → slice_get (own_records records p) (suc j) ≡ Some k → slice_get records m ≡ Some r → r.process.0 ≡ p → i < m → k ≤ m
+  pub next_own : (j i k m : ℕ) (r : Record) → slice_get (own_records records p) j ≡ Some i → slice_get (own_records records p) (suc j) ≡ Some k
+      → slice_get records m ≡ Some r → r.process.0 ≡ p → i < m → k ≤ m
   next_own j i k m r here next at own past =
       let (l, there) = own_place m r at own in
       elim (cases_lt l (suc j)) [

@@ -16,12 +16,14 @@ use Rattle.ll_trace.specs.Kept.{entry_view}
 use Rattle.ll_trace.specs.Parts.{Says, Covers, EndsAt, IsRead, IsReadOf}
 
 -- one line more
-Covers-push : (lines : List Line) (entries : List declared.Entry) (entry : declared.Entry) (line : Line) (others : List Line) → Says line entry → Covers lines entries (line ∷ others) → Covers lines (entries ++ entry ∷ []) others
+Covers-push : (lines : List Line) (entries : List declared.Entry) (entry : declared.Entry) (line : Line) (others : List Line) → Says line entry
+    → Covers lines entries (line ∷ others) → Covers lines (entries ++ entry ∷ []) others
 Covers-push lines [] entry line others says cut = subst (λ ls. Covers ls (entry ∷ []) others) (sym cut) (says, refl)
 Covers-push [] (first ∷ entries) entry line others says covers = absurd covers
 Covers-push (one ∷ lines) (first ∷ entries) entry line others says covers = (covers.0, Covers-push lines entries entry line others says covers.1)
 
-pub covers_more : (lines : List Line) (entries : List declared.Entry) (entry : declared.Entry) (line : Line) (others : List Line) → entry_at line ≡ Ok (entry_view entry) → entry.line ≡ line.number
+pub covers_more : (lines : List Line) (entries : List declared.Entry) (entry : declared.Entry) (line : Line) (others : List Line)
+    → entry_at line ≡ Ok (entry_view entry) → entry.line ≡ line.number
     → Covers lines entries (line ∷ others) → Covers lines (entries ++ entry ∷ []) others
 covers_more lines entries entry line others reads number covers = Covers-push lines entries entry line others (record { reads = reads; number = number }) covers
 
@@ -31,10 +33,12 @@ pub record Goes (earlier : List Entry) (lines : List Line) (now : List Entry) (e
   pub read : IsRead left entries fault
   pub same : (others : List Line) → read_lines trace_file earlier (lines ++ others) ≡ read_lines trace_file now (left ++ others)
 
-with_line-says : (earlier : List Entry) (line : Line) (entry : declared.Entry) → Says line entry → with_line trace_file earlier line ≡ with_entry trace_file earlier (entry_view entry)
+with_line-says : (earlier : List Entry) (line : Line) (entry : declared.Entry) → Says line entry
+    → with_line trace_file earlier line ≡ with_entry trace_file earlier (entry_view entry)
 with_line-says earlier line entry says = rw (says.reads) refl
 
-next_of : (earlier now : List Entry) (lines : List Line) (entry : declared.Entry) (entries : List declared.Entry) (fault : Option ReadFault) → IsRead lines (entry ∷ entries) fault
+next_of : (earlier now : List Entry) (lines : List Line) (entry : declared.Entry) (entries : List declared.Entry) (fault : Option ReadFault)
+    → IsRead lines (entry ∷ entries) fault
     → with_entry trace_file earlier (entry_view entry) ≡ Ok now → Goes earlier lines now entries fault
 next_of earlier now [] entry entries fault read admits = absurd read.covers
 next_of earlier now (line ∷ lines) entry entries fault read admits = record {
@@ -44,46 +48,55 @@ next_of earlier now (line ∷ lines) entry entries fault read admits = record {
 }
 
 -- an entry is admitted
-pub Goes-next : (first earlier now : List Entry) (lines : List Line) (entry : declared.Entry) (entries : List declared.Entry) (fault : Option ReadFault) → Goes first lines earlier (entry ∷ entries) fault
+pub Goes-next : (first earlier now : List Entry) (lines : List Line) (entry : declared.Entry) (entries : List declared.Entry) (fault : Option ReadFault)
+    → Goes first lines earlier (entry ∷ entries) fault
     → with_entry trace_file earlier (entry_view entry) ≡ Ok now → Goes first lines now entries fault
 Goes-next first earlier now lines entry entries fault goes admits =
     let next = next_of earlier now goes.left entry entries fault goes.read admits in
     record { left = next.left; read = next.read; same = λ others. goes.same others ∙ next.same others }
 
-meets_admission : (earlier : List Entry) (lines others : List Line) (entry : declared.Entry) (entries : List declared.Entry) (fault : Option ReadFault) (cause : Cause) → IsRead lines (entry ∷ entries) fault
+meets_admission : (earlier : List Entry) (lines others : List Line) (entry : declared.Entry) (entries : List declared.Entry) (fault : Option ReadFault)
+    (cause : Cause) → IsRead lines (entry ∷ entries) fault
     → Fails cause (with_entry trace_file earlier (entry_view entry)) → MeetsFault entry.line cause (read_lines trace_file earlier (lines ++ others))
 meets_admission earlier [] others entry entries fault cause read fails = absurd read.covers
 meets_admission earlier (line ∷ lines) others entry entries fault cause read fails =
     let says = read.covers.0 in
     let line_fails : Fails cause (with_line trace_file earlier line) = subst (Fails cause) (sym (with_line-says earlier line entry says)) fails in
-    subst (λ n. MeetsFault n cause (read_lines trace_file earlier (line ∷ lines ++ others))) (sym says.number) (read_lines_fault trace_file earlier line (lines ++ others) cause line_fails)
+    subst (λ n. MeetsFault n cause (read_lines trace_file earlier (line ∷ lines ++ others))) (sym says.number)
+    (read_lines_fault trace_file earlier line (lines ++ others) cause line_fails)
 
 -- an entry is not admitted
-pub Goes-stop : (first earlier : List Entry) (lines others : List Line) (entry : declared.Entry) (entries : List declared.Entry) (fault : Option ReadFault) (cause : Cause) → Goes first lines earlier (entry ∷ entries) fault
+pub Goes-stop : (first earlier : List Entry) (lines others : List Line) (entry : declared.Entry) (entries : List declared.Entry) (fault : Option ReadFault)
+    (cause : Cause) → Goes first lines earlier (entry ∷ entries) fault
     → Fails cause (with_entry trace_file earlier (entry_view entry)) → MeetsFault entry.line cause (read_lines trace_file first (lines ++ others))
 Goes-stop first earlier lines others entry entries fault cause goes fails =
     subst (MeetsFault entry.line cause) (sym (goes.same others)) (meets_admission earlier goes.left others entry entries fault cause goes.read fails)
 
 -- all entries are admitted, and no line is left
-pub Goes-all : (first now : List Entry) (lines others : List Line) → Goes first lines now [] None → read_lines trace_file first (lines ++ others) ≡ read_lines trace_file now others
+pub Goes-all : (first now : List Entry) (lines others : List Line) → Goes first lines now [] None
+    → read_lines trace_file first (lines ++ others) ≡ read_lines trace_file now others
 Goes-all first now lines others goes =
     let none : goes.left ≡ [] = goes.read.covers ∙ goes.read.ends in
     goes.same others ∙ ap (λ ls. read_lines trace_file now (ls ++ others)) none
 
 cause_of_line : (line : Line) (earlier : List Entry) (cause : Cause) → Fails cause (entry_at line) → Fails cause (with_line trace_file earlier line)
-cause_of_line line earlier cause fails = unless-map cause (entry_at line) (Err cause) (with_line trace_file earlier line) (Err cause) (λ fault. rw fault refl) fails
+cause_of_line line earlier cause fails =
+    unless-map cause (entry_at line) (Err cause) (with_line trace_file earlier line) (Err cause) (λ fault. rw fault refl) fails
 
-meets_line : (earlier : List Entry) (rest others : List Line) (fault : ReadFault) → EndsAt rest (Some fault) → MeetsFault fault.line fault.cause (read_lines trace_file earlier (rest ++ others))
+meets_line : (earlier : List Entry) (rest others : List Line) (fault : ReadFault) → EndsAt rest (Some fault)
+    → MeetsFault fault.line fault.cause (read_lines trace_file earlier (rest ++ others))
 meets_line earlier [] others fault ends = absurd ends
 meets_line earlier (line ∷ rest) others fault ends =
     subst (λ n. MeetsFault n fault.cause (read_lines trace_file earlier (line ∷ rest ++ others))) ends.0
     (read_lines_fault trace_file earlier line (rest ++ others) fault.cause (cause_of_line line earlier fault.cause ends.1))
 
 -- all entries are admitted, and the line behind them has a fault
-pub Goes-fault : (first now : List Entry) (lines others : List Line) (fault : ReadFault) → Goes first lines now [] (Some fault) → MeetsFault fault.line fault.cause (read_lines trace_file first (lines ++ others))
+pub Goes-fault : (first now : List Entry) (lines others : List Line) (fault : ReadFault) → Goes first lines now [] (Some fault)
+    → MeetsFault fault.line fault.cause (read_lines trace_file first (lines ++ others))
 Goes-fault first now lines others fault goes =
     let rest : goes.left ≡ goes.read.rest = goes.read.covers in
-    subst (MeetsFault fault.line fault.cause) (sym (goes.same others ∙ ap (λ ls. read_lines trace_file now (ls ++ others)) rest)) (meets_line now goes.read.rest others fault goes.read.ends)
+    subst (MeetsFault fault.line fault.cause) (sym (goes.same others ∙ ap (λ ls. read_lines trace_file now (ls ++ others)) rest))
+    (meets_line now goes.read.rest others fault goes.read.ends)
 
 -- what is left of the parts behind some of them
 pub record Comes (lines : List (List Line)) (now : List Entry) (parts : List PartRead) : Type 0 where
@@ -94,7 +107,8 @@ pub record Comes (lines : List (List Line)) (now : List Entry) (parts : List Par
 -- a part is admitted
 next_part : (now after : List Entry) (lines left : List (List Line)) (part : PartRead) (parts : List PartRead) → AllZip IsReadOf left (part ∷ parts)
     → read_lines trace_file [] (flat_map (λ part. part) lines) ≡ read_lines trace_file now (flat_map (λ part. part) left)
-    → ((some others : List Line) → IsReadOf some part → read_lines trace_file now (some ++ others) ≡ read_lines trace_file after others) → Comes lines after parts
+    → ((some others : List Line) → IsReadOf some part → read_lines trace_file now (some ++ others) ≡ read_lines trace_file after others)
+    → Comes lines after parts
 next_part now after lines [] part parts read same admitted = absurd read
 next_part now after lines (some ∷ left) part parts read same admitted = record {
   left = left;
@@ -103,19 +117,26 @@ next_part now after lines (some ∷ left) part parts read same admitted = record
 }
 
 pub Comes-next : (now after : List Entry) (lines : List (List Line)) (part : PartRead) (parts : List PartRead) → Comes lines now (part ∷ parts)
-    → ((some others : List Line) → IsReadOf some part → read_lines trace_file now (some ++ others) ≡ read_lines trace_file after others) → Comes lines after parts
+    → ((some others : List Line) → IsReadOf some part → read_lines trace_file now (some ++ others) ≡ read_lines trace_file after others)
+    → Comes lines after parts
 Comes-next now after lines part parts comes admitted = next_part now after lines comes.left part parts comes.read comes.same admitted
 
 -- a part meets a fault
-stop_part : (now : List Entry) (left : List (List Line)) (part : PartRead) (parts : List PartRead) (number : ℕ) (cause : Cause) → AllZip IsReadOf left (part ∷ parts)
-    → ((some others : List Line) → IsReadOf some part → MeetsFault number cause (read_lines trace_file now (some ++ others))) → MeetsFault number cause (read_lines trace_file now (flat_map (λ part. part) left))
+stop_part : (now : List Entry) (left : List (List Line)) (part : PartRead) (parts : List PartRead) (number : ℕ) (cause : Cause)
+    → AllZip IsReadOf left (part ∷ parts)
+    → ((some others : List Line) → IsReadOf some part → MeetsFault number cause (read_lines trace_file now (some ++ others)))
+    → MeetsFault number cause (read_lines trace_file now (flat_map (λ part. part) left))
 stop_part now [] part parts number cause read meets = absurd read
 stop_part now (some ∷ left) part parts number cause read meets =
-    subst (λ ls. MeetsFault number cause (read_lines trace_file now ls)) (sym (flat_map-cons (λ part. part) some left)) (meets some (flat_map (λ part. part) left) read.0)
+    subst (λ ls. MeetsFault number cause (read_lines trace_file now ls)) (sym (flat_map-cons (λ part. part) some left))
+    (meets some (flat_map (λ part. part) left) read.0)
 
-pub Comes-stop : (now : List Entry) (lines : List (List Line)) (part : PartRead) (parts : List PartRead) (number : ℕ) (cause : Cause) → Comes lines now (part ∷ parts)
-    → ((some others : List Line) → IsReadOf some part → MeetsFault number cause (read_lines trace_file now (some ++ others))) → MeetsFault number cause (read_lines trace_file [] (flat_map (λ part. part) lines))
-Comes-stop now lines part parts number cause comes meets = subst (MeetsFault number cause) (sym comes.same) (stop_part now comes.left part parts number cause comes.read meets)
+pub Comes-stop : (now : List Entry) (lines : List (List Line)) (part : PartRead) (parts : List PartRead) (number : ℕ) (cause : Cause)
+    → Comes lines now (part ∷ parts)
+    → ((some others : List Line) → IsReadOf some part → MeetsFault number cause (read_lines trace_file now (some ++ others)))
+    → MeetsFault number cause (read_lines trace_file [] (flat_map (λ part. part) lines))
+Comes-stop now lines part parts number cause comes meets =
+    subst (MeetsFault number cause) (sym comes.same) (stop_part now comes.left part parts number cause comes.read meets)
 
 -- all parts are admitted
 no_part : (left : List (List Line)) → AllZip IsReadOf left [] → left ≡ []

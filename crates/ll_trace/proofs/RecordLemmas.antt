@@ -11,16 +11,20 @@ use Rattle.ll_trace.specs.RecordFacts.{ArePlaced, AreRecords}
 use Rattle.ll_trace.proofs.Numbering.{are_numbered}
 use Rattle.ll_trace.specs.Kept.{entries, past, owner_of, IsKept, IsNoted}
 
-pub records_after-append : (past entries : List Entry) (entry : Entry) → records_after past (entries ++ entry ∷ []) ≡ records_after past entries ++ record_of (reverse entries ++ past) entry ∷ []
+pub records_after-append : (past entries : List Entry) (entry : Entry)
+    → records_after past (entries ++ entry ∷ []) ≡ records_after past entries ++ record_of (reverse entries ++ past) entry ∷ []
 records_after-append past [] entry = refl
 records_after-append past (first ∷ entries) entry =
-    let turned : reverse (first ∷ entries) ++ past ≡ reverse entries ++ first ∷ past = ap (λ es. es ++ past) (reverse-append (first ∷ []) entries) ∙ append_assoc (reverse entries) (first ∷ []) past in
+    let turned : reverse (first ∷ entries) ++ past ≡ reverse entries ++ first ∷ past =
+    ap (λ es. es ++ past) (reverse-append (first ∷ []) entries) ∙ append_assoc (reverse entries) (first ∷ []) past in
     rw turned (ap (λ rs. record_of past first ∷ rs) (records_after-append (first ∷ past) entries entry))
 
-ArePlaced-append : (past entries : List Entry) (entry : Entry) → ArePlaced past entries → misplacement (reverse entries ++ past) entry ≡ None → ArePlaced past (entries ++ entry ∷ [])
+ArePlaced-append : (past entries : List Entry) (entry : Entry) → ArePlaced past entries → misplacement (reverse entries ++ past) entry ≡ None
+    → ArePlaced past (entries ++ entry ∷ [])
 ArePlaced-append past [] entry placed here = (here, tt)
 ArePlaced-append past (first ∷ entries) entry placed here =
-    let turned : reverse (first ∷ entries) ++ past ≡ reverse entries ++ first ∷ past = ap (λ es. es ++ past) (reverse-append (first ∷ []) entries) ∙ append_assoc (reverse entries) (first ∷ []) past in
+    let turned : reverse (first ∷ entries) ++ past ≡ reverse entries ++ first ∷ past =
+    ap (λ es. es ++ past) (reverse-append (first ∷ []) entries) ∙ append_assoc (reverse entries) (first ∷ []) past in
     (placed.0, ArePlaced-append (first ∷ past) entries entry placed.1 (ap (λ (p : List Entry). misplacement p entry) (sym turned) ∙ here))
 
 -- a list of records, and one more
@@ -28,19 +32,24 @@ pub AreRecords-append : (records : List Record) (entry : Entry) (r : Record) →
     → r ≡ record_of (reverse (map entry_of records)) entry → AreRecords (records ++ r ∷ [])
 AreRecords-append records entry r are here is =
     let past : List Entry = reverse (map entry_of records) in
-    let entries : map entry_of (records ++ r ∷ []) ≡ map entry_of records ++ entry ∷ [] = map-append entry_of records (r ∷ []) ∙ ap (λ (x : Record). map entry_of records ++ entry_of x ∷ []) is in
+    let entries : map entry_of (records ++ r ∷ []) ≡ map entry_of records ++ entry ∷ [] =
+    map-append entry_of records (r ∷ []) ∙ ap (λ (x : Record). map entry_of records ++ entry_of x ∷ []) is in
     let same : past ++ [] ≡ past = append-nil past in
     let numbered : records_after [] (map entry_of records ++ entry ∷ []) ≡ records_after [] (map entry_of records) ++ record_of past entry ∷ [] =
     records_after-append [] (map entry_of records) entry ∙ ap (λ (p : List Entry). records_after [] (map entry_of records) ++ record_of p entry ∷ []) same in
-    let placed : ArePlaced [] (map entry_of (records ++ r ∷ [])) = rw entries (ArePlaced-append [] (map entry_of records) entry are.placed (ap (λ (p : List Entry). misplacement p entry) same ∙ here)) in
-    let processes : records ++ r ∷ [] ≡ records_after [] (map entry_of (records ++ r ∷ [])) = ap (λ rs. rs ++ r ∷ []) are.processes ∙ (ap (λ x. records_after [] (map entry_of records) ++ x ∷ []) is ∙ (sym numbered ∙ ap (records_after []) (sym entries))) in
+    let placed : ArePlaced [] (map entry_of (records ++ r ∷ [])) =
+    rw entries (ArePlaced-append [] (map entry_of records) entry are.placed (ap (λ (p : List Entry). misplacement p entry) same ∙ here)) in
+    let processes : records ++ r ∷ [] ≡ records_after [] (map entry_of (records ++ r ∷ [])) = ap (λ rs. rs ++ r ∷ []) are.processes
+    ∙ (ap (λ x. records_after [] (map entry_of records) ++ x ∷ []) is ∙ (sym numbered ∙ ap (records_after []) (sym entries))) in
     record { placed = placed; processes = processes; numbered = are_numbered (records ++ r ∷ []) placed processes }
 
-pub kept_admitted : (old noted new : Reader) (entry : Entry) (r : Record) → IsKept old → misplacement (past old) entry ≡ None → IsNoted old noted entry → new.records.items ≡ noted.records.items ++ r ∷ []
+pub kept_admitted : (old noted new : Reader) (entry : Entry) (r : Record) → IsKept old → misplacement (past old) entry ≡ None → IsNoted old noted entry
+    → new.records.items ≡ noted.records.items ++ r ∷ []
     → new.owners ≡ noted.owners → new.processes ≡ noted.processes → r ≡ record_of (past old) entry → IsKept new
 kept_admitted old noted new entry r kept here is_noted pushed same_owners same_count is =
     let items : new.records.items ≡ old.records.items ++ r ∷ [] = pushed ∙ ap (λ rs. rs ++ r ∷ []) is_noted.records in
-    let read : entries new ≡ entries old ++ entry ∷ [] = ap (map entry_of) items ∙ (map-append entry_of old.records.items (r ∷ []) ∙ ap (λ (x : Record). entries old ++ entry_of x ∷ []) is) in
+    let read : entries new ≡ entries old ++ entry ∷ [] =
+    ap (map entry_of) items ∙ (map-append entry_of old.records.items (r ∷ []) ∙ ap (λ (x : Record). entries old ++ entry_of x ∷ []) is) in
     let turned : past new ≡ entry ∷ past old = ap reverse read ∙ reverse-append (entries old) (entry ∷ []) in
     record {
       follows = record {

@@ -59,7 +59,8 @@ steps (Err cause) f y reads = cc
 name_said : (value : Data) (op : Op) → operation_at value ≡ Ok op → text_at (codes "op") value ≡ Ok (op_name op)
 unfolding operation_at operation_named HasName
 name_said value op reads =
-    let name : (x : List ℕ) × (text_at (codes "op") value ≡ Ok x) × (operation_named x value ≡ Ok op) = steps (text_at (codes "op") value) (λ name. operation_named name value) op reads in
+    let name : (x : List ℕ) × (text_at (codes "op") value ≡ Ok x) × (operation_named x value ≡ Ok op) =
+    steps (text_at (codes "op") value) (λ name. operation_named name value) op reads in
     let has : op_name op ≡ name.0 = subst (HasName name.0) name.2 (found name.0 (operations value) (have_names value)) in
     name.1 ∙ ap Ok (sym has)
 

@@ -1,16 +1,19 @@
 -- The tables of a list of records, and of one more.
-use Rattle.std.proofs.Common.{◌≡◌, ℕ, suc, ◌+◌, ◌<◌, ◌≤◌, Bool, true, false, cond, List, [], ◌∷◌, ◌++◌, length, get_or, Option, Some, None, Result, Ok, Err, refl, sym, ap, ◌∙◌, inl, inr, arith, ◌≢◌, zero, take, set, Vec, eqb, subst, add-one, add-zero}
+use Rattle.std.proofs.Common.{◌≡◌, ℕ, suc, ◌+◌, ◌<◌, ◌≤◌, Bool, true, false, cond, List, [], ◌∷◌, ◌++◌, length, get_or, Option, Some, None, Result, Ok, Err}
+use Rattle.std.proofs.Common.{refl, sym, ap, ◌∙◌, inl, inr, arith, ◌≢◌, zero, take, set, Vec, eqb, subst, add-one, add-zero}
 use Rattle.std.specs.Ordering.{nat_cmp}
 use Rattle.std.specs.Result.{MatchResult}
 use Rattle.std.specs.List.Sorted.{IsBinarySearchResult}
 use Rattle.std.proofs.lemmas.Bool.{cases_lt, eq-eqb, ne_eqb, eqb-true, eqb-false}
-use Rattle.std.proofs.lemmas.List.{get_or_append_left, get_or_at, length-append, get_or-set_same, get_or-set_other, get_or-map, map-set, append-nil, length-set, length-take, take_more}
+use Rattle.std.proofs.lemmas.List.{get_or_append_left, get_or_at, length-append, get_or-set_same, get_or-set_other, get_or-map, map-set, append-nil, length-set}
+use Rattle.std.proofs.lemmas.List.{length-take, take_more}
 use Rattle.std.proofs.lemmas.List.Sorted.{searched}
 use Rattle.std.proofs.lemmas.Option.{slice_get_within, slice_get_read}
 use Rattle.ll_trace.specs.declared.record.Record.{Record}
 use Rattle.ll_trace.specs.Processes.{is_starting, process_count, started_at, own_from, own_records, forked_by, parent_of, only, IsNumbered}
 use Rattle.ll_trace.specs.Indexed.{AreStarts, Adds, Indexes, lists}
-use Rattle.ll_trace.proofs.Numbers.{with_first, StartedAt, count-all, count-le, count-started, process_count-push, started_at-is, started_at-push, started_once, count-more, numbered_below, parents-push, length-parents, parent_below}
+use Rattle.ll_trace.proofs.Numbers.{with_first, StartedAt, count-all, count-le, count-started, process_count-push, started_at-is, started_at-push, started_once}
+use Rattle.ll_trace.proofs.Numbers.{count-more, numbered_below, parents-push, length-parents, parent_below}
 use Rattle.std.specs.Prelude.{All, IfSome, slice_get}
 use Rattle.std.specs.List.{AllByRecursion}
 use Rattle.std.proofs.lemmas.List.Elements.{All-from_recursion}
@@ -33,16 +36,19 @@ length-grown : {X : Type 0} (xs : List X) (b : Bool) (x : X) → length (xs ++ c
 length-grown xs true x = length-append xs (x ∷ [])
 length-grown xs false x = length-append xs []
 
-pub starts-push : (starts : List ℕ) (records : List Record) (of : Record) → AreStarts starts records → AreStarts (starts ++ cond (is_starting of.op) (length records ∷ []) []) (records ++ of ∷ [])
+pub starts-push : (starts : List ℕ) (records : List Record) (of : Record) → AreStarts starts records
+    → AreStarts (starts ++ cond (is_starting of.op) (length records ∷ []) []) (records ++ of ∷ [])
 starts-push starts records of are = record {
   one_each = omega (arith, length-grown starts (is_starting of.op) (length records), are.one_each, process_count-push records of);
   start = λ p below. elim (cases_lt p (process_count records)) [
-    | inl old ↦ rw (get_or_append_left starts (cond (is_starting of.op) (length records ∷ []) []) 0 p (omega (arith, are.one_each))) (still_started records of (get_or starts p 0) p (are.start p old))
+    | inl old ↦ rw (get_or_append_left starts (cond (is_starting of.op) (length records ∷ []) []) 0 p (omega (arith, are.one_each)))
+        (still_started records of (get_or starts p 0) p (are.start p old))
     | inr other ↦ last (is_starting of.op) refl p other (omega (arith, below, process_count-push records of))
   ];
 }
   where
-    last : (b : Bool) → is_starting of.op ≡ b → (p : ℕ) → process_count records ≤ p → p < process_count records + cond b 1 0 → started_at (records ++ of ∷ []) (get_or (starts ++ cond b (length records ∷ []) []) p 0) ≡ Some p
+    last : (b : Bool) → is_starting of.op ≡ b → (p : ℕ) → process_count records ≤ p → p < process_count records + cond b 1 0
+        → started_at (records ++ of ∷ []) (get_or (starts ++ cond b (length records ∷ []) []) p 0) ≡ Some p
     last true kind p past below =
         let same : process_count records ≡ p = omega arith in
         rw (get_or_at starts (length records) [] 0 p (omega (arith, are.one_each))) (last_starts records of kind ∙ ap (λ n. Some n) same)
@@ -60,15 +66,18 @@ rising starts records are i j le lt =
     let one : StartedAt records m i = started_at-is records m i (are.start i (omega (arith, are.one_each))) in
     let two : StartedAt records n j = started_at-is records n j (are.start j (omega (arith, are.one_each))) in
     elim (cases_lt n m) [
-      | inl less ↦ absurd (omega (arith, count-started records n two.of two.at two.kind, count-le records (suc n) m (omega (arith, less)), one.number, two.number))
+      | inl less ↦
+          absurd (omega (arith, count-started records n two.of two.at two.kind, count-le records (suc n) m (omega (arith, less)), one.number, two.number))
       | inr more ↦ more
     ]
 
-pub start_found : (starts : List ℕ) (records : List Record) (place : ℕ) (found : Result ℕ ℕ) → AreStarts starts records → IsBinarySearchResult (λ y. nat_cmp y place) starts found
+pub start_found : (starts : List ℕ) (records : List Record) (place : ℕ) (found : Result ℕ ℕ) → AreStarts starts records
+    → IsBinarySearchResult (λ y. nat_cmp y place) starts found
     → MatchResult found (λ p. (p < process_count records) × (started_at records place ≡ Some p)) (λ p. started_at records place ≡ None)
 start_found starts records place found are search_is = told found (searched starts place found search_is (rising starts records are))
   where
-    other : (p : ℕ) → ((k : ℕ) → k < p → get_or starts k 0 < place) → ((k : ℕ) → p ≤ k → k < length starts → place < get_or starts k 0) → (started : Option ℕ) → started_at records place ≡ started → started ≡ None
+    other : (p : ℕ) → ((k : ℕ) → k < p → get_or starts k 0 < place) → ((k : ℕ) → p ≤ k → k < length starts → place < get_or starts k 0) → (started : Option ℕ)
+        → started_at records place ≡ started → started ≡ None
     other p before behind None is = refl
     other p before behind (Some q) is =
         let one : StartedAt records place q = started_at-is records place q is in
@@ -80,7 +89,8 @@ start_found starts records place found are search_is = told found (searched star
           | inr more ↦ absurd (omega (arith, same, behind q more (omega (arith, below, are.one_each))))
         ]
 
-    told : (r : Result ℕ ℕ) → MatchResult r (λ p. (p < length starts) × (get_or starts p 0 ≡ place)) (λ p. (p ≤ length starts) × ((k : ℕ) → k < p → get_or starts k 0 < place) × ((k : ℕ) → p ≤ k → k < length starts → place < get_or starts k 0))
+    told : (r : Result ℕ ℕ) → MatchResult r (λ p. (p < length starts) × (get_or starts p 0 ≡ place))
+        (λ p. (p ≤ length starts) × ((k : ℕ) → k < p → get_or starts k 0 < place) × ((k : ℕ) → p ≤ k → k < length starts → place < get_or starts k 0))
         → MatchResult r (λ p. (p < process_count records) × (started_at records place ≡ Some p)) (λ p. started_at records place ≡ None)
     told (Ok p) at = (omega (arith, at.0, are.one_each), ap (started_at records) (sym at.1) ∙ are.start p (omega (arith, at.0, are.one_each)))
     told (Err p) at = other p at.1 at.2 (started_at records place) refl
@@ -102,7 +112,8 @@ length-lists : (vecs : List (Vec ℕ Global)) → length (lists vecs) ≡ length
 length-lists [] = refl
 length-lists (v ∷ vecs) = ap (λ n. suc n) (length-lists vecs)
 
-pushed : (vecs : List (Vec ℕ Global)) (p q place : ℕ) (old new : Vec ℕ Global) (same : Bool) → eqb p q ≡ same → p < length vecs → old ≡ get_or vecs p old → new.items ≡ old.items ++ place ∷ []
+pushed : (vecs : List (Vec ℕ Global)) (p q place : ℕ) (old new : Vec ℕ Global) (same : Bool) → eqb p q ≡ same → p < length vecs → old ≡ get_or vecs p old
+    → new.items ≡ old.items ++ place ∷ []
     → get_or (lists (set vecs p new)) q [] ≡ get_or (lists vecs) q [] ++ cond same (place ∷ []) []
 pushed vecs p q place old new true same lt is grows =
     let here : p ≡ q = eqb-true p q same in
@@ -113,37 +124,44 @@ pushed vecs p q place old new false same lt is grows =
     rw map-set (get_or-set_other (lists vecs) p q new.items [] there ∙ sym (append-nil (get_or (lists vecs) q [])))
 
 pub adds : (old new : Tables) (of : Record) (place : ℕ) (between : List (Vec ℕ Global)) (before after : Vec ℕ Global)
-    → new.parents.items ≡ old.parents.items ++ cond (is_starting of.op) (forked_by of.op of.process ∷ []) [] → lists between ≡ lists old.own.items ++ cond (is_starting of.op) ([] ∷ []) []
+    → new.parents.items ≡ old.parents.items ++ cond (is_starting of.op) (forked_by of.op of.process ∷ []) []
+    → lists between ≡ lists old.own.items ++ cond (is_starting of.op) ([] ∷ []) []
     → new.starts.items ≡ old.starts.items ++ cond (is_starting of.op) (place ∷ []) []
     → new.own.items ≡ set between of.process.0 after → before ≡ get_or between of.process.0 before → after.items ≡ before.items ++ place ∷ []
     → of.process.0 < length old.own.items + cond (is_starting of.op) 1 0 → Adds old new of place
 adds old new of place between before after parents_are begun starts_are own_is before_is grows known =
     let count : length between ≡ length old.own.items + cond (is_starting of.op) 1 0 =
-    sym (length-lists between) ∙ (ap length begun ∙ (length-grown (lists old.own.items) (is_starting of.op) [] ∙ ap (λ n. n + cond (is_starting of.op) 1 0) (length-lists old.own.items))) in
+    sym (length-lists between) ∙ (ap length begun
+    ∙ (length-grown (lists old.own.items) (is_starting of.op) [] ∙ ap (λ n. n + cond (is_starting of.op) 1 0) (length-lists old.own.items))) in
     let within : of.process.0 < length between = rw count known in
     record {
       by_process = parents_are;
       size = ap length own_is ∙ (length-set between of.process.0 after ∙ count);
-      places = λ q. ap (λ (vs : List (Vec ℕ Global)). get_or (lists vs) q []) own_is ∙ (pushed between of.process.0 q place before after (eqb of.process.0 q) refl within before_is grows
+      places = λ q. ap (λ (vs : List (Vec ℕ Global)). get_or (lists vs) q []) own_is
+          ∙ (pushed between of.process.0 q place before after (eqb of.process.0 q) refl within before_is grows
           ∙ ap (λ ns. ns ++ cond (eqb of.process.0 q) (place ∷ []) []) (ap (λ ls. get_or ls q []) begun ∙ grown (lists old.own.items) (is_starting of.op) q));
       by_start = starts_are;
     }
 
 -- ---- one record more in the definitions
 
-own_from-push : (q k : ℕ) (rs : List Record) (of : Record) → own_from q k (rs ++ of ∷ []) ≡ own_from q k rs ++ cond (eqb of.process.0 q) ((k + length rs) ∷ []) []
+own_from-push : (q k : ℕ) (rs : List Record) (of : Record)
+    → own_from q k (rs ++ of ∷ []) ≡ own_from q k rs ++ cond (eqb of.process.0 q) ((k + length rs) ∷ []) []
 unfolding own_from
 own_from-push q k [] of = rw add-zero refl
 own_from-push q k (r ∷ rs) of =
     let shift : k + 1 + length rs ≡ k + suc (length rs) = omega arith in
-    with_first (eqb r.process.0 q) k _ (own_from q (k + 1) rs) _ (own_from-push q (k + 1) rs of ∙ ap (λ n. own_from q (k + 1) rs ++ cond (eqb of.process.0 q) (n ∷ []) []) shift)
+    with_first (eqb r.process.0 q) k _ (own_from q (k + 1) rs) _
+    (own_from-push q (k + 1) rs of ∙ ap (λ n. own_from q (k + 1) rs ++ cond (eqb of.process.0 q) (n ∷ []) []) shift)
 
-indexes_next : (old new : Tables) (records : List Record) (of : Record) → Indexes old records → Adds old new of (length records) → Indexes new (records ++ of ∷ [])
+indexes_next : (old new : Tables) (records : List Record) (of : Record) → Indexes old records → Adds old new of (length records)
+    → Indexes new (records ++ of ∷ [])
 unfolding own_records
 indexes_next old new records of indexes adds_one =
     let here : 0 + length records ≡ length records = omega arith in
     record {
-      by_process = adds_one.by_process ∙ (ap (λ ps. ps ++ cond (is_starting of.op) (forked_by of.op of.process ∷ []) []) indexes.by_process ∙ sym (parents-push records of));
+      by_process = adds_one.by_process
+          ∙ (ap (λ ps. ps ++ cond (is_starting of.op) (forked_by of.op of.process ∷ []) []) indexes.by_process ∙ sym (parents-push records of));
       size = omega (arith, adds_one.size, indexes.size, process_count-push records of);
       places = λ q. adds_one.places q ∙ ap (λ ns. ns ++ cond (eqb of.process.0 q) (length records ∷ []) []) (indexes.places q)
           ∙ sym (own_from-push q 0 records of ∙ ap (λ k. own_from q 0 records ++ cond (eqb of.process.0 q) (k ∷ []) []) here);
@@ -155,31 +173,37 @@ indexes_next old new records of indexes adds_one =
 with_next : (records : List Record) (i : ℕ) (of : Record) → i < length records → of ≡ get_or records i of → take (suc i) records ≡ take i records ++ of ∷ []
 with_next records i of lt is = ap (λ n. take n records) (sym (add-one i)) ∙ (take_more records i of lt ∙ ap (λ (x : Record). take i records ++ x ∷ []) (sym is))
 
-pub known_at : (tables : Tables) (records : List Record) (i : ℕ) (of : Record) → IsNumbered records → i < length records → of ≡ get_or records i of → Indexes tables (take i records)
+pub known_at : (tables : Tables) (records : List Record) (i : ℕ) (of : Record) → IsNumbered records → i < length records → of ≡ get_or records i of
+    → Indexes tables (take i records)
     → of.process.0 < length tables.own.items + cond (is_starting of.op) 1 0
 known_at tables records i of numbered lt is indexes =
     let at : slice_get records i ≡ Some of = slice_get_read records (length records) i of refl lt is in
     omega (arith, numbered_below records i of numbered at, count-more records i of at, indexes.size)
 
-pub indexes_one_more : (old new : Tables) (records : List Record) (i : ℕ) (of : Record) → i < length records → of ≡ get_or records i of → Indexes old (take i records) → Adds old new of i → Indexes new (take (i + 1) records)
+pub indexes_one_more : (old new : Tables) (records : List Record) (i : ℕ) (of : Record) → i < length records → of ≡ get_or records i of
+    → Indexes old (take i records) → Adds old new of i → Indexes new (take (i + 1) records)
 indexes_one_more old new records i of lt is indexes adds_one =
     let count : i ≡ length (take i records) = omega (arith, length-take i records) in
-    let next : Indexes new (take i records ++ of ∷ []) = indexes_next old new (take i records) of indexes (let P : ℕ → Type 0 = λ n. Adds old new of n in subst P count adds_one) in
+    let next : Indexes new (take i records ++ of ∷ []) =
+    indexes_next old new (take i records) of indexes (let P : ℕ → Type 0 = λ n. Adds old new of n in subst P count adds_one) in
     rw add-one (rw (with_next records i of lt is) next)
 
 -- ---- what is read from the tables
 
-pub parents_read : (tables : Tables) (records : List Record) (process : ℕ) → Indexes tables records → process < process_count records → process < tables.parents.len
+pub parents_read : (tables : Tables) (records : List Record) (process : ℕ) → Indexes tables records → process < process_count records
+    → process < tables.parents.len
 parents_read tables records process indexes lt = omega (arith, ap length indexes.by_process, length-parents records)
 
 IfSome_by : {X : Type 0} (o : Option X) (P : X → Type 0) → ((x : X) → o ≡ Some x → P x) → IfSome o P
 IfSome_by None P each = tt
 IfSome_by (Some x) P each = each x refl
 
-pub parent_read : (tables : Tables) (records : List Record) (process : ℕ) (r : Option ProcessId) → IsNumbered records → Indexes tables records → process < process_count records
+pub parent_read : (tables : Tables) (records : List Record) (process : ℕ) (r : Option ProcessId) → IsNumbered records → Indexes tables records
+    → process < process_count records
     → r ≡ get_or tables.parents.items process r → (r ≡ parent_of records process) × IfSome r (λ parent. parent.0 < process)
 parent_read tables records process r numbered indexes lt is =
-    let got : slice_get tables.parents.items process ≡ Some r = slice_get_read tables.parents.items (length tables.parents.items) process r refl (omega (arith, parents_read tables records process indexes lt)) is in
+    let got : slice_get tables.parents.items process ≡ Some r =
+    slice_get_read tables.parents.items (length tables.parents.items) process r refl (omega (arith, parents_read tables records process indexes lt)) is in
     let value : parent_of records process ≡ r = ap (λ ps. only (slice_get ps process)) (sym indexes.by_process) ∙ ap only got in
     (sym value, IfSome_by r (λ parent. parent.0 < process) (λ parent some. parent_below records process parent numbered lt (value ∙ some)))
 
@@ -192,7 +216,8 @@ unfolding own_from
 own_within q k [] m le = tt
 own_within q k (r ∷ rs) m le = own_place (eqb r.process.0 q) k m (own_from q (k + 1) rs) (omega arith) (own_within q (k + 1) rs m (omega arith))
 
-pub places_read : (tables : Tables) (records : List Record) (process : ℕ) (own : Vec ℕ Global) (places : List ℕ) → Indexes tables records → process < process_count records
+pub places_read : (tables : Tables) (records : List Record) (process : ℕ) (own : Vec ℕ Global) (places : List ℕ) → Indexes tables records
+    → process < process_count records
     → own ≡ get_or tables.own.items process own → places ≡ own.items → (places ≡ own_records records process) × All (λ k. k < length records) places
 unfolding own_records
 places_read tables records process own places indexes lt is read =

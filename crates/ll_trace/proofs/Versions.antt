@@ -34,19 +34,25 @@ call-supported : (abi : Abi) (op : Op) → IsSupported abi op → at_best_effort
 unfolding IsSupported at_best_effort
 call-supported abi (calls.Create rs fs net) is =
     ap (λ (s : Fs). creates rs fs net s (supported_net abi net)) is.0 ∙ ap (creates rs fs net fs) is.1
-    ∙ second (files.is_empty fs && network.is_empty net && not (files.is_empty fs && network.is_empty net)) (calls.CreateEmpty rs) (calls.Create rs fs net) (never (files.is_empty fs && network.is_empty net))
+    ∙ second (files.is_empty fs && network.is_empty net && not (files.is_empty fs && network.is_empty net)) (calls.CreateEmpty rs) (calls.Create rs fs net)
+    (never (files.is_empty fs && network.is_empty net))
 call-supported abi (calls.AddPath rs path fs) is =
-    ap (adds_path rs path fs) is ∙ second (files.is_empty fs && not (files.is_empty fs)) (calls.LeaveOut PathBeneath) (calls.AddPath rs path fs) (never (files.is_empty fs))
+    ap (adds_path rs path fs) is
+    ∙ second (files.is_empty fs && not (files.is_empty fs)) (calls.LeaveOut PathBeneath) (calls.AddPath rs path fs) (never (files.is_empty fs))
 call-supported abi (calls.AddPort rs port net) is =
-    ap (adds_port rs port net) is ∙ second (network.is_empty net && not (network.is_empty net)) (calls.LeaveOut NetPort) (calls.AddPort rs port net) (never (network.is_empty net))
+    ap (adds_port rs port net) is
+    ∙ second (network.is_empty net && not (network.is_empty net)) (calls.LeaveOut NetPort) (calls.AddPort rs port net) (never (network.is_empty net))
 call-supported abi op is = refl
 
-each-supported : (abi : Abi) (records : List Record) → AllByRecursion (λ (of : Record). IsSupported abi of.op) records → records_at_best_effort abi records ≡ records
+each-supported : (abi : Abi) (records : List Record) → AllByRecursion (λ (of : Record). IsSupported abi of.op) records
+    → records_at_best_effort abi records ≡ records
 each-supported abi [] all = refl
 each-supported abi (r ∷ rs) all =
-    ap (λ (op : Op). record r { op = op } ∷ records_at_best_effort abi rs) (call-supported abi r.op all.0) ∙ ap (λ (others : List Record). r ∷ others) (each-supported abi rs all.1)
+    ap (λ (op : Op). record r { op = op } ∷ records_at_best_effort abi rs) (call-supported abi r.op all.0)
+    ∙ ap (λ (others : List Record). r ∷ others) (each-supported abi rs all.1)
 
-pub records-supported : (abi : Abi) (records : List Record) → All (λ (of : Record). IsSupported abi of.op) records → records_at_best_effort abi records ≡ records
+pub records-supported : (abi : Abi) (records : List Record) → All (λ (of : Record). IsSupported abi of.op) records
+    → records_at_best_effort abi records ≡ records
 records-supported abi records all = each-supported abi records (recursion_from_All (λ (of : Record). IsSupported abi of.op) records all)
 
 -- ---- a name that is no right's
@@ -57,10 +63,12 @@ known true false = refl
 known false _ = refl
 
 other_stays : (abi : Abi) → supported_fs abi (files.only files.other) ≡ files.only files.other
-other_stays abi = fs_supported-known abi (files.only files.other) (λ right. rw (fs_has-only right files.other) (known (files.is_right right files.other) (knows_fs abi right)))
+other_stays abi = fs_supported-known abi (files.only files.other)
+    (λ right. rw (fs_has-only right files.other) (known (files.is_right right files.other) (knows_fs abi right)))
 
 other_port_stays : (abi : Abi) → supported_net abi (network.only network.other) ≡ network.only network.other
-other_port_stays abi = net_supported-known abi (network.only network.other) (λ right. rw (net_has-only right network.other) (known (network.is_right right network.other) (knows_net abi right)))
+other_port_stays abi = net_supported-known abi (network.only network.other)
+    (λ right. rw (net_has-only right network.other) (known (network.is_right right network.other) (knows_net abi right)))
 
 none_of : (abi : Abi) → supported_fs abi files.no_right ≡ files.no_right
 none_of abi = fs_supported-known abi files.no_right (λ right. rw (no_fs right) refl)
@@ -68,11 +76,13 @@ none_of abi = fs_supported-known abi files.no_right (λ right. rw (no_fs right) 
 no_port_of : (abi : Abi) → supported_net abi network.no_right ≡ network.no_right
 no_port_of abi = net_supported-known abi network.no_right (λ right. rw (no_net right) refl)
 
-pub other_name-stays : (abi : Abi) (rs : ℕ) → at_best_effort abi (calls.Create rs (files.only files.other) network.no_right) ≡ calls.Create rs (files.only files.other) network.no_right
+pub other_name-stays : (abi : Abi) (rs : ℕ)
+    → at_best_effort abi (calls.Create rs (files.only files.other) network.no_right) ≡ calls.Create rs (files.only files.other) network.no_right
 unfolding IsSupported
 other_name-stays abi rs = call-supported abi (calls.Create rs (files.only files.other) network.no_right) (other_stays abi, no_port_of abi)
 
-pub other_port_name-stays : (abi : Abi) (rs : ℕ) → at_best_effort abi (calls.Create rs files.no_right (network.only network.other)) ≡ calls.Create rs files.no_right (network.only network.other)
+pub other_port_name-stays : (abi : Abi) (rs : ℕ)
+    → at_best_effort abi (calls.Create rs files.no_right (network.only network.other)) ≡ calls.Create rs files.no_right (network.only network.other)
 unfolding IsSupported
 other_port_name-stays abi rs = call-supported abi (calls.Create rs files.no_right (network.only network.other)) (none_of abi, other_port_stays abi)
 
@@ -84,7 +94,8 @@ both true false c d first last is = absurd cc
 both false b c d first last is = absurd cc
 
 -- What is left out is left out at an older version too; what is kept with less is left out there if nothing is left.
-down : (f : Op → Op) (left kept last : Op) (all newer older : Bool) → (all ≡ true → newer ≡ true) → (newer ≡ true → older ≡ true) → f left ≡ left → f kept ≡ (if older && not newer then left else last)
+down : (f : Op → Op) (left kept last : Op) (all newer older : Bool) → (all ≡ true → newer ≡ true) → (newer ≡ true → older ≡ true) → f left ≡ left
+    → f kept ≡ (if older && not newer then left else last)
     → f (if newer && not all then left else kept) ≡ (if older && not all then left else last)
 down f left kept last true true older less still lasts keeps = keeps
 down f left kept last true false older less still lasts keeps = absurd (let no : false ≡ true = less refl in cc)
@@ -92,16 +103,20 @@ down f left kept last false true older less still lasts keeps = rw (still refl) 
 down f left kept last false false older less still lasts keeps = keeps
 
 -- A kind of set, of which a version supports a part: of nothing it supports nothing.
-module _ {S : Type 0} (is_empty : S → Bool) (supported : Abi → S → S) (nothing : (abi : Abi) (set : S) → is_empty set ≡ true → is_empty (supported abi set) ≡ true)
+module _ {S : Type 0} (is_empty : S → Bool) (supported : Abi → S → S) (nothing : (abi : Abi) (set : S) → is_empty set ≡ true
+    → is_empty (supported abi set) ≡ true)
     (fewer : (older newer : Abi) (set : S) → number_of older ≤ number_of newer → supported older (supported newer set) ≡ supported older set)
     (older newer : Abi) (le : number_of older ≤ number_of newer) where
   still-empty : (set : S) → is_empty (supported newer set) ≡ true → is_empty (supported older set) ≡ true
   still-empty set empty = ap is_empty (sym (fewer older newer set le)) ∙ nothing older (supported newer set) empty
 
-  rule-older : (f : Op → Op) (adds : S → Op) (left : Op) → f left ≡ left → ((set : S) → f (adds set) ≡ (if is_empty (supported older set) && not (is_empty set) then left else adds (supported older set)))
-      → (set : S) → f (if is_empty (supported newer set) && not (is_empty set) then left else adds (supported newer set)) ≡ (if is_empty (supported older set) && not (is_empty set) then left else adds (supported older set))
+  rule-older : (f : Op → Op) (adds : S → Op) (left : Op) → f left ≡ left
+      → ((set : S) → f (adds set) ≡ (if is_empty (supported older set) && not (is_empty set) then left else adds (supported older set)))
+      → (set : S) → f (if is_empty (supported newer set) && not (is_empty set) then left else adds (supported newer set))
+      ≡ (if is_empty (supported older set) && not (is_empty set) then left else adds (supported older set))
   rule-older f adds left stays is set =
-      down f left (adds (supported newer set)) (adds (supported older set)) (is_empty set) (is_empty (supported newer set)) (is_empty (supported older set)) (nothing newer set) (still-empty set) stays
+      down f left (adds (supported newer set)) (adds (supported older set)) (is_empty set) (is_empty (supported newer set)) (is_empty (supported older set))
+      (nothing newer set) (still-empty set) stays
       (is (supported newer set) ∙ ap (λ (s : S). if is_empty s && not (is_empty (supported newer set)) then left else adds s) (fewer older newer set le))
 
 fs_empty : (abi : Abi) (set : Fs) → files.is_empty set ≡ true → files.is_empty (supported_fs abi set) ≡ true
@@ -119,24 +134,30 @@ unfolding at_best_effort
 call-older older newer le (calls.Create rs fs net) =
     let fewer : supported_fs older (supported_fs newer fs) ≡ supported_fs older fs = fs_supported-older older newer fs le in
     let fewer_ports : supported_net older (supported_net newer net) ≡ supported_net older net = net_supported-older older newer net le in
-    down (at_best_effort older) (calls.CreateEmpty rs) (calls.Create rs (supported_fs newer fs) (supported_net newer net)) (calls.Create rs (supported_fs older fs) (supported_net older net))
+    down (at_best_effort older) (calls.CreateEmpty rs) (calls.Create rs (supported_fs newer fs) (supported_net newer net))
+    (calls.Create rs (supported_fs older fs) (supported_net older net))
     (files.is_empty fs && network.is_empty net)
     (files.is_empty (supported_fs newer fs) && network.is_empty (supported_net newer net))
     (files.is_empty (supported_fs older fs) && network.is_empty (supported_net older net))
-    (both (files.is_empty fs) (network.is_empty net) (files.is_empty (supported_fs newer fs)) (network.is_empty (supported_net newer net)) (fs_empty newer fs) (net_empty newer net))
-    (both (files.is_empty (supported_fs newer fs)) (network.is_empty (supported_net newer net)) (files.is_empty (supported_fs older fs)) (network.is_empty (supported_net older net))
+    (both (files.is_empty fs) (network.is_empty net) (files.is_empty (supported_fs newer fs)) (network.is_empty (supported_net newer net))
+    (fs_empty newer fs) (net_empty newer net))
+    (both (files.is_empty (supported_fs newer fs)) (network.is_empty (supported_net newer net)) (files.is_empty (supported_fs older fs))
+    (network.is_empty (supported_net older net))
     (still-empty files.is_empty supported_fs fs_empty fs_supported-older older newer le fs)
     (still-empty network.is_empty supported_net net_empty net_supported-older older newer le net))
     refl
     (ap (λ (s : Fs). creates rs (supported_fs newer fs) (supported_net newer net) s (supported_net older (supported_net newer net))) fewer
     ∙ ap (creates rs (supported_fs newer fs) (supported_net newer net) (supported_fs older fs)) fewer_ports)
 call-older older newer le (calls.AddPath rs path fs) =
-    rule-older files.is_empty supported_fs fs_empty fs_supported-older older newer le (at_best_effort older) (calls.AddPath rs path) (calls.LeaveOut PathBeneath) refl (λ _. refl) fs
+    rule-older files.is_empty supported_fs fs_empty fs_supported-older older newer le (at_best_effort older) (calls.AddPath rs path)
+    (calls.LeaveOut PathBeneath) refl (λ _. refl) fs
 call-older older newer le (calls.AddPort rs port net) =
-    rule-older network.is_empty supported_net net_empty net_supported-older older newer le (at_best_effort older) (calls.AddPort rs port) (calls.LeaveOut NetPort) refl (λ _. refl) net
+    rule-older network.is_empty supported_net net_empty net_supported-older older newer le (at_best_effort older) (calls.AddPort rs port)
+    (calls.LeaveOut NetPort) refl (λ _. refl) net
 call-older older newer le op = refl
 
-pub records-older : (older newer : Abi) (records : List Record) → number_of older ≤ number_of newer → records_at_best_effort older (records_at_best_effort newer records) ≡ records_at_best_effort older records
+pub records-older : (older newer : Abi) (records : List Record) → number_of older ≤ number_of newer
+    → records_at_best_effort older (records_at_best_effort newer records) ≡ records_at_best_effort older records
 records-older older newer [] le = refl
 records-older older newer (r ∷ rs) le =
     ap (λ (op : Op). record r { op = op } ∷ records_at_best_effort older (records_at_best_effort newer rs)) (call-older older newer le r.op)

@@ -47,12 +47,14 @@ pub fn processes_are_numbered()
     ensures each { (records : List Record) (process : ℕ) → process < process_count records
         → (place : ℕ) × (started_at records place ≡ Some process) }
     ensures once { (records : List Record) (place other process : ℕ)
-        → started_at records place ≡ Some process → started_at records other ≡ Some process → place ≡ other }
+        → started_at records place ≡ Some process
+        → started_at records other ≡ Some process → place ≡ other }
     ensures forked { (records : List Record) (place process : ℕ) (of : Record)
         → slice_get records place ≡ Some of → started_at records place ≡ Some process
         → parent_of records process ≡ forked_by of.op of.process }
     ensures parent { (records : List Record) (process : ℕ) (parent : ProcessId) → IsNumbered records
-        → process < process_count records → parent_of records process ≡ Some parent → parent.0 < process }
+        → process < process_count records
+        → parent_of records process ≡ Some parent → parent.0 < process }
 {}
 
 /// A set of rights that is read from a list of names has just the rights that some name of the list
@@ -77,8 +79,10 @@ pub fn lines_say_operations_by_name()
 /// Best effort changes no record at a version that supports all rights that the records name. At an older version it
 /// makes the same of what a newer one left as of the records themselves.
 pub fn best_effort_by_version()
-    ensures supported { (abi : Abi) (records : List Record) → All (λ of. IsSupported abi of.op) records
+    ensures supported { (abi : Abi) (records : List Record)
+        → All (λ of. IsSupported abi of.op) records
         → records_at_best_effort abi records ≡ records }
     ensures older { (older newer : Abi) (records : List Record) → number_of older ≤ number_of newer
-        → records_at_best_effort older (records_at_best_effort newer records) ≡ records_at_best_effort older records }
+        → records_at_best_effort older (records_at_best_effort newer records)
+        ≡ records_at_best_effort older records }
 {}

@@ -70,7 +70,8 @@ fn admit_part(reader: &mut Reader, part: PartRead) -> Result<(), ReadFault>
         → read_lines trace_file (entries reader.old) (lines ++ others)
         ≡ read_lines trace_file (entries reader.new) others) }
     ensures fault { IfErr result (λ fault. (lines others : List Line) → IsReadOf lines part
-        → MeetsFault fault.line fault.cause (read_lines trace_file (entries reader.old) (lines ++ others))) }
+        → MeetsFault fault.line fault.cause
+        (read_lines trace_file (entries reader.old) (lines ++ others))) }
     ensures kept { OnOk result (IsKept reader.new) }
 {
     let PartRead { entries, fault } = part;

@@ -35,7 +35,8 @@ impl Tables {
     /// Makes room for the process that the record at a place starts.
     fn begin(&mut self, alloc: Global, added: &Record, place: u32) -> Result<(), AllocError>
         ensures parents { OnOk result (self.new.parents.items ≡ self.old.parents.items
-            ++ (if is_starting added.now.op then forked_by added.now.op added.now.process ∷ [] else [])) }
+            ++ (if is_starting added.now.op
+            then forked_by added.now.op added.now.process ∷ [] else [])) }
         ensures own { OnOk result (lists self.new.own.items ≡ lists self.old.own.items
             ++ (if is_starting added.now.op then [] ∷ [] else [])) }
         ensures starts { OnOk result (self.new.starts.items ≡ self.old.starts.items

@@ -23,37 +23,38 @@ use Rattle.ll_trails.specs.Trails.{AreTrails}
 pub read_there : {X : Type 0} (xs read : List X) (k : ℕ) (x : X) → read ≡ xs → k < length xs → x ≡ get_or read k x → slice_get xs k ≡ Some x
 read_there {X = X} xs read k x same within is = slice_get_read xs (length xs) k x refl within (is ∙ ap (λ (ys : List X). get_or ys k x) same)
 
--- there are none before the first record
-pub sources_at-first : (tree : List Entry) (abi : Abi) (records : List Record) → sources_at tree abi records 0 ≡ no_sources
-unfolding sources_at sources_after
-sources_at-first tree abi records = refl
+module _ (tree : List Entry) (abi : Abi) (records : List Record) where
+  -- there are none before the first record
+  pub sources_at-first : sources_at tree abi records 0 ≡ no_sources
+  unfolding sources_at sources_after
+  sources_at-first = refl
 
--- the next record and its answer
-pub sources_at-next : (tree : List Entry) (abi : Abi) (records : List Record) (k : ℕ) (r : Record) (a : Answer) → slice_get records k ≡ Some r → slice_get (judged tree abi records) k ≡ Some a
-    → sources_at tree abi records (k + 1) ≡ sources_by k r.op r.process.0 a (sources_at tree abi records k)
-sources_at-next tree abi records k r a at asked =
-    let told : answer_in tree abi (world_at tree abi records k) r.process.0 r.op ≡ a = same_Some _ a (sym (judged-at tree abi records k r at) ∙ asked) in
-    ap (λ (n : ℕ). sources_at tree abi records n) (let next : k + 1 ≡ suc k = omega arith in next)
-    ∙ sources_at-more tree abi records k r at
-    ∙ ap (λ (answer : Answer). sources_by k r.op r.process.0 answer (sources_at tree abi records k)) told
+  -- the next record and its answer
+  pub sources_at-next : (k : ℕ) (r : Record) (a : Answer) → slice_get records k ≡ Some r → slice_get (judged tree abi records) k ≡ Some a
+      → sources_at tree abi records (k + 1) ≡ sources_by k r.op r.process.0 a (sources_at tree abi records k)
+  sources_at-next k r a at asked =
+      let told : answer_in tree abi (world_at tree abi records k) r.process.0 r.op ≡ a = same_Some _ a (sym (judged-at tree abi records k r at) ∙ asked) in
+      ap (λ (n : ℕ). sources_at tree abi records n) (let next : k + 1 ≡ suc k = omega arith in next) ∙ sources_at-more tree abi records k r at
+      ∙ ap (λ (answer : Answer). sources_by k r.op r.process.0 answer (sources_at tree abi records k)) told
 
--- as many processes as were started
-pub count-sources_at : (tree : List Entry) (abi : Abi) (records : List Record) (k : ℕ) → k ≤ length records → (sources_at tree abi records k).count ≡ process_count (take k records)
-count-sources_at tree abi records zero within = rw (sources_at-first tree abi records) (sym (no_count records))
-count-sources_at tree abi records (suc k) within = elim ((slice_get_cases records k).1) [
-  | inl there ↦ one_more there.0 there.2 (count-sources_at tree abi records k (omega arith))
-  | inr past ↦ absurd (omega (arith, past.0))
-]
-  where
-    one_more : (r : Record) → slice_get records k ≡ Some r → (sources_at tree abi records k).count ≡ process_count (take k records) → (sources_at tree abi records (suc k)).count ≡ process_count (take (suc k) records)
-    one_more r at before =
-        ap (λ sources. sources.count) (sources_at-more tree abi records k r at)
-        ∙ omega (arith, count-sources_by k r.op r.process.0 (answer_in tree abi (world_at tree abi records k) r.process.0 r.op) (sources_at tree abi records k), before, count-more records k r at)
+  one_more : (k : ℕ) (r : Record) → slice_get records k ≡ Some r → (sources_at tree abi records k).count ≡ process_count (take k records)
+      → (sources_at tree abi records (suc k)).count ≡ process_count (take (suc k) records)
+  one_more k r at before =
+      let counted = count-sources_by k r.op r.process.0 (answer_in tree abi (world_at tree abi records k) r.process.0 r.op) (sources_at tree abi records k) in
+      ap (λ sources. sources.count) (sources_at-more tree abi records k r at) ∙ omega (arith, counted, before, count-more records k r at)
 
--- a record that starts no process is of one that was started before
-pub process_there : (tree : List Entry) (abi : Abi) (records : List Record) (k : ℕ) (r : Record) → IsNumbered records → k ≤ length records → slice_get records k ≡ Some r → is_start r.op ≡ false
-    → r.process.0 < (sources_at tree abi records k).count
-process_there tree abi records k r numbered within at goes = rw (count-sources_at tree abi records k within) (numbered.goes_on k r at goes)
+  -- as many processes as were started
+  pub count-sources_at : (k : ℕ) → k ≤ length records → (sources_at tree abi records k).count ≡ process_count (take k records)
+  count-sources_at zero within = rw sources_at-first (sym (no_count records))
+  count-sources_at (suc k) within = elim ((slice_get_cases records k).1) [
+    | inl there ↦ one_more k there.0 there.2 (count-sources_at k (omega arith))
+    | inr past ↦ absurd (omega (arith, past.0))
+  ]
+
+  -- a record that starts no process is of one that was started before
+  pub process_there : (k : ℕ) (r : Record) → IsNumbered records → k ≤ length records → slice_get records k ≡ Some r → is_start r.op ≡ false
+      → r.process.0 < (sources_at tree abi records k).count
+  process_there k r numbered within at goes = rw (count-sources_at k within) (numbered.goes_on k r at goes)
 
 -- what is kept of no process is what is kept before the first record
 pub begins_at : (of : Matter) (trails : Trails) → AreTrails trails.trails.items no_sources → AreTrailsAt of 0 trails

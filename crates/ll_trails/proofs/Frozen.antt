@@ -1,5 +1,6 @@
 -- The layers of a case by which records restrict their processes: what the notes say of them, and that those of some records are one by one what these enforce.
-use Rattle.std.proofs.Common.{◌≡◌, ℕ, ◌+◌, ◌<◌, ◌≤◌, true, List, [], ◌∷◌, ◌++◌, length, take, get_or, filter_map, option_to_list, Option, Some, None, refl, ap, ◌∙◌, subst, arith, append-nil, add-one, inl, inr}
+use Rattle.std.proofs.Common.{◌≡◌, ℕ, ◌+◌, ◌<◌, ◌≤◌, true, List, [], ◌∷◌, ◌++◌, length, take, get_or, filter_map, option_to_list, Option, Some, None, refl, ap}
+use Rattle.std.proofs.Common.{◌∙◌, subst, arith, append-nil, add-one, inl, inr}
 use Rattle.std.specs.Prelude.{slice_get}
 use Rattle.std.specs.List.{AllZip, cons_option}
 use Rattle.std.proofs.Math.Seq.{take-suc}
@@ -46,7 +47,8 @@ unfolding IsFrozen
 without_layer at rules none = rw none tt
 
 -- a layer is what a ruleset was frozen to, whatever process meets it
-of_any : (of : Matter) (world : World) (p q : ℕ) (found : Option LayerId) (rules : Option Layer) → IsFrozen (met_by of.tree of.abi of.layers world p) found rules → IsFrozen (met_by of.tree of.abi of.layers world q) found rules
+of_any : (of : Matter) (world : World) (p q : ℕ) (found : Option LayerId) (rules : Option Layer)
+    → IsFrozen (met_by of.tree of.abi of.layers world p) found rules → IsFrozen (met_by of.tree of.abi of.layers world q) found rules
 unfolding IsFrozen
 of_any of world p q (Some id) (Some rules) is = is
 of_any of world p q (Some id) None is = is
@@ -60,7 +62,8 @@ noted at op (Frozen id) fits = fits
 noted at op Open fits = without_layer at (enforced at.rulesets op at.state) fits.1
 
 -- the note at a place names the layer that the record there enforces
-pub noted_at : (of : Matter) (read : List Record) (k process : ℕ) (note : Note) → IsCase of → read ≡ of.records → k < length read → slice_get of.notes k ≡ Some note
+pub noted_at : (of : Matter) (read : List Record) (k process : ℕ) (note : Note) → IsCase of → read ≡ of.records → k < length read
+    → slice_get of.notes k ≡ Some note
     → IsFrozen (met_by of.tree of.abi of.layers (world_at of.tree of.abi of.records k) process) (layer_in note) (enforced_at of.tree of.abi of.records k)
 unfolding enforced_at enforced_by
 noted_at of read k process note case same within says = elim ((slice_get_cases of.records k).1) [
@@ -68,7 +71,8 @@ noted_at of read k process note case same within says = elim ((slice_get_cases o
       let r : Record = there.0 in
       let world : World = world_at of.tree of.abi of.records k in
       let fits : NoteFits (met_by of.tree of.abi of.layers world r.process.0) r.op note = case.settled.fits k r note there.2 says in
-      rw (there.2) (of_any of world r.process.0 process (layer_in note) (enforced world.rulesets r.op (world.processes r.process.0)) (noted (met_by of.tree of.abi of.layers world r.process.0) r.op note fits))
+      rw (there.2) (of_any of world r.process.0 process (layer_in note) (enforced world.rulesets r.op (world.processes r.process.0))
+      (noted (met_by of.tree of.abi of.layers world r.process.0) r.op note fits))
   | inr past ↦ absurd (omega (arith, within, past.0, ap (λ (rs : List Record). length rs) same))
 ]
 
@@ -89,46 +93,54 @@ module _ (of : Matter) where
     pub same : AllZip SameRules (all_in_tree of.tree (domain_of of.layers ids)) (filter_map (enforced_at of.tree of.abi of.records) places)
 
   -- one record more, which enforces nothing
-  made_none : (places : List ℕ) (k : ℕ) → enforced_at of.tree of.abi of.records k ≡ None → filter_map (enforced_at of.tree of.abi of.records) (places ++ k ∷ []) ≡ filter_map (enforced_at of.tree of.abi of.records) places
+  made_none : (places : List ℕ) (k : ℕ) → enforced_at of.tree of.abi of.records k ≡ None
+      → filter_map (enforced_at of.tree of.abi of.records) (places ++ k ∷ []) ≡ filter_map (enforced_at of.tree of.abi of.records) places
   made_none places k makes =
       let made : ℕ → Option Layer = enforced_at of.tree of.abi of.records in
       filter_map-append made places (k ∷ []) ∙ ap (λ (x : Option Layer). filter_map made places ++ cons_option x []) makes ∙ append-nil (filter_map made places)
 
   -- one record more, which enforces a ruleset
-  made_some : (places : List ℕ) (k : ℕ) (rules : Layer) → enforced_at of.tree of.abi of.records k ≡ Some rules → filter_map (enforced_at of.tree of.abi of.records) (places ++ k ∷ []) ≡ filter_map (enforced_at of.tree of.abi of.records) places ++ rules ∷ []
+  made_some : (places : List ℕ) (k : ℕ) (rules : Layer) → enforced_at of.tree of.abi of.records k ≡ Some rules
+      → filter_map (enforced_at of.tree of.abi of.records) (places ++ k ∷ []) ≡ filter_map (enforced_at of.tree of.abi of.records) places ++ rules ∷ []
   made_some places k rules makes =
       let made : ℕ → Option Layer = enforced_at of.tree of.abi of.records in
       filter_map-append made places (k ∷ []) ∙ ap (λ (x : Option Layer). filter_map made places ++ cons_option x []) makes
 
-  kept_of : (at : Situation) (places : List ℕ) (k : ℕ) (ids : List LayerId) (rules : Option Layer) → enforced_at of.tree of.abi of.records k ≡ rules → IsFrozen at None rules → AreOf places ids → AreOf (places ++ k ∷ []) ids
+  kept_of : (at : Situation) (places : List ℕ) (k : ℕ) (ids : List LayerId) (rules : Option Layer) → enforced_at of.tree of.abi of.records k ≡ rules
+      → IsFrozen at None rules → AreOf places ids → AreOf (places ++ k ∷ []) ids
   unfolding IsFrozen
   kept_of at places k ids None makes frozen are = record { inside = are.inside; same = rw (made_none places k makes) (are.same) }
   kept_of at places k ids (Some rules) makes frozen are = absurd frozen
 
-  more_of : (at : Situation) (places : List ℕ) (k : ℕ) (ids : List LayerId) (id : LayerId) (rules : Option Layer) → at.tree ≡ of.tree → at.layers ≡ of.layers → enforced_at of.tree of.abi of.records k ≡ rules → IsFrozen at (Some id) rules → AreOf places ids
-      → AreOf (places ++ k ∷ []) (ids ++ id ∷ [])
+  more_of : (at : Situation) (places : List ℕ) (k : ℕ) (ids : List LayerId) (id : LayerId) (rules : Option Layer) → at.tree ≡ of.tree → at.layers ≡ of.layers
+      → enforced_at of.tree of.abi of.records k ≡ rules → IsFrozen at (Some id) rules → AreOf places ids → AreOf (places ++ k ∷ []) (ids ++ id ∷ [])
   unfolding IsFrozen
   more_of at places k ids id None tree layers makes frozen are = absurd frozen
   more_of at places k ids id (Some rules) tree layers makes frozen are =
+      let in_order = map-append (in_tree of.tree) (domain_of of.layers ids) (layer_at of.layers id ∷ []) in
       let made : ℕ → Option Layer = enforced_at of.tree of.abi of.records in
       record {
         inside = All-push (λ (other : LayerId). other.0 < length of.layers) ids id are.inside (rw (← layers) (frozen.0));
-        same = rw (made_some places k rules makes, map-append (layer_at of.layers) ids (id ∷ []), map-append (in_tree of.tree) (domain_of of.layers ids) (layer_at of.layers id ∷ []))
-            (AllZip-push SameRules (all_in_tree of.tree (domain_of of.layers ids)) (filter_map made places) (in_tree of.tree (layer_at of.layers id)) rules are.same (rw (← layers, ← tree) (frozen.1)));
+        same = rw (made_some places k rules makes, map-append (layer_at of.layers) ids (id ∷ []), in_order)
+            (AllZip-push SameRules (all_in_tree of.tree (domain_of of.layers ids)) (filter_map made places)
+            (in_tree of.tree (layer_at of.layers id)) rules are.same (rw (← layers, ← tree) (frozen.1)));
       }
 
-  one_more : (at : Situation) (places : List ℕ) (k : ℕ) (ids : List LayerId) (found : Option LayerId) → at.tree ≡ of.tree → at.layers ≡ of.layers → IsFrozen at found (enforced_at of.tree of.abi of.records k) → AreOf places ids → AreOf (places ++ k ∷ []) (ids ++ option_to_list found)
+  one_more : (at : Situation) (places : List ℕ) (k : ℕ) (ids : List LayerId) (found : Option LayerId) → at.tree ≡ of.tree → at.layers ≡ of.layers
+      → IsFrozen at found (enforced_at of.tree of.abi of.records k) → AreOf places ids → AreOf (places ++ k ∷ []) (ids ++ option_to_list found)
   one_more at places k ids None tree layers frozen are = rw (append-nil ids) (kept_of at places k ids (enforced_at of.tree of.abi of.records k) refl frozen are)
   one_more at places k ids (Some id) tree layers frozen are = more_of at places k ids id (enforced_at of.tree of.abi of.records k) tree layers refl frozen are
 
   -- the next of some places that are read
   pub next_of : (places read : List ℕ) (n : ℕ) (ids next : List LayerId) (found : Option LayerId) → read ≡ places → n < length read
-      → ((process : ℕ) → IsFrozen (met_by of.tree of.abi of.layers (world_at of.tree of.abi of.records (get_or read n 0)) process) found (enforced_at of.tree of.abi of.records (get_or read n 0)))
+      → ((process : ℕ) → IsFrozen (met_by of.tree of.abi of.layers (world_at of.tree of.abi of.records (get_or read n 0)) process) found
+      (enforced_at of.tree of.abi of.records (get_or read n 0)))
       → next ≡ ids ++ option_to_list found → AreOf (take n places) ids → AreOf (take (n + 1) places) next
   next_of places read n ids next found same within frozen is are =
       let k : ℕ = get_or read n 0 in
       let taken : take (n + 1) read ≡ take n read ++ k ∷ [] = rw add-one (take-suc read n 0 within) in
-      rw (is, ← same, taken) (one_more (met_by of.tree of.abi of.layers (world_at of.tree of.abi of.records k) 0) (take n read) k ids found refl refl (frozen 0) (rw same are))
+      rw (is, ← same, taken)
+      (one_more (met_by of.tree of.abi of.layers (world_at of.tree of.abi of.records k) 0) (take n read) k ids found refl refl (frozen 0) (rw same are))
 
   -- all of them
   pub all_of : (places read : List ℕ) (n : ℕ) (ids : List LayerId) → read ≡ places → length read ≤ n → AreOf (take n places) ids → AreOf places ids
@@ -137,7 +149,8 @@ module _ (of : Matter) where
       subst (λ (xs : List ℕ). AreOf xs ids) taken are
 
   -- the layers of the records that a process's origins name are those of the process
-  pub domain_is : (trail : Trail) (ids : List LayerId) (place process : ℕ) → AreOf trail.layers.items ids → Follows trail (origins_at of.tree of.abi of.records place process) → IsDomainAt of place process ids
+  pub domain_is : (trail : Trail) (ids : List LayerId) (place process : ℕ) → AreOf trail.layers.items ids
+      → Follows trail (origins_at of.tree of.abi of.records place process) → IsDomainAt of place process ids
   domain_is trail ids place process are follows = record {
     places = are.inside;
     same = rw (layers_made of.tree of.abi of.records place process, ← follows.layers) (are.same);

@@ -14,7 +14,8 @@ use Rattle.ll_trails.specs.declared.trail.Trail.{Trail}
 use Rattle.ll_trails.specs.Trails.{Follows, AreTrails}
 
 -- one process more
-pub trails_begun : (trails : List Trail) (trail : Trail) (sources : Sources) (o : Origins) → AreTrails trails sources → Follows trail o → AreTrails (trails ++ trail ∷ []) (with_next sources o)
+pub trails_begun : (trails : List Trail) (trail : Trail) (sources : Sources) (o : Origins) → AreTrails trails sources → Follows trail o
+    → AreTrails (trails ++ trail ∷ []) (with_next sources o)
 trails_begun trails trail sources o are follows = record {
   count = simp length-append (omega (arith, are.count));
   each = λ process one at. elim (cases_eq process (length trails)) [
@@ -23,29 +24,34 @@ trails_begun trails trail sources o are follows = record {
         let it : trail ≡ one = cc in
         rw (← it, eq-eqb process sources.count (last ∙ are.count)) follows
     | inr earlier ↦
-        let before : slice_get (trails ++ trail ∷ []) process ≡ slice_get trails process = rw (slice_get-push trails process trail, ne_eqb process (length trails) earlier) refl in
+        let before : slice_get (trails ++ trail ∷ []) process ≡ slice_get trails process =
+        rw (slice_get-push trails process trail, ne_eqb process (length trails) earlier) refl in
         rw (ne_eqb process sources.count (λ same. earlier (same ∙ sym are.count))) (are.each process one (sym before ∙ at))
   ];
 }
 
 -- another trail of one process
-pub trails_changed : (trails : List Trail) (process : ℕ) (trail : Trail) (sources : Sources) (o : Origins) → process < length trails → AreTrails trails sources → Follows trail o →
+pub trails_changed : (trails : List Trail) (process : ℕ) (trail : Trail) (sources : Sources) (o : Origins) → process < length trails
+    → AreTrails trails sources → Follows trail o →
     AreTrails (set trails process trail) (record sources { processes = with_origins sources.processes process o })
 trails_changed trails process trail sources o there are follows = record {
   count = length-set trails process trail ∙ are.count;
   each = λ other one at. elim (cases_eq other process) [
     | inl same ↦
-        let here : slice_get (set trails process trail) other ≡ Some trail = rw (slice_get-set trails process other trail there, eq-eqb other process same) refl in
+        let here : slice_get (set trails process trail) other ≡ Some trail =
+        rw (slice_get-set trails process other trail there, eq-eqb other process same) refl in
         let it : trail ≡ one = cc in
         rw (← it, eq-eqb other process same) follows
     | inr differs ↦
-        let before : slice_get (set trails process trail) other ≡ slice_get trails other = rw (slice_get-set trails process other trail there, ne_eqb other process differs) refl in
+        let before : slice_get (set trails process trail) other ≡ slice_get trails other =
+        rw (slice_get-set trails process other trail there, ne_eqb other process differs) refl in
         rw (ne_eqb other process differs) (are.each other one (sym before ∙ at))
   ];
 }
 
 -- another trail of one process that follows the same origins
-pub trails_kept : (trails : List Trail) (process : ℕ) (trail : Trail) (sources : Sources) → process < length trails → AreTrails trails sources → Follows trail (sources.processes process) → AreTrails (set trails process trail) sources
+pub trails_kept : (trails : List Trail) (process : ℕ) (trail : Trail) (sources : Sources) → process < length trails → AreTrails trails sources
+    → Follows trail (sources.processes process) → AreTrails (set trails process trail) sources
 trails_kept trails process trail sources there are follows =
     let changed = trails_changed trails process trail sources (sources.processes process) there are follows in
     record { count = changed.count; each = λ other one at. subst (λ (o : Origins). Follows one o) (same other) (changed.each other one at) }
@@ -56,7 +62,8 @@ trails_kept trails process trail sources there are follows =
 -- a call that starts no process
 pub sources_by_other : (place : ℕ) (op : Op) (process : ℕ) (answer : Answer) (sources : Sources) →
     ((x x' : Bool) → op ≡ calls.Start x x' → ⊥) → ((x : ℕ) → op ≡ calls.Fork x → ⊥) →
-    sources_by place op process answer sources ≡ if_allowed answer (record sources { processes = with_origins sources.processes process (traced place op (sources.processes process)) }) sources
+    sources_by place op process answer sources
+    ≡ if_allowed answer (record sources { processes = with_origins sources.processes process (traced place op (sources.processes process)) }) sources
 unfolding sources_by
 sources_by_other place (calls.Start nnp admin) process answer sources not_start not_fork = absurd (not_start nnp admin refl)
 sources_by_other place (calls.Fork child) process answer sources not_start not_fork = absurd (not_fork child refl)

@@ -28,7 +28,8 @@ pub struct Openings {
 
 /// Tells a map of a change.
 fn settle(settled: &mut SharedMap<u32>, change: &Change) -> Result<(), AllocError>
-    ensures { OnOk result ((q : ℕ) → get settled.new q ≡ (if change.now.fd == q then change.now.opening else get settled.old q)) }
+    ensures { OnOk result ((q : ℕ) → get settled.new q
+        ≡ (if change.now.fd == q then change.now.opening else get settled.old q)) }
 {
     match change.opening {
         Some(place) => settled.insert(change.fd, place)?,
@@ -83,7 +84,8 @@ impl Openings {
 
     /// Lets a change wait.
     fn wait(&mut self, change: Change) -> Result<(), AllocError>
-        ensures { OnOk result ((q : ℕ) → opened self.new q ≡ (if change.fd == q then change.opening else opened self.old q)) }
+        ensures { OnOk result ((q : ℕ)
+            → opened self.new q ≡ (if change.fd == q then change.opening else opened self.old q)) }
     {
         self.waiting.push(change)?;
         Ok(())
@@ -91,7 +93,8 @@ impl Openings {
 
     /// Gives a number the record that opened it, or closes it.
     pub(crate) fn put(&mut self, fd: u64, opening: Option<u32>) -> Result<(), NoMemory>
-        ensures { OnOk result ((q : ℕ) → opened self.new q ≡ (if fd == q then opening else opened self.old q)) }
+        ensures { OnOk result ((q : ℕ)
+            → opened self.new q ≡ (if fd == q then opening else opened self.old q)) }
     {
         if self.waiting.len() >= WAITING {
             self.take_all()?;

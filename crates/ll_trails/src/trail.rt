@@ -38,7 +38,8 @@ impl Trail {
 
     /// That of a child, which begins with all that its parent has.
     fn forked(&mut self) -> Result<Trail, NoMemory>
-        ensures child { IfOk result (λ child. (o : Origins) → Follows self.old o → Follows child o) }
+        ensures child { IfOk result (λ child. (o : Origins)
+            → Follows self.old o → Follows child o) }
         ensures parent { OnOk result ((o : Origins) → Follows self.old o → Follows self.new o) }
     {
         Ok(Trail {
@@ -61,7 +62,8 @@ impl Trail {
     /// Follows an allowed call, the record at a place of the trace.
     #[tactic(auto, unfolding(ll_reasons::specs::Origins::traced))]
     fn follow(&mut self, place: u32, op: &Op) -> Result<(), NoMemory>
-        ensures { OnOk result ((o : Origins) → Follows self.old o → Follows self.new (traced place op.now o)) }
+        ensures { OnOk result ((o : Origins) → Follows self.old o
+            → Follows self.new (traced place op.now o)) }
     {
         match op {
             Op::Create { rs, .. } | Op::CreateEmpty { rs } => {
@@ -107,7 +109,9 @@ impl Trails {
 
     /// One process more.
     fn begin(&mut self, trail: Trail) -> Result<(), AllocError>
-        ensures { OnOk result ((sources : Sources) (o : Origins) → AreTrails self.old.trails.items sources → Follows trail o → AreTrails self.new.trails.items (with_next sources o)) }
+        ensures { OnOk result ((sources : Sources) (o : Origins)
+            → AreTrails self.old.trails.items sources → Follows trail o
+            → AreTrails self.new.trails.items (with_next sources o)) }
     {
         self.trails.push(trail)?;
         Ok(())
@@ -148,8 +152,11 @@ impl Trails {
         record: &Record,
         answer: Answer,
     ) -> Result<(), NoMemory>
-        requires { is_start «record».now.op ≡ false → «record».now.process.0 < length self.old.trails.items }
-        ensures { OnOk result ((sources : Sources) → AreTrails self.old.trails.items sources → AreTrails self.new.trails.items (sources_by place «record».now.op «record».now.process.0 answer sources)) }
+        requires { is_start «record».now.op ≡ false
+            → «record».now.process.0 < length self.old.trails.items }
+        ensures { OnOk result ((sources : Sources) → AreTrails self.old.trails.items sources
+            → AreTrails self.new.trails.items
+            (sources_by place «record».now.op «record».now.process.0 answer sources)) }
     {
         let process = record.process.0 as usize;
         match record.op {

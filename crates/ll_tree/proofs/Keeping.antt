@@ -1,11 +1,13 @@
 -- What is kept stays sound: of the root alone, and when an object is put at the end.
-use Rattle.std.proofs.Common.{◌≡◌, ℕ, ◌<◌, ◌∷◌, [], ◌++◌, List, length, sym, ap, ◌∙◌, subst, arith, get_or, suc, ◌≤◌, ◌+◌, Bool, true, false, Option, Some, None, cond, leb, refl, inl, inr, ⊎_elim, take, Global}
+use Rattle.std.proofs.Common.{◌≡◌, ℕ, ◌<◌, ◌∷◌, [], ◌++◌, List, length, sym, ap, ◌∙◌, subst, arith, get_or, suc, ◌≤◌, ◌+◌, Bool, true, false, Option, Some}
+use Rattle.std.proofs.Common.{None, cond, leb, refl, inl, inr, ⊎_elim, take, Global}
 use Rattle.std.specs.String.{string_bytes, string_cmp}
 use Rattle.std.specs.declared.string.String.{String}
 use Rattle.ll_tree.specs.declared.tree.Object.{Object}
 use Rattle.ll_tree.specs.declared.place.NodeId.{NodeId}
 use Rattle.ll_tree.specs.TreeFacts.{spelt, named, IsTree, depth_at}
-use Rattle.ll_tree.specs.Trees.{Entry, root, path_at, kind_at, IsNode, is_dir, is_dir_in, position_of, node_at, parent_of, parent_at, gap_in, place_or_gap, place}
+use Rattle.ll_tree.specs.Trees.{Entry, root, path_at, kind_at, IsNode, is_dir, is_dir_in, position_of, node_at, parent_of, parent_at, gap_in, place_or_gap}
+use Rattle.ll_tree.specs.Trees.{place}
 use Rattle.ll_tree.specs.Kept.{entry_of, entries_of, IsOf, IsSound, number_of}
 use Rattle.std.proofs.lemmas.List.{length-map, map-append, get_or-map, length-append, length_push, get_or_append_left, get_or_push, take-append-le, take_at}
 use Rattle.std.specs.Prelude.{◌≢◌, IsTrue, is_some}
@@ -18,7 +20,8 @@ use Rattle.ll_rights.specs.declared.kind.Kind.TheVariants.{Dir}
 use Rattle.ll_tree.specs.declared.place.Place.TheVariants as places
 use Rattle.ll_lines.specs.Paths.{Path, is_name, path_of, front, path_eq, after_slash, names_in}
 use Rattle.ll_lines.specs.PathTexts.{is_path, text_of}
-use Rattle.ll_tree.proofs.Positions.{path_in, at_position, position_of-some, position_of-kept, is_dir_in-from_place, node, is_root, parent_of-root, parent_of-other, parent_found, empty_or_not, is_dir-Dir, spelt_is, place_is, node_at-position, position_of-push}
+use Rattle.ll_tree.proofs.Positions.{path_in, at_position, position_of-some, position_of-kept, is_dir_in-from_place, node, is_root, parent_of-root}
+use Rattle.ll_tree.proofs.Positions.{parent_of-other, parent_found, empty_or_not, is_dir-Dir, spelt_is, place_is, node_at-position, position_of-push}
 use Rattle.ll_lines.proofs.PathLaws.{is_path-path_of, text_of-path_of, bytes_eq-text_of}
 use Rattle.std.specs.BTreeMap.{BTreeMap, UpdatesBy}
 use Rattle.std.specs.Cmp.Lexicographic.{slice_cmp}
@@ -32,7 +35,8 @@ pub length-entries_of : (objects : List Object) → length (entries_of objects) 
 unfolding entries_of
 length-entries_of objects = length-map objects entry_of
 
-pub get_or-entries_of : (objects : List Object) (place : ℕ) (other : Object) → place < length objects → get_or (entries_of objects) place root ≡ entry_of (get_or objects place other)
+pub get_or-entries_of : (objects : List Object) (place : ℕ) (other : Object) → place < length objects
+    → get_or (entries_of objects) place root ≡ entry_of (get_or objects place other)
 unfolding entries_of
 get_or-entries_of objects place other within = get_or-map entry_of objects place other root within
 
@@ -61,7 +65,8 @@ module _ (objects : List Object) (value : List Entry) (is : entries_of objects �
     path_is = sym (ap (λ (e : Entry). e.path) entry_is)
 
     pub of_node : {A : Type 0} (numbers : List (String A × ℕ)) → IsSound objects numbers → IsOf value node.0 object
-    of_node numbers sound = rw found (subst (λ (entries : List Entry). IsOf entries node.0 (get_or objects node.0 object)) is (sound.each node.0 object (within_is node.0 within)))
+    of_node numbers sound =
+        rw found (subst (λ (entries : List Entry). IsOf entries node.0 (get_or objects node.0 object)) is (sound.each node.0 object (within_is node.0 within)))
 
 -- ---- a tree with one more object is a tree
 
@@ -77,21 +82,25 @@ gap_dir : (tree : List Entry) (found : Option NodeId) (up : NodeId) → gap_in t
 unfolding gap_in
 gap_dir tree None up is = cc
 gap_dir tree (Some dir) up is = go (is_dir (kind_at tree dir)) refl is where
-  go : (b : Bool) → is_dir (kind_at tree dir) ≡ b → cond b (places.Gap dir) places.Nowhere ≡ places.Gap up → (Some dir ≡ Some up) × (is_dir (kind_at tree up) ≡ true)
+  go : (b : Bool) → is_dir (kind_at tree dir) ≡ b → cond b (places.Gap dir) places.Nowhere ≡ places.Gap up
+      → (Some dir ≡ Some up) × (is_dir (kind_at tree up) ≡ true)
   go true test same = let dirs : dir ≡ up = cc in (ap (λ (n : NodeId). Some n) dirs, ap (λ n. is_dir (kind_at tree n)) (sym dirs) ∙ test)
   go false test same = cc
 
-pub gap_fits : (tree : List Entry) (text : List ℕ) (kind : Kind) (up : NodeId) → is_some (path_of text) ≡ true → place tree text ≡ places.Gap up → Fits tree (named text kind) up
+pub gap_fits : (tree : List Entry) (text : List ℕ) (kind : Kind) (up : NodeId) → is_some (path_of text) ≡ true → place tree text ≡ places.Gap up
+    → Fits tree (named text kind) up
 unfolding place_or_gap node_at
 gap_fits tree text kind up shape is = go (position_of (spelt text) tree) refl (place_is tree text shape ∙ is) where
-  go : (found : Option ℕ) → position_of (spelt text) tree ≡ found → place_or_gap tree (spelt text) (option_map node found) ≡ places.Gap up → Fits tree (named text kind) up
+  go : (found : Option ℕ) → position_of (spelt text) tree ≡ found → place_or_gap tree (spelt text) (option_map node found) ≡ places.Gap up
+      → Fits tree (named text kind) up
   go (Some number) at same = cc
   go None at same =
       let dir = gap_dir tree (node_at tree (front (spelt text))) up same in
       record { is_path = is_path-path_of text (spelt text) (spelt_is text shape); fresh = at; above = dir.0; is_dir = is_dir-Dir (kind_at tree up) dir.1 }
 
 -- what holds of each item by its place, and of a new one at the end
-pub each_push : {X : Type 0} (P : ℕ → X → Type 0) (xs : List X) (x other : X) → ((n : ℕ) → n < length xs → P n (get_or xs n other)) → P (length xs) x → (n : ℕ) → n < length (xs ++ x ∷ []) → P n (get_or (xs ++ x ∷ []) n other)
+pub each_push : {X : Type 0} (P : ℕ → X → Type 0) (xs : List X) (x other : X) → ((n : ℕ) → n < length xs → P n (get_or xs n other)) → P (length xs) x → (n : ℕ)
+    → n < length (xs ++ x ∷ []) → P n (get_or (xs ++ x ∷ []) n other)
 each_push P xs x other all last n within = elim (cases_lt n (length xs)) [
   | inl before ↦ rw (get_or_append_left xs (x ∷ []) other n before) (all n before)
   | inr after ↦
@@ -132,15 +141,19 @@ module _ (tree : List Entry) (new : Entry) (up : NodeId) (listed : IsTree tree) 
       let size = length_push tree new in
       record {
         begins = (let some = listed.begins.0 in omega arith, get_or_append_left tree (new ∷ []) root 0 listed.begins.0 ∙ listed.begins.1);
-        paths = λ here within. each_push (λ n e. IsTrue (Rattle.ll_lines.specs.PathTexts.is_path e.path)) tree new root (λ n inside. listed.paths (node n) inside) fits.is_path here.0 within;
+        paths = λ here within. each_push (λ n e. IsTrue (Rattle.ll_lines.specs.PathTexts.is_path e.path)) tree new root
+            (λ n inside. listed.paths (node n) inside) fits.is_path here.0 within;
         distinct = λ a b a_within b_within same. ap node (each_push (λ n e. (m : ℕ) → m < length both → e.path ≡ path_in both m → n ≡ m) tree new root
             (λ n inside. each_push (λ m e. path_in tree n ≡ e.path → n ≡ m) tree new root
-            (λ m m_inside is. ap (λ (here : NodeId). here.0) (listed.distinct (node n) (node m) inside m_inside is)) (λ is. absurd (other_path (node n) inside is)))
-            (each_push (λ m e. new.path ≡ e.path → length tree ≡ m) tree new root (λ m m_inside is. absurd (other_path (node m) m_inside (sym is))) (λ is. refl))
+            (λ m m_inside is. ap (λ (here : NodeId). here.0) (listed.distinct (node n) (node m) inside m_inside is))
+            (λ is. absurd (other_path (node n) inside is)))
+            (each_push (λ m e. new.path ≡ e.path → length tree ≡ m) tree new root
+            (λ m m_inside is. absurd (other_path (node m) m_inside (sym is))) (λ is. refl))
             a.0 a_within b.0 b_within same);
         above = λ here within later. each_push (λ n e. 0 < n → IsTrue (is_dir_in (take n both) (front e.path))) tree new root
             (λ n inside deeper. rw (take-append-le n tree (new ∷ []) (omega arith)) (listed.above (node n) inside deeper))
-            (λ deeper. rw (take_at tree (new ∷ []) (length tree) refl) (is_dir_in-from_place (front new.path) tree up.0 above_at.0 above_at.1 (ap (λ k. Rattle.ll_tree.specs.Trees.is_dir k) fits.is_dir)))
+            (λ deeper. rw (take_at tree (new ∷ []) (length tree) refl)
+            (is_dir_in-from_place (front new.path) tree up.0 above_at.0 above_at.1 (ap (λ k. Rattle.ll_tree.specs.Trees.is_dir k) fits.is_dir)))
             here.0 within later;
       }
 
@@ -176,10 +189,12 @@ module _ (tree : List Entry) (new : Entry) (up : NodeId) (listed : IsTree tree) 
   pub depth_at-new : depth_at (tree ++ new ∷ []) (node (length tree)) ≡ depth_at tree up + 1
   unfolding depth_at path_at
   depth_at-new =
-      ap (λ (e : Entry). length e.path) (get_or_push tree new root (length tree) refl) ∙ length-front new.path not_root ∙ ap (λ p. length p + 1) (sym above_at.1)
+      ap (λ (e : Entry). length e.path) (get_or_push tree new root (length tree) refl) ∙ length-front new.path not_root
+      ∙ ap (λ p. length p + 1) (sym above_at.1)
 
 -- a gap is in a node of the tree
-pub gap_node : (tree : List Entry) (text : List ℕ) (kind : Kind) (up : NodeId) → IsTree tree → is_some (path_of text) ≡ true → place tree text ≡ places.Gap up → up.0 < length tree
+pub gap_node : (tree : List Entry) (text : List ℕ) (kind : Kind) (up : NodeId) → IsTree tree → is_some (path_of text) ≡ true
+    → place tree text ≡ places.Gap up → up.0 < length tree
 gap_node tree text kind up listed shape is = (above_at tree (named text kind) up listed (gap_fits tree text kind up shape is)).0
 
 length-join : (path : Path) → length path ≤ suc (length (join_with_byte 47 path))
@@ -201,7 +216,8 @@ depth_small tree here listed within =
 
 -- ---- an object is put at the end
 
-module _ {A : Type 0} (objects : List Object) (value : List Entry) (view : entries_of objects ≡ value) (numbers later : BTreeMap (String A) ℕ) (key : String A) (object : Object) (up : NodeId) (number : ℕ)
+module _ {A : Type 0} (objects : List Object) (value : List Entry) (view : entries_of objects ≡ value) (numbers later : BTreeMap (String A) ℕ) (key : String A)
+    (object : Object) (up : NodeId) (number : ℕ)
     (sound : IsSound objects numbers.entries)
     (room : length value < 65536)
     (shape : is_some (path_of (string_bytes object.text)) ≡ true)
@@ -233,8 +249,10 @@ module _ {A : Type 0} (objects : List Object) (value : List Entry) (view : entri
 
     found_later : (other : Path) → is_path other ≡ true → number_of later.entries (text_of other) ≡ position_of other (value ++ new ∷ [])
     found_later other other_shape =
-        let text_is : text_of path ≡ string_bytes key = text_of-path_of (string_bytes object.text) path (spelt_is (string_bytes object.text) shape) ∙ sym same_text in
-        let tests : bytes_eq (string_bytes key) (text_of other) ≡ path_eq path other = ap (λ t. bytes_eq t (text_of other)) (sym text_is) ∙ bytes_eq-text_of path other fits.is_path other_shape in
+        let text_is : text_of path ≡ string_bytes key =
+        text_of-path_of (string_bytes object.text) path (spelt_is (string_bytes object.text) shape) ∙ sym same_text in
+        let tests : bytes_eq (string_bytes key) (text_of other) ≡ path_eq path other =
+        ap (λ t. bytes_eq t (text_of other)) (sym text_is) ∙ bytes_eq-text_of path other fits.is_path other_shape in
         btree_map_updates_text (string_bytes key) numbers later (Some number) updates (text_of other)
         ∙ ap (λ b. cond b (Some number) (number_of numbers.entries (text_of other))) tests
         ∙ ap (λ n. cond (path_eq path other) (Some n) (number_of numbers.entries (text_of other))) counted
@@ -248,8 +266,12 @@ module _ {A : Type 0} (objects : List Object) (value : List Entry) (view : entri
       found = λ other shape. rw listed_push (found_later other shape);
       each = λ n other within. rw listed_push (each_push (λ n (o : Object). IsOf (value ++ new ∷ []) n o) objects object other
           (λ n inside. let there : n < length value = let same = size in omega arith in
-          let before : IsOf value n (get_or objects n other) = subst (λ (es : List Entry). IsOf es n (get_or objects n other)) view (sound.each n other inside) in
-          record { parent = before.parent ∙ sym (parent_at-old value new up listed fits (node n) there); depth = before.depth ∙ sym (depth_at-old value new up listed fits (node n) there) })
+          let before : IsOf value n (get_or objects n other) =
+          subst (λ (es : List Entry). IsOf es n (get_or objects n other)) view (sound.each n other inside) in
+          record {
+            parent = before.parent ∙ sym (parent_at-old value new up listed fits (node n) there);
+            depth = before.depth ∙ sym (depth_at-old value new up listed fits (node n) there);
+          })
           (rw (← size) record { parent = parent ∙ sym (parent_at-new value new up listed fits); depth = deeper ∙ sym (depth_at-new value new up listed fits) })
           n within);
     }
@@ -297,4 +319,5 @@ module _ {A : Type 0} (key : String A) (text : String Global) (key_text : string
 
   -- what is kept of the root
   pub kept_root : IsSound (object ∷ []) ((key, 0) ∷ []) × (entries_of (object ∷ []) ≡ root ∷ [])
-  kept_root = (record { listed = rw entries_root root_tree; small = omega arith; found = rw entries_root found_root; each = rw entries_root each_root }, entries_root)
+  kept_root =
+      (record { listed = rw entries_root root_tree; small = omega arith; found = rw entries_root found_root; each = rw entries_root each_root }, entries_root)

@@ -1,12 +1,14 @@
 -- Where a path is in a list of entries, what is above a node, and the place that a text names.
-use Rattle.std.proofs.Common.{◌≡◌, ℕ, suc, zero, ◌≤◌, ◌<◌, ◌∷◌, [], ◌++◌, List, Bool, true, false, ◌&&◌, length, Option, Some, None, cond, refl, sym, ◌∙◌, subst, inl, inr, arith, get_or, ◌⊎◌, ⊎_elim, ap, take, eqb}
+use Rattle.std.proofs.Common.{◌≡◌, ℕ, suc, zero, ◌≤◌, ◌<◌, ◌∷◌, [], ◌++◌, List, Bool, true, false, ◌&&◌, length, Option, Some, None, cond, refl, sym, ◌∙◌}
+use Rattle.std.proofs.Common.{subst, inl, inr, arith, get_or, ◌⊎◌, ⊎_elim, ap, take, eqb}
 use Rattle.std.specs.Option.{option_map}
 use Rattle.std.proofs.lemmas.Bool.{cases_Bool, and_parts, false≢true, cases_lt}
 use Rattle.std.proofs.lemmas.Option.{none-some, same_Some}
 use Rattle.std.proofs.lemmas.Slice.Eq.{slice_eq-Decides, bytes_eq-Decides}
 use Rattle.std.specs.Bool.{Decides}
 use Rattle.ll_lines.specs.Paths.{Path, path_eq, front, path_of, is_prefix}
-use Rattle.ll_tree.specs.Trees.{Entry, root, is_dir, is_dir_in, position_of, IsNode, path_at, kind_at, node_at, parent_of, parent_at, place_or_gap, place_of, place}
+use Rattle.ll_tree.specs.Trees.{Entry, root, is_dir, is_dir_in, position_of, IsNode, path_at, kind_at, node_at, parent_of, parent_at, place_or_gap, place_of}
+use Rattle.ll_tree.specs.Trees.{place}
 use Rattle.std.proofs.lemmas.List.{get_or_default, length-take, get_or-take}
 use Rattle.std.proofs.lemmas.List.Folds.{Any-from_list_any, list_any_at}
 use Rattle.std.specs.Prelude.{◌≢◌, IfSome, IfNone, is_some, unwrap_or}
@@ -37,23 +39,28 @@ abbrev pub path_in : List Entry → ℕ → Path
 path_in entries place = (get_or entries place root).path
 
 -- what is at the place that is found
-pub at_position : (path : Path) (entries : List Entry) (place : ℕ) → position_of path entries ≡ Some place → (place < length entries) × (path_in entries place ≡ path)
+pub at_position : (path : Path) (entries : List Entry) (place : ℕ) → position_of path entries ≡ Some place
+    → (place < length entries) × (path_in entries place ≡ path)
 unfolding position_of
 at_position path [] place is = absurd (none-some place is)
 at_position path (entry ∷ entries) place is =
-    elim (path_eq entry.path path) as (λ b. path_eq entry.path path ≡ b → cond b (Some 0) (option_map (λ n. suc n) (position_of path entries)) ≡ Some place → (place < suc (length entries)) × (path_in (entry ∷ entries) place ≡ path)) [
-      | true ↦ λ same found. subst (λ n. (n < suc (length entries)) × (path_in (entry ∷ entries) n ≡ path)) (same_Some 0 place found) (omega arith, same_path entry.path path same)
+    elim (path_eq entry.path path) as (λ b. path_eq entry.path path ≡ b → cond b (Some 0) (option_map (λ n. suc n) (position_of path entries)) ≡ Some place
+    → (place < suc (length entries)) × (path_in (entry ∷ entries) place ≡ path)) [
+      | true ↦ λ same found. subst (λ n. (n < suc (length entries)) × (path_in (entry ∷ entries) n ≡ path)) (same_Some 0 place found)
+          (omega arith, same_path entry.path path same)
       | false ↦ λ other found. later (position_of path entries) (at_position path entries) found
     ] refl is
   where
-    later : (rest : Option ℕ) → ((n : ℕ) → rest ≡ Some n → (n < length entries) × (path_in entries n ≡ path)) → option_map (λ n. suc n) rest ≡ Some place → (place < suc (length entries)) × (path_in (entry ∷ entries) place ≡ path)
+    later : (rest : Option ℕ) → ((n : ℕ) → rest ≡ Some n → (n < length entries) × (path_in entries n ≡ path)) → option_map (λ n. suc n) rest ≡ Some place
+        → (place < suc (length entries)) × (path_in (entry ∷ entries) place ≡ path)
     later None at found = absurd (none-some place found)
     later (Some before) at found =
         let there = at before refl in
         subst (λ n. (n < suc (length entries)) × (path_in (entry ∷ entries) n ≡ path)) (same_Some (suc before) place found) (omega arith, there.1)
 
 -- a path that is in the list is found, there or earlier
-pub position_of-some : (path : Path) (entries : List Entry) (place : ℕ) → place < length entries → path_in entries place ≡ path → (first : ℕ) × (position_of path entries ≡ Some first) × (first ≤ place)
+pub position_of-some : (path : Path) (entries : List Entry) (place : ℕ) → place < length entries → path_in entries place ≡ path
+    → (first : ℕ) × (position_of path entries ≡ Some first) × (first ≤ place)
 unfolding position_of
 position_of-some path [] place within is = absurd (omega arith)
 position_of-some path (entry ∷ entries) zero within is = (0, rw (path_eq-same entry.path path is) refl, omega arith)
@@ -69,12 +76,15 @@ or_else : Option ℕ → Option ℕ → Option ℕ
 or_else None other = other
 or_else (Some place) other = Some place
 
-position_of-more : (path : Path) (entries : List Entry) (new : Entry) → position_of path (entries ++ new ∷ []) ≡ or_else (position_of path entries) (cond (path_eq new.path path) (Some (length entries)) None)
+position_of-more : (path : Path) (entries : List Entry) (new : Entry)
+    → position_of path (entries ++ new ∷ []) ≡ or_else (position_of path entries) (cond (path_eq new.path path) (Some (length entries)) None)
 unfolding position_of or_else
 position_of-more path [] new = refl
-position_of-more path (entry ∷ entries) new = rw (position_of-more path entries new) (by (path_eq entry.path path) (position_of path entries) (path_eq new.path path))
+position_of-more path (entry ∷ entries) new =
+    rw (position_of-more path entries new) (by (path_eq entry.path path) (position_of path entries) (path_eq new.path path))
   where
-    by : (here : Bool) (found : Option ℕ) (last : Bool) → cond here (Some 0) (option_map (λ place. suc place) (or_else found (cond last (Some (length entries)) None)))
+    by : (here : Bool) (found : Option ℕ) (last : Bool)
+        → cond here (Some 0) (option_map (λ place. suc place) (or_else found (cond last (Some (length entries)) None)))
         ≡ or_else (cond here (Some 0) (option_map (λ place. suc place) found)) (cond last (Some (suc (length entries))) None)
     by true found last = refl
     by false (Some n) last = refl
@@ -82,12 +92,14 @@ position_of-more path (entry ∷ entries) new = rw (position_of-more path entrie
     by false None false = refl
 
 -- what is found stays found
-pub position_of-kept : (path : Path) (entries : List Entry) (new : Entry) (place : ℕ) → position_of path entries ≡ Some place → position_of path (entries ++ new ∷ []) ≡ Some place
+pub position_of-kept : (path : Path) (entries : List Entry) (new : Entry) (place : ℕ) → position_of path entries ≡ Some place
+    → position_of path (entries ++ new ∷ []) ≡ Some place
 unfolding or_else
 position_of-kept path entries new place found = position_of-more path entries new ∙ rw found refl
 
 -- a path that wasn't there is the new one's, or is found as before
-pub position_of-push : (path : Path) (entries : List Entry) (new : Entry) → position_of new.path entries ≡ None → position_of path (entries ++ new ∷ []) ≡ cond (path_eq new.path path) (Some (length entries)) (position_of path entries)
+pub position_of-push : (path : Path) (entries : List Entry) (new : Entry) → position_of new.path entries ≡ None
+    → position_of path (entries ++ new ∷ []) ≡ cond (path_eq new.path path) (Some (length entries)) (position_of path entries)
 unfolding or_else
 position_of-push path entries new fresh = position_of-more path entries new ∙ elim (cases_Bool (path_eq new.path path)) [
   | inl last ↦ rw (last, ← same_path new.path path last, fresh) refl
@@ -95,7 +107,8 @@ position_of-push path entries new fresh = position_of-more path entries new ∙ 
 ]
 
 -- a directory of the list is somewhere in it
-pub place_of_dir : (path : Path) (entries : List Entry) → is_dir_in entries path ≡ true → (place : ℕ) × (place < length entries) × (path_in entries place ≡ path) × (is_dir (get_or entries place root).kind ≡ true)
+pub place_of_dir : (path : Path) (entries : List Entry) → is_dir_in entries path ≡ true
+    → (place : ℕ) × (place < length entries) × (path_in entries place ≡ path) × (is_dir (get_or entries place root).kind ≡ true)
 unfolding is_dir_in
 place_of_dir path entries is =
     let some = Any-from_list_any (λ entry. path_eq entry.path path && is_dir entry.kind) entries is in
@@ -104,10 +117,12 @@ place_of_dir path entries is =
     (some.0, some.2, same_path (get_or entries some.0 root).path path tests.0, tests.1)
 
 -- a directory that is at a place is one of the list
-pub is_dir_in-from_place : (path : Path) (entries : List Entry) (place : ℕ) → place < length entries → path_in entries place ≡ path → is_dir (get_or entries place root).kind ≡ true → is_dir_in entries path ≡ true
+pub is_dir_in-from_place : (path : Path) (entries : List Entry) (place : ℕ) → place < length entries → path_in entries place ≡ path
+    → is_dir (get_or entries place root).kind ≡ true → is_dir_in entries path ≡ true
 unfolding is_dir_in
 is_dir_in-from_place path entries place within is dir =
-    list_any_at (λ entry. path_eq entry.path path && is_dir entry.kind) entries place root within (rw (path_eq-same (get_or entries place root).path path is, dir) refl)
+    list_any_at (λ entry. path_eq entry.path path && is_dir entry.kind) entries place root within
+    (rw (path_eq-same (get_or entries place root).path path is, dir) refl)
 
 -- ---- what is above a node
 
@@ -144,10 +159,13 @@ is_dir-Dir Dir is = refl
 is_dir-Dir kind is = absurd (false≢true is)
 
 -- the parent of a node that isn't the root
-pub parent_found : (tree : List Entry) (here : NodeId) → IsTree tree → IsNode tree here → path_at tree here ≢ [] → (up : NodeId) × (parent_at tree here ≡ Some up) × StandsIn tree here up
+pub parent_found : (tree : List Entry) (here : NodeId) → IsTree tree → IsNode tree here → path_at tree here ≢ []
+    → (up : NodeId) × (parent_at tree here ≡ Some up) × StandsIn tree here up
 unfolding parent_at node_at path_at kind_at
 parent_found tree here listed within other =
-    let later : 0 < here.0 = ⊎_elim (λ (l : 0 < here.0). l) (λ (l : here.0 ≤ 0). absurd (other (let first : here.0 ≡ 0 = omega arith in ap (λ n. path_in tree n) first ∙ is_root tree listed))) (cases_lt 0 here.0) in
+    let later : 0 < here.0 =
+    ⊎_elim (λ (l : 0 < here.0). l) (λ (l : here.0 ≤ 0).
+    absurd (other (let first : here.0 ≡ 0 = omega arith in ap (λ n. path_in tree n) first ∙ is_root tree listed))) (cases_lt 0 here.0) in
     let path = path_at tree here in
     let dir = place_of_dir (front path) (take here.0 tree) (listed.above here within later) in
     let short = length-take here.0 tree in
@@ -156,8 +174,11 @@ parent_found tree here listed within other =
     let same : get_or (take here.0 tree) dir.0 root ≡ get_or tree dir.0 root = get_or-take here.0 tree dir.0 root before in
     let is_front : path_in tree dir.0 ≡ front path = ap (λ (e : Entry). e.path) (sym same) ∙ dir.2 in
     let directory : kind_at tree (node dir.0) ≡ Dir = is_dir-Dir (kind_at tree (node dir.0)) (ap (λ (e : Entry). is_dir e.kind) (sym same) ∙ dir.3) in
-    let found : position_of (front path) tree ≡ Some dir.0 = ap (λ p. position_of p tree) (sym is_front) ∙ position_is tree dir.0 listed inside in
-    (node dir.0, parent_of-other tree path other ∙ ap (option_map node) found, record { is_node = inside; is_front = is_front; is_dir = directory; before = before })
+    let found : position_of (front path) tree ≡ Some dir.0 = ap (λ p. position_of p tree) (sym is_front) ∙ position_is tree dir.0 listed inside in (
+      node dir.0,
+      parent_of-other tree path other ∙ ap (option_map node) found,
+      record { is_node = inside; is_front = is_front; is_dir = directory; before = before },
+    )
 
 pub empty_or_not : (path : Path) → (path ≡ []) ⊎ (path ≢ [])
 empty_or_not [] = inl refl
@@ -170,11 +191,13 @@ parent_none tree here listed within none =
     (empty_or_not (path_at tree here))
 
 -- the two outcomes of a parent
-pub if_none : (tree : List Entry) (here : NodeId) (up : Option NodeId) → IsTree tree → IsNode tree here → up ≡ parent_at tree here → IfNone up (path_at tree here ≡ [])
+pub if_none : (tree : List Entry) (here : NodeId) (up : Option NodeId) → IsTree tree → IsNode tree here → up ≡ parent_at tree here
+    → IfNone up (path_at tree here ≡ [])
 if_none tree here None listed within is = parent_none tree here listed within (sym is)
 if_none tree here (Some up) listed within is = tt
 
-pub if_some : (tree : List Entry) (here : NodeId) (up : Option NodeId) → IsTree tree → IsNode tree here → up ≡ parent_at tree here → IfSome up (StandsIn tree here)
+pub if_some : (tree : List Entry) (here : NodeId) (up : Option NodeId) → IsTree tree → IsNode tree here → up ≡ parent_at tree here
+    → IfSome up (StandsIn tree here)
 unfolding parent_at
 if_some tree here None listed within is = tt
 if_some tree here (Some up) listed within is =
@@ -188,14 +211,18 @@ if_some tree here (Some up) listed within is =
 
 -- a text that has the shape of a path spells it
 pub spelt_is : (text : List ℕ) → is_some (path_of text) ≡ true → path_of text ≡ Some (spelt text)
-spelt_is text shape = elim (path_of text) as (λ r. is_some r ≡ true → r ≡ Some (unwrap_or r [])) [ None ↦ λ some. absurd (false≢true some) | Some path ↦ λ some. refl ] shape
+spelt_is text shape =
+    elim (path_of text) as (λ r. is_some r ≡ true → r ≡ Some (unwrap_or r [])) [ None ↦ λ some. absurd (false≢true some) | Some path ↦ λ some. refl ] shape
 
 -- what the map has at the text of a path is the path's node
-pub found_is : {A : Type 0} (objects : List Object) (numbers : List (String A × ℕ)) (value : List Entry) (text : List ℕ) (found : Option ℕ) → IsSound objects numbers → entries_of objects ≡ value → is_some (path_of text) ≡ true → found ≡ number_of numbers text → option_map node found ≡ node_at value (spelt text)
+pub found_is : {A : Type 0} (objects : List Object) (numbers : List (String A × ℕ)) (value : List Entry) (text : List ℕ) (found : Option ℕ)
+    → IsSound objects numbers → entries_of objects ≡ value → is_some (path_of text) ≡ true → found ≡ number_of numbers text
+    → option_map node found ≡ node_at value (spelt text)
 unfolding node_at
 found_is objects numbers value text found sound is shape got =
     let read = spelt_is text shape in
-    ap (option_map node) (got ∙ ap (number_of numbers) (sym (text_of-path_of text (spelt text) read)) ∙ sound.found (spelt text) (is_path-path_of text (spelt text) read) ∙ ap (position_of (spelt text)) is)
+    ap (option_map node) (got ∙ ap (number_of numbers) (sym (text_of-path_of text (spelt text) read))
+    ∙ sound.found (spelt text) (is_path-path_of text (spelt text) read) ∙ ap (position_of (spelt text)) is)
 
 -- a node that has the path of a text is the path's node
 pub guessed_is : (tree : List Entry) (path : Path) (here : NodeId) → IsTree tree → IsNode tree here → path_at tree here ≡ path → Some here ≡ node_at tree path
@@ -206,7 +233,8 @@ guessed_is tree path here listed within is = sym (ap (option_map node) (ap (λ p
 pub node_at-position : (tree : List Entry) (path : Path) (here : NodeId) → node_at tree path ≡ Some here → position_of path tree ≡ Some here.0
 unfolding node_at
 node_at-position tree path here is =
-    elim (position_of path tree) as (λ found. option_map node found ≡ Some here → found ≡ Some here.0) [ None ↦ λ none. absurd (none-some here none) | Some n ↦ λ same. ap (λ (x : NodeId). Some x.0) (same_Some (node n) here same) ] is
+    elim (position_of path tree) as (λ found. option_map node found ≡ Some here
+    → found ≡ Some here.0) [ None ↦ λ none. absurd (none-some here none) | Some n ↦ λ same. ap (λ (x : NodeId). Some x.0) (same_Some (node n) here same) ] is
 
 -- and it is of the tree
 pub node_at-IsNode : (tree : List Entry) (path : Path) (found : Option NodeId) → found ≡ node_at tree path → IfSome found (IsNode tree)
@@ -216,9 +244,11 @@ node_at-IsNode tree path (Some here) is = (at_position path tree here.0 (node_at
 -- a text that is no path names nothing, any other what its path does
 pub place_other : (tree : List Entry) (text : List ℕ) → is_some (path_of text) ≡ false → places.Nowhere ≡ place tree text
 unfolding place place_of
-place_other tree text other = elim (path_of text) as (λ r. is_some r ≡ false → places.Nowhere ≡ place_of tree r) [ None ↦ λ none. refl | Some path ↦ λ none. absurd (false≢true (sym none)) ] other
+place_other tree text other = elim (path_of text) as (λ r. is_some r ≡ false
+    → places.Nowhere ≡ place_of tree r) [ None ↦ λ none. refl | Some path ↦ λ none. absurd (false≢true (sym none)) ] other
 
-pub place_is : (tree : List Entry) (text : List ℕ) → is_some (path_of text) ≡ true → place_or_gap tree (spelt text) (node_at tree (spelt text)) ≡ place tree text
+pub place_is : (tree : List Entry) (text : List ℕ) → is_some (path_of text) ≡ true
+    → place_or_gap tree (spelt text) (node_at tree (spelt text)) ≡ place tree text
 unfolding place place_of
 place_is tree text shape = ap (place_of tree) (sym (spelt_is text shape))
 
@@ -251,12 +281,14 @@ path_eq-nodes tree a b listed a_within b_within =
     same_from_decides (eqb b.0 a.0) (path_eq (path_at tree a) (path_at tree b)) by_number (path_eq-Decides (path_at tree a) (path_at tree b))
 
 -- a step up from a node that lies deeper
-pub climb_step : (tree : List Entry) (upper here up : NodeId) → depth_at tree upper < depth_at tree here → path_at tree up ≡ front (path_at tree here) → is_prefix (path_at tree upper) (path_at tree up) ≡ is_prefix (path_at tree upper) (path_at tree here)
+pub climb_step : (tree : List Entry) (upper here up : NodeId) → depth_at tree upper < depth_at tree here → path_at tree up ≡ front (path_at tree here)
+    → is_prefix (path_at tree upper) (path_at tree up) ≡ is_prefix (path_at tree upper) (path_at tree here)
 unfolding depth_at
 climb_step tree upper here up deeper is = ap (is_prefix (path_at tree upper)) is ∙ is_prefix-front (path_at tree upper) (path_at tree here) deeper
 
 -- at a node that lies no deeper
-pub climb_end : (tree : List Entry) (upper here : NodeId) → IsTree tree → IsNode tree upper → IsNode tree here → depth_at tree here ≤ depth_at tree upper → eqb here.0 upper.0 ≡ is_prefix (path_at tree upper) (path_at tree here)
+pub climb_end : (tree : List Entry) (upper here : NodeId) → IsTree tree → IsNode tree upper → IsNode tree here → depth_at tree here ≤ depth_at tree upper
+    → eqb here.0 upper.0 ≡ is_prefix (path_at tree upper) (path_at tree here)
 unfolding depth_at
 climb_end tree upper here listed upper_within here_within above =
     path_eq-nodes tree upper here listed upper_within here_within ∙ sym (is_prefix-same (path_at tree upper) (path_at tree here) above)

@@ -22,7 +22,8 @@ pub fn worked_files()
     ensures empty { ReadsAs [] [] }
     ensures alone { IsRefused (codes "{\"path\":\"/a/f\",\"kind\":\"reg\"}") 1 Cause.NoParent }
     ensures no_slash { IsRefused (codes "{\"path\":\"a\",\"kind\":\"dir\"}") 1 Cause.BadPath }
-    ensures two_slashes { IsRefused (codes "{\"path\":\"/a//b\",\"kind\":\"dir\"}") 1 Cause.BadPath }
+    ensures two_slashes { IsRefused
+        (codes "{\"path\":\"/a//b\",\"kind\":\"dir\"}") 1 Cause.BadPath }
     ensures no_kind { IsRefused (codes "{\"path\":\"/a\"}") 1 Cause.Field }
     ensures the_root { IsRefused (codes "{\"path\":\"/\",\"kind\":\"dir\"}") 1 Cause.Twice }
     ensures twice { IsRefused (line (codes "{\"path\":\"/a\",\"kind\":\"dir\"}")

@@ -32,7 +32,8 @@ fn kind_of(name: &str) -> Option<Kind>
 /// The path and the kind of the object that a value describes.
 #[tactic(auto, unfolding(crate::specs::TreeReading::entry_in))]
 pub(crate) fn object_of<'v>(value: &'v Value<'_>) -> Result<(&'v str, Kind), Cause>
-    ensures entry { Reads (λ object. named object.0.now object.1) result (entry_in (value_data value.now)) }
+    ensures entry { Reads (λ object. named object.0.now object.1) result
+        (entry_in (value_data value.now)) }
     ensures shape { IfOk result (λ object. IsTrue (is_some (path_of object.0.now))) }
 {
     let text = text_of(value, "path")?;

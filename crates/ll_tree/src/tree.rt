@@ -66,7 +66,8 @@ impl Tree {
     #[tactic(auto, using(crate::proofs::TreeLines::is_tree_of, crate::proofs::TreeLines::is_bad))]
     pub fn read(alloc: Global, bytes: &[u8]) -> Result<Tree, ReadFault>
         ensures ok { IfOk result (IsTreeOf bytes.now) }
-        ensures err { IfErr result (λ fault. fault.cause ≢ Memory → IsBad tree_format bytes.now fault) }
+        ensures err { IfErr result (λ fault. fault.cause ≢ Memory
+            → IsBad tree_format bytes.now fault) }
     {
         Tree::read_lines(alloc, bytes)
     }
@@ -293,7 +294,8 @@ impl Tree {
     /// The node of a text that is known to be a path (`path_ok`), where the tree has one.
     pub fn node_of(&self, path: &str) -> Option<NodeId>
         requires { IsTrue (is_some (path_of path.now)) }
-        ensures exact { (spelt : Path) → path_of path.now ≡ Some spelt → result ≡ node_at self.now spelt }
+        ensures exact { (spelt : Path) → path_of path.now ≡ Some spelt
+            → result ≡ node_at self.now spelt }
         ensures node { IfSome result (IsNode self.now) }
     {
         self.find(path)
@@ -314,7 +316,8 @@ impl Tree {
 
     /// The node that is guessed for a text, where the text is that node's.
     fn hinted(&self, text: &str) -> Option<NodeId>
-        ensures { IfSome result (λ node. IsNode self.now node × (path_at self.now node ≡ spelt text.now)) }
+        ensures { IfSome result (λ node. IsNode self.now node
+            × (path_at self.now node ≡ spelt text.now)) }
     {
         let number = self.hints.guess(text);
         let Some(object) = self.objects.get(number as usize) else {

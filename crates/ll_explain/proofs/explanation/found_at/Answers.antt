@@ -9,7 +9,8 @@ use Rattle.ll_explain.proofs.explanation.found_at.Goals as goal
 pub bounds-records-place : goal.bounds-records-place
 bounds-records-place c =
     let of : Matter = c.args.case.now in
-    subst (λ (records : List Record). c.args.place < length records) (sym (c.records.ensures.value ∙ c.trace.ensures.records)) (placed of.tree of.abi of.records c.args.place c.args.answer c.requires.answer)
+    subst (λ (records : List Record). c.args.place < length records) (sym (c.records.ensures.value ∙ c.trace.ensures.records))
+    (placed of.tree of.abi of.records c.args.place c.args.answer c.requires.answer)
 
 pub offset_bounds-records-place : goal.offset_bounds-records-place
 offset_bounds-records-place c =
@@ -23,7 +24,8 @@ of-requires c =
     let of : Matter = c.args.case.now in
     let r : Record = c.index-records-place.result in
     let within : c.args.place < length of.records = placed of.tree of.abi of.records c.args.place c.args.answer c.requires.answer in
-    let at : slice_get of.records c.args.place ≡ Some r = read_there of.records c.records.result.now c.args.place r (c.records.ensures.value ∙ c.trace.ensures.records) within c.index-records-place.is in
+    let at : slice_get of.records c.args.place ≡ Some r =
+    read_there of.records c.records.result.now c.args.place r (c.records.ensures.value ∙ c.trace.ensures.records) within c.index-records-place.is in
     let goes = starts_nothing of.tree of.abi of.records c.args.place r c.args.answer at c.requires.answer c.requires.known in
     omega (arith, c.requires.trails.count, process_there of.tree of.abi of.records c.args.place r c.trace.ensures.case.numbered (omega (arith, within)) at goes)
 

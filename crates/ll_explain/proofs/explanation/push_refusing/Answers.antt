@@ -20,8 +20,10 @@ use Rattle.ll_explain.proofs.explanation.push_refusing.Goals as goal
 
 pub invariant_of-of-clause-inside : goal.invariant_of-of-clause-inside
 invariant_of-of-clause-inside c =
-    let is : IsDomainAt c.args.case.now c.args.place c.found_at.result.0.now.process.0 c.in_ok-domain.domain.items = c.in_ok-domain.ensures c.args.place c.found_at.result.0.now.process.0 c.found_at.ensures.trail in
-    subst (λ (ids : List LayerId). IsDomainOf c.layers.result.now ids) (sym c.deref.ensures.value) (subst (λ layers. IsDomainOf layers c.in_ok-domain.domain.items) (sym c.layers.ensures) is.places)
+    let is : IsDomainAt c.args.case.now c.args.place c.found_at.result.0.now.process.0 c.in_ok-domain.domain.items =
+    c.in_ok-domain.ensures c.args.place c.found_at.result.0.now.process.0 c.found_at.ensures.trail in
+    subst (λ (ids : List LayerId). IsDomainOf c.layers.result.now ids) (sym c.deref.ensures.value)
+    (subst (λ layers. IsDomainOf layers c.in_ok-domain.domain.items) (sym c.layers.ensures) is.places)
 
 pub invariant_of-of-clause-rules : goal.invariant_of-of-clause-rules
 invariant_of-of-clause-rules c =
@@ -36,13 +38,18 @@ returns c =
     let ids : List LayerId = c.in_ok-domain.domain.items in
     let is : IsDomainAt c.args.case.now c.args.place r.process.0 ids = c.in_ok-domain.ensures c.args.place r.process.0 c.found_at.ensures.trail in
     let text : List Record → List (ℕ × List Objection) → List ℕ = λ records said. c.args.text.now.items ++ flat_map (layer_text records o.layers) said in
-    let said : List Entry → List (RulesOn ℕ) → List LayerId → List (ℕ × List Objection) = λ tree layers domain. objections_to tree (all_in_tree tree (domain_of layers domain)) o r.op c.args.error c.args.numbers in
-    objected c.tree.result.now (all_in_tree c.tree.result.now (domain_of c.layers.result.now c.deref.result.now)) c.found_at.result.1.now o c.found_at.ensures.trail c.args.error c.args.numbers
+    let said : List Entry → List (RulesOn ℕ) → List LayerId
+    → List (ℕ × List Objection) = λ tree layers domain. objections_to tree (all_in_tree tree (domain_of layers domain)) o r.op c.args.error c.args.numbers in
+    objected c.tree.result.now (all_in_tree c.tree.result.now (domain_of c.layers.result.now c.deref.result.now)) c.found_at.result.1.now o
+    c.found_at.ensures.trail c.args.error c.args.numbers
     c.records.result.now r.op c.args.text.now.items _ c.in_ok-push_objections.ensures
-    ∙ ap (λ (records : List Record). text records (said c.tree.result.now c.layers.result.now c.deref.result.now)) (c.records.ensures.value ∙ c.trace.ensures.records)
+    ∙ ap (λ (records : List Record). text records (said c.tree.result.now c.layers.result.now c.deref.result.now))
+    (c.records.ensures.value ∙ c.trace.ensures.records)
     ∙ ap (λ (tree : List Entry). text of.records (said tree c.layers.result.now c.deref.result.now)) c.tree.ensures
     ∙ ap (λ (layers : List (RulesOn ℕ)). text of.records (said of.tree layers c.deref.result.now)) c.layers.ensures
     ∙ ap (λ (domain : List LayerId). text of.records (said of.tree of.layers domain)) c.deref.ensures.value
     ∙ ap (λ (said : List (ℕ × List Objection)). text of.records said)
-    (same_layers_object_to_the_same of.tree (all_in_tree of.tree (domain_of of.layers ids)) (domain_at of.tree of.abi of.records c.args.place r.process.0) is.same o r.op c.args.error c.args.numbers)
-    ∙ ap (λ text. c.args.text.now.items ++ text) (sym (text_refusing of.tree of.abi of.records c.args.place r c.args.error c.args.numbers c.found_at.ensures.read c.requires.answer c.requires.some))
+    (same_layers_object_to_the_same of.tree (all_in_tree of.tree (domain_of of.layers ids))
+    (domain_at of.tree of.abi of.records c.args.place r.process.0) is.same o r.op c.args.error c.args.numbers)
+    ∙ ap (λ text. c.args.text.now.items ++ text)
+    (sym (text_refusing of.tree of.abi of.records c.args.place r c.args.error c.args.numbers c.found_at.ensures.read c.requires.answer c.requires.some))

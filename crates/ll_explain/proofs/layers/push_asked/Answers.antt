@@ -5,7 +5,8 @@ use Rattle.ll_explain.proofs.layers.push_asked.Goals as goal
 pub loop-index-init : goal.loop-index-init
 loop-index-init c =
     let of = c.args.of.now in
-    domain_none of.records.now of.trail.now.layers.items (objections of.tree.now c.args.question.now) of.tree.now of.layers.now of.domain.now c.args.text.now.items
+    domain_none of.records.now of.trail.now.layers.items (objections of.tree.now c.args.question.now) of.tree.now of.layers.now
+    of.domain.now c.args.text.now.items
 
 pub loop-index-preserved : goal.loop-index-preserved
 loop-index-preserved c =

@@ -14,5 +14,6 @@ returns c =
     let of = c.args.layer.now.of in
     let path = path_at of.tree.now c.args.node in
     ap not (c.is_empty.ensures.empty
-    ∙ ap (λ numbers. length numbers == 0) (c.check_path.ensures ∙ ap (λ ids. refusing (all_in_tree of.tree.now (domain_of of.layers.now ids)) path c.args.rights) c.alone-domain.ensures))
+    ∙ ap (λ numbers. length numbers == 0) (c.check_path.ensures
+    ∙ ap (λ ids. refusing (all_in_tree of.tree.now (domain_of of.layers.now ids)) path c.args.rights) c.alone-domain.ensures))
     ∙ numbers-alone (λ (layer : Layer). lacks layer path c.args.rights) (rules_of c.args.layer.now)

@@ -27,7 +27,8 @@ loop-right-preserved c =
     elim c.if-does_pass.branch [
       | then-does_pass w ↦ rw (w.rights-is, w.union-rights.ensures, w.set.ensures)
           (one_more test c.loop-right.rights place one at (sym c.does_pass.ensures ∙ w.if-does_pass.true) c.loop-right.invariant)
-      | else-does_pass w ↦ rw w.rights-is (none_more test c.loop-right.rights place one at (sym c.does_pass.ensures ∙ w.if-does_pass.false) c.loop-right.invariant)
+      | else-does_pass w ↦
+          rw w.rights-is (none_more test c.loop-right.rights place one at (sym c.does_pass.ensures ∙ w.if-does_pass.false) c.loop-right.invariant)
     ]
 
 pub returns : goal.returns

@@ -11,7 +11,8 @@ returns-clause-route c =
     let fit = c.requires.fit in
     let between : IsBetween tree (spelt c.args.from.now) (spelt c.args.to.now) c.args.attempt = c.requires.between in record {
       is_tree = c.leaving-source.ensures.tree;
-      object = record { inside = fit.moved; shape = rw c.as_str.ensures.text c.as_str.ensures.shape; path = ap spelt c.as_str.ensures.text ∙ sym between.moved };
+      object =
+          record { inside = fit.moved; shape = rw c.as_str.ensures.text c.as_str.ensures.shape; path = ap spelt c.as_str.ensures.text ∙ sym between.moved };
       moved = refl;
       target = fit.target;
       to_shape = rw c.as_str-2.ensures.text c.as_str-2.ensures.shape;

@@ -18,11 +18,17 @@ loop-part-preserved c =
     let is : part ≡ get_or parts place part = get_or_default parts place (Mounting false) part there in
     let tested = ap is_said (get_or_default parts place (Mounting false) _ there) ∙ sym c.is_said.ensures in
     elim c.if-is_said.branch [
-      | then-is_said+in_ok-push_next w ↦ rw (w.text-is, w.is_first-is) (written_with is_said part_text (codes "; ") text _ _ c.loop-part.is_first parts place part there is (tested ∙ w.if-is_said.true) c.loop-part.invariant
-          (w.in_ok-push_next.ensures ∙ ap (λ (p : Part). text ++ cond c.loop-part.is_first (part_text p) (behind (codes "; ") (part_text p))) (get_or_default parts place _ (Mounting false) there)))
-      | else-is_said w ↦ rw (w.text-is, w.is_first-is) (written_without is_said part_text (codes "; ") text _ c.loop-part.is_first parts place part there is (tested ∙ w.if-is_said.false) c.loop-part.invariant)
+      | then-is_said+in_ok-push_next w ↦
+          rw (w.text-is, w.is_first-is) (written_with is_said part_text (codes "; ") text _ _ c.loop-part.is_first parts place part there is
+          (tested ∙ w.if-is_said.true) c.loop-part.invariant
+          (w.in_ok-push_next.ensures ∙ ap (λ (p : Part). text ++ cond c.loop-part.is_first (part_text p) (behind (codes "; ") (part_text p)))
+          (get_or_default parts place _ (Mounting false) there)))
+      | else-is_said w ↦
+          rw (w.text-is, w.is_first-is) (written_without is_said part_text (codes "; ") text _ c.loop-part.is_first parts place part there is
+          (tested ∙ w.if-is_said.false) c.loop-part.invariant)
     ]
 
 pub returns : goal.returns
 returns c =
-    written_all is_said part_text (codes "; ") c.args.text.now.items c.loop-part.text.items c.loop-part.is_first c.args.parts.now c.loop-part.part-index c.loop-part-test.false c.loop-part.invariant
+    written_all is_said part_text (codes "; ") c.args.text.now.items c.loop-part.text.items c.loop-part.is_first c.args.parts.now c.loop-part.part-index
+    c.loop-part-test.false c.loop-part.invariant

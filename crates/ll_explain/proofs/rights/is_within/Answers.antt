@@ -15,5 +15,6 @@ loop-right-preserved g c =
 
 pub returns : goal.returns
 returns g c =
-    within_all (g.S.RightSet.has c.args.rights) (g.S.RightSet.has c.args.whole) c.all-right-items.result.now c.loop-right.right-index _ c.loop-right-test.false c.loop-right.invariant
+    within_all (g.S.RightSet.has c.args.rights) (g.S.RightSet.has c.args.whole) c.all-right-items.result.now c.loop-right.right-index _
+    c.loop-right-test.false c.loop-right.invariant
     ∙ g.met.S.RightSet.tested c.all-right-items.result.now c.all-right-items.ensures c.args.rights c.args.whole

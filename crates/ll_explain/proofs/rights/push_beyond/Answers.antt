@@ -9,15 +9,19 @@ loop-right-preserved g c =
     let set = g.S.RightSet in
     let place = c.loop-right.right-index in
     elim c.if-is_beyond.branch [
-      | then-is_beyond+in_ok-push_name w ↦ rw (w.text-is, w.is_first-is) (written_with _ _ (codes ", ") c.loop-right.text.items _ _ c.loop-right.is_first _ place c.right-item.result
+      | then-is_beyond+in_ok-push_name w ↦
+          rw (w.text-is, w.is_first-is) (written_with _ _ (codes ", ") c.loop-right.text.items _ _ c.loop-right.is_first _ place c.right-item.result
           c.loop-right-test.true c.right-item.is (sym c.is_beyond.ensures ∙ w.if-is_beyond.true) c.loop-right.invariant
-          (w.in_ok-push_name.ensures ∙ ap (λ name. c.loop-right.text.items ++ cond c.loop-right.is_first name (behind (codes ", ") name)) (w.word_for.ensures ∙ ap word_for w.name.ensures)))
-      | else-is_beyond w ↦ rw (w.text-is, w.is_first-is) (written_without _ _ (codes ", ") c.loop-right.text.items _ c.loop-right.is_first _ place c.right-item.result
+          (w.in_ok-push_name.ensures ∙ ap (λ name. c.loop-right.text.items ++ cond c.loop-right.is_first name (behind (codes ", ") name))
+          (w.word_for.ensures ∙ ap word_for w.name.ensures)))
+      | else-is_beyond w ↦
+          rw (w.text-is, w.is_first-is) (written_without _ _ (codes ", ") c.loop-right.text.items _ c.loop-right.is_first _ place c.right-item.result
           c.loop-right-test.true c.right-item.is (sym c.is_beyond.ensures ∙ w.if-is_beyond.false) c.loop-right.invariant)
     ]
 
 pub returns : goal.returns
 unfolding listed
 returns g c =
-    written_all _ _ (codes ", ") c.args.text.now.items c.loop-right.text.items c.loop-right.is_first c.all-right-items.result.now c.loop-right.right-index c.loop-right-test.false c.loop-right.invariant
+    written_all _ _ (codes ", ") c.args.text.now.items c.loop-right.text.items c.loop-right.is_first c.all-right-items.result.now c.loop-right.right-index
+    c.loop-right-test.false c.loop-right.invariant
     ∙ ap (λ names. c.args.text.now.items ++ names) (g.met.S.RightSet.named c.all-right-items.result.now c.all-right-items.ensures c.args.rights c.args.whole)

@@ -12,8 +12,10 @@ returns-then-eq c =
     let route = c.args.route.now in
     let is = c.requires in
     let by_paths = path_eq-nodes tree route.source.node route.destination.node is.is_tree is.source.inside is.destination.inside in
-    rw (← within_one (rules_of layer) tree route.attempt route.source.node route.destination.node route.leaving route.entering is.from is.leaving is.entering (said_of (c.part_on_path-part.result ∷ []))
-    (rw (← c.union-asked.ensures) c.part_on_path-part.ensures.said) (same_eq is.from is.into (sym by_paths ∙ sym c.eq.ensures ∙ c.if-eq.true))) c.push_line.ensures
+    rw (← within_one (rules_of layer) tree route.attempt route.source.node route.destination.node route.leaving route.entering is.from is.leaving is.entering
+    (said_of (c.part_on_path-part.result ∷ []))
+    (rw (← c.union-asked.ensures) c.part_on_path-part.ensures.said) (same_eq is.from is.into (sym by_paths ∙ sym c.eq.ensures ∙ c.if-eq.true)))
+    c.push_line.ensures
 
 pub returns : goal.returns
 returns c =
@@ -22,5 +24,7 @@ returns c =
     let route = c.args.route.now in
     let is = c.requires in
     let by_paths = path_eq-nodes tree route.source.node route.destination.node is.is_tree is.source.inside is.destination.inside in
-    rw (← between_two (rules_of layer) tree route.attempt route.source.node route.destination.node route.leaving route.entering is.from is.leaving is.entering _ _ is.into
-    c.part_on_path-source.ensures.said c.part_on_path-destination.ensures.said (same_eq is.from is.into (sym by_paths ∙ sym c.eq.ensures ∙ c.if-eq.false))) c.push_line-2.ensures
+    rw (← between_two (rules_of layer) tree route.attempt route.source.node route.destination.node route.leaving route.entering is.from
+    is.leaving is.entering _ _ is.into
+    c.part_on_path-source.ensures.said c.part_on_path-destination.ensures.said (same_eq is.from is.into (sym by_paths ∙ sym c.eq.ensures ∙ c.if-eq.false)))
+    c.push_line-2.ensures

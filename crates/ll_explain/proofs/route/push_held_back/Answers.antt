@@ -14,8 +14,11 @@ returns c =
     let tree = c.args.layer.now.of.tree.now in
     let layer = rules_of c.args.layer.now in
     let route = c.args.route.now in
-    let gains = subst (λ (node : NodeId). said_of (c.part_gained-own.result ∷ []) ≡ on_gain (kind_at tree node) (path_at tree node) (path_at tree route.destination.node) layer)
+    let gains =
+    subst (λ (node : NodeId). said_of (c.part_gained-own.result ∷ [])
+    ≡ on_gain (kind_at tree node) (path_at tree node) (path_at tree route.destination.node) layer)
     c.requires.moved c.part_gained-own.ensures.said in
-    rw (← crossing_said layer tree route.attempt c.part_on_path-source.result c.part_on_path-destination.result c.part_gained-own.result c.part_of_other-other.result
+    rw (← crossing_said layer tree route.attempt c.part_on_path-source.result c.part_on_path-destination.result c.part_gained-own.result
+    c.part_of_other-other.result
     (path_at tree route.source.node) (path_at tree route.destination.node) c.requires.from c.requires.into
     c.part_on_path-source.ensures.said c.part_on_path-destination.ensures.said gains c.part_of_other-other.ensures.said) c.push_line.ensures

@@ -7,5 +7,6 @@ push_asked-requires c =
     let tree = c.args.of.now.tree.now in record {
       inside = c.in-Some.ensures.fit;
       shape = c.text_for.ensures.shape;
-      path = c.text_for.ensures.path ∙ asked_named tree c.args.path.now c.place_of-place.result c.args.wanted c.in-Some.request c.place_of-place.ensures.place c.in-Some.ensures.exact;
+      path = c.text_for.ensures.path
+          ∙ asked_named tree c.args.path.now c.place_of-place.result c.args.wanted c.in-Some.request c.place_of-place.ensures.place c.in-Some.ensures.exact;
     }

@@ -20,6 +20,10 @@ returns-in-Some-empty c =
 
 pub returns-in-Some : goal.returns-in-Some
 returns-in-Some c =
-    let all = all_from_yields_List is_name _ _ c.all.result c.all.ensures.ran (YieldsList-from_str_split 47 c.in-Some.names.now (lit< tt) c.split.ensures.text c.split.ensures.has_more c.split.ensures.pattern) (λ x b q k. search (rules, tests)) in
+    let all =
+    all_from_yields_List is_name _ _ c.all.result c.all.ensures.ran
+    (YieldsList-from_str_split 47 c.in-Some.names.now (lit< tt) c.split.ensures.text c.split.ensures.has_more c.split.ensures.pattern)
+    (λ x b q k. search (rules, tests)) in
     let text = strip_prefix_char 47 c.args.text.now (Some c.in-Some.names) c.in-Some.ensures.cases (lit< tt) in
-    all ∙ sym (is_some-names_in c.in-Some.names.now c.in-Some.not-empty) ∙ ap is_some (sym (path_of-slash c.args.text.now _ c.if-text-gt-LONGEST_PATH.false text))
+    all ∙ sym (is_some-names_in c.in-Some.names.now c.in-Some.not-empty)
+    ∙ ap is_some (sym (path_of-slash c.args.text.now _ c.if-text-gt-LONGEST_PATH.false text))

@@ -14,7 +14,8 @@ use Rattle.ll_pool.proofs.assemble.assemble.Goals as goal
 
 pub loop-piece-init : goal.loop-piece-init
 loop-piece-init c =
-    let len : length c.in_ok-answers.answers.items ≡ length c.args.case.now.records = (let h = c.in_ok-answers.ensures.len in omega (arith, h, ap (λ (rs : List Record). length rs) (c.records.ensures.value ∙ c.trace.ensures.records))) in
+    let len : length c.in_ok-answers.answers.items ≡ length c.args.case.now.records =
+    (let h = c.in_ok-answers.ensures.len in omega (arith, h, ap (λ (rs : List Record). length rs) (c.records.ensures.value ∙ c.trace.ensures.records))) in
     record {
       len = len;
       same = len;
@@ -33,14 +34,18 @@ loop-piece-preserved c = record {
   len = c.place.ensures.len ∙ c.loop-piece.invariant.len;
   same = c.loop-piece.invariant.same;
   placed_so_far =
-      assembled_more c.args.pieces.now c.loop-piece.piece-index c.piece-item.result c.in_ok-answers.answers.items c.loop-piece.answers.items c.place.new.answers.items
-      (slice_get-get_or c.args.pieces.now c.loop-piece.piece-index c.piece-item.result c.loop-piece-test.true ∙ ap (λ (x : Piece). Some x) (sym c.piece-item.is))
+      assembled_more c.args.pieces.now c.loop-piece.piece-index c.piece-item.result c.in_ok-answers.answers.items c.loop-piece.answers.items
+      c.place.new.answers.items
+      (slice_get-get_or c.args.pieces.now c.loop-piece.piece-index c.piece-item.result c.loop-piece-test.true
+      ∙ ap (λ (x : Piece). Some x) (sym c.piece-item.is))
       c.loop-piece.invariant.placed_so_far
       (c.place.ensures.placed ∙ ap (λ (ps : List (ℕ × Answer)). placed ps c.loop-piece.answers.items) c.answers.ensures);
 }
 
 pub returns : goal.returns
 returns c =
-    all_answered c.args.case.now c.args.pieces.now c.in_ok-answers.answers.items c.loop-piece.answers.items c.trace.ensures.case c.requires.of_case c.requires.each c.loop-piece.invariant.same
+    all_answered c.args.case.now c.args.pieces.now c.in_ok-answers.answers.items c.loop-piece.answers.items c.trace.ensures.case c.requires.of_case
+    c.requires.each c.loop-piece.invariant.same
     (c.loop-piece.invariant.placed_so_far
-    ∙ ap (λ (xs : List Piece). placed (answers_in xs) c.in_ok-answers.answers.items) (take_all c.loop-piece.piece-index c.args.pieces.now c.loop-piece-test.false))
+    ∙ ap (λ (xs : List Piece). placed (answers_in xs) c.in_ok-answers.answers.items)
+    (take_all c.loop-piece.piece-index c.args.pieces.now c.loop-piece-test.false))

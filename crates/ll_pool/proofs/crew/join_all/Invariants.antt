@@ -11,7 +11,8 @@ invariant-loop-handle g l = record {
   some_part : 0 < (view l.done.pass).parts;
   parts : (view l.done.pass).parts + into_iter_len l.left ≡ 1024;
   promised : All (λ handle. handle.promise.line.now ≡ l.pool.line) (into_iter_items l.left);
-  account : (roots : List ℕ) → IsAccount g.N.Naming.case roots (view l.fn.done.pass) l.fn.done.pieces.items → IsAccount g.N.Naming.case roots (view l.done.pass) l.done.pieces.items;
+  account : (roots : List ℕ) → IsAccount g.N.Naming.case roots (view l.fn.done.pass) l.fn.done.pieces.items
+      → IsAccount g.N.Naming.case roots (view l.done.pass) l.done.pieces.items;
 }
 
 abbrev pub decreases-loop-handle : goal.decreases-loop-handle

@@ -16,12 +16,14 @@ loop-preserved g c =
       whole = ap (λ (u : Known). u.parts) c.in-Some-pop.ensures.takes.1 ∙ c.loop.invariant.whole;
       its_case = ap (λ (u : Known). u.case) c.in-Some-pop.ensures.takes.1 ∙ c.loop.invariant.its_case;
       account = λ roots before.
-          account_more g.N.Naming.case roots c.in-Some-pop.job.process.0 (view c.loop.pass) (view c.pop.new.pass) (view c.pop.new.pass) c.loop.pieces.items c.keep.new.pieces.items
+          account_more g.N.Naming.case roots c.in-Some-pop.job.process.0 (view c.loop.pass) (view c.pop.new.pass)
+          (view c.pop.new.pass) c.loop.pieces.items c.keep.new.pieces.items
           c.in-Some-pop.ensures.takes.1
           (gave_nothing (view c.pop.new.pass))
           (seen_unkept g.N.Naming.case c.in-Some-pop.job.process.0 (view c.pop.new.pass).given c.loop.pieces.items c.keep.new.pieces.items c.in_ok-piece.piece
           c.in_ok-keep.ensures
           (c.in_ok-piece.ensures.of_case ∙ of_case)
-          (subst (λ (m : Matter). SharesOut m.records c.in-Some-pop.job.process.0 (numbers c.in_ok-piece.piece.processes.items) [] []) of_case c.in_ok-piece.ensures.shares_out))
+          (subst (λ (m : Matter). SharesOut m.records c.in-Some-pop.job.process.0 (numbers c.in_ok-piece.piece.processes.items) [] []) of_case
+          c.in_ok-piece.ensures.shares_out))
           (c.loop.invariant.account roots before);
     }

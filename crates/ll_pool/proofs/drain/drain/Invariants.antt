@@ -8,5 +8,6 @@ invariant-loop g l = record {
   queue : IsPassOf l.pool.line l.pass;
   whole : (view l.pass).parts ≡ 1024;
   its_case : (view l.pass).case ≡ g.N.Naming.case;
-  account : (roots : List ℕ) → IsAccount g.N.Naming.case roots (view l.fn.pass) l.fn.pieces.items → IsAccount g.N.Naming.case roots (view l.pass) l.pieces.items;
+  account : (roots : List ℕ) → IsAccount g.N.Naming.case roots (view l.fn.pass) l.fn.pieces.items
+      → IsAccount g.N.Naming.case roots (view l.pass) l.pieces.items;
 }

@@ -7,7 +7,8 @@ use Rattle.ll_pool.proofs.gather.collect_whole.Goals as goal
 pub unreachable-requires : goal.unreachable-requires
 unreachable-requires c =
     let fault = rw c.in-Err-Missing.field-0-is at c.in-Err-Missing.ensures.fault in
-    let none : Missing c.in-Err-Missing._absent ≡ Memory = only_memory c.args.case.now.records (processes_in c.args.pieces.items) _ c.requires.each_once fault in
+    let none : Missing c.in-Err-Missing._absent ≡ Memory =
+    only_memory c.args.case.now.records (processes_in c.args.pieces.items) _ c.requires.each_once fault in
     cc
 
 pub unreachable-requires-in-Err-Double : goal.unreachable-requires-in-Err-Double

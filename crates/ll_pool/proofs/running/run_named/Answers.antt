@@ -11,7 +11,8 @@ use Rattle.ll_pool.proofs.running.run_named.Goals as goal
 pub returns-clause-each_once : goal.returns-clause-each_once
 returns-clause-each_once g c =
     subst (λ (m : Matter). (process : ℕ) → process < process_count m.records → times process (processes_in c.drain.new.pieces.items) ≡ 1) (sym c.requires.named)
-    (all_once g.N.Naming.case (min (length c.in_ok-first.first.items) 1024) c.in_ok-first.first.items c.beyond_room.new.jobs.items c.in_ok-rest.rest.items (view c.drain.new.pass) c.drain.new.pieces.items
+    (all_once g.N.Naming.case (min (length c.in_ok-first.first.items) 1024) c.in_ok-first.first.items c.beyond_room.new.jobs.items c.in_ok-rest.rest.items
+    (view c.drain.new.pass) c.drain.new.pieces.items
     (subst (λ (m : Matter). IsNumbered m.records) c.requires.named c.in_ok-first.ensures.numbered)
     c.in_ok-rest.ensures.items
     c.in_ok-rest.ensures.tail

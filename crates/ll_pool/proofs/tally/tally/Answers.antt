@@ -32,12 +32,15 @@ loop-piece-preserved c = record {
   len = c.count.ensures.len ∙ c.loop-piece.invariant.len;
   each =
       tally_more c.args.pieces.now c.loop-piece.piece-index c.piece-item.result c.loop-piece.seen.items c.count.new.seen.items
-      (slice_get-get_or c.args.pieces.now c.loop-piece.piece-index c.piece-item.result c.loop-piece-test.true ∙ ap (λ (x : Piece). Some x) (sym c.piece-item.is))
+      (slice_get-get_or c.args.pieces.now c.loop-piece.piece-index c.piece-item.result c.loop-piece-test.true
+      ∙ ap (λ (x : Piece). Some x) (sym c.piece-item.is))
       c.count.ensures.len
-      (λ q inside. c.count.ensures.each q inside ∙ ap (λ (ps : List ProcessId). min 255 (slice_index c.loop-piece.seen.items q + times q (numbers ps))) c.processes-in-loop-piece.ensures)
+      (λ q inside. c.count.ensures.each q inside
+      ∙ ap (λ (ps : List ProcessId). min 255 (slice_index c.loop-piece.seen.items q + times q (numbers ps))) c.processes-in-loop-piece.ensures)
       c.loop-piece.invariant.each;
 }
 
 pub returns-clause-few : goal.returns-clause-few
 returns-clause-few c =
-    omega (arith, c.loop-piece.invariant.len, c.processes.ensures.few, c.processes.ensures.count, ap (λ (rs : List Record). process_count rs) c.trace.ensures.records)
+    let records = ap (λ (rs : List Record). process_count rs) c.trace.ensures.records in
+    omega (arith, c.loop-piece.invariant.len, c.processes.ensures.few, c.processes.ensures.count, records)

@@ -7,31 +7,41 @@ use Rattle.ll_process.proofs.descend.judge_own.Goals as goal
 
 pub loop-index-init : goal.loop-index-init
 loop-index-init g c = record {
-  walked = walked_none c.args.case.now c.args.job.process.0 c.args.job.own c.args.answers.now.items (g.H.Hand.kept c.args.hand.now) c.args.todo.now.items c.own_records-index-items.ensures.case
-      (rw c.requires.its at c.args.job.there) (subst (λ (of : Matter). BeginsAs of c.args.job.process.0 c.args.job.own) c.requires.its c.args.job.begins) c.requires.of_case;
+  walked = walked_none c.args.case.now c.args.job.process.0 c.args.job.own c.args.answers.now.items
+      (g.H.Hand.kept c.args.hand.now) c.args.todo.now.items c.own_records-index-items.ensures.case
+      (rw c.requires.its at c.args.job.there) (subst (λ (of : Matter). BeginsAs of c.args.job.process.0 c.args.job.own) c.requires.its c.args.job.begins)
+      c.requires.of_case;
   keeps = keeps_same c.args.case.now.records (g.H.Hand.kept c.args.hand.now) (g.H.Hand.kept c.args.hand.now) refl;
   suits = c.requires.suits;
   stays = λ before same. same;
 }
 
 pub answer_own-requires-clause-own : goal.answer_own-requires-clause-own
-answer_own-requires-clause-own g c = own_now c.args.case.now c.args.job.process.0 c.loop-index.index-index c.own_records-index-items.result.now c.own_records-index-items.ensures.places c.loop-index-test.true
+answer_own-requires-clause-own g c =
+    own_now c.args.case.now c.args.job.process.0 c.loop-index.index-index c.own_records-index-items.result.now
+    c.own_records-index-items.ensures.places c.loop-index-test.true
 
 pub answer_own-requires-clause-meets : goal.answer_own-requires-clause-meets
 answer_own-requires-clause-meets g c =
-    c.loop-index.invariant.walked.meets _ (place_now c.args.case.now c.args.job.process.0 c.loop-index.index-index c.own_records-index-items.result.now c.own_records-index-items.ensures.places c.loop-index-test.true)
+    c.loop-index.invariant.walked.meets _ (place_now c.args.case.now c.args.job.process.0 c.loop-index.index-index c.own_records-index-items.result.now
+    c.own_records-index-items.ensures.places c.loop-index-test.true)
 
 pub child_job-requires-clause-own : goal.child_job-requires-clause-own
-child_job-requires-clause-own g c = own_now c.args.case.now c.args.job.process.0 c.loop-index.index-index c.own_records-index-items.result.now c.own_records-index-items.ensures.places c.loop-index-test.true
+child_job-requires-clause-own g c =
+    own_now c.args.case.now c.args.job.process.0 c.loop-index.index-index c.own_records-index-items.result.now
+    c.own_records-index-items.ensures.places c.loop-index-test.true
 
 pub loop-index-preserved : goal.loop-index-preserved
 loop-index-preserved g c = record {
   walked = rw c.in_ok-append.ensures
-      (walked_more c.args.case.now c.args.job.process.0 c.loop-index.index-index c.own_records-index-items.result.now c.own_records-index-items.ensures.places c.in_ok-answer.answer c.loop-index.own c.answer_own.new.own
-      c.args.answers.now.items c.loop-index.answers.items (g.H.Hand.kept c.args.hand.now) (g.H.Hand.kept c.loop-index.hand) (g.H.Hand.kept c.offer.new.hand) c.args.todo.now.items c.loop-index.todo.items c.offer.new.todo.items
+      (walked_more c.args.case.now c.args.job.process.0 c.loop-index.index-index c.own_records-index-items.result.now c.own_records-index-items.ensures.places
+      c.in_ok-answer.answer c.loop-index.own c.answer_own.new.own
+      c.args.answers.now.items c.loop-index.answers.items (g.H.Hand.kept c.args.hand.now) (g.H.Hand.kept c.loop-index.hand)
+      (g.H.Hand.kept c.offer.new.hand) c.args.todo.now.items c.loop-index.todo.items c.offer.new.todo.items
       c.own_records-index-items.ensures.case c.loop-index-test.true c.loop-index.invariant.walked c.in_ok-answer.ensures.answer c.in_ok-answer.ensures.leaves
       (rw c.in_ok-child.ensures.child at c.in_ok-offer.ensures.handed) c.in_ok-offer.ensures.of_case);
-  keeps = keeps_on c.args.case.now.records (g.H.Hand.kept c.args.hand.now) (g.H.Hand.kept c.loop-index.hand) (g.H.Hand.kept c.offer.new.hand) c.loop-index.invariant.keeps c.in_ok-offer.ensures.keeps;
+  keeps = keeps_on c.args.case.now.records (g.H.Hand.kept c.args.hand.now) (g.H.Hand.kept c.loop-index.hand)
+      (g.H.Hand.kept c.offer.new.hand) c.loop-index.invariant.keeps c.in_ok-offer.ensures.keeps;
   suits = c.in_ok-offer.ensures.suits;
   stays = λ before same. c.in_ok-offer.ensures.stays before (c.loop-index.invariant.stays before same);
 }
@@ -39,8 +49,12 @@ loop-index-preserved g c = record {
 pub returns-clause-less : goal.returns-clause-less
 returns-clause-less g c =
     less_to_do c.args.case.now c.args.job.process.0 (g.H.Hand.kept c.args.hand.now) (g.H.Hand.kept c.loop-index.hand) _ _ c.own_records-index-items.ensures.case
-    (handed_all c.args.case.now c.args.job.process.0 c.loop-index.index-index c.own_records-index-items.result.now c.own_records-index-items.ensures.places c.loop-index.own c.args.answers.now.items c.loop-index.answers.items
-    (g.H.Hand.kept c.args.hand.now) (g.H.Hand.kept c.loop-index.hand) c.args.todo.now.items c.loop-index.todo.items c.loop-index-test.false c.loop-index.invariant.walked) c.loop-index.invariant.keeps
+    (handed_all c.args.case.now c.args.job.process.0 c.loop-index.index-index c.own_records-index-items.result.now c.own_records-index-items.ensures.places
+    c.loop-index.own c.args.answers.now.items c.loop-index.answers.items
+    (g.H.Hand.kept c.args.hand.now) (g.H.Hand.kept c.loop-index.hand) c.args.todo.now.items c.loop-index.todo.items c.loop-index-test.false
+    c.loop-index.invariant.walked) c.loop-index.invariant.keeps
 
 pub returns-in_err-offer-clause-keeps : goal.returns-in_err-offer-clause-keeps
-returns-in_err-offer-clause-keeps g c = keeps_on c.args.case.now.records (g.H.Hand.kept c.args.hand.now) (g.H.Hand.kept c.loop-index.hand) (g.H.Hand.kept c.offer.new.hand) c.loop-index.invariant.keeps c.in_err-offer.ensures.keeps
+returns-in_err-offer-clause-keeps g c =
+    keeps_on c.args.case.now.records (g.H.Hand.kept c.args.hand.now) (g.H.Hand.kept c.loop-index.hand)
+    (g.H.Hand.kept c.offer.new.hand) c.loop-index.invariant.keeps c.in_err-offer.ensures.keeps

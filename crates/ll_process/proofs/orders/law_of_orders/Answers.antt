@@ -35,7 +35,8 @@ returns-clause-rulesets c = λ tree abi w process op fails.
 started_alike : (tree : List Entry) (abi : Abi) (process : ℕ) (op : Op) (w v : World) → SeenAlike process w v → is_starting op ≡ true
     → (step tree abi w process op).processes w.count ≡ (step tree abi v process op).processes v.count
 unfolding is_starting started begun_by effect
-started_alike tree abi process (Start nnp admin) w v same starts = step-new tree abi w process (Start nnp admin) (fresh nnp admin) refl ∙ sym (step-new tree abi v process (Start nnp admin) (fresh nnp admin) refl)
+started_alike tree abi process (Start nnp admin) w v same starts =
+    step-new tree abi w process (Start nnp admin) (fresh nnp admin) refl ∙ sym (step-new tree abi v process (Start nnp admin) (fresh nnp admin) refl)
 started_alike tree abi process (Fork child) w v same starts =
     step-new tree abi w process (Fork child) (w.processes process) refl ∙ same.own ∙ sym (step-new tree abi v process (Fork child) (v.processes process) refl)
 started_alike tree abi process op w v same starts = absurd (cc)
@@ -46,6 +47,7 @@ returns-clause-own c = λ tree abi process op w v same. record {
   answer = rw (same.rulesets, same.own) refl;
   rulesets = step-rulesets tree abi w process op ∙ rw (same.rulesets, same.own) (sym (step-rulesets tree abi v process op));
   own = λ within there.
-      step-own tree abi w process op (λ last. omega (arith, within, last)) ∙ rw (same.rulesets, same.own) (sym (step-own tree abi v process op (λ last. omega (arith, there, last))));
+      step-own tree abi w process op (λ last. omega (arith, within, last))
+      ∙ rw (same.rulesets, same.own) (sym (step-own tree abi v process op (λ last. omega (arith, there, last))));
   started = started_alike tree abi process op w v same;
 }

@@ -7,7 +7,8 @@ use Rattle.ll_process.proofs.starting.root_job.Goals as goal
 pub invariant_of-result : goal.invariant_of-result
 invariant_of-result c = record {
   there = root_there c.args.case.now c.args.index c.record-record.result.now c.record-record.ensures.case c.record-record.ensures.at;
-  begins = root_begins c.args.case.now c.args.index c.record-record.result.now c.in-Start.nnp c.in-Start.admin c.fresh.result c.record-record.ensures.case c.record-record.ensures.at c.in-Start.is
+  begins = root_begins c.args.case.now c.args.index c.record-record.result.now c.in-Start.nnp c.in-Start.admin c.fresh.result c.record-record.ensures.case
+      c.record-record.ensures.at c.in-Start.is
       (c.fresh.ensures c.args.case.now.tree c.args.case.now.layers);
 }
 
@@ -17,4 +18,5 @@ returns-in-Start-clause-root c =
 
 pub returns-in_default-clause-root : goal.returns-in_default-clause-root
 returns-in_default-clause-root c =
-    sym (root_at-other c.args.case.now.records c.args.index c.record-record.result.now c.record-record.ensures.at (is_start-not c.record-record.result.now.op c.in_default.not-Start))
+    sym (root_at-other c.args.case.now.records c.args.index c.record-record.result.now c.record-record.ensures.at
+    (is_start-not c.record-record.result.now.op c.in_default.not-Start))

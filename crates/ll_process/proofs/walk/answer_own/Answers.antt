@@ -16,7 +16,8 @@ judge_met-requires c = (
       c.requires.meets,
       λ r note at says.
           note_fits c.args.case.now c.args.index c.args.process.0 r note c.record.ensures.case at says
-          (ap (λ (x : Record). is_start x.op) (same_Some r c.record.result.now (sym at ∙ c.record.ensures.at)) ∙ is_start-not c.record.result.now.op c.in_default.not-Start)
+          (ap (λ (x : Record). is_start x.op) (same_Some r c.record.result.now (sym at ∙ c.record.ensures.at))
+          ∙ is_start-not c.record.result.now.op c.in_default.not-Start)
           (own_process c.args.case.now c.args.index c.args.process.0 r c.requires.own at),
     ),
   ),
@@ -28,7 +29,8 @@ returns-in-Start-clause-answer c =
 
 pub returns-in-Start-clause-leaves : goal.returns-in-Start-clause-leaves
 returns-in-Start-clause-leaves c =
-    start_leaves c.args.case.now c.args.index c.args.process.0 c.record.result.now c.args.own.now c.record.ensures.at (is_start-from _ _ _ c.in-Start.is) c.requires.meets
+    start_leaves c.args.case.now c.args.index c.args.process.0 c.record.result.now c.args.own.now c.record.ensures.at
+    (is_start-from _ _ _ c.in-Start.is) c.requires.meets
 
 pub returns-in_default-clause-answer : goal.returns-in_default-clause-answer
 returns-in_default-clause-answer c =
@@ -37,5 +39,6 @@ returns-in_default-clause-answer c =
 
 pub returns-in_default-clause-leaves : goal.returns-in_default-clause-leaves
 returns-in_default-clause-leaves c =
-    met_leaving c.args.case.now c.args.index c.args.process.0 c.record.result.now c.judge_met.new.own c.judge_met.result c.record.ensures.case c.record.ensures.at
+    met_leaving c.args.case.now c.args.index c.args.process.0 c.record.result.now c.judge_met.new.own c.judge_met.result
+    c.record.ensures.case c.record.ensures.at
     (own_process c.args.case.now c.args.index c.args.process.0 c.record.result.now c.requires.own c.record.ensures.at) c.judge_met.ensures.agrees

@@ -10,13 +10,15 @@ pub returns-then-is_directory : goal.returns-then-is_directory
 unfolding meant
 returns-then-is_directory c =
     let directory : is_dir (kind_at c.args.tree.now c.in-Some-node.node) ≡ true = search rules in
-    above_directory c.args.tree.now c.loop-above.missing _ c.in-Some-node.node c.in-Some.ensures.some (sym c.in-Some-node.is ∙ c.node.ensures.exact) directory ∙ c.loop-above.invariant
+    above_directory c.args.tree.now c.loop-above.missing _ c.in-Some-node.node c.in-Some.ensures.some (sym c.in-Some-node.is ∙ c.node.ensures.exact) directory
+    ∙ c.loop-above.invariant
 
 pub returns-in-Some-node : goal.returns-in-Some-node
 unfolding meant
 returns-in-Some-node c =
     let other : is_dir (kind_at c.args.tree.now c.in-Some-node.node) ≡ false = search rules in
-    above_other c.args.tree.now c.loop-above.missing _ c.in-Some-node.node c.in-Some.ensures.some (sym c.in-Some-node.is ∙ c.node.ensures.exact) other ∙ c.loop-above.invariant
+    above_other c.args.tree.now c.loop-above.missing _ c.in-Some-node.node c.in-Some.ensures.some (sym c.in-Some-node.is ∙ c.node.ensures.exact) other
+    ∙ c.loop-above.invariant
 
 pub loop-above-smaller : goal.loop-above-smaller
 loop-above-smaller c =

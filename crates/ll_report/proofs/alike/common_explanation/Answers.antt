@@ -11,5 +11,6 @@ loop-finding-preserved c = λ rest.
     let l = c.loop-finding in
     let tests : bytes_eq c.explanation.result.now c.explanation-explanation.result.now ≡ true = search rules in
     let same = (bytes_eq-Decides c.explanation.result.now c.explanation-explanation.result.now).0 tests in
-    one_alike (λ (found : Found). explanation_at found c.args.place) c.explanation-explanation.result.now c.args.findings.now l.finding-index c.finding-item.result l.invariant
+    one_alike (λ (found : Found). explanation_at found c.args.place) c.explanation-explanation.result.now c.args.findings.now l.finding-index
+    c.finding-item.result l.invariant
     c.loop-finding-test.true c.finding-item.is (sym c.explanation.ensures ∙ same) rest

@@ -6,4 +6,5 @@ use Rattle.ll_report.proofs.alike.common_explanation.Given as goal
 -- where the versions that are left say the same, all do
 abbrev pub invariant-loop-finding : goal.invariant-loop-finding
 invariant-loop-finding l =
-    AreSaid (λ found. explanation_at found l.place) l.explanation (drop l.finding-index l.findings) → AreSaid (λ found. explanation_at found l.place) l.explanation l.findings
+    AreSaid (λ found. explanation_at found l.place) l.explanation (drop l.finding-index l.findings)
+    → AreSaid (λ found. explanation_at found l.place) l.explanation l.findings

@@ -1,7 +1,8 @@
 use Rattle.std.proofs.Common.{◌≡◌, ◌-◌, ◌<◌, ◌∙◌, ◌++◌, ap, sym, refl, arith, false}
 use Rattle.std.proofs.lemmas.List.{append-nil}
 use Rattle.ll_report.specs.Report.{listed_layers}
-use Rattle.ll_report.proofs.LayerText.{is_none_yet, is_none_yet-length, layers_text-some, layers_upto, layers_upto-all, layers_upto-none, layers_upto-not_among, written_among}
+use Rattle.ll_report.proofs.LayerText.{is_none_yet, is_none_yet-length, layers_text-some, layers_upto, layers_upto-all, layers_upto-none, layers_upto-not_among}
+use Rattle.ll_report.proofs.LayerText.{written_among}
 use Rattle.ll_report.proofs.report.push_layers.Goals as goal
 use Rattle.ll_report.proofs.report.push_layers.Goals.{then-has+in_ok-push_layer, else-has}
 

@@ -11,7 +11,9 @@ loop-job-init c = rw c.new-pieces.ensures.items (shared_first c.args.case.now c.
 
 pub judge-requires : goal.judge-requires
 judge-requires c κs =
-    let out = taken_out c.args.case.now c.loop-job.keeper.jobs.items c.take_greatest.new.self.jobs.items c.in-Some.job c.in-Some.ensures.taken c.loop-job.invariant.jobs_of in
+    let out =
+    taken_out c.args.case.now c.loop-job.keeper.jobs.items c.take_greatest.new.self.jobs.items c.in-Some.job c.in-Some.ensures.taken
+    c.loop-job.invariant.jobs_of in
     ((refl, tt), subst (λ of. AllOf of c.take_greatest.new.self.jobs.items) (sym out.its_case) out.rest_of)
 
 pub loop-job-smaller : goal.loop-job-smaller
@@ -23,7 +25,8 @@ pub loop-job-preserved : goal.loop-job-preserved
 loop-job-preserved c =
     let items : c.push.new.self.items ≡ c.loop-job.pieces.items ++ c.in_ok-piece.piece ∷ [] = grind (arith, common_steps) in
     rw items
-    (judged_more c.args.case.now c.loop-job.keeper.jobs.items c.take_greatest.new.self.jobs.items c.judge.new.hand.jobs.items c.in-Some.job c.loop-job.pieces.items c.in_ok-piece.piece
+    (judged_more c.args.case.now c.loop-job.keeper.jobs.items c.take_greatest.new.self.jobs.items c.judge.new.hand.jobs.items c.in-Some.job
+    c.loop-job.pieces.items c.in_ok-piece.piece
     c.in-Some.ensures.taken c.in_ok-piece.ensures.of_case c.in_ok-piece.ensures.suits c.in_ok-piece.ensures.shares_out c.loop-job.invariant)
 
 pub returns-clause-each_once : goal.returns-clause-each_once

@@ -10,13 +10,17 @@ loop-place-preserved c =
     let tells = c.handles_files-handles.ensures ∙ ap (λ (layer : RulesOn ℕ). not (is_empty layer.handled_files)) c.layer_of.ensures in
     record {
       so_far =
-          noted_next (refuses_mount c.args.layers.now) c.layers-ids.result.now c.loop-place.place _ c.loop-place.refusing c.noted-refusing.result _ c.handles_files-handles.result
+          noted_next (refuses_mount c.args.layers.now) c.layers-ids.result.now c.loop-place.place _ c.loop-place.refusing c.noted-refusing.result _
+          c.handles_files-handles.result
           c.loop-place-test.true tells c.noted-refusing.ensures c.loop-place.invariant.so_far;
-      below = noted_below c.loop-place.refusing c.noted-refusing.result c.loop-place.place c.handles_files-handles.result c.noted-refusing.ensures c.loop-place.invariant.below;
+      below =
+          noted_below c.loop-place.refusing c.noted-refusing.result c.loop-place.place c.handles_files-handles.result c.noted-refusing.ensures
+          c.loop-place.invariant.below;
     }
 
 pub returns : goal.returns
 returns c =
-    noted_all (refuses_mount c.args.layers.now) c.layers-ids.result.now c.loop-place.place c.loop-place.refusing _ c.loop-place-test.false c.loop-place.invariant.so_far
+    noted_all (refuses_mount c.args.layers.now) c.layers-ids.result.now c.loop-place.place c.loop-place.refusing _ c.loop-place-test.false
+    c.loop-place.invariant.so_far
     ∙ refusing_mount_by_name c.args.layers.now c.layers-ids.result.now
     ∙ rw c.layers-ids.ensures.value refl

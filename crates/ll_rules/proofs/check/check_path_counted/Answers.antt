@@ -13,12 +13,15 @@ pub returns-clause-answer : goal.returns-clause-answer
 returns-clause-answer c =
     let few : length c.layers-ids.result.now ≤ 16 = rw c.layers-ids.ensures.value c.layers-ids.ensures.at_most_sixteen in
     c.filled.ensures
-    ∙ refusing_lanes c.args.tree.now c.args.layers.now c.layers-ids.result.now (path_at c.args.tree.now c.args.node) c.args.wanted c.climb-look_ups.new.lanes few
+    ∙ refusing_lanes c.args.tree.now c.args.layers.now c.layers-ids.result.now
+    (path_at c.args.tree.now c.args.node) c.args.wanted c.climb-look_ups.new.lanes few
     (λ place right.
     c.climb-look_ups.ensures.left place right
-    ∙ ap (λ (b : Bool). b && not (granted (in_tree c.args.tree.now (layer_in (domain_of c.args.layers.now c.layers-ids.result.now) place)) (path_at c.args.tree.now c.args.node) right))
+    ∙ ap (λ (b : Bool). b && not
+    (granted (in_tree c.args.tree.now (layer_in (domain_of c.args.layers.now c.layers-ids.result.now) place)) (path_at c.args.tree.now c.args.node) right))
     (c.asked_in-lacking.ensures place right))
-    ∙ ap (λ (ids : List LayerId). refusing (all_in_tree c.args.tree.now (domain_of c.args.layers.now ids)) (path_at c.args.tree.now c.args.node) c.args.wanted) c.layers-ids.ensures.value
+    ∙ ap (λ (ids : List LayerId). refusing (all_in_tree c.args.tree.now (domain_of c.args.layers.now ids)) (path_at c.args.tree.now c.args.node) c.args.wanted)
+    c.layers-ids.ensures.value
 
 pub invariant_of-check : goal.invariant_of-check
 invariant_of-check c = record { rules = rw c.layer_of-layer.ensures (all_in c.args.tree.now c.args.layers.now _ c.requires.rules) }

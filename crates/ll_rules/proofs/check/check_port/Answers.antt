@@ -10,13 +10,17 @@ loop-place-preserved c =
     let tells = c.refuses_on_port-closed.ensures ∙ ap (λ (layer : RulesOn ℕ). lacks_on_port layer c.args.port c.args.wanted) c.layer_of.ensures in
     record {
       so_far =
-          noted_next (refuses_on_port c.args.layers.now c.args.port c.args.wanted) c.layers-ids.result.now c.loop-place.place _ c.loop-place.refusing c.noted-refusing.result _ c.refuses_on_port-closed.result
+          noted_next (refuses_on_port c.args.layers.now c.args.port c.args.wanted) c.layers-ids.result.now c.loop-place.place _ c.loop-place.refusing
+          c.noted-refusing.result _ c.refuses_on_port-closed.result
           c.loop-place-test.true tells c.noted-refusing.ensures c.loop-place.invariant.so_far;
-      below = noted_below c.loop-place.refusing c.noted-refusing.result c.loop-place.place c.refuses_on_port-closed.result c.noted-refusing.ensures c.loop-place.invariant.below;
+      below =
+          noted_below c.loop-place.refusing c.noted-refusing.result c.loop-place.place c.refuses_on_port-closed.result c.noted-refusing.ensures
+          c.loop-place.invariant.below;
     }
 
 pub returns : goal.returns
 returns c =
-    noted_all (refuses_on_port c.args.layers.now c.args.port c.args.wanted) c.layers-ids.result.now c.loop-place.place c.loop-place.refusing _ c.loop-place-test.false c.loop-place.invariant.so_far
+    noted_all (refuses_on_port c.args.layers.now c.args.port c.args.wanted) c.layers-ids.result.now c.loop-place.place c.loop-place.refusing _
+    c.loop-place-test.false c.loop-place.invariant.so_far
     ∙ refusing_port_by_name c.args.layers.now c.layers-ids.result.now c.args.port c.args.wanted
     ∙ rw c.layers-ids.ensures.value refl

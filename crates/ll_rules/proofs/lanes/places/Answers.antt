@@ -4,7 +4,11 @@ use Rattle.ll_rules.proofs.LaneSets.{mask_is, mask_small, mask_places}
 use Rattle.ll_rules.proofs.lanes.places.Goals as goal
 
 pub overflow_cast-result : goal.overflow_cast-result
-overflow_cast-result c = record { fits = subst (λ (n : ℕ). n < 2 ^ 16) (sym (mask_is c.args.lanes c.named_bits.result c.fits-lanes.0 c.named_bits.ensures)) (mask_small c.args.lanes c.fits-lanes.0) }
+overflow_cast-result c = record {
+  fits = subst (λ (n : ℕ). n < 2 ^ 16) (sym (mask_is c.args.lanes c.named_bits.result c.fits-lanes.0 c.named_bits.ensures))
+      (mask_small c.args.lanes c.fits-lanes.0);
+}
 
 pub returns : goal.returns
-returns c = λ place inside. ap (λ (n : ℕ). eqb (bit_at n place) 1) (mask_is c.args.lanes c.named_bits.result c.fits-lanes.0 c.named_bits.ensures) ∙ mask_places c.args.lanes place c.fits-lanes.0 inside
+returns c = λ place inside. ap (λ (n : ℕ). eqb (bit_at n place) 1) (mask_is c.args.lanes c.named_bits.result c.fits-lanes.0 c.named_bits.ensures)
+    ∙ mask_places c.args.lanes place c.fits-lanes.0 inside

@@ -2,4 +2,5 @@ use Rattle.ll_rules.proofs.AskedRights.{two_asked}
 use Rattle.ll_rules.proofs.moves.asked_of_source.Goals as goal
 
 pub returns-in-Some : goal.returns-in-Some
-returns-in-Some c = λ right. rw (c.in-Exchange.is, c.in-Some.is) (two_asked c.union.result c.remove_right-in-Some.result c.make_right.result _ _ right c.union.ensures c.remove_right-in-Some.ensures c.make_right.ensures)
+returns-in-Some c = λ right. rw (c.in-Exchange.is, c.in-Some.is)
+    (two_asked c.union.result c.remove_right-in-Some.result c.make_right.result _ _ right c.union.ensures c.remove_right-in-Some.ensures c.make_right.ensures)

@@ -15,29 +15,39 @@ pub returns-clause-answer : goal.returns-clause-answer
 returns-clause-answer c =
     let tree = c.args.tree.now in
     let few : length c.layers.result.now ≤ 16 = rw c.layers.ensures.value c.layers.ensures.at_most_sixteen in
-    let denied_is = c.filled-denied.ensures ∙ denied_numbers tree c.args.attempt.now c.args.layers.now c.layers.result.now few c.denied.result _ _ c.lacking_of-look_ups.result.0.source c.lacking_of-look_ups.result.0.destination c.leaving-from.result.rights c.entering-to.result.rights
-    c.leaving-from.ensures.path c.entering-to.ensures.path c.lacking_of-look_ups.ensures.source c.lacking_of-look_ups.ensures.destination c.leaving-from.ensures.rights c.entering-to.ensures.rights c.denied.ensures
+    let denied_is =
+    c.filled-denied.ensures ∙ denied_numbers tree c.args.attempt.now c.args.layers.now c.layers.result.now few c.denied.result _ _
+    c.lacking_of-look_ups.result.0.source c.lacking_of-look_ups.result.0.destination c.leaving-from.result.rights c.entering-to.result.rights
+    c.leaving-from.ensures.path c.entering-to.ensures.path c.lacking_of-look_ups.ensures.source c.lacking_of-look_ups.ensures.destination
+    c.leaving-from.ensures.rights c.entering-to.ensures.rights c.denied.ensures
     ∙ ap (λ (ids : List LayerId). numbers_where (denies tree c.args.attempt.now) (all_in_tree tree (domain_of c.args.layers.now ids))) c.layers.ensures.value in
-    let by_paths = path_eq-nodes tree c.leaving-from.result.directory c.entering-to.result.directory c.leaving-from.ensures.tree c.leaving-from.ensures.inside c.entering-to.ensures.inside in
+    let by_paths =
+    path_eq-nodes tree c.leaving-from.result.directory c.entering-to.result.directory c.leaving-from.ensures.tree c.leaving-from.ensures.inside
+    c.entering-to.ensures.inside in
     c.verdict_of.ensures ∙ elim c.if-eq.branch [
       | then-eq w ↦ rw (w.held_back-is, w.new.ensures) (elim c.if-not-is_empty.branch [
-        | then-not-is_empty v ↦ denied_verdict _ _ _ _ denied_is _ _ c.leaving-from.ensures.path c.entering-to.ensures.path (sym c.is_empty.ensures.empty ∙ v.if-not-is_empty.true)
-        | else-not-is_empty v ↦ within_verdict _ _ _ _ denied_is _ _ c.leaving-from.ensures.path c.entering-to.ensures.path (sym by_paths ∙ sym v.eq.ensures ∙ sym v.value-is ∙ w.if-eq.true)
+        | then-not-is_empty v ↦
+            denied_verdict _ _ _ _ denied_is _ _ c.leaving-from.ensures.path c.entering-to.ensures.path (sym c.is_empty.ensures.empty ∙ v.if-not-is_empty.true)
+        | else-not-is_empty v ↦ within_verdict _ _ _ _ denied_is _ _ c.leaving-from.ensures.path c.entering-to.ensures.path
+            (sym by_paths ∙ sym v.eq.ensures ∙ sym v.value-is ∙ w.if-eq.true)
       ])
       | else-eq w ↦ rw w.held_back-is (elim c.if-not-is_empty.branch [
         | then-not-is_empty v ↦ absurd (false≢true (sym w.if-eq.false ∙ v.value-is ∙ ap not v.if-not-is_empty.true))
         | else-not-is_empty v ↦
-            apart_verdict _ _ _ _ denied_is _ _ c.leaving-from.ensures.path c.entering-to.ensures.path (sym by_paths ∙ sym v.eq.ensures ∙ sym v.value-is ∙ w.if-eq.false) _
-            (w.held_back.ensures.held ∙ ap (λ (ids : List LayerId). numbers_where (holds_back tree c.args.attempt.now) (all_in_tree tree (domain_of c.args.layers.now ids))) c.layers.ensures.value)
+            apart_verdict _ _ _ _ denied_is _ _ c.leaving-from.ensures.path c.entering-to.ensures.path
+            (sym by_paths ∙ sym v.eq.ensures ∙ sym v.value-is ∙ w.if-eq.false) _
+            (w.held_back.ensures.held ∙ ap (λ (ids : List LayerId).
+            numbers_where (holds_back tree c.args.attempt.now) (all_in_tree tree (domain_of c.args.layers.now ids))) c.layers.ensures.value)
       ])
     ]
 
 pub returns-clause-look_ups : goal.returns-clause-look_ups
 returns-clause-look_ups c =
     let same : length c.layers.result.now ≡ length c.args.domain.now = ap length c.layers.ensures.value in
-    let more : c.if-eq.held_back.1 ≤ length c.layers.result.now * 2 =
-    elim c.if-eq.branch [
+    let more : c.if-eq.held_back.1 ≤ length c.layers.result.now * 2 = elim c.if-eq.branch [
       | then-eq w ↦ rw w.held_back-is (omega arith)
       | else-eq w ↦ rw w.held_back-is w.held_back.ensures.count
     ] in
-    rw (← same) (move_look_ups c.args.tree.now c.leaving-from.result.directory c.entering-to.result.directory _ _ (length c.layers.result.now) c.lacking_of-look_ups.result.1 (c.lacking_of-look_ups.result.1 + c.if-eq.held_back.1) c.leaving-from.ensures.path c.entering-to.ensures.path c.lacking_of-look_ups.ensures.count (omega (arith, more)))
+    rw (← same) (move_look_ups c.args.tree.now c.leaving-from.result.directory c.entering-to.result.directory _ _ (length c.layers.result.now)
+    c.lacking_of-look_ups.result.1 (c.lacking_of-look_ups.result.1 + c.if-eq.held_back.1) c.leaving-from.ensures.path c.entering-to.ensures.path
+    c.lacking_of-look_ups.ensures.count (omega (arith, more)))

@@ -11,7 +11,8 @@ returns c = λ place right.
     elim c.if-is_directory.branch [
       | then-is_directory w ↦
           ap (λ (lanes : List ℕ). has (lane lanes place) right) w.result-is
-          ∙ sym (ap (λ (b : Bool). has (lane c.args.lanes place) right && (b || is_file_right right)) (sym c.is_directory.ensures ∙ w.if-is_directory.true) ∙ and_true (has (lane c.args.lanes place) right))
+          ∙ sym (ap (λ (b : Bool). has (lane c.args.lanes place) right && (b || is_file_right right)) (sym c.is_directory.ensures ∙ w.if-is_directory.true)
+          ∙ and_true (has (lane c.args.lanes place) right))
       | else-is_directory w ↦
           ap (λ (lanes : List ℕ). has (lane lanes place) right) w.result-is
           ∙ w.within.ensures place right

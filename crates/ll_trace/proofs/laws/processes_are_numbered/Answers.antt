@@ -15,7 +15,8 @@ returns-clause-each c = λ records process below.
     (place, started_at-from records place one.of one.at one.kind ∙ ap (λ n. Some n) (sym one.number))
 
 pub returns-clause-once : goal.returns-clause-once
-returns-clause-once c = λ records place other process one two. started_once records place other process (started_at-is records place process one) (started_at-is records other process two)
+returns-clause-once c = λ records place other process one two.
+    started_once records place other process (started_at-is records place process one) (started_at-is records other process two)
 
 pub returns-clause-forked : goal.returns-clause-forked
 returns-clause-forked c = λ records place process of at starts.

@@ -19,6 +19,7 @@ loop-part-preserved c = record {
 
 pub returns-clause-gives : goal.returns-clause-gives
 returns-clause-gives c = λ lines read.
-    let none : into_iter_items c.loop-part.part-iterator ≡ [] = nil_from_length _ (omega (arith, c.loop-part.part-iterator.rest.ok, c.in-None.ensures.steps.0)) in
+    let none : into_iter_items c.loop-part.part-iterator ≡ [] =
+    nil_from_length _ (omega (arith, c.loop-part.part-iterator.rest.ok, c.in-None.ensures.steps.0)) in
     let comes = rw none at (c.loop-part.invariant.comes lines read) in
     Comes-end _ lines comes

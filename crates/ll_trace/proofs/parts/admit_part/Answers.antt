@@ -19,12 +19,14 @@ loop-entry-preserved c = record {
 
 pub returns-in-None-fault-clause-admitted : goal.returns-in-None-fault-clause-admitted
 returns-in-None-fault-clause-admitted c = λ lines others read.
-    let none : into_iter_items c.loop-entry.entry-iterator ≡ [] = nil_from_length _ (omega (arith, c.loop-entry.entry-iterator.rest.ok, c.in-None.ensures.steps.0)) in
+    let none : into_iter_items c.loop-entry.entry-iterator ≡ [] =
+    nil_from_length _ (omega (arith, c.loop-entry.entry-iterator.rest.ok, c.in-None.ensures.steps.0)) in
     let goes = rw (none, c.in-None-fault.is) at (c.loop-entry.invariant.goes lines read) in
     Goes-all _ _ lines others goes
 
 pub returns-in-Some-fault-clause-fault : goal.returns-in-Some-fault-clause-fault
 returns-in-Some-fault-clause-fault c = λ lines others read.
-    let none : into_iter_items c.loop-entry.entry-iterator ≡ [] = nil_from_length _ (omega (arith, c.loop-entry.entry-iterator.rest.ok, c.in-None.ensures.steps.0)) in
+    let none : into_iter_items c.loop-entry.entry-iterator ≡ [] =
+    nil_from_length _ (omega (arith, c.loop-entry.entry-iterator.rest.ok, c.in-None.ensures.steps.0)) in
     let goes = rw (none, c.in-Some-fault.is) at (c.loop-entry.invariant.goes lines read) in
     Goes-fault _ _ lines others c.in-Some-fault.fault goes

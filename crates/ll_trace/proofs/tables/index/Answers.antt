@@ -8,8 +8,10 @@ overflow_cast-place c = omega (arith, few_records c.args.records.now c.requires)
 
 pub add-requires : goal.add-requires
 add-requires c =
-    known_at c.loop-place.tables c.args.records.now c.loop-place.place c.index-records-place.result c.requires.numbered c.loop-place-test.true c.index-records-place.is c.loop-place.invariant
+    known_at c.loop-place.tables c.args.records.now c.loop-place.place c.index-records-place.result c.requires.numbered c.loop-place-test.true
+    c.index-records-place.is c.loop-place.invariant
 
 pub loop-place-preserved : goal.loop-place-preserved
 loop-place-preserved c =
-    indexes_one_more c.loop-place.tables c.add.new.self c.args.records.now c.loop-place.place c.index-records-place.result c.loop-place-test.true c.index-records-place.is c.loop-place.invariant c.in_ok-add.ensures
+    indexes_one_more c.loop-place.tables c.add.new.self c.args.records.now c.loop-place.place c.index-records-place.result c.loop-place-test.true
+    c.index-records-place.is c.loop-place.invariant c.in_ok-add.ensures

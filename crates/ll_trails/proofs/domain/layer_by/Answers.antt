@@ -11,17 +11,17 @@ returns-then-place-records c = λ process.
 -- src/domain.rt:19:1
 pub returns-in-Frozen : goal.returns-in-Frozen
 unfolding layer_in
-returns-in-Frozen c = λ process.
-    noted_at c.args.case.now c.records.result.now c.args.place process (Frozen c.in-Frozen.id) c.trace.ensures.case (c.records.ensures.value ∙ c.trace.ensures.records) c.if-place-records.false (c.note.ensures ∙ ap Some c.in-Frozen.is)
+returns-in-Frozen c = λ process. noted_at c.args.case.now c.records.result.now c.args.place process (Frozen c.in-Frozen.id) c.trace.ensures.case
+    (c.records.ensures.value ∙ c.trace.ensures.records) c.if-place-records.false (c.note.ensures ∙ ap Some c.in-Frozen.is)
 
 -- src/domain.rt:19:1
 pub returns-in-Answered : goal.returns-in-Answered
 unfolding layer_in
-returns-in-Answered c = λ process.
-    noted_at c.args.case.now c.records.result.now c.args.place process (Answered c.in-Answered.field-0) c.trace.ensures.case (c.records.ensures.value ∙ c.trace.ensures.records) c.if-place-records.false (c.note.ensures ∙ ap Some c.in-Answered.is)
+returns-in-Answered c = λ process. noted_at c.args.case.now c.records.result.now c.args.place process (Answered c.in-Answered.field-0) c.trace.ensures.case
+    (c.records.ensures.value ∙ c.trace.ensures.records) c.if-place-records.false (c.note.ensures ∙ ap Some c.in-Answered.is)
 
 -- src/domain.rt:19:1
 pub returns-in-Open : goal.returns-in-Open
 unfolding layer_in
-returns-in-Open c = λ process.
-    noted_at c.args.case.now c.records.result.now c.args.place process Open c.trace.ensures.case (c.records.ensures.value ∙ c.trace.ensures.records) c.if-place-records.false (c.note.ensures ∙ ap Some c.in-Open.is)
+returns-in-Open c = λ process. noted_at c.args.case.now c.records.result.now c.args.place process Open c.trace.ensures.case
+    (c.records.ensures.value ∙ c.trace.ensures.records) c.if-place-records.false (c.note.ensures ∙ ap Some c.in-Open.is)

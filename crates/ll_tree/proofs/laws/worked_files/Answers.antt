@@ -14,5 +14,18 @@ use Rattle.ll_tree.specs.TreeReading.{entry_on, entry_in, kind_named, is_listed,
 use Rattle.ll_tree.proofs.laws.worked_files.Goals as goal
 
 pub returns : goal.returns
-unfolding lines value_at text_at path_of after_slash names_in is_name front path_eq is_dir_in read_lines entry_on entry_in kind_named is_listed fault_in is_utf8 chars encode value punctuate lex content
-returns c = record { reads = refl; empty = refl; alone = refl; no_slash = refl; two_slashes = refl; no_kind = refl; the_root = refl; twice = refl; in_a_file = refl; after_a_blank = refl; not_text = refl }
+unfolding lines value_at text_at path_of after_slash names_in is_name front path_eq is_dir_in read_lines entry_on entry_in kind_named is_listed fault_in is_utf8
+    chars encode value punctuate lex content
+returns c = record {
+  reads = refl;
+  empty = refl;
+  alone = refl;
+  no_slash = refl;
+  two_slashes = refl;
+  no_kind = refl;
+  the_root = refl;
+  twice = refl;
+  in_a_file = refl;
+  after_a_blank = refl;
+  not_text = refl;
+}

@@ -12,5 +12,6 @@ invariant-loop-root g l = record {
   queue : IsPassOf l.self.pool.now.line l.self.pass;
   some_part : 0 < (view l.self.pass).parts;
   gave : OnlyGave (view l.fn.self.pass) (view l.self.pass);
-  halfway : Halfway g.N.Naming.case (processes_of l.fn.roots.items) (into_iter_items l.root-iterator) (view l.fn.self.pass).given (view l.self.pass).given l.fn.pieces.items l.pieces.items;
+  halfway : Halfway g.N.Naming.case (processes_of l.fn.roots.items) (into_iter_items l.root-iterator) (view l.fn.self.pass).given
+      (view l.self.pass).given l.fn.pieces.items l.pieces.items;
 }

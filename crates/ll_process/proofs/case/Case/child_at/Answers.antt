@@ -12,4 +12,5 @@ returns-in-Fork-clause-child c =
     ∙ sym (forked_at-from c.args.self.now.records c.args.index c.record.result.now c.record.ensures.at forks)
 
 pub returns-in_default-clause-child : goal.returns-in_default-clause-child
-returns-in_default-clause-child c = sym (forked_at-none c.args.self.now.records c.args.index c.record.result.now c.record.ensures.at (is_fork-not c.record.result.now.op c.in_default.not-Fork))
+returns-in_default-clause-child c =
+    sym (forked_at-none c.args.self.now.records c.args.index c.record.result.now c.record.ensures.at (is_fork-not c.record.result.now.op c.in_default.not-Fork))

@@ -14,7 +14,8 @@ loop-index-init c = rooted_none c.args.self.now c.new-jobs.result.items c.new-jo
 pub loop-index-preserved : goal.loop-index-preserved
 loop-index-preserved c =
     let records : c.records-index-end.result.now ≡ c.args.self.now.records = c.records-index-end.ensures.value ∙ c.trace.ensures.records in
-    let within : c.loop-index.index < length c.args.self.now.records = subst (λ (xs : List Record). c.loop-index.index < length xs) records c.loop-index-test.true in
+    let within : c.loop-index.index < length c.args.self.now.records =
+    subst (λ (xs : List Record). c.loop-index.index < length xs) records c.loop-index-test.true in
     elim c.match-root_job.branch [
       | in-Some+in_ok-append w ↦
           subst (λ jobs. Rooted c.args.self.now (c.loop-index.index + 1) jobs.items) (sym w.jobs-is)
@@ -33,7 +34,8 @@ loop-index-preserved c =
 pub returns-clause-roots : goal.returns-clause-roots
 returns-clause-roots c =
     let records : c.records-index-end.result.now ≡ c.args.self.now.records = c.records-index-end.ensures.value ∙ c.trace.ensures.records in
-    rooted_all c.args.self.now c.loop-index.index c.loop-index.jobs.items (subst (λ (xs : List Record). length xs ≤ c.loop-index.index) records c.loop-index-test.false) c.loop-index.invariant
+    rooted_all c.args.self.now c.loop-index.index c.loop-index.jobs.items
+    (subst (λ (xs : List Record). length xs ≤ c.loop-index.index) records c.loop-index-test.false) c.loop-index.invariant
 
 pub returns-clause-numbered : goal.returns-clause-numbered
 returns-clause-numbered c = c.trace.ensures.case.numbered

@@ -4,7 +4,8 @@ use Rattle.ll_reasons.proofs.SpeltTexts.{front_shape, front_spelt, long_path, sh
 use Rattle.ll_reasons.proofs.spelt_path.SpeltPath.front.Goals as goal
 
 pub returns-then-text-le1-clause-none : goal.returns-then-text-le1-clause-none
-returns-then-text-le1-clause-none c = sym c.as_str-text.ensures.path ∙ short_root c.as_str-text.result.now c.as_str-text.ensures.shape (omega (arith, c.if-text-le1.true))
+returns-then-text-le1-clause-none c =
+    sym c.as_str-text.ensures.path ∙ short_root c.as_str-text.result.now c.as_str-text.ensures.shape (omega (arith, c.if-text-le1.true))
 
 pub invariant_of-result : goal.invariant_of-result
 invariant_of-result c = front_shape c.as_str-text.result.now c.front_text.result.now c.as_str-text.ensures.shape c.front_text.ensures

@@ -6,4 +6,5 @@ use Rattle.ll_reasons.proofs.spelt_path.SpeltPath.node.Goals as goal
 
 pub returns-clause-exact : goal.returns-clause-exact
 returns-clause-exact c =
-    c.node_of.ensures.exact (spelt c.as_str.result.now) (spelt_read c.as_str.result.now c.as_str.ensures.shape) ∙ ap (node_at c.args.tree.now) c.as_str.ensures.path
+    c.node_of.ensures.exact (spelt c.as_str.result.now) (spelt_read c.as_str.result.now c.as_str.ensures.shape)
+    ∙ ap (node_at c.args.tree.now) c.as_str.ensures.path

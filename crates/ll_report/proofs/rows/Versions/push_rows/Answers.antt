@@ -10,4 +10,5 @@ loop-place-preserved c =
 pub returns : goal.returns
 returns c =
     let l = c.loop-place in
-    all_rows c.args.self.now.shown c.args.self.now.oldest c.args.self.now.findings.now c.args.records.now l.place l.text.items _ l.invariant c.loop-place-test.false
+    all_rows c.args.self.now.shown c.args.self.now.oldest c.args.self.now.findings.now c.args.records.now l.place l.text.items _
+    l.invariant c.loop-place-test.false

@@ -9,7 +9,8 @@ use Rattle.ll_report.proofs.spans.Sayings.push_spans.Goals.{then-ne+in_ok-push_s
 
 pub loop-other-init : goal.loop-other-init
 loop-other-init c = (
-  ap (λ (said : List (Vec ℕ Global)). c.args.text.now.items ++ flat_map (span_text c.args.self.now.form) (spans_of c.args.self.now.oldest (map (λ (text : Vec ℕ Global). text.items) said)))
+  ap (λ (said : List (Vec ℕ Global)). c.args.text.now.items
+      ++ flat_map (span_text c.args.self.now.form) (spans_of c.args.self.now.oldest (map (λ (text : Vec ℕ Global). text.items) said)))
       (sym c.in-Some.ensures.cases.0),
   omega arith,
   omega (arith, c.in-Some.ensures.cases.1),
@@ -30,10 +31,12 @@ loop-other-preserved c =
     elim c.if-ne.branch [
       | then-ne+in_ok-push_span w ↦ (
         rw (w.text-is, w.current-is, w.first-is) (ends_here (λ (text : Vec ℕ Global). text.items) c.args.self.now.form c.in-Some.others.now l.other-index
-            l.first l.last l.current.now.items l.text.items _ l.invariant.0 c.other-item.result w.push_span.new.text.items c.loop-other-test.true c.other-item.is
+            l.first l.last l.current.now.items l.text.items _ l.invariant.0 c.other-item.result w.push_span.new.text.items
+            c.loop-other-test.true c.other-item.is
             (sym texts ∙ differs_if _ _ c.ne.ensures w.if-ne.true)
             (w.in_ok-push_span.ensures
-            ∙ ap (λ (said : List ℕ). l.text.items ++ span_text c.args.self.now.form (record { first = l.first; last = l.last; said = said })) w.deref.ensures.value)),
+            ∙ ap (λ (said : List ℕ). l.text.items ++ span_text c.args.self.now.form (record { first = l.first; last = l.last; said = said }))
+            w.deref.ensures.value)),
         next,
         l.invariant.2,
       )
@@ -52,5 +55,6 @@ returns c =
     on_ok_weaker c.push_span-2.result
     (λ written. is_last (λ (text : Vec ℕ Global). text.items) c.args.self.now.form c.in-Some.others.now l.other-index
     l.first l.last l.current.now.items l.text.items _ l.invariant.0 c.push_span-2.new.text.items c.loop-other-test.false
-    (written ∙ ap (λ (said : List ℕ). l.text.items ++ span_text c.args.self.now.form (record { first = l.first; last = l.last; said = said })) c.deref-2.ensures.value))
+    (written ∙ ap (λ (said : List ℕ). l.text.items ++ span_text c.args.self.now.form (record { first = l.first; last = l.last; said = said }))
+    c.deref-2.ensures.value))
     c.push_span-2.ensures

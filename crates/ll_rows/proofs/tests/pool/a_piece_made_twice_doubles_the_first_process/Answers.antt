@@ -5,5 +5,7 @@ use Rattle.ll_rows.proofs.tests.pool.a_piece_made_twice_doubles_the_first_proces
 
 pub collect-requires : goal.collect-requires
 collect-requires g c =
-    All-same (λ (x : Piece). x.case.now ≡ c.in_ok-case.case) c.append.new.self.items (c.in_ok-pieces.pieces.items ++ c.in_ok-again.again.items) c.in_ok-append.ensures.items
-    (All-append (λ (x : Piece). x.case.now ≡ c.in_ok-case.case) c.in_ok-pieces.pieces.items c.in_ok-again.again.items c.in_ok-pieces.ensures c.in_ok-again.ensures)
+    All-same (λ (x : Piece). x.case.now ≡ c.in_ok-case.case) c.append.new.self.items
+    (c.in_ok-pieces.pieces.items ++ c.in_ok-again.again.items) c.in_ok-append.ensures.items
+    (All-append (λ (x : Piece). x.case.now ≡ c.in_ok-case.case) c.in_ok-pieces.pieces.items c.in_ok-again.again.items
+    c.in_ok-pieces.ensures c.in_ok-again.ensures)

@@ -20,7 +20,8 @@ pub returns : goal.returns
 unfolding is_on_rulesets answer effect NoteFits answered
 returns c =
     settles_tables c.args.process (calls.CloseRs c.args.rs) c.args.self.now c.requires.sound c.close.new.self _ _ _ (Answered Allowed) c.in_ok-close.ensures
-    (λ q place is. held_there c.args.rs _ q place None (held_by c.args.self.now.tables.held.items c.args.process) is (λ none. cc) (c.requires.sound.places c.args.process q place))
+    (λ q place is. held_there c.args.rs _ q place None (held_by c.args.self.now.tables.held.items c.args.process) is (λ none. cc)
+    (c.requires.sound.places c.args.process q place))
     (λ w agrees. (refl, sym (rw (sym (agrees.held c.args.process c.args.rs) ∙ sym c.in-Some.ensures) refl)))
     (λ w agrees. rw (sym (agrees.held c.args.process c.args.rs) ∙ sym c.in-Some.ensures) refl)
     (λ w agrees. (
@@ -29,6 +30,7 @@ returns c =
       c.args.process,
       agrees.count,
       refl,
-      λ q. renamed (held_by c.args.self.now.tables.held.items c.args.process) (w.processes c.args.process).held c.args.rs q None None (agrees.held c.args.process q) refl,
+      λ q. renamed (held_by c.args.self.now.tables.held.items c.args.process) (w.processes c.args.process).held c.args.rs q None None
+          (agrees.held c.args.process q) refl,
       refl,
     ))

@@ -22,4 +22,5 @@ returns-in-Err c = rw c.failed.ensures
 
 pub returns-in-Ok : goal.returns-in-Ok
 returns-in-Ok c = IfOk-weaker c.hold_created.result _ _
-    (λ note settles. settles c.args.fs c.args.net _ c.in-Ok.ensures.made (create_creates c.args.self.now.tree.now c.args.self.now.abi c.args.rs c.args.fs c.args.net (sym c.in-Ok.ensures.fault))) c.hold_created.ensures
+    (λ note settles. settles c.args.fs c.args.net _ c.in-Ok.ensures.made
+    (create_creates c.args.self.now.tree.now c.args.self.now.abi c.args.rs c.args.fs c.args.net (sym c.in-Ok.ensures.fault))) c.hold_created.ensures

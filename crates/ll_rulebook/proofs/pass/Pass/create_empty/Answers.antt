@@ -18,4 +18,5 @@ returns-in-Some c =
 
 pub returns-in-None : goal.returns-in-None
 returns-in-None c = IfOk-weaker c.hold_created.result _ _
-    (λ note settles. settles no_right network.no_right _ c.empty.ensures (create_empty_creates c.args.self.now.tree.now c.args.self.now.abi c.args.rs)) c.hold_created.ensures
+    (λ note settles. settles no_right network.no_right _ c.empty.ensures (create_empty_creates c.args.self.now.tree.now c.args.self.now.abi c.args.rs))
+    c.hold_created.ensures

@@ -10,7 +10,8 @@ use Rattle.ll_rulebook.proofs.pass.Pass.restrict.Goals as goal
 pub returns-in-None : goal.returns-in-None
 unfolding is_on_rulesets enforced effect NoteFits
 returns-in-None c =
-    settles_quiet c.args.process (calls.Restrict c.args.rs) c.args.self.now c.requires.sound _ Open (λ rulesets s. refl) (extends_same _) c.requires.sound.layers
+    settles_quiet c.args.process (calls.Restrict c.args.rs) c.args.self.now c.requires.sound _ Open (λ rulesets s. refl)
+    (extends_same _) c.requires.sound.layers
     (λ w agrees. (refl, rw (sym (agrees.held c.args.process c.args.rs) ∙ sym c.in-None.ensures) refl))
 
 pub returns-in_ok-freeze-in-Some : goal.returns-in_ok-freeze-in-Some

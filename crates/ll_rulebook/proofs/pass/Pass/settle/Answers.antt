@@ -10,7 +10,8 @@ use Rattle.ll_rulebook.proofs.Settling.{IsQuiet, settles_quiet}
 use Rattle.ll_rulebook.proofs.pass.Pass.settle.Goals as goal
 
 pub returns-in-Start : goal.returns-in-Start
-returns-in-Start c = rw c.in-Start.is (IfOk-weaker c.start.result _ _ (λ note settles. settles c.args.record.now.process.0 c.in-Start.nnp c.in-Start.admin) c.start.ensures)
+returns-in-Start c =
+    rw c.in-Start.is (IfOk-weaker c.start.result _ _ (λ note settles. settles c.args.record.now.process.0 c.in-Start.nnp c.in-Start.admin) c.start.ensures)
 
 pub returns-in-Fork : goal.returns-in-Fork
 returns-in-Fork c = rw c.in-Fork.is (IfOk-weaker c.fork.result _ _ (λ note settles. settles c.in-Fork.child) c.fork.ensures)
@@ -23,4 +24,5 @@ returns-in-Exit c =
     let quiet : (rulesets : List Layer) (s : State) → IsQuiet s (effect c.args.self.now.tree.now rulesets op s) = search rules in
     let off : is_on_rulesets op ≡ false = search rules in
     let unforced : (rulesets : List Layer) (s : State) → enforced rulesets op s ≡ None = search rules in
-    settles_quiet c.args.record.now.process.0 op c.args.self.now c.requires.sound _ Open quiet (extends_same _) c.requires.sound.layers (λ w agrees. (off, unforced w.rulesets (w.processes c.args.record.now.process.0)))
+    settles_quiet c.args.record.now.process.0 op c.args.self.now c.requires.sound _ Open quiet (extends_same _) c.requires.sound.layers
+    (λ w agrees. (off, unforced w.rulesets (w.processes c.args.record.now.process.0)))

@@ -19,18 +19,22 @@ loop-here-init c = record {
 }
 
 pub next_marked-requires-clause-room : goal.next_marked-requires-clause-room
-next_marked-requires-clause-room c = omega (arith, c.loop-here.invariant.count, subst (λ (depth : ℕ). depth < 2 ^ 32) c.depth-depth.ensures c.depth-depth.type_inv)
+next_marked-requires-clause-room c =
+    omega (arith, c.loop-here.invariant.count, subst (λ (depth : ℕ). depth < 2 ^ 32) c.depth-depth.ensures c.depth-depth.type_inv)
 
 pub left_of-left-requires : goal.left_of-left-requires
-left_of-left-requires c = omega (arith, c.loop-here.invariant.count, c.next_marked.ensures.count, subst (λ (depth : ℕ). depth < 2 ^ 32) c.depth-depth.ensures c.depth-depth.type_inv)
+left_of-left-requires c =
+    omega (arith, c.loop-here.invariant.count, c.next_marked.ensures.count, subst (λ (depth : ℕ). depth < 2 ^ 32) c.depth-depth.ensures c.depth-depth.type_inv)
 
 -- once nothing is left, all that the lane had is granted
 pub returns-then-left-eq0-clause-left : goal.returns-then-left-eq0-clause-left
 returns-then-left-eq0-clause-left c = λ right.
     let here : IfSome (Some c.in-Some.here) (IsNode c.args.self.now.tree.now) = rw c.in-Some.is at c.next_marked.ensures.inside in
-    let passed = left_passed c.args.self.now.tree.now c.args.self.now.layer.now c.loop-here.at c.next_marked.result right (has (set_of c.loop-here.left) right) _ (c.next_marked.ensures.passed right) (c.loop-here.invariant.so_far right) in
+    let passed = left_passed c.args.self.now.tree.now c.args.self.now.layer.now c.loop-here.at c.next_marked.result right
+    (has (set_of c.loop-here.left) right) _ (c.next_marked.ensures.passed right) (c.loop-here.invariant.so_far right) in
     left_nothing c.args.self.now.tree.now c.args.self.now.layer.now c.parent-at.result right (has (set_of 0) right) _ (nothing_in 0 right refl)
-    (left_goes_on c.args.self.now.tree.now c.args.self.now.layer.now c.in-Some.here c.parent-at.result right (has (set_of c.loop-here.left) right) (has (set_of 0) right) _
+    (left_goes_on c.args.self.now.tree.now c.args.self.now.layer.now c.in-Some.here c.parent-at.result right (has (set_of c.loop-here.left) right)
+    (has (set_of 0) right) _
     c.parent-at.ensures.tree here c.args.self.now.rules c.parent-at.ensures.root c.parent-at.ensures.front
     (ap (λ (bits : ℕ). has (set_of bits) right) (sym c.if-left-eq0.true) ∙ c.left_of-left.ensures.left right) (rw c.in-Some.is at passed))
 
@@ -46,19 +50,26 @@ loop-here-preserved c =
     record {
       inside = nodes_above c.args.self.now.tree.now c.in-Some.here c.parent-at.result c.parent-at.ensures.front;
       so_far = λ right.
-          let passed = left_passed c.args.self.now.tree.now c.args.self.now.layer.now c.loop-here.at c.next_marked.result right (has (set_of c.loop-here.left) right) _ (c.next_marked.ensures.passed right) (c.loop-here.invariant.so_far right) in
-          left_goes_on c.args.self.now.tree.now c.args.self.now.layer.now c.in-Some.here c.parent-at.result right (has (set_of c.loop-here.left) right) (has (set_of c.left_of-left.result) right) _
+          let passed = left_passed c.args.self.now.tree.now c.args.self.now.layer.now c.loop-here.at c.next_marked.result right
+          (has (set_of c.loop-here.left) right) _ (c.next_marked.ensures.passed right) (c.loop-here.invariant.so_far right) in
+          left_goes_on c.args.self.now.tree.now c.args.self.now.layer.now c.in-Some.here c.parent-at.result right (has (set_of c.loop-here.left) right)
+          (has (set_of c.left_of-left.result) right) _
           c.parent-at.ensures.tree here c.args.self.now.rules c.parent-at.ensures.root c.parent-at.ensures.front
           (c.left_of-left.ensures.left right) (rw c.in-Some.is at passed);
       count = omega (arith, step, c.loop-here.invariant.count, rw c.in-Some.is at c.next_marked.ensures.count, c.left_of-left.ensures.count);
     }
 
 pub loop-here-smaller : goal.loop-here-smaller
-loop-here-smaller c = omega (arith, nodes_up-step c.args.self.now.tree.now c.in-Some.here c.parent-at.result c.parent-at.ensures.exact c.parent-at.ensures.front, rw c.in-Some.is at c.next_marked.ensures.above)
+loop-here-smaller c = omega (
+  arith,
+  nodes_up-step c.args.self.now.tree.now c.in-Some.here c.parent-at.result c.parent-at.ensures.exact c.parent-at.ensures.front,
+  rw c.in-Some.is at c.next_marked.ensures.above,
+)
 
 pub returns-clause-left : goal.returns-clause-left
 returns-clause-left c = λ right.
-    let passed = left_passed c.args.self.now.tree.now c.args.self.now.layer.now c.loop-here.at c.next_marked.result right (has (set_of c.loop-here.left) right) _ (c.next_marked.ensures.passed right) (c.loop-here.invariant.so_far right) in
+    let passed = left_passed c.args.self.now.tree.now c.args.self.now.layer.now c.loop-here.at c.next_marked.result right
+    (has (set_of c.loop-here.left) right) _ (c.next_marked.ensures.passed right) (c.loop-here.invariant.so_far right) in
     left_ends c.args.self.now.tree.now c.args.self.now.layer.now right (has (set_of c.loop-here.left) right) _ (rw c.in_default.is at passed)
 
 pub returns-clause-count : goal.returns-clause-count

@@ -14,7 +14,8 @@ use Rattle.ll_rules.proofs.alone.Alone.climb.Given as goal
 abbrev pub invariant-loop-here : goal.invariant-loop-here
 invariant-loop-here l = record {
   inside : IfSome l.at (IsNode l.self.tree.now);
-  so_far : (right : FsRight) → left_above l.self.tree.now l.self.layer.now l.at right (has (set_of l.left) right) ≡ (has (set_of l.lane) right && not (granted (in_tree l.self.tree.now l.self.layer.now) (path_at l.self.tree.now l.fn.node) right));
+  so_far : (right : FsRight) → left_above l.self.tree.now l.self.layer.now l.at right (has (set_of l.left) right)
+      ≡ (has (set_of l.lane) right && not (granted (in_tree l.self.tree.now l.self.layer.now) (path_at l.self.tree.now l.fn.node) right));
   count : l.look_ups + nodes_up l.self.tree.now l.at ≤ depth_at l.self.tree.now l.fn.node + 1;
 }
 

@@ -6,12 +6,14 @@ use Rattle.ll_rules.proofs.ruleset.Layer.handled.Goals as goal
 
 pub returns-then-is_empty-clause-handled : goal.returns-then-is_empty-clause-handled
 returns-then-is_empty-clause-handled c =
-    handled_none c.args.self.now c.self.inside.files (ap (λ (rules : RulesOn ℕ). rules.handled_files) c.self.view_is) (sym c.is_empty.ensures ∙ c.if-is_empty.true)
+    handled_none c.args.self.now c.self.inside.files (ap (λ (rules : RulesOn ℕ). rules.handled_files) c.self.view_is)
+    (sym c.is_empty.ensures ∙ c.if-is_empty.true)
 
 pub returns-else-is_empty-clause-handled : goal.returns-else-is_empty-clause-handled
 unfolding only
 returns-else-is_empty-clause-handled c =
-    handled_some c.args.self.now c.self.inside.files c.union.result (ap (λ (rules : RulesOn ℕ). rules.handled_files) c.self.view_is) (sym c.is_empty.ensures ∙ c.if-is_empty.false) c.union.ensures
+    handled_some c.args.self.now c.self.inside.files c.union.result (ap (λ (rules : RulesOn ℕ). rules.handled_files) c.self.view_is)
+    (sym c.is_empty.ensures ∙ c.if-is_empty.false) c.union.ensures
 
 pub returns-else-is_empty-clause-known : goal.returns-else-is_empty-clause-known
 unfolding only

@@ -9,7 +9,8 @@ use Rattle.ll_rules.proofs.stack.Stack.ask_on.Given as goal
 abbrev pub invariant-loop-place : goal.invariant-loop-place
 invariant-loop-place l = record {
   long : length l.lanes ≡ 16;
-  so_far : (place : ℕ) → place < l.place → (right : FsRight) → has (lane l.lanes place) right ≡ (has (lane l.fn.lanes place) right && not (granted_on_node (stacked l.self place) l.node right));
+  so_far : (place : ℕ) → place < l.place → (right : FsRight)
+      → has (lane l.lanes place) right ≡ (has (lane l.fn.lanes place) right && not (granted_on_node (stacked l.self place) l.node right));
   rest : (place : ℕ) → l.place ≤ place → get_or l.lanes place 0 ≡ get_or l.fn.lanes place 0;
   none : (place : ℕ) → place < l.place → l.all ≡ 0 → get_or l.lanes place 0 ≡ 0;
   count : l.look_ups ≤ l.place;

@@ -12,13 +12,16 @@ loop-place-preserved c =
     record {
       long = search rules;
       so_far =
-          row_next (λ (place value : ℕ). (right : FsRight) → has (set_of value) right ≡ (handles (stacked c.args.self.now place) right && has c.args.wanted right))
+          row_next (λ (place value : ℕ). (right : FsRight)
+          → has (set_of value) right ≡ (handles (stacked c.args.self.now place) right && has c.args.wanted right))
           c.loop-place.row c.loop-place.place _ inside c.loop-place.invariant.so_far
           (λ right.
           c.asked_of.ensures right
-          ∙ ap (λ (rules : RulesOn ℕ). handles rules right && has c.args.wanted right) (c.layer_of.ensures ∙ sym (layer_in-named c.args.self.now.layers.now c.args.self.now.ids.now c.loop-place.place _ c.loop-place-test.true)));
+          ∙ ap (λ (rules : RulesOn ℕ). handles rules right && has c.args.wanted right)
+          (c.layer_of.ensures ∙ sym (layer_in-named c.args.self.now.layers.now c.args.self.now.ids.now c.loop-place.place _ c.loop-place-test.true)));
       rest = row_rest c.loop-place.row c.loop-place.place _ c.loop-place.invariant.rest;
     }
 
 pub returns : goal.returns
-returns c = all_asked c.args.self.now.layers.now c.args.self.now.ids.now c.loop-place.row c.loop-place.place (omega arith) c.loop-place.invariant.rest c.args.wanted c.loop-place.invariant.so_far
+returns c = all_asked c.args.self.now.layers.now c.args.self.now.ids.now c.loop-place.row c.loop-place.place
+    (omega arith) c.loop-place.invariant.rest c.args.wanted c.loop-place.invariant.so_far

@@ -9,6 +9,7 @@ use Rattle.ll_rules.proofs.stack.Stack.asked_in.Given as goal
 abbrev pub invariant-loop-place : goal.invariant-loop-place
 invariant-loop-place l = record {
   long : length l.row ≡ 16;
-  so_far : (place : ℕ) → place < l.place → (right : FsRight) → has (set_of (get_or l.row place 0)) right ≡ (handles (stacked l.self place) right && has l.wanted right);
+  so_far : (place : ℕ) → place < l.place → (right : FsRight)
+      → has (set_of (get_or l.row place 0)) right ≡ (handles (stacked l.self place) right && has l.wanted right);
   rest : (place : ℕ) → l.place ≤ place → get_or l.row place 0 ≡ 0;
 }

@@ -12,7 +12,8 @@ abbrev pub invariant-loop-at : goal.invariant-loop-at
 invariant-loop-at l = record {
   inside : IfSome l.at (IsNode l.self.tree.now);
   above : nodes_up l.self.tree.now l.at ≤ nodes_up l.self.tree.now l.fn.from;
-  passed : (place : ℕ) (right : FsRight) → granted_above l.self.tree.now (stacked l.self place) l.at right ≡ granted_above l.self.tree.now (stacked l.self place) l.fn.from right;
+  passed : (place : ℕ) (right : FsRight)
+      → granted_above l.self.tree.now (stacked l.self place) l.at right ≡ granted_above l.self.tree.now (stacked l.self place) l.fn.from right;
   count : l.look_ups + length l.self.ids.now * nodes_up l.self.tree.now l.at ≤ l.fn.look_ups + length l.self.ids.now * nodes_up l.self.tree.now l.fn.from;
 }
 

@@ -11,7 +11,9 @@ returns-in-Answered-clause-answer g c = (subst (λ (note : Note). NoteFits g.at 
 
 pub returns-in-Answered-clause-ok : goal.returns-in-Answered-clause-ok
 unfolding NoteFits
-returns-in-Answered-clause-ok g c = Agrees-on_rulesets g.at c.args.self.now c.args.op.now c.requires.1.0 (subst (λ (note : Note). NoteFits g.at c.args.op.now note) c.in-Answered.is c.requires.1.1.0).0
+returns-in-Answered-clause-ok g c =
+    Agrees-on_rulesets g.at c.args.self.now c.args.op.now c.requires.1.0
+    (subst (λ (note : Note). NoteFits g.at c.args.op.now note) c.in-Answered.is c.requires.1.1.0).0
 
 pub returns-in-Frozen-clause-answer : goal.returns-in-Frozen-clause-answer
 unfolding NoteFits

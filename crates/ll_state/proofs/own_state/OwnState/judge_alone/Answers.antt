@@ -7,7 +7,9 @@ use Rattle.ll_state.proofs.own_state.OwnState.judge_alone.Goals as goal
 
 pub returns-in-Restrict : goal.returns-in-Restrict
 returns-in-Restrict g c =
-    let both = unheld_judged g.at c.args.self.now c.restrict.new.self c.restrict.result c.requires.1.0 c.args.call.now.op.now c.in-Restrict.rs c.restrict.ensures c.in-Restrict.is c.requires.1.1 in
+    let both =
+    unheld_judged g.at c.args.self.now c.restrict.new.self c.restrict.result c.requires.1.0 c.args.call.now.op.now c.in-Restrict.rs c.restrict.ensures
+    c.in-Restrict.is c.requires.1.1 in
     (both.0, both.1, tt)
 
 pub returns-in-Start : goal.returns-in-Start

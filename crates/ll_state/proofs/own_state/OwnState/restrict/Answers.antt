@@ -33,5 +33,7 @@ pub returns-in-Err : goal.returns-in-Err
 returns-in-Err c = λ at agrees rules frozen.
     let may = kept_may at c.args.self.now at.state agrees ∙ sym c.may_restrict.ensures ∙ c.if-not-may_restrict.false in
     let full : length at.state.domain ≡ 16 = sym (length-domain at c.args.self.now at.state agrees) ∙ c.in-Err.ensures.full.0 refl in
-    let one = subst (λ (layer : Option LayerId). IsFrozen at layer rules) c.in-Some.is frozen in
-    (c.fails-in-Err.ensures ∙ restrict_full at c.in-Some.layer at.state rules may (omega (arith, full)) one, rw (c.fails-in-Err.ensures, c.in-Err.ensures.err) agrees)
+    let one = subst (λ (layer : Option LayerId). IsFrozen at layer rules) c.in-Some.is frozen in (
+      c.fails-in-Err.ensures ∙ restrict_full at c.in-Some.layer at.state rules may (omega (arith, full)) one,
+      rw (c.fails-in-Err.ensures, c.in-Err.ensures.err) agrees,
+    )

@@ -10,13 +10,17 @@ pub follow_by-requires : goal.follow_by-requires
 follow_by-requires c = λ goes.
     let of : Matter = c.args.case.now in
     let r : Record = c.index-records-place.result in
-    let at : slice_get of.records c.args.place ≡ Some r = read_there of.records c.records.result.now c.args.place r (c.records.ensures.value ∙ c.trace.ensures.records) c.requires.place c.index-records-place.is in
-    omega (arith, c.requires.trails.count, process_there of.tree of.abi of.records c.args.place r c.trace.ensures.case.numbered (omega (arith, c.requires.place)) at goes)
+    let at : slice_get of.records c.args.place ≡ Some r =
+    read_there of.records c.records.result.now c.args.place r (c.records.ensures.value ∙ c.trace.ensures.records) c.requires.place c.index-records-place.is in
+    let there = process_there of.tree of.abi of.records c.args.place r c.trace.ensures.case.numbered (omega (arith, c.requires.place)) at goes in
+    omega (arith, c.requires.trails.count, there)
 
 -- src/trail.rt:154:5
 pub returns : goal.returns
 returns c =
     let of : Matter = c.args.case.now in
     let r : Record = c.index-records-place.result in
-    let at : slice_get of.records c.args.place ≡ Some r = read_there of.records c.records.result.now c.args.place r (c.records.ensures.value ∙ c.trace.ensures.records) c.requires.place c.index-records-place.is in
-    rw (sources_at-next of.tree of.abi of.records c.args.place r c.args.answer at c.requires.answer) (c.in_ok-follow_by.ensures (sources_at of.tree of.abi of.records c.args.place) c.requires.trails)
+    let at : slice_get of.records c.args.place ≡ Some r =
+    read_there of.records c.records.result.now c.args.place r (c.records.ensures.value ∙ c.trace.ensures.records) c.requires.place c.index-records-place.is in
+    rw (sources_at-next of.tree of.abi of.records c.args.place r c.args.answer at c.requires.answer)
+    (c.in_ok-follow_by.ensures (sources_at of.tree of.abi of.records c.args.place) c.requires.trails)

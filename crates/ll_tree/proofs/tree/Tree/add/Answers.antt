@@ -14,7 +14,8 @@ depth-depth-requires c =
 pub overflow_add-depth : goal.overflow_add-depth
 overflow_add-depth c =
     let listed = subst IsTree c.self.view_is c.self.invariant.listed in
-    let small = depth_small c.args.self.now c.args.parent listed (gap_node c.args.self.now c.args.text.now c.args.kind c.args.parent listed c.requires.path c.requires.gap) in
+    let small = depth_small c.args.self.now c.args.parent listed
+    (gap_node c.args.self.now c.args.text.now c.args.kind c.args.parent listed c.requires.path c.requires.gap) in
     omega (arith, small, c.depth-depth.ensures)
 
 pub invariant_of-self-in_err-insert : goal.invariant_of-self-in_err-insert
@@ -28,11 +29,15 @@ pub returns-in_err-insert-clause-err : goal.returns-in_err-insert-clause-err
 returns-in_err-insert-clause-err c = on_err c.from_residual-in_err-insert.result _ (ap entries_of c.reserve.ensures.items ∙ c.self.view_is)
 
 -- what was put
-both_facts : (c : After-push_reserved) → IsSound c.push_reserved.new.self.items c.insert.new.self.entries × (entries_of c.push_reserved.new.self.items ≡ c.args.self.now ++ named c.args.text.now c.args.kind ∷ [])
+both_facts : (c : After-push_reserved) → IsSound c.push_reserved.new.self.items c.insert.new.self.entries
+    × (entries_of c.push_reserved.new.self.items ≡ c.args.self.now ++ named c.args.text.now c.args.kind ∷ [])
 both_facts c =
     let object : Object = record { text = c.in_ok-kept.kept; kind = c.args.kind; parent = Some c.args.parent; depth = c.depth-depth.result + 1 } in
-    let facts = pushed c.self.inside.objects.items c.args.self.now c.self.view_is c.self.inside.numbers c.insert.new.self c.in_ok-key.key object c.args.parent c.nodes-number.result c.self.invariant c.requires.room
-    (rw c.in_ok-kept.ensures.ok c.requires.path) (rw c.in_ok-kept.ensures.ok c.requires.gap) (c.in_ok-key.ensures.ok ∙ sym c.in_ok-kept.ensures.ok) c.nodes-number.ensures.count refl (ap (λ n. n + 1) c.depth-depth.ensures) c.in_ok-insert.ensures.updates in
+    let facts =
+    pushed c.self.inside.objects.items c.args.self.now c.self.view_is c.self.inside.numbers c.insert.new.self c.in_ok-key.key object c.args.parent
+    c.nodes-number.result c.self.invariant c.requires.room
+    (rw c.in_ok-kept.ensures.ok c.requires.path) (rw c.in_ok-kept.ensures.ok c.requires.gap) (c.in_ok-key.ensures.ok ∙ sym c.in_ok-kept.ensures.ok)
+    c.nodes-number.ensures.count refl (ap (λ n. n + 1) c.depth-depth.ensures) c.in_ok-insert.ensures.updates in
     rw (rw c.reserve.ensures.items at c.push_reserved.ensures.items, ← c.in_ok-kept.ensures.ok) facts
 
 pub invariant_of-self-2 : goal.invariant_of-self-2

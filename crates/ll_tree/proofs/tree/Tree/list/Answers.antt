@@ -8,11 +8,13 @@ use Rattle.ll_tree.proofs.tree.Tree.list.Goals as goal
 
 pub returns-in-Node-clause-entry : goal.returns-in-Node-clause-entry
 unfolding fault_at
-returns-in-Node-clause-entry c = with_entry-fault c.args.self.now c.args.path.now c.args.kind _ c.in-Node.ensures.tree c.requires c.in-Node.ensures.place Twice refl
+returns-in-Node-clause-entry c =
+    with_entry-fault c.args.self.now c.args.path.now c.args.kind _ c.in-Node.ensures.tree c.requires c.in-Node.ensures.place Twice refl
 
 pub returns-in-Nowhere-clause-entry : goal.returns-in-Nowhere-clause-entry
 unfolding fault_at
-returns-in-Nowhere-clause-entry c = with_entry-fault c.args.self.now c.args.path.now c.args.kind _ c.in-Nowhere.ensures.tree c.requires c.in-Nowhere.ensures.place NoParent refl
+returns-in-Nowhere-clause-entry c =
+    with_entry-fault c.args.self.now c.args.path.now c.args.kind _ c.in-Nowhere.ensures.tree c.requires c.in-Nowhere.ensures.place NoParent refl
 
 pub returns-in-Gap-clause-entry : goal.returns-in-Gap-clause-entry
 unfolding fault_at
@@ -20,7 +22,8 @@ returns-in-Gap-clause-entry c =
     let count = c.nodes.ensures.count in
     let many = c.if-nodes-ge-NODES.true in
     let full : ltb (length c.args.self.now) 65536 ≡ false = grind (arith, nat_tests) in
-    with_entry-fault c.args.self.now c.args.path.now c.args.kind _ c.in-Gap.ensures.tree c.requires c.in-Gap.ensures.place TooMany (ap (λ b. cond b None (Some TooMany)) full)
+    with_entry-fault c.args.self.now c.args.path.now c.args.kind _ c.in-Gap.ensures.tree c.requires c.in-Gap.ensures.place TooMany
+    (ap (λ b. cond b None (Some TooMany)) full)
 
 pub returns-in_ok-add-in-Gap-2-clause-entry : goal.returns-in_ok-add-in-Gap-2-clause-entry
 unfolding fault_at
@@ -28,7 +31,9 @@ returns-in_ok-add-in-Gap-2-clause-entry c =
     let count = c.nodes.ensures.count in
     let few = c.if-nodes-ge-NODES.false in
     let room : ltb (length c.args.self.now) 65536 ≡ true = grind (arith, nat_tests) in
-    with_entry-added c.args.self.now c.args.path.now c.args.kind _ c.in-Gap-2.ensures.tree c.requires c.in-Gap-2.ensures.place c.add.new.self (ap (λ b. cond b None (Some TooMany)) room) c.in_ok-add-in-Gap-2.ensures.ok
+    with_entry-added c.args.self.now c.args.path.now c.args.kind _ c.in-Gap-2.ensures.tree c.requires c.in-Gap-2.ensures.place c.add.new.self
+    (ap (λ b. cond b None (Some TooMany)) room) c.in_ok-add-in-Gap-2.ensures.ok
 
 pub returns-in_ok-add-in-Gap-2-clause-rooted : goal.returns-in_ok-add-in-Gap-2-clause-rooted
-returns-in_ok-add-in-Gap-2-clause-rooted c = rooted_later c.args.self.now c.add.new.self (named c.args.path.now c.args.kind) c.in-Gap-2.ensures.tree c.in_ok-add-in-Gap-2.ensures.ok
+returns-in_ok-add-in-Gap-2-clause-rooted c =
+    rooted_later c.args.self.now c.add.new.self (named c.args.path.now c.args.kind) c.in-Gap-2.ensures.tree c.in_ok-add-in-Gap-2.ensures.ok

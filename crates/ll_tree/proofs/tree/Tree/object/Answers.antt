@@ -10,7 +10,9 @@ pub returns-clause-kind : goal.returns-clause-kind
 returns-clause-kind c = kind_is c.self.inside.objects.items c.args.self.now c.self.view_is c.args.node c.index.result.now c.requires c.index.ensures
 
 pub returns-clause-parent : goal.returns-clause-parent
-returns-clause-parent c = (of_node c.self.inside.objects.items c.args.self.now c.self.view_is c.args.node c.index.result.now c.requires c.index.ensures _ c.self.invariant).parent
+returns-clause-parent c =
+    (of_node c.self.inside.objects.items c.args.self.now c.self.view_is c.args.node c.index.result.now c.requires c.index.ensures _ c.self.invariant).parent
 
 pub returns-clause-depth : goal.returns-clause-depth
-returns-clause-depth c = (of_node c.self.inside.objects.items c.args.self.now c.self.view_is c.args.node c.index.result.now c.requires c.index.ensures _ c.self.invariant).depth
+returns-clause-depth c =
+    (of_node c.self.inside.objects.items c.args.self.now c.self.view_is c.args.node c.index.result.now c.requires c.index.ensures _ c.self.invariant).depth

@@ -12,7 +12,8 @@ find-requires-in-None c = ap is_some (c.front_text.ensures (spelt c.args.path.no
 
 pub returns-in-Some-clause-place : goal.returns-in-Some-clause-place
 unfolding place_or_gap
-returns-in-Some-clause-place c = ap (place_or_gap c.args.self.now (spelt c.args.path.now)) c.in-Some.ensures.found ∙ place_is c.args.self.now c.args.path.now c.requires
+returns-in-Some-clause-place c =
+    ap (place_or_gap c.args.self.now (spelt c.args.path.now)) c.in-Some.ensures.found ∙ place_is c.args.self.now c.args.path.now c.requires
 
 pub returns-in-None-clause-place : goal.returns-in-None-clause-place
 unfolding place_or_gap
