@@ -221,6 +221,58 @@ fn moves_agree(tree: &Tree, both: &Both, domain: &Domain, attempt: &Attempt) -> 
         && look_ups >= from.min(to).saturating_mul(denying)
 }
 
+/// Whether both forms answer each call that moves an object, by chance, alike.
+fn calls_agree(
+    tree: &Tree,
+    paths: &[String],
+    both: &Both,
+    domain: &Domain,
+    moved: NodeId,
+    numbers: &mut Numbers,
+) -> Result<bool, Fail>
+    requires rules { All (AreInTree tree.now) both.now.lanes.items }
+    requires domain { IsDomainOf both.now.lanes.items domain.now }
+    requires moved { IsNode tree.now moved }
+{
+    let object = picked(tree, paths, OBJECTS, numbers)?;
+    let directory = picked(tree, paths, PARENTS, numbers)?;
+    for (call, at) in [
+        (Call::RenameToMissing, directory),
+        (Call::RenameOnto, object),
+        (Call::Exchange, object),
+        (Call::Link, directory),
+    ] {
+        if !moves_agree(tree, both, domain, &Attempt { call, moved, at }) {
+            return Ok(false);
+        }
+    }
+    Ok(true)
+}
+
+/// Whether both forms agree on a path and on moves of an object, each by chance, as often as said.
+fn domain_agrees(
+    tree: &Tree,
+    paths: &[String],
+    both: &Both,
+    domain: &Domain,
+    turns: u32,
+    numbers: &mut Numbers,
+) -> Result<bool, Fail>
+    requires rules { All (AreInTree tree.now) both.now.lanes.items }
+    requires domain { IsDomainOf both.now.lanes.items domain.now }
+{
+    for turn in 0..turns {
+        let first = if turn % 2 == 0 { PARENTS } else { OBJECTS };
+        let moved = picked(tree, paths, first, numbers)?;
+        let wanted = numbers.rights();
+        let is_alike = paths_agree(tree, both, domain, moved, wanted);
+        if !is_alike || !calls_agree(tree, paths, both, domain, moved, numbers)? {
+            return Ok(false);
+        }
+    }
+    Ok(true)
+}
+
 #[test]
 fn lanes_and_plain_layers(rt: HostRuntime) -> Result<(), Fail> {
     let alloc = rt.alloc();
@@ -230,29 +282,8 @@ fn lanes_and_plain_layers(rt: HostRuntime) -> Result<(), Fail> {
     for round in 0..34u32 {
         let both = layers_of(alloc, &tree, &paths, round % 17, &mut numbers)?;
         let domain = stacked(&both.lanes)?;
-        for turn in 0..60u32 {
-            let first = if turn % 2 == 0 { PARENTS } else { OBJECTS };
-            let moved = picked(&tree, &paths, first, &mut numbers)?;
-            let wanted = numbers.rights();
-            assert!(rt;
-                paths_agree(&tree, &both, &domain, moved, wanted),
-                "{round} {turn}"
-            );
-            let object = picked(&tree, &paths, OBJECTS, &mut numbers)?;
-            let directory = picked(&tree, &paths, PARENTS, &mut numbers)?;
-            for (call, at) in [
-                (Call::RenameToMissing, directory),
-                (Call::RenameOnto, object),
-                (Call::Exchange, object),
-                (Call::Link, directory),
-            ] {
-                let attempt = Attempt { call, moved, at };
-                assert!(rt;
-                    moves_agree(&tree, &both, &domain, &attempt),
-                    "{round} {turn} {call:?}"
-                );
-            }
-        }
+        let agrees = domain_agrees(&tree, &paths, &both, &domain, 60, &mut numbers)?;
+        assert!(rt; agrees, "{round}");
     }
     Ok(())
 }
