@@ -69,7 +69,38 @@ are_spelt op = list_all (λ text. is_some (path_of text)) (paths_of op)
 abbrev pub spelt : Op → Result Op Cause
 spelt op = if are_spelt op then Ok op else Err BadPath
 
--- what the members of a line read as, for the name of each operation
+-- what the members of a line read as, for the name of each call on a path
+unfoldable pub path_operations : Data → List (List ℕ × Result Op Cause)
+path_operations value =
+    (codes "truncate", of_one Truncate (path_at value))
+    ∷ (codes "exec", of_one Exec (path_at value))
+    ∷ (
+      codes "open",
+      of_five OpenFile (text_at (codes "path") value) (number_at (codes "fd") value) (mode_at value) (flag_at (codes "create") value)
+          (flag_at (codes "trunc") value) >>= spelt,
+    )
+    ∷ (codes "mknod", of_two Mknod (text_at (codes "path") value) (made_kind_at value) >>= spelt)
+    ∷ (codes "mkdir", of_one Mkdir (path_at value))
+    ∷ (codes "symlink", of_one Symlink (path_at value))
+    ∷ (codes "unlink", of_one Unlink (path_at value))
+    ∷ (codes "rmdir", of_one Rmdir (path_at value))
+    ∷ (codes "rename", of_three Rename (text_at (codes "from") value) (text_at (codes "to") value) (flag_at (codes "exchange") value) >>= spelt)
+    ∷ (codes "link", of_two Link (text_at (codes "from") value) (text_at (codes "to") value) >>= spelt)
+    ∷ []
+
+-- of each call on a descriptor, a port or a path
+unfoldable pub descriptor_operations : Data → List (List ℕ × Result Op Cause)
+descriptor_operations value =
+    (codes "adopt", of_two Adopt (number_at (codes "fd") value) (sort_at value))
+    ∷ (codes "dup", of_two Dup (number_at (codes "fd") value) (number_at (codes "to") value))
+    ∷ (codes "close", of_one Close (number_at (codes "fd") value))
+    ∷ (codes "ftruncate", of_one Ftruncate (number_at (codes "fd") value))
+    ∷ (codes "ioctl", of_two Ioctl (number_at (codes "fd") value) (truth_at (codes "driver") value))
+    ∷ (codes "bind", of_one Bind (port_at value))
+    ∷ (codes "connect", of_one Connect (port_at value))
+    ∷ path_operations value
+
+-- of each operation
 unfoldable pub operations : Data → List (List ℕ × Result Op Cause)
 operations value =
     (codes "start", of_two Start (flag_at (codes "nnp") value) (flag_at (codes "admin") value))
@@ -81,38 +112,17 @@ operations value =
     ∷ (codes "add_port", of_three AddPort (number_at (codes "rs") value) (number_at (codes "port") value) (net_at value))
     ∷ (codes "close_rs", of_one CloseRs (number_at (codes "rs") value))
     ∷ (codes "restrict", of_one Restrict (number_at (codes "rs") value))
-    ∷ (
-      codes "open",
-      of_five OpenFile (text_at (codes "path") value) (number_at (codes "fd") value) (mode_at value) (flag_at (codes "create") value)
-          (flag_at (codes "trunc") value) >>= spelt,
-    )
-    ∷ (codes "adopt", of_two Adopt (number_at (codes "fd") value) (sort_at value))
-    ∷ (codes "dup", of_two Dup (number_at (codes "fd") value) (number_at (codes "to") value))
-    ∷ (codes "close", of_one Close (number_at (codes "fd") value))
-    ∷ (codes "ftruncate", of_one Ftruncate (number_at (codes "fd") value))
-    ∷ (codes "truncate", of_one Truncate (path_at value))
-    ∷ (codes "exec", of_one Exec (path_at value))
-    ∷ (codes "mknod", of_two Mknod (text_at (codes "path") value) (made_kind_at value) >>= spelt)
-    ∷ (codes "mkdir", of_one Mkdir (path_at value))
-    ∷ (codes "symlink", of_one Symlink (path_at value))
-    ∷ (codes "unlink", of_one Unlink (path_at value))
-    ∷ (codes "rmdir", of_one Rmdir (path_at value))
-    ∷ (codes "rename", of_three Rename (text_at (codes "from") value) (text_at (codes "to") value) (flag_at (codes "exchange") value) >>= spelt)
-    ∷ (codes "link", of_two Link (text_at (codes "from") value) (text_at (codes "to") value) >>= spelt)
     ∷ (codes "mount", Ok Mount)
-    ∷ (codes "bind", of_one Bind (port_at value))
-    ∷ (codes "connect", of_one Connect (port_at value))
-    ∷ (codes "ioctl", of_two Ioctl (number_at (codes "fd") value) (truth_at (codes "driver") value))
-    ∷ []
+    ∷ descriptor_operations value
+
+-- the operation of a name, among some
+abbrev pub named_in : List (List ℕ × Result Op Cause) → List ℕ → Result Op Cause
+named_in rows name = meaning rows name >>= λ reading. reading
 
 -- the operation of a name
 unfoldable pub operation_named : List ℕ → Data → Result Op Cause
-operation_named name value = do
-  reading ← meaning (operations value) name
-  reading
+operation_named name value = named_in (operations value) name
 
 -- the operation that an object says
 unfoldable pub operation_at : Data → Result Op Cause
-operation_at value = do
-  name ← text_at (codes "op") value
-  operation_named name value
+operation_at value = text_at (codes "op") value >>= λ name. operation_named name value

@@ -3,7 +3,8 @@
 ghost use Rattle.std.specs.Prelude.{◌≡◌, codes};
 ghost use Rattle.ll_lines.specs.Readers.{Gives};
 ghost use Rattle.ll_lines.specs.Values.{value_data};
-ghost use Rattle.ll_trace.specs.Operations.{op_name, operation_named, operation_at};
+ghost use Rattle.ll_trace.specs.Operations.{descriptor_operations, named_in, op_name, operation_at};
+ghost use Rattle.ll_trace.specs.Operations.{operation_named, path_operations};
 
 use crate::members::{fs_of, made_kind_of, mode_of, net_of, path_of, port_of, sort_of};
 use crate::op::{Op, RuleType};
@@ -53,7 +54,18 @@ fn operation_by_name(alloc: Global, name: &str, value: &Value<'_>) -> Result<Op,
         "restrict" => Ok(Op::Restrict {
             rs: number_of(value, "rs")?,
         }),
-        "open" => open_of(alloc, value),
+        "mount" => Ok(Op::Mount),
+        _ => descriptor_operation(alloc, name, value),
+    }
+}
+
+/// A call on a descriptor, a port or a path.
+#[tactic(auto, unfolding(crate::specs::Operations::descriptor_operations))]
+fn descriptor_operation(alloc: Global, name: &str, value: &Value<'_>) -> Result<Op, Cause>
+    ensures { Gives (λ op. op) result
+        (named_in (descriptor_operations (value_data value.now)) name.now) }
+{
+    match name {
         "adopt" => Ok(Op::Adopt {
             fd: number_of(value, "fd")?,
             kind: sort_of(value)?,
@@ -68,12 +80,34 @@ fn operation_by_name(alloc: Global, name: &str, value: &Value<'_>) -> Result<Op,
         "ftruncate" => Ok(Op::Ftruncate {
             fd: number_of(value, "fd")?,
         }),
+        "ioctl" => Ok(Op::Ioctl {
+            fd: number_of(value, "fd")?,
+            driver: truth_of(value, "driver")?,
+        }),
+        "bind" => Ok(Op::Bind {
+            port: port_of(value)?,
+        }),
+        "connect" => Ok(Op::Connect {
+            port: port_of(value)?,
+        }),
+        _ => path_operation(alloc, name, value),
+    }
+}
+
+/// A call on a path.
+#[tactic(auto, unfolding(crate::specs::Operations::path_operations))]
+fn path_operation(alloc: Global, name: &str, value: &Value<'_>) -> Result<Op, Cause>
+    ensures { Gives (λ op. op) result
+        (named_in (path_operations (value_data value.now)) name.now) }
+{
+    match name {
         "truncate" => Ok(Op::Truncate {
             path: path_of(alloc, value)?,
         }),
         "exec" => Ok(Op::Exec {
             path: path_of(alloc, value)?,
         }),
+        "open" => open_of(alloc, value),
         "mknod" => mknod_of(alloc, value),
         "mkdir" => Ok(Op::Mkdir {
             path: path_of(alloc, value)?,
@@ -89,17 +123,6 @@ fn operation_by_name(alloc: Global, name: &str, value: &Value<'_>) -> Result<Op,
         }),
         "rename" => rename_of(alloc, value),
         "link" => link_of(alloc, value),
-        "mount" => Ok(Op::Mount),
-        "bind" => Ok(Op::Bind {
-            port: port_of(value)?,
-        }),
-        "connect" => Ok(Op::Connect {
-            port: port_of(value)?,
-        }),
-        "ioctl" => Ok(Op::Ioctl {
-            fd: number_of(value, "fd")?,
-            driver: truth_of(value, "driver")?,
-        }),
         _ => Err(Cause::Field),
     }
 }
@@ -115,9 +138,10 @@ fn add_path_of(alloc: Global, value: &Value<'_>) -> Result<Op, Cause>
     Ok(Op::AddPath { rs, path, fs })
 }
 
-#[tactic(auto, unfolding(crate::specs::Operations::operations, crate::specs::Operations::operation_named, crate::specs::Operations::paths_of, crate::specs::Operations::are_spelt, crate::specs::Members::path_in))]
+#[tactic(auto, unfolding(crate::specs::Operations::path_operations, crate::specs::Operations::paths_of, crate::specs::Operations::are_spelt, crate::specs::Members::path_in))]
 fn open_of(alloc: Global, value: &Value<'_>) -> Result<Op, Cause>
-    ensures { Gives (λ op. op) result (operation_named (codes "open") (value_data value.now)) }
+    ensures { Gives (λ op. op) result
+        (named_in (path_operations (value_data value.now)) (codes "open")) }
 {
     let path = text_of(value, "path")?;
     let fd = number_of(value, "fd")?;
@@ -134,9 +158,10 @@ fn open_of(alloc: Global, value: &Value<'_>) -> Result<Op, Cause>
     })
 }
 
-#[tactic(auto, unfolding(crate::specs::Operations::operations, crate::specs::Operations::operation_named, crate::specs::Operations::paths_of, crate::specs::Operations::are_spelt, crate::specs::Members::path_in))]
+#[tactic(auto, unfolding(crate::specs::Operations::path_operations, crate::specs::Operations::paths_of, crate::specs::Operations::are_spelt, crate::specs::Members::path_in))]
 fn mknod_of(alloc: Global, value: &Value<'_>) -> Result<Op, Cause>
-    ensures { Gives (λ op. op) result (operation_named (codes "mknod") (value_data value.now)) }
+    ensures { Gives (λ op. op) result
+        (named_in (path_operations (value_data value.now)) (codes "mknod")) }
 {
     let path = text_of(value, "path")?;
     let kind = made_kind_of(value)?;
@@ -144,9 +169,10 @@ fn mknod_of(alloc: Global, value: &Value<'_>) -> Result<Op, Cause>
     Ok(Op::Mknod { path, kind })
 }
 
-#[tactic(auto, unfolding(crate::specs::Operations::operations, crate::specs::Operations::operation_named, crate::specs::Operations::paths_of, crate::specs::Operations::are_spelt, crate::specs::Members::path_in))]
+#[tactic(auto, unfolding(crate::specs::Operations::path_operations, crate::specs::Operations::paths_of, crate::specs::Operations::are_spelt, crate::specs::Members::path_in))]
 fn rename_of(alloc: Global, value: &Value<'_>) -> Result<Op, Cause>
-    ensures { Gives (λ op. op) result (operation_named (codes "rename") (value_data value.now)) }
+    ensures { Gives (λ op. op) result
+        (named_in (path_operations (value_data value.now)) (codes "rename")) }
 {
     let from = text_of(value, "from")?;
     let to = text_of(value, "to")?;
@@ -156,9 +182,10 @@ fn rename_of(alloc: Global, value: &Value<'_>) -> Result<Op, Cause>
     Ok(Op::Rename { from, to, exchange })
 }
 
-#[tactic(auto, unfolding(crate::specs::Operations::operations, crate::specs::Operations::operation_named, crate::specs::Operations::paths_of, crate::specs::Operations::are_spelt, crate::specs::Members::path_in))]
+#[tactic(auto, unfolding(crate::specs::Operations::path_operations, crate::specs::Operations::paths_of, crate::specs::Operations::are_spelt, crate::specs::Members::path_in))]
 fn link_of(alloc: Global, value: &Value<'_>) -> Result<Op, Cause>
-    ensures { Gives (λ op. op) result (operation_named (codes "link") (value_data value.now)) }
+    ensures { Gives (λ op. op) result
+        (named_in (path_operations (value_data value.now)) (codes "link")) }
 {
     let from = text_of(value, "from")?;
     let to = text_of(value, "to")?;
