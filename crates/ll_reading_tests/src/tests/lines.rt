@@ -4,10 +4,22 @@ use json::{Scratch, Value};
 use ll_lines::lines::FilledLines;
 use ll_lines::members::{flag_of, items_of, number_of, text_in_list, text_of, truth_of};
 use ll_lines::{Cause, value_of};
+use std::alloc::{AllocError, Global};
 use std::test::Fail;
 
 /// Its lines 2 and 4 are blank.
 const LINES: &[u8] = b"a\n\nbc\n \nd\ne";
+
+/// The numbers of the lines that are not blank, part by part.
+fn numbers_in(alloc: Global, parts: Vec<FilledLines<'_>>) -> Result<Vec<u64>, AllocError> {
+    let mut numbers = Vec::new(alloc);
+    for part in parts {
+        for line in part {
+            numbers.push(line.number)?;
+        }
+    }
+    Ok(numbers)
+}
 
 /// By the last number each line is a part of its own.
 #[test]
@@ -15,12 +27,7 @@ fn lines_keep_their_numbers_in_parts(rt: HostRuntime) -> Result<(), Fail> {
     for most in [0, 1, 2, 3, 8, usize::MAX] {
         let parts = FilledLines::new(LINES).in_parts(rt.alloc(), most)?;
         assert!(rt; parts.len() <= most.max(1) && (most < usize::MAX || parts.len() >= 4));
-        let mut numbers = Vec::new(rt.alloc());
-        for part in parts {
-            for line in part {
-                numbers.push(line.number)?;
-            }
-        }
+        let numbers = numbers_in(rt.alloc(), parts)?;
         assert_eq!(rt;
             numbers.as_slice(),
             [1, 3, 5, 6].as_slice(),
@@ -53,16 +60,19 @@ const VALUES: [(&[u8], bool); 19] = [
     (b"{\"a\":1,\"b\":[{\"c\":1e309}]}", false),
 ];
 
-#[test]
-fn one_value_on_a_line(rt: HostRuntime) -> Result<(), Fail> {
-    let mut scratch = Scratch::new(rt.alloc());
-    for (line, reads) in VALUES {
-        match value_of(rt.alloc(), line, &mut scratch) {
-            Ok(_) => assert!(rt; reads),
-            Err(cause) => assert!(rt; !reads && cause == Cause::Json),
-        }
+/// Whether a line reads as one value, or else is at fault for its JSON.
+fn reads_as(alloc: Global, line: &[u8], reads: bool) -> bool {
+    match value_of(alloc, line, &mut Scratch::new(alloc)) {
+        Ok(_) => reads,
+        Err(cause) => !reads && cause == Cause::Json,
     }
-    Ok(())
+}
+
+#[test]
+fn one_value_on_a_line(rt: HostRuntime) {
+    for (number, (line, reads)) in VALUES.iter().enumerate() {
+        assert!(rt; reads_as(rt.alloc(), line, *reads), "line {number}");
+    }
 }
 
 const MEMBERS: &[u8] =

@@ -42,35 +42,52 @@ fn has_ports(abi: Abi, number: u64, known: u32) -> bool {
         && Net::BIND_TCP.union(Net::CONNECT_TCP).supported(abi).bits() == known
 }
 
+/// Whether each right for files is known to a version from the one on that it came with.
+fn has_files(abi: Abi, number: u64) -> bool {
+    FILES.iter().all(|(name, bit, since)| is_since(abi, number, fs_of_name(name), *bit, *since))
+}
+
 #[test]
 fn names_and_versions(rt: HostRuntime) -> Result<(), Fail> {
     for (number, known) in VERSIONS {
         let abi = Abi::new(number).ok_or("the version is there")?;
-        assert!(rt; has_ports(abi, number, known));
-        for (name, bit, since) in FILES {
-            assert!(rt;
-                is_since(abi, number, fs_of_name(name), bit, since),
-                "{name}"
-            );
-        }
+        assert!(rt;
+            has_ports(abi, number, known) && has_files(abi, number),
+            "{number}"
+        );
     }
     Ok(())
 }
 
 #[test]
-fn other_names_and_numbers(rt: HostRuntime) {
-    for (name, bit) in [("bind_tcp", 1), ("connect_tcp", 2)] {
-        assert_eq!(rt; net_of_name(name).bits(), bit);
-    }
+fn names_on_ports(rt: HostRuntime) {
+    let bits = [
+        net_of_name("bind_tcp").bits(),
+        net_of_name("connect_tcp").bits(),
+    ];
+    assert_eq!(rt; bits, [1, 2]);
+}
+
+fn is_other(name: &str) -> bool {
+    fs_of_name(name) == Fs::OTHER && net_of_name(name) == Net::OTHER
+}
+
+#[test]
+fn other_names(rt: HostRuntime) {
     for name in ["", "READ_FILE", "read", "read_file ", "ioctl"] {
-        assert!(rt;
-            fs_of_name(name) == Fs::OTHER && net_of_name(name) == Net::OTHER,
-            "{name}"
-        );
+        assert!(rt; is_other(name), "{name}");
     }
+}
+
+#[test]
+fn other_numbers(rt: HostRuntime) {
     for number in [0, 6, 256, 257, u64::MAX] {
-        assert!(rt; Abi::new(number).is_none());
+        assert!(rt; Abi::new(number).is_none(), "{number}");
     }
+}
+
+#[test]
+fn rights_of_a_file(rt: HostRuntime) {
     assert_eq!(rt; Fs::FILE.bits(), 0xc007);
 }
 
@@ -92,15 +109,19 @@ fn is_named_on_ports(right: NetRight, name: &str, bit: u32) -> bool {
 
 #[test]
 fn rights_in_order(rt: HostRuntime) {
-    let rights = FsRight::all();
-    assert_eq!(rt; rights.len(), FILES.len() + 1);
-    for ((name, bit, _), right) in FILES.iter().zip(rights) {
+    assert_eq!(rt; FsRight::all().len(), FILES.len() + 1);
+    for ((name, bit, _), right) in FILES.iter().zip(FsRight::all()) {
         assert!(rt; is_named(*right, name, *bit), "{name}");
     }
     assert!(rt; is_named(FsRight::Other, "", 0x10000));
-    let ports = [("bind_tcp", 1), ("connect_tcp", 2), ("", 4)];
-    assert_eq!(rt; NetRight::all().len(), ports.len());
-    for ((name, bit), right) in ports.iter().zip(NetRight::all()) {
+}
+
+const PORTS: [(&str, u32); 3] = [("bind_tcp", 1), ("connect_tcp", 2), ("", 4)];
+
+#[test]
+fn rights_on_ports_in_order(rt: HostRuntime) {
+    assert_eq!(rt; NetRight::all().len(), PORTS.len());
+    for ((name, bit), right) in PORTS.iter().zip(NetRight::all()) {
         assert!(rt; is_named_on_ports(*right, name, *bit), "{name}");
     }
 }
@@ -111,6 +132,11 @@ fn versions_in_order(rt: HostRuntime) {
     for ((number, _), abi) in VERSIONS.iter().zip(Abi::all()) {
         assert_eq!(rt; abi.number(), *number);
     }
+}
+
+/// Whether these rights make an object of a kind and remove it.
+fn is_made_and_removed(kind: Kind, make: &str, remove: &str) -> bool {
+    kind.make_right() == fs_of_name(make) && kind.remove_right() == fs_of_name(remove)
 }
 
 #[test]
@@ -124,7 +150,6 @@ fn kinds(rt: HostRuntime) {
         (Kind::Fifo, "make_fifo", "remove_file"),
         (Kind::Sock, "make_sock", "remove_file"),
     ] {
-        assert_eq!(rt; kind.make_right(), fs_of_name(make));
-        assert_eq!(rt; kind.remove_right(), fs_of_name(remove));
+        assert!(rt; is_made_and_removed(kind, make, remove), "{make}");
     }
 }

@@ -61,23 +61,23 @@ pub(crate) const EVERY: &str = "\
 {\"op\":\"connect\",\"pid\":10,\"port\":65535}\n\
 {\"op\":\"ioctl\",\"pid\":10,\"fd\":4,\"driver\":true}\n";
 
-/// A file reads where it is cut at the start of a line or behind a brace; any other cut spoils the last line.
+/// The fault of a file that is cut somewhere: it reads where that is at the start of a line or behind a brace, and any
+/// other cut spoils the last line.
+fn fault_of_cut(bytes: &[u8]) -> Option<(u64, Cause)> {
+    if matches!(bytes.last(), None | Some(b'\n' | b'}')) {
+        return None;
+    }
+    let line_feeds = bytes.iter().filter(|byte| **byte == b'\n').count() as u64;
+    Some((line_feeds + 1, Cause::Json))
+}
+
 #[test]
 fn cut_anywhere(rt: HostRuntime) {
     for (format, text) in [(Format::Tree, TREE), (Format::Trace(1), EVERY)] {
         for end in 0..=text.len() {
             let bytes = &text.as_bytes()[..end];
-            let fault = if matches!(bytes.last(), None | Some(b'\n' | b'}')) {
-                None
-            } else {
-                let line_feeds = bytes.iter().filter(|byte| **byte == b'\n').count() as u64;
-                Some((line_feeds + 1, Cause::Json))
-            };
-            assert_eq!(rt;
-                fault_of(&rt, format, bytes),
-                fault,
-                "cut after {end} bytes"
-            );
+            let is_met = fault_of(&rt, format, bytes) == fault_of_cut(bytes);
+            assert!(rt; is_met, "cut after {end} bytes");
         }
     }
 }
@@ -98,46 +98,68 @@ fn repeated(
     Ok(bytes)
 }
 
-/// Arrays inside one another are read to a depth of 126 in a member that nobody asks for.
+/// The fault of a line with so many arrays inside one another, in a member that nobody asks for.
+fn fault_of_arrays<R: AllocGlobal + Threads + Sync>(
+    rt: &R,
+    format: Format,
+    front: &str,
+    depth: usize,
+) -> Result<Option<(u64, Cause)>, AllocError> {
+    let open = repeated(rt.alloc(), front.as_bytes(), "[", depth, "")?;
+    let nested = repeated(rt.alloc(), &open, "]", depth, "}")?;
+    Ok(fault_of(rt, format, &nested))
+}
+
+/// Arrays are read to a depth of 126 in a member.
 #[test]
 fn nested_members(rt: HostRuntime) -> Result<(), Fail> {
     for (format, front) in [
         (Format::Tree, "{\"path\":\"/a\",\"kind\":\"dir\",\"x\":"),
         (Format::Trace(1), "{\"op\":\"start\",\"pid\":9,\"x\":"),
     ] {
-        for (depth, fault) in [(126, None), (127, Some((1, Cause::Json)))] {
-            let open = repeated(rt.alloc(), front.as_bytes(), "[", depth, "")?;
-            let nested = repeated(rt.alloc(), &open, "]", depth, "}")?;
-            assert_eq!(rt; fault_of(&rt, format, &nested), fault, "{depth} arrays");
-        }
+        assert!(rt; fault_of_arrays(&rt, format, front, 126)?.is_none());
+        let fault = fault_of_arrays(&rt, format, front, 127)?;
+        assert_eq!(rt; fault, Some((1, Cause::Json)));
     }
     Ok(())
 }
 
 const START: &[u8] = b"{\"op\":\"start\",\"pid\":1}\n";
 
-/// A path has 4,096 bytes at most, and a trace 1,000,000 records.
+/// The fault of a trace with a path of 2,047 names of two bytes and this end.
+fn fault_of_path<R: AllocGlobal + Threads + Sync>(
+    rt: &R,
+    end: &str,
+) -> Result<Option<(u64, Cause)>, AllocError> {
+    let exec = "{\"op\":\"exec\",\"pid\":1,\"path\":\"";
+    let front = repeated(rt.alloc(), START, exec, 1, "")?;
+    let long = repeated(rt.alloc(), &front, "/a", 2047, end)?;
+    Ok(fault_of(rt, Format::Trace(1), &long))
+}
+
+/// A path has 4,096 bytes at most.
 #[test]
-fn limits_of_a_trace(rt: HostRuntime) -> Result<(), Fail> {
-    let exec = repeated(
-        rt.alloc(),
-        START,
-        "{\"op\":\"exec\",\"pid\":1,\"path\":\"",
-        1,
-        "",
-    )?;
-    for (last, fault) in [("/b\"}", None), ("/bc\"}", Some((2, Cause::BadPath)))] {
-        let long = repeated(rt.alloc(), &exec, "/a", 2047, last)?;
-        assert_eq!(rt; fault_of(&rt, Format::Trace(1), &long), fault, "{last}");
-    }
-    let nnp = "{\"op\":\"nnp\",\"pid\":1}\n";
-    for (count, fault) in [
-        (999_999, None),
-        (1_000_000, Some((1_000_001, Cause::TooMany))),
-    ] {
-        let long = repeated(rt.alloc(), START, nnp, count, "")?;
-        assert_eq!(rt; fault_of(&rt, Format::Trace(1), &long), fault, "{count}");
-    }
+fn longest_path_of_a_trace(rt: HostRuntime) -> Result<(), Fail> {
+    assert!(rt; fault_of_path(&rt, "/b\"}")?.is_none());
+    assert_eq!(rt; fault_of_path(&rt, "/bc\"}")?, Some((2, Cause::BadPath)));
+    Ok(())
+}
+
+/// The fault of a trace with so many records behind the first.
+fn fault_of_records<R: AllocGlobal + Threads + Sync>(
+    rt: &R,
+    count: usize,
+) -> Result<Option<(u64, Cause)>, AllocError> {
+    let long = repeated(rt.alloc(), START, "{\"op\":\"nnp\",\"pid\":1}\n", count, "")?;
+    Ok(fault_of(rt, Format::Trace(1), &long))
+}
+
+/// A trace has 1,000,000 records at most.
+#[test]
+fn most_records_of_a_trace(rt: HostRuntime) -> Result<(), Fail> {
+    assert!(rt; fault_of_records(&rt, 999_999)?.is_none());
+    let fault = fault_of_records(&rt, 1_000_000)?;
+    assert_eq!(rt; fault, Some((1_000_001, Cause::TooMany)));
     Ok(())
 }
 
@@ -145,35 +167,51 @@ fn push_directory(file: &mut String, path: &str) -> Result<(), AllocError> {
     writeln!(file, "{{\"path\":\"{path}\",\"kind\":\"dir\"}}")
 }
 
-/// A path has 4,096 bytes at most, and a tree 65,536 objects, the root included.
-#[test]
-fn limits_of_a_tree(rt: HostRuntime) -> Result<(), Fail> {
+/// The fault of a tree whose directories lie in one another, the deepest with a path of 4,094 bytes and this end.
+fn fault_of_deepest<R: AllocGlobal + Threads + Sync>(
+    rt: &R,
+    end: &str,
+) -> Result<Option<(u64, Cause)>, AllocError> {
     let mut file = String::new(rt.alloc());
     let mut path = String::new(rt.alloc());
     for _ in 0..2_047 {
         path.push_str("/d")?;
         push_directory(&mut file, &path)?;
     }
-    for (last, fault) in [("/d", None), ("/dd", Some((2_048, Cause::BadPath)))] {
-        let longest = format!(in rt.alloc(); "{path}{last}")?;
-        let mut longer = file.clone()?;
-        push_directory(&mut longer, &longest)?;
-        assert_eq!(rt;
-            fault_of(&rt, Format::Tree, longer.as_bytes()),
-            fault,
-            "{last}"
-        );
-    }
-    let mut many = String::new(rt.alloc());
-    for number in 1..65_536 {
-        push_directory(&mut many, &format!(in rt.alloc(); "/n{number}")?)?;
-    }
-    assert_eq!(rt; fault_of(&rt, Format::Tree, many.as_bytes()), None);
-    push_directory(&mut many, "/one_more")?;
+    path.push_str(end)?;
+    push_directory(&mut file, &path)?;
+    Ok(fault_of(rt, Format::Tree, file.as_bytes()))
+}
+
+/// A path has 4,096 bytes at most.
+#[test]
+fn longest_path_of_a_tree(rt: HostRuntime) -> Result<(), Fail> {
+    assert!(rt; fault_of_deepest(&rt, "/d")?.is_none());
     assert_eq!(rt;
-        fault_of(&rt, Format::Tree, many.as_bytes()),
-        Some((65_536, Cause::TooMany))
+        fault_of_deepest(&rt, "/dd")?,
+        Some((2_048, Cause::BadPath))
     );
+    Ok(())
+}
+
+/// The fault of a tree with so many objects beside the root.
+fn fault_of_objects<R: AllocGlobal + Threads + Sync>(
+    rt: &R,
+    count: u32,
+) -> Result<Option<(u64, Cause)>, AllocError> {
+    let mut file = String::new(rt.alloc());
+    for number in 0..count {
+        push_directory(&mut file, &format!(in rt.alloc(); "/n{number}")?)?;
+    }
+    Ok(fault_of(rt, Format::Tree, file.as_bytes()))
+}
+
+/// A tree has 65,536 objects at most, the root included.
+#[test]
+fn most_objects_of_a_tree(rt: HostRuntime) -> Result<(), Fail> {
+    assert!(rt; fault_of_objects(&rt, 65_535)?.is_none());
+    let fault = fault_of_objects(&rt, 65_536)?;
+    assert_eq!(rt; fault, Some((65_536, Cause::TooMany)));
     Ok(())
 }
 
@@ -186,8 +224,8 @@ fn refused_memory(rt: HostRuntime) {
         let mut refused = 0u32;
         for _ in 0..3 {
             if let Some((line, cause)) = fault_of(&rt, format, text.as_bytes()) {
-                assert_eq!(rt; cause, Cause::Memory);
-                assert!(rt; line >= 1 && line <= lines, "line {line}");
+                let is_one = cause == Cause::Memory && line >= 1 && line <= lines;
+                assert!(rt; is_one, "{cause:?} at line {line}");
                 refused = refused.saturating_add(1);
             }
         }

@@ -4,6 +4,7 @@ use crate::tests::texts::{Format, fault_of};
 use ll_lines::Cause;
 use ll_trace::{ProcessId, Record, Trace};
 use std::test::Fail;
+use std::thread::Threads;
 
 /// The pid 11 names three processes in turn.
 const REUSED: &str = "\
@@ -107,17 +108,27 @@ const FILES: [(&str, Option<(u64, Cause)>); 15] = [
     ),
 ];
 
+/// A number of threads by which a file is read with another fault, if there is one.
+fn read_otherwise<R: AllocGlobal + Threads + Sync>(
+    rt: &R,
+    file: &[u8],
+    fault: Option<(u64, Cause)>,
+) -> Option<usize> {
+    for workers in 0..=file.len() {
+        if fault_of(rt, Format::Trace(workers), file) != fault {
+            return Some(workers);
+        }
+    }
+    if fault_of(rt, Format::Trace(usize::MAX), file) != fault {
+        return Some(usize::MAX);
+    }
+    None
+}
+
 #[test]
 fn files_read_alike_wherever_they_are_cut(rt: HostRuntime) {
     for (file, fault) in FILES {
-        for workers in 0..=file.len() {
-            let met = fault_of(&rt, Format::Trace(workers), file.as_bytes());
-            assert_eq!(rt; met, fault, "{file} by {workers}");
-        }
-        assert_eq!(rt;
-            fault_of(&rt, Format::Trace(usize::MAX), file.as_bytes()),
-            fault,
-            "{file}"
-        );
+        let otherwise = read_otherwise(&rt, file.as_bytes(), fault);
+        assert_eq!(rt; otherwise, None, "{file}");
     }
 }

@@ -40,15 +40,23 @@ fn stands_in(tree: &Tree, directory: NodeId, node: NodeId, kind: Kind, depth: u3
         && !tree.is_above(node, directory)
 }
 
+/// Whether the object of this number is the one that is listed so.
+fn is_listed(
+    tree: &Tree,
+    number: usize,
+    (path, kind, depth, above): (&str, Kind, u32, &str),
+) -> Result<bool, Fail> {
+    let node = node_named(tree, path)?;
+    let directory = node_named(tree, above)?;
+    Ok(node.index() as usize == number && stands_in(tree, directory, node, kind, depth))
+}
+
 #[test]
 fn the_worked_tree(rt: HostRuntime) -> Result<(), Fail> {
     let tree = Tree::read(rt.alloc(), TREE.as_bytes())?;
     assert_eq!(rt; tree.nodes(), 8);
-    for (place, (path, kind, depth, above)) in OBJECTS.iter().enumerate() {
-        let node = node_named(&tree, path)?;
-        let directory = node_named(&tree, above)?;
-        assert!(rt; node.index() as usize == place + 1, "{path}");
-        assert!(rt; stands_in(&tree, directory, node, *kind, *depth), "{path}");
+    for (place, object) in OBJECTS.iter().enumerate() {
+        assert!(rt; is_listed(&tree, place + 1, *object)?, "{place}");
     }
     Ok(())
 }

@@ -7,7 +7,7 @@ ghost use Rattle.ll_pool.specs.Gathered.{AllOf};
 use crate::tests::gates::{Meeting, Open};
 use crate::tests::worked::{FAMILY_ANSWERS, Forks, case_of, case_with, expect_answers};
 use ll_pool::{CollectFault, collect, judge_alone, run};
-use ll_process::{Case, Piece};
+use ll_process::{Answer, Case, Piece};
 use ll_trace::ProcessId;
 use ll_worked::FAMILY;
 use std::alloc::Global;
@@ -26,6 +26,29 @@ fn made<'c, R: Threads + Wait + Sync>(
     ensures { IfOk result (λ pieces. AllOf case.now pieces.items) }
 {
     Ok(run(rt, alloc, case, workers.max(1).min(64), cut, &Open)?)
+}
+
+/// How many pieces workers make.
+fn count_of<R: Threads + Wait + Sync>(
+    rt: &R,
+    alloc: Global,
+    case: &Case,
+    workers: usize,
+    cut: &[bool],
+) -> Result<usize, Fail> {
+    Ok(made(rt, alloc, case, workers, cut)?.len())
+}
+
+/// The answers of the pieces that workers make.
+fn collected<R: Threads + Wait + Sync>(
+    rt: &R,
+    alloc: Global,
+    case: &Case,
+    workers: usize,
+    cut: &[bool],
+) -> Result<Vec<Answer>, Fail> {
+    let pieces = made(rt, alloc, case, workers, cut)?;
+    Ok(collect(alloc, case, pieces)?)
 }
 
 /// How many of the pieces have this many processes.
@@ -50,8 +73,8 @@ fn the_answers_are_the_same_for_every_number_of_workers_and_every_cut(
     let case = case_of(alloc, FAMILY.as_bytes())?;
     for cut in [&[], EVERY.as_slice(), EVEN.as_slice()] {
         for workers in [1, 3, 8] {
-            let pieces = made(&rt, alloc, &case, workers, cut)?;
-            expect_answers(&rt, &collect(alloc, &case, pieces)?, FAMILY_ANSWERS);
+            let answers = collected(&rt, alloc, &case, workers, cut)?;
+            expect_answers(&rt, &answers, FAMILY_ANSWERS);
         }
     }
     Ok(())
@@ -65,13 +88,10 @@ fn one_thread_gives_the_same_answers(rt: HostRuntime) -> Result<(), Fail> {
 }
 
 #[test]
-fn one_piece_of_the_whole_family_is_collected(rt: HostRuntime) -> Result<(), Fail> {
-    let alloc = rt.alloc();
-    let case = case_of(alloc, FAMILY.as_bytes())?;
-    let pieces = made(&rt, alloc, &case, 1, &[])?;
-    assert_eq!(rt; pieces.len(), 1);
-    assert_eq!(rt; pieces_of(&pieces, 12), 1);
-    expect_answers(&rt, &collect(alloc, &case, pieces)?, FAMILY_ANSWERS);
+fn one_worker_makes_one_piece_of_the_whole_family(rt: HostRuntime) -> Result<(), Fail> {
+    let case = case_of(rt.alloc(), FAMILY.as_bytes())?;
+    let pieces = made(&rt, rt.alloc(), &case, 1, &[])?;
+    assert_eq!(rt; [pieces.len(), pieces_of(&pieces, 12)], [1, 1]);
     Ok(())
 }
 
@@ -83,25 +103,44 @@ fn without_a_piece_the_first_process_is_missing(rt: HostRuntime) -> Result<(), F
     Ok(())
 }
 
+/// The fault of the pieces that one worker makes, and makes again.
+fn fault_of_twice<R: Threads + Wait + Sync>(
+    rt: &R,
+    alloc: Global,
+    case: &Case,
+) -> Result<Option<CollectFault>, Fail> {
+    let mut pieces = made(rt, alloc, case, 1, &[])?;
+    let mut again = made(rt, alloc, case, 1, &[])?;
+    pieces.append(&mut again)?;
+    Ok(collect(alloc, case, pieces).err())
+}
+
 #[test]
 fn a_piece_made_twice_doubles_the_first_process(rt: HostRuntime) -> Result<(), Fail> {
-    let alloc = rt.alloc();
-    let case = case_of(alloc, FAMILY.as_bytes())?;
-    let mut pieces = made(&rt, alloc, &case, 1, &[])?;
-    let mut again = made(&rt, alloc, &case, 1, &[])?;
-    pieces.append(&mut again)?;
-    let fault = collect(alloc, &case, pieces).err();
+    let case = case_of(rt.alloc(), FAMILY.as_bytes())?;
+    let fault = fault_of_twice(&rt, rt.alloc(), &case)?;
     assert_eq!(rt; fault, Some(CollectFault::Double(ProcessId(0))));
     Ok(())
 }
 
 #[test]
 fn an_empty_trace_has_no_answers(rt: HostRuntime) -> Result<(), Fail> {
-    let alloc = rt.alloc();
-    let case = case_of(alloc, b"")?;
-    assert_eq!(rt; collect(alloc, &case, Vec::new(alloc))?.len(), 0);
-    assert_eq!(rt; made(&rt, alloc, &case, 8, &[])?.len(), 0);
+    let case = case_of(rt.alloc(), b"")?;
+    let pieces = count_of(&rt, rt.alloc(), &case, 8, &[])?;
+    let answers = collected(&rt, rt.alloc(), &case, 8, &[])?.len();
+    assert_eq!(rt; [pieces, answers], [0, 0]);
     Ok(())
+}
+
+/// How many pieces one worker makes that is to cut each process off, and how many of them have 77 processes and one.
+fn pieces_of_children<R: Threads + Wait + Sync>(
+    rt: &R,
+    alloc: Global,
+    case: &Case,
+) -> Result<[usize; 3], Fail> {
+    let every = vec![in alloc; true; 1101]?;
+    let pieces = made(rt, alloc, case, 1, &every)?;
+    Ok([pieces.len(), pieces_of(&pieces, 77), pieces_of(&pieces, 1)])
 }
 
 #[test]
@@ -109,12 +148,21 @@ fn children_that_find_the_queue_full_are_judged_with_their_parent(
     rt: HostRuntime,
 ) -> Result<(), Fail> {
     let case = case_with(rt.alloc(), Forks::TheFirst, 1101)?;
-    let every = vec![in rt.alloc(); true; 1101]?;
-    let pieces = made(&rt, rt.alloc(), &case, 1, &every)?;
-    assert_eq!(rt; pieces.len(), 1025);
-    assert_eq!(rt; pieces_of(&pieces, 77), 1);
-    assert_eq!(rt; pieces_of(&pieces, 1), 1024);
+    let pieces = pieces_of_children(&rt, rt.alloc(), &case)?;
+    assert_eq!(rt; pieces, [1025, 1, 1024]);
     Ok(())
+}
+
+/// How many pieces workers make of so many processes.
+fn count_of_forks<R: Threads + Wait + Sync>(
+    rt: &R,
+    alloc: Global,
+    (forks, processes): (Forks, u32),
+    workers: usize,
+    cut: &[bool],
+) -> Result<usize, Fail> {
+    let case = case_with(alloc, forks, processes)?;
+    count_of(rt, alloc, &case, workers, cut)
 }
 
 /// A child that is judged apart where the cut says so, more roots than the queue holds, and a long line of descendants,
@@ -129,8 +177,8 @@ fn all_processes_are_judged_in_so_many_pieces(rt: HostRuntime) -> Result<(), Fai
         (Forks::TheOneBefore, 8192, 8, every.as_slice(), 8192),
         (Forks::TheOneBefore, 8192, 8, [].as_slice(), 1),
     ] {
-        let case = case_with(rt.alloc(), forks, processes)?;
-        assert_eq!(rt; made(&rt, rt.alloc(), &case, workers, cut)?.len(), pieces);
+        let count = count_of_forks(&rt, rt.alloc(), (forks, processes), workers, cut)?;
+        assert_eq!(rt; count, pieces);
     }
     Ok(())
 }
@@ -142,9 +190,21 @@ fn a_tree_of_forks_is_cut_into_single_processes_a_hundred_times(
     let case = case_with(rt.alloc(), Forks::TheOneAtHalf, 1023)?;
     let every = vec![in rt.alloc(); true; 1023]?;
     for _ in 0..100 {
-        assert_eq!(rt; made(&rt, rt.alloc(), &case, 8, &every)?.len(), 1023);
+        assert_eq!(rt; count_of(&rt, rt.alloc(), &case, 8, &every)?, 1023);
     }
     Ok(())
+}
+
+/// How many pieces two workers make, and whether two processes from the first on were judged at once.
+fn judged_at_once<R: Threads + Wait + Sync>(
+    rt: &R,
+    alloc: Global,
+    case: &Case,
+    first: u32,
+) -> Result<(usize, bool), Fail> {
+    let gate = Meeting::of(first, first.saturating_add(1));
+    let pieces = run(rt, alloc, case, 2, &[true; 3], &gate)?;
+    Ok((pieces.len(), gate.was_met()))
 }
 
 /// Two roots, and two children of one process, are judged at once.
@@ -152,11 +212,8 @@ fn a_tree_of_forks_is_cut_into_single_processes_a_hundred_times(
 fn two_jobs_are_judged_at_once(rt: HostRuntime) -> Result<(), Fail> {
     for (forks, processes, first) in [(Forks::Nobody, 2, 0), (Forks::TheFirst, 3, 1)] {
         let case = case_with(rt.alloc(), forks, processes)?;
-        let gate = Meeting::of(first, first + 1);
-        let cut = [true; 3];
-        let pieces = run(&rt, rt.alloc(), &case, 2, &cut, &gate)?;
-        assert_eq!(rt; pieces.len(), processes as usize);
-        assert!(rt; gate.was_met());
+        let (pieces, was_met) = judged_at_once(&rt, rt.alloc(), &case, first)?;
+        assert!(rt; pieces == processes as usize && was_met, "{pieces} pieces");
     }
     Ok(())
 }

@@ -192,26 +192,40 @@ fn judged_again<'c>(
     }
 }
 
-/// The processes are shared out between the piece and the hand as the hand wants, and the case is judged as before.
+/// Whether a piece has the processes that the hand leaves, and answers at the places of their records.
+fn are_judged(piece: &Piece<'_>) -> bool {
+    piece.processes() == JUDGED.as_slice()
+        && piece.answers().len() == PLACES.len()
+        && piece
+            .answers()
+            .iter()
+            .zip(PLACES)
+            .all(|(answer, place)| answer.0 == place)
+}
+
+/// Whether the jobs are those that the hand holds then.
+fn are_kept(jobs: &[Job<'_>]) -> bool {
+    jobs.len() == KEPT.len()
+        && jobs
+            .iter()
+            .zip(KEPT)
+            .all(|(job, process)| job.process() == process)
+}
+
+/// The processes are shared out between the piece and the hand as the hand wants.
 fn expect_shared(rt: &impl Abort, alloc: Global, case: &Case) -> Result<(), Fail> {
     let (piece, keeper) = judged_again(rt, alloc, case)?;
     expect_piece(rt, &piece, ProcessId(1));
-    assert_eq!(rt; piece.processes(), JUDGED.as_slice());
-    assert_eq!(rt; piece.answers().len(), PLACES.len());
-    for (answer, place) in piece.answers().iter().zip(PLACES) {
-        assert_eq!(rt; answer.0, place);
-    }
-    assert_eq!(rt; keeper.jobs.len(), KEPT.len());
-    for (job, process) in keeper.jobs.iter().zip(KEPT) {
-        assert_eq!(rt; job.process(), process);
-    }
-    expect_unchanged(rt, alloc, case)
+    assert!(rt; are_judged(&piece) && are_kept(&keeper.jobs));
+    Ok(())
 }
 
+/// The case is judged as before, too.
 #[test]
 fn judge_without_memory(rt: HostRuntime) -> Result<(), Fail> {
     let case = case_again(rt.alloc())?;
-    expect_shared(&rt, rt.alloc(), &case)
+    expect_shared(&rt, rt.alloc(), &case)?;
+    expect_unchanged(&rt, rt.alloc(), &case)
 }
 
 fn collected_again(rt: &impl Abort, alloc: Global, case: &Case) -> Result<Vec<Answer>, Fail> {

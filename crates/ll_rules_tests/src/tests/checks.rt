@@ -4,16 +4,17 @@ ghost use Rattle.std.specs.Prelude.{All, IfOk};
 ghost use Rattle.ll_tree.specs.Trees.{IsNode};
 ghost use Rattle.ll_rules.specs.InTree.{AreInTree, IsTargetIn};
 
-use crate::tests::ready::{about_reading, grant_reading, node_named};
+use crate::tests::ready::{about_reading, frozen, grant_reading, node_named};
 use ll_plain::stacked;
 use ll_rights::Fs;
 use ll_rules::{
     Errno, How, Layer, LayerSet, Move, Target, Verdict, check_move_counted, check_path_counted,
     entering, leaving,
 };
-use ll_tree::Tree;
+use ll_tree::{NodeId, Tree};
 use ll_worked::TREE;
 use std::alloc::Global;
+use std::slice;
 use std::test::Fail;
 
 /// The layer that handles reading, and grants it on one directory.
@@ -22,7 +23,7 @@ fn layer_with(alloc: Global, tree: &Tree, granted: &str) -> Result<Layer, Fail>
 {
     let mut rules = about_reading(alloc, tree)?;
     grant_reading(&mut rules, tree, granted)?;
-    Ok(rules.freeze(alloc)?)
+    frozen(alloc, tree, &rules)
 }
 
 /// How many look-ups a check of reading takes.
@@ -34,17 +35,29 @@ fn look_ups_to_read(tree: &Tree, layers: &[Layer], path: &str) -> Result<u64, Fa
     Ok(check_path_counted(tree, layers, &domain, node, Fs::READ_FILE).1)
 }
 
+fn look_ups_of_one_layer(alloc: Global, tree: &Tree) -> Result<u64, Fail> {
+    let layer = layer_with(alloc, tree, "/a")?;
+    look_ups_to_read(tree, slice::from_ref(&layer), "/b/g")
+}
+
+fn look_ups_of_two_layers(alloc: Global, tree: &Tree) -> Result<u64, Fail> {
+    let layers = [
+        layer_with(alloc, tree, "/a")?,
+        layer_with(alloc, tree, "/b")?,
+    ];
+    look_ups_to_read(tree, &layers, "/dev/tty")
+}
+
+/// A layer that refuses is asked on every node from the object to the root.
 #[test]
 fn look_ups_on_paths(rt: HostRuntime) -> Result<(), Fail> {
     let tree = Tree::read(rt.alloc(), TREE.as_bytes())?;
-    let layers = [
-        layer_with(rt.alloc(), &tree, "/a")?,
-        layer_with(rt.alloc(), &tree, "/b")?,
+    let look_ups = [
+        look_ups_of_one_layer(rt.alloc(), &tree)?,
+        look_ups_of_two_layers(rt.alloc(), &tree)?,
+        look_ups_to_read(&tree, &[], "/dev/tty")?,
     ];
-    // A layer that refuses is asked on every node from the object to the root.
-    assert_eq!(rt; look_ups_to_read(&tree, &layers[..1], "/b/g")?, 3);
-    assert_eq!(rt; look_ups_to_read(&tree, &layers, "/dev/tty")?, 6);
-    assert_eq!(rt; look_ups_to_read(&tree, &[], "/dev/tty")?, 0);
+    assert_eq!(rt; look_ups, [3, 6, 0]);
     Ok(())
 }
 
@@ -60,34 +73,64 @@ fn rename_onto(tree: &Tree) -> Result<Move, Fail>
     })
 }
 
+/// The answer to the rename under one layer, and its look-ups.
+fn renamed_under(tree: &Tree, layer: &Layer) -> Result<(Verdict, u64), Fail>
+    requires { AreInTree tree.now layer.now }
+{
+    let layers = slice::from_ref(layer);
+    let domain = stacked(layers)?;
+    let attempt = rename_onto(tree)?;
+    Ok(check_move_counted(tree, layers, &domain, &attempt))
+}
+
+/// The layer that handles reading, and grants it nowhere.
+fn layer_without_rules(alloc: Global, tree: &Tree) -> Result<Layer, Fail>
+    ensures { IfOk result (AreInTree tree.now) }
+{
+    let rules = about_reading(alloc, tree)?;
+    frozen(alloc, tree, &rules)
+}
+
+/// Whether layer 1 alone refuses a move from one directory to another.
+fn is_refused_by_the_first(verdict: &Verdict) -> bool {
+    match verdict {
+        Verdict::Refused(Errno::XDev, set) => {
+            set.has(1) && !set.has(2) && set.union(LayerSet::new()) == *set
+        }
+        _ => false,
+    }
+}
+
 #[test]
 fn look_ups_of_a_move(rt: HostRuntime) -> Result<(), Fail> {
     let tree = Tree::read(rt.alloc(), TREE.as_bytes())?;
-    let layers = [about_reading(rt.alloc(), &tree)?.freeze(rt.alloc())?];
-    let domain = stacked(&layers)?;
-    let attempt = rename_onto(&tree)?;
-    let (verdict, look_ups) = check_move_counted(&tree, &layers, &domain, &attempt);
-    let Verdict::Refused(error, set) = verdict else {
-        return Err(Fail::from("the move is refused"));
-    };
-    assert_eq!(rt; error, Errno::XDev);
-    assert!(rt; set.has(1) && !set.has(2) && set.union(LayerSet::new()) == set);
+    let layer = layer_without_rules(rt.alloc(), &tree)?;
+    let (verdict, look_ups) = renamed_under(&tree, &layer)?;
+    assert!(rt; is_refused_by_the_first(&verdict), "{verdict:?}");
     // Both directories and the root above each have to be asked about.
-    assert!(rt; look_ups >= 4 && look_ups <= 6);
+    assert!(rt; look_ups >= 4 && look_ups <= 6, "{look_ups} look-ups");
     Ok(())
+}
+
+/// The rights that the rename asks of the directory of each of its files.
+fn asked(tree: &Tree) -> Result<[(NodeId, Fs); 2], Fail> {
+    let attempt = rename_onto(tree)?;
+    let (from, to) = (leaving(tree, &attempt), entering(tree, &attempt));
+    Ok([(from.directory, from.rights), (to.directory, to.rights)])
 }
 
 /// landlock(7), "Filesystem actions": a rename onto a file takes the right to remove a file of both directories, and
 /// the right to make one of the directory that it goes to.
+fn to_be_asked(tree: &Tree) -> Result<[(NodeId, Fs); 2], Fail> {
+    Ok([
+        (node_named(tree, "/a")?, Fs::REMOVE_FILE),
+        (node_named(tree, "/b")?, Fs::MAKE_REG.union(Fs::REMOVE_FILE)),
+    ])
+}
+
 #[test]
 fn asked_of_both_directories(rt: HostRuntime) -> Result<(), Fail> {
     let tree = Tree::read(rt.alloc(), TREE.as_bytes())?;
-    let attempt = rename_onto(&tree)?;
-    let from = leaving(&tree, &attempt);
-    let to = entering(&tree, &attempt);
-    assert_eq!(rt; from.directory, node_named(&tree, "/a")?);
-    assert_eq!(rt; from.rights, Fs::REMOVE_FILE);
-    assert_eq!(rt; to.directory, node_named(&tree, "/b")?);
-    assert_eq!(rt; to.rights, Fs::MAKE_REG.union(Fs::REMOVE_FILE));
+    assert_eq!(rt; asked(&tree)?, to_be_asked(&tree)?);
     Ok(())
 }

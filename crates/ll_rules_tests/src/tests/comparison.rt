@@ -6,16 +6,17 @@ ghost use Rattle.ll_rules.specs.InTree.{AreInTree, IsTargetIn};
 ghost use Rattle.ll_rules.specs.KeptLayers.{IsDomainOf};
 
 use crate::tests::numbers::Numbers;
-use crate::tests::ready::{about_reading, grant_reading, node_named};
+use crate::tests::ready::{about_reading, frozen, grant_reading, node_named};
 use bitflags::Flags;
 use ll_plain::{Attempt, Call, PlainLayer, Refusing, answer, refusing, stacked};
 use ll_rights::{Abi, Fs, Kind, Net};
 use ll_rules::{
-    Domain, Errno, How, Layer, LayerSet, Move, Ruleset, Target, Verdict, check_move,
+    Domain, Errno, How, Layer, LayerSet, Move, RuleFault, Ruleset, Target, Verdict, check_move,
     check_move_counted, check_path, check_path_counted, entering, leaving,
 };
 use ll_tree::{NodeId, Place, Tree};
 use std::alloc::{AllocError, Global};
+use std::slice;
 use std::test::Fail;
 
 /// How many numbers of nodes the filter of a layer tells apart: those that differ by a multiple share a mark.
@@ -46,19 +47,23 @@ fn listed_paths(alloc: Global) -> Result<Vec<String>, AllocError> {
     Ok(paths)
 }
 
-/// The file of the tree with these paths.
-fn file_of(alloc: Global, paths: &[String]) -> Result<String, AllocError> {
+/// The kind of an object by its number.
+fn kind_at(number: usize) -> &'static str {
+    if number < PARENTS {
+        "dir"
+    } else {
+        KINDS[number % 7]
+    }
+}
+
+/// The tree with these paths.
+fn tree_of(alloc: Global, paths: &[String]) -> Result<Tree, Fail> {
     let mut file = String::new(alloc);
     for (number, path) in paths.iter().enumerate().skip(1) {
-        let kind = if number < PARENTS {
-            "dir"
-        } else {
-            KINDS[number % 7]
-        };
-        let line = format!(in alloc; "{{\"path\":\"{path}\",\"kind\":\"{kind}\"}}\n")?;
-        file.push_str(&line)?;
+        let kind = kind_at(number);
+        writeln!(file, "{{\"path\":\"{path}\",\"kind\":\"{kind}\"}}")?;
     }
-    Ok(file)
+    Ok(Tree::read(alloc, file.as_bytes())?)
 }
 
 /// One of the first objects, as many as said.
@@ -75,8 +80,64 @@ fn picked(
     node_named(tree, path)
 }
 
-/// One layer in both forms, with the same rules by chance: half of them on objects with others in them.
-#[tactic(auto, using(ll_rules::proofs::Adding::place_of_tree, ll_rules::proofs::Adding::no_rules_in_tree))]
+/// The rules of one layer in both forms, and the rights that it handles.
+#[derive(Drop)]
+struct Forms {
+    handled: Fs,
+    rules: Ruleset,
+    plain: PlainLayer,
+}
+
+impl Forms {
+    #[tactic(auto, using(ll_rules::proofs::Adding::no_rules_in_tree))]
+    fn new(alloc: Global, tree: &Tree, handled: Fs) -> Result<Forms, Fail>
+        ensures { IfOk result (λ forms. AreInTree tree.now forms.rules) }
+    {
+        let _tree = tree;
+        Ok(Forms {
+            handled,
+            rules: Ruleset::create(alloc, Abi::V5, handled, Net::BIND_TCP)?,
+            plain: PlainLayer::new(alloc, handled),
+        })
+    }
+
+    /// Grants on a node what is handled of these rights, and on an object that is no directory what applies to it.
+    #[tactic(auto, using(ll_rules::proofs::Adding::place_of_tree))]
+    fn grant(&mut self, tree: &Tree, node: NodeId, rights: Fs) -> Result<(), Fail>
+        requires rules { AreInTree tree.now self.old.rules }
+        requires node { IsNode tree.now node }
+        ensures { AreInTree tree.now self.new.rules }
+    {
+        let wanted = rights.intersection(self.handled);
+        let granted = match tree.kind(node) {
+            Kind::Dir => wanted,
+            _ => wanted.intersection(Fs::FILE),
+        };
+        if self
+            .rules
+            .add_path(tree, Place::Node(node), granted)
+            .is_ok()
+        {
+            self.plain.grant(node, granted)?;
+        }
+        Ok(())
+    }
+
+    /// Adds rules by chance: half of them on objects with others in them.
+    fn fill(&mut self, tree: &Tree, paths: &[String], numbers: &mut Numbers) -> Result<(), Fail>
+        requires { AreInTree tree.now self.old.rules }
+        ensures { AreInTree tree.now self.new.rules }
+    {
+        for number in 0..TRIED {
+            let first = if number % 2 == 0 { PARENTS } else { OBJECTS };
+            let node = picked(tree, paths, first, numbers)?;
+            self.grant(tree, node, numbers.rights())?;
+        }
+        Ok(())
+    }
+}
+
+/// One layer in both forms, with the same rules by chance.
 fn layer_of(
     alloc: Global,
     tree: &Tree,
@@ -85,22 +146,10 @@ fn layer_of(
 ) -> Result<(Layer, PlainLayer), Fail>
     ensures { IfOk result (λ both. AreInTree tree.now both.0) }
 {
-    let handled = numbers.rights();
-    let mut rules = Ruleset::create(alloc, Abi::V5, handled, Net::BIND_TCP)?;
-    let mut plain = PlainLayer::new(alloc, handled);
-    for number in 0..TRIED {
-        let first = if number % 2 == 0 { PARENTS } else { OBJECTS };
-        let node = picked(tree, paths, first, numbers)?;
-        let wanted = numbers.rights().intersection(handled);
-        let granted = match tree.kind(node) {
-            Kind::Dir => wanted,
-            _ => wanted.intersection(Fs::FILE),
-        };
-        if rules.add_path(tree, Place::Node(node), granted).is_ok() {
-            plain.grant(node, granted)?;
-        }
-    }
-    Ok((rules.freeze(alloc)?, plain))
+    let mut forms = Forms::new(alloc, tree, numbers.rights())?;
+    forms.fill(tree, paths, numbers)?;
+    let layer = frozen(alloc, tree, &forms.rules)?;
+    Ok((layer, forms.plain))
 }
 
 /// Layers in both forms.
@@ -273,17 +322,41 @@ fn domain_agrees(
     Ok(true)
 }
 
+/// Whether both forms agree under this many layers by chance.
+fn layers_agree(
+    alloc: Global,
+    tree: &Tree,
+    paths: &[String],
+    count: u32,
+    numbers: &mut Numbers,
+) -> Result<bool, Fail> {
+    let both = layers_of(alloc, tree, paths, count, numbers)?;
+    let domain = stacked(&both.lanes)?;
+    domain_agrees(tree, paths, &both, &domain, 60, numbers)
+}
+
 #[test]
 fn lanes_and_plain_layers(rt: HostRuntime) -> Result<(), Fail> {
     let alloc = rt.alloc();
     let paths = listed_paths(alloc)?;
-    let tree = Tree::read(alloc, file_of(alloc, &paths)?.as_bytes())?;
+    let tree = tree_of(alloc, &paths)?;
     let mut numbers = Numbers { last: 1 };
     for round in 0..34u32 {
-        let both = layers_of(alloc, &tree, &paths, round % 17, &mut numbers)?;
-        let domain = stacked(&both.lanes)?;
-        let agrees = domain_agrees(&tree, &paths, &both, &domain, 60, &mut numbers)?;
-        assert!(rt; agrees, "{round}");
+        assert!(rt;
+            layers_agree(alloc, &tree, &paths, round % 17, &mut numbers)?,
+            "{round}"
+        );
+    }
+    Ok(())
+}
+
+/// Grants reading on some objects.
+fn grant_on(rules: &mut Ruleset, tree: &Tree, paths: &[String]) -> Result<(), RuleFault>
+    requires { AreInTree tree.now rules.old }
+    ensures { AreInTree tree.now rules.new }
+{
+    for path in paths {
+        grant_reading(rules, tree, path)?;
     }
     Ok(())
 }
@@ -293,30 +366,65 @@ fn granting(alloc: Global, tree: &Tree, paths: &[String]) -> Result<Layer, Fail>
     ensures { IfOk result (AreInTree tree.now) }
 {
     let mut rules = about_reading(alloc, tree)?;
-    for path in paths {
-        grant_reading(&mut rules, tree, path)?;
-    }
-    Ok(rules.freeze(alloc)?)
+    grant_on(&mut rules, tree, paths)?;
+    frozen(alloc, tree, &rules)
 }
 
-/// Objects without others in them have rules, and those whose numbers are 4,096 below share their marks.
-#[test]
-fn nodes_that_share_a_mark(rt: HostRuntime) -> Result<(), Fail> {
-    let alloc = rt.alloc();
-    let paths = listed_paths(alloc)?;
-    let tree = Tree::read(alloc, file_of(alloc, &paths)?.as_bytes())?;
+/// Whether the first of two nodes that share a mark may be read, and the other not.
+fn is_granted_alone(
+    tree: &Tree,
+    layers: &[Layer],
+    domain: &Domain,
+    path: &str,
+    other: &str,
+) -> Result<bool, Fail>
+    requires rules { All (AreInTree tree.now) layers.now }
+    requires domain { IsDomainOf layers.now domain.now }
+{
+    let node = node_named(tree, path)?;
+    let sharing = node_named(tree, other)?;
+    let marks = MARKS as u32;
+    Ok(
+        node.index() % marks == sharing.index() % marks
+            && check_path(tree, layers, domain, node, Fs::READ_FILE).is_empty()
+            && !check_path(tree, layers, domain, sharing, Fs::READ_FILE).is_empty(),
+    )
+}
+
+/// Whether a layer grants reading on objects alone, and not on others that share their marks.
+fn are_granted_alone(
+    tree: &Tree,
+    layer: &Layer,
+    paths: &[String],
+    others: &[String],
+) -> Result<bool, Fail>
+    requires { AreInTree tree.now layer.now }
+{
+    let layers = slice::from_ref(layer);
+    let domain = stacked(layers)?;
+    for (path, other) in paths.iter().zip(others) {
+        if !is_granted_alone(tree, layers, &domain, path, other)? {
+            return Ok(false);
+        }
+    }
+    Ok(true)
+}
+
+/// Whether objects without others in them may be read that have rules, and those not whose numbers are 4,096 below, so
+/// that they share their marks.
+fn are_told_apart(alloc: Global, paths: &[String]) -> Result<bool, Fail> {
+    let others = paths.get(1..129).ok_or("there are so many nodes")?;
     let granted = paths
         .get(MARKS + 1..MARKS + 129)
         .ok_or("there are so many nodes")?;
-    let others = paths.get(1..129).ok_or("there are so many nodes")?;
-    let layers = [granting(alloc, &tree, granted)?];
-    let domain = stacked(&layers)?;
-    for (path, other) in granted.iter().zip(others) {
-        let node = node_named(&tree, path)?;
-        let sharing = node_named(&tree, other)?;
-        assert_eq!(rt; node.index() % MARKS as u32, sharing.index() % MARKS as u32);
-        assert!(rt; check_path(&tree, &layers, &domain, node, Fs::READ_FILE).is_empty());
-        assert!(rt; !check_path(&tree, &layers, &domain, sharing, Fs::READ_FILE).is_empty());
-    }
+    let tree = tree_of(alloc, paths)?;
+    let layer = granting(alloc, &tree, granted)?;
+    are_granted_alone(&tree, &layer, granted, others)
+}
+
+#[test]
+fn nodes_that_share_a_mark(rt: HostRuntime) -> Result<(), Fail> {
+    let paths = listed_paths(rt.alloc())?;
+    assert!(rt; are_told_apart(rt.alloc(), &paths)?);
     Ok(())
 }

@@ -22,21 +22,32 @@ fn are_kept(map: &SharedMap<u8>, entries: &[(u64, u8)]) -> bool {
         .all(|(key, value)| map.get(*key) == Some(value))
 }
 
+/// A map of entries, each of a key of its own.
+fn map_of(alloc: Global, entries: &[(u64, u8)]) -> Option<SharedMap<u8>> {
+    let mut map = SharedMap::new(alloc);
+    for (key, value) in entries {
+        if map.insert(*key, *value).ok()?.is_some() {
+            return None;
+        }
+    }
+    Some(map)
+}
+
+/// Changes the map of the keys apart, and says whether each change answers the value that was there.
+fn changes(map: &mut SharedMap<u8>) -> bool {
+    map.insert(1, 10) == Ok(Some(3))
+        && map.insert(5, 11) == Ok(None)
+        && map.remove(0) == Ok(Some(0))
+        && map.remove(0) == Ok(None)
+}
+
 #[test]
 fn a_map_and_its_clone(rt: HostRuntime) -> Result<(), Fail> {
-    let mut map = SharedMap::new(rt.alloc());
-    for (key, value) in APART {
-        assert_eq!(rt; map.insert(key, value), Ok(None));
-    }
+    let map = map_of(rt.alloc(), &APART).ok_or("each key is new")?;
     let mut copy = map.clone()?;
-    assert_eq!(rt; copy.insert(1, 10), Ok(Some(3)));
-    assert_eq!(rt; copy.insert(5, 11), Ok(None));
-    assert_eq!(rt; copy.remove(0), Ok(Some(0)));
-    assert_eq!(rt; copy.remove(0), Ok(None));
-    assert!(rt; are_kept(&copy, &[(1, 10), (2, 4), (5, 11)]));
-    assert_eq!(rt; copy.get(0), None);
-    assert!(rt; are_kept(&map, &APART));
-    assert_eq!(rt; map.get(5), None);
+    assert!(rt; changes(&mut copy));
+    assert!(rt; are_kept(&copy, &[(1, 10), (2, 4), (5, 11)]) && copy.get(0).is_none());
+    assert!(rt; are_kept(&map, &APART) && map.get(5).is_none());
     Ok(())
 }
 

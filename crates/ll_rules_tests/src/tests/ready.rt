@@ -5,7 +5,7 @@ ghost use Rattle.ll_tree.specs.Trees.{IsNode};
 ghost use Rattle.ll_rules.specs.InTree.{AreInTree};
 
 use ll_rights::{Abi, Fs, Net};
-use ll_rules::{RuleFault, Ruleset};
+use ll_rules::{Layer, RuleFault, Ruleset};
 use ll_tree::{NodeId, Place, Tree};
 use std::alloc::Global;
 use std::test::Fail;
@@ -36,4 +36,13 @@ pub(crate) fn grant_reading(rules: &mut Ruleset, tree: &Tree, path: &str) -> Res
 {
     let place = tree.resolve(path);
     rules.add_path(tree, place, Fs::READ_FILE)
+}
+
+/// A ruleset as a layer.
+pub(crate) fn frozen(alloc: Global, tree: &Tree, rules: &Ruleset) -> Result<Layer, Fail>
+    requires { AreInTree tree.now rules.now }
+    ensures { IfOk result (AreInTree tree.now) }
+{
+    let _tree = tree;
+    Ok(rules.freeze(alloc)?)
 }

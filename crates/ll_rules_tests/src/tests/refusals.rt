@@ -4,7 +4,7 @@
 ghost use Rattle.std.specs.Prelude.{IfOk};
 ghost use Rattle.ll_rules.specs.InTree.{AreInTree};
 
-use crate::tests::ready::{about_reading, grant_reading, node_named};
+use crate::tests::ready::{about_reading, frozen, grant_reading, node_named};
 use ll_plain::stacked;
 use ll_rights::{Abi, Fs, Net};
 use ll_rules::{Layer, RuleFault, Ruleset, check_path, check_port};
@@ -36,14 +36,6 @@ fn refused_by(tree: &Tree, layer: &Layer) -> Result<(bool, bool), Fail>
         refuses_reading(tree, layer, "/a")?,
         refuses_reading(tree, layer, "/b")?,
     ))
-}
-
-fn frozen(alloc: Global, tree: &Tree, rules: &Ruleset) -> Result<Layer, Fail>
-    requires { AreInTree tree.now rules.now }
-    ensures { IfOk result (AreInTree tree.now) }
-{
-    let _tree = tree;
-    Ok(rules.freeze(alloc)?)
 }
 
 /// Which of the two directories a ruleset would refuse to read as a layer.
@@ -87,18 +79,33 @@ fn layer_between(alloc: Global, tree: &Tree, rules: &mut Ruleset) -> Result<(boo
     Ok((first && second, layer))
 }
 
+/// Whether a rule was added on each directory, and what the layer that was frozen after the first refuses then.
+fn granted_in_turn(
+    alloc: Global,
+    tree: &Tree,
+    rules: &mut Ruleset,
+) -> Result<(bool, (bool, bool)), Fail>
+    requires { AreInTree tree.now rules.old }
+    ensures { AreInTree tree.now rules.new }
+{
+    let (granted, layer) = layer_between(alloc, tree, rules)?;
+    Ok((granted, refused_by(tree, &layer)?))
+}
+
+/// Whether both rules were added, and the layer refuses one directory then and the ruleset none.
+fn are_granted(alloc: Global, tree: &Tree) -> Result<bool, Fail> {
+    let mut rules = about_reading(alloc, tree)?;
+    let granted = granted_in_turn(alloc, tree, &mut rules)?;
+    Ok(granted == (true, (true, false)) && refused(alloc, tree, &rules)? == (false, false))
+}
+
 /// Each rule grants on its directory alone, and a layer that was frozen between two rules stays as it was.
 #[test]
 fn add_path_without_memory(rt: HostRuntime) -> Result<(), Fail> {
-    let alloc = rt.alloc();
-    let Ok(tree) = Tree::read(alloc, SMALL.as_bytes()) else {
+    let Ok(tree) = Tree::read(rt.alloc(), SMALL.as_bytes()) else {
         return Ok(());
     };
-    let mut rules = about_reading(alloc, &tree)?;
-    let (granted, layer) = layer_between(alloc, &tree, &mut rules)?;
-    assert!(rt; granted);
-    assert!(rt; refused(alloc, &tree, &rules)? == (false, false));
-    assert!(rt; refused_by(&tree, &layer)? == (true, false));
+    assert!(rt; are_granted(rt.alloc(), &tree)?);
     Ok(())
 }
 
@@ -145,16 +152,21 @@ fn adds_port_80(alloc: Global, rules: &mut Ruleset) -> Result<bool, Fail> {
     Ok(first == Err(RuleFault::Memory) && kept == TWO_BOUND && second == Ok(()))
 }
 
+/// Adds the rule, and answers what a layer from before it lets be bound to then.
+fn bound_before(alloc: Global, rules: &mut Ruleset) -> Result<(bool, [bool; 4]), Fail> {
+    let before = rules.freeze(alloc)?;
+    let added = adds_port_80(alloc, rules)?;
+    Ok((added, bound(before)?))
+}
+
 /// A layer shares the rules of its ruleset until one is added to it, and then stays as it was.
 #[test]
 fn add_port_without_memory(rt: HostRuntime) -> Result<(), Fail> {
-    let alloc = rt.alloc();
-    let Ok(mut rules) = rules_on_two_ports(alloc) else {
+    let Ok(mut rules) = rules_on_two_ports(rt.alloc()) else {
         return Ok(());
     };
-    let before = rules.freeze(alloc)?;
-    assert!(rt; adds_port_80(alloc, &mut rules)?);
-    assert!(rt; bound(before)? == TWO_BOUND);
-    assert!(rt; bound(rules.freeze(alloc)?)? == [true, true, true, false]);
+    let before = bound_before(rt.alloc(), &mut rules)?;
+    let after = bound(rules.freeze(rt.alloc())?)?;
+    assert!(rt; before == (true, TWO_BOUND) && after == [true, true, true, false]);
     Ok(())
 }

@@ -32,6 +32,14 @@ impl Meeting {
         }
     }
 
+    /// How many jobs have begun, and how many waited in vain.
+    fn counts(&self) -> (u64, u64) {
+        (
+            self.begun.load(Ordering::SeqCst),
+            self.in_vain.load(Ordering::SeqCst),
+        )
+    }
+
     /// Looks a billion times whether another job has begun.
     fn is_met(&self) -> bool {
         for _ in 0..1_000_000_000 {
@@ -74,8 +82,7 @@ fn two_workers_meet_in_an_audit(rt: HostRuntime) -> Result<(), Fail> {
     let answer = audited_through(&rt, SIBLINGS.as_bytes(), 2, Cut::Grain(0), &gate);
     let report = answer.ok().ok_or("no report")?;
     assert_eq!(rt; report.bytes.as_slice(), SIBLINGS_REPORT.as_bytes());
-    assert_eq!(rt; gate.begun.load(Ordering::SeqCst), 2);
-    assert_eq!(rt; gate.in_vain.load(Ordering::SeqCst), 0);
+    assert_eq!(rt; gate.counts(), (2, 0));
     Ok(())
 }
 
@@ -95,10 +102,8 @@ fn two_workers_meet_in_the_program(rt: HostRuntime) -> Result<(), Fail> {
     let files = [("t", TREE.as_bytes()), ("r", SIBLINGS.as_bytes())];
     let gate = Meeting::from(1);
     let ended = run_through(&rt, words.as_slice(), files.as_slice(), &gate)?;
-    assert_eq!(rt; ended.status, 0);
-    assert_eq!(rt; ended.out.as_slice(), SIBLINGS_REPORT.as_bytes());
-    assert_eq!(rt; gate.begun.load(Ordering::SeqCst), 2);
-    assert_eq!(rt; gate.in_vain.load(Ordering::SeqCst), 0);
+    assert!(rt; ended.is(0, SIBLINGS_REPORT, ""));
+    assert_eq!(rt; gate.counts(), (2, 0));
     Ok(())
 }
 
@@ -154,18 +159,39 @@ fn listed(alloc: Global, cuts: &[bool]) -> Result<Cut, AllocError> {
     Ok(Cut::List(list))
 }
 
+/// The jobs that begin by a list of cuts.
+fn jobs_by_list<R: Threads + Wait + AllocGlobal + Sync>(
+    rt: &R,
+    workers: u64,
+    cuts: &[bool],
+) -> Result<(u64, u64), Fail> {
+    jobs_begun(rt, workers, listed(rt.alloc(), cuts)?)
+}
+
 #[test]
-fn jobs_begin_where_the_work_is_cut(rt: HostRuntime) -> Result<(), Fail> {
+fn jobs_begin_by_the_grain(rt: HostRuntime) -> Result<(), Fail> {
     for workers in [1, 3] {
-        let by_grain = |grain| jobs_begun(&rt, workers, Cut::Grain(grain));
-        assert_eq!(rt; by_grain(0)?, (0b111, 3));
-        assert_eq!(rt; by_grain(1)?, (0b111, 3));
-        assert_eq!(rt; by_grain(2)?, (0b011, 2));
-        assert_eq!(rt; by_grain(3)?, (0b001, 1));
-        let by_list = |cuts: &[bool]| jobs_begun(&rt, workers, listed(rt.alloc(), cuts)?);
-        assert_eq!(rt; by_list(&[])?, (0b001, 1));
-        assert_eq!(rt; by_list(&[true, false, true])?, (0b101, 2));
-        assert_eq!(rt; by_list(&[false, true, true, true])?, (0b111, 3));
+        for (grain, jobs) in [
+            (0, (0b111, 3)),
+            (1, (0b111, 3)),
+            (2, (0b011, 2)),
+            (3, (0b001, 1)),
+        ] {
+            assert_eq!(rt; jobs_begun(&rt, workers, Cut::Grain(grain))?, jobs);
+        }
+    }
+    Ok(())
+}
+
+#[test]
+fn jobs_begin_where_a_list_cuts(rt: HostRuntime) -> Result<(), Fail> {
+    for workers in [1, 3] {
+        let jobs = [
+            jobs_by_list(&rt, workers, &[])?,
+            jobs_by_list(&rt, workers, &[true, false, true])?,
+            jobs_by_list(&rt, workers, &[false, true, true, true])?,
+        ];
+        assert_eq!(rt; jobs, [(0b001, 1), (0b101, 2), (0b111, 3)]);
     }
     Ok(())
 }

@@ -82,9 +82,7 @@ fn a_part_of_the_report_is_shown(rt: HostRuntime) -> Result<(), Fail> {
     for (words, trace, report) in cases {
         let files = [("t", TREE.as_bytes()), ("r", trace.as_bytes())];
         let ended = run(&rt, words, files.as_slice())?;
-        assert_eq!(rt; ended.out.as_slice(), report.as_bytes());
-        assert_eq!(rt; ended.status, 1);
-        assert!(rt; ended.err.is_empty());
+        assert!(rt; ended.is(1, report, ""), "{report}");
     }
     Ok(())
 }

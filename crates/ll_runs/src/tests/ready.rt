@@ -68,6 +68,15 @@ pub(crate) struct Ended {
     pub(crate) err: Vec<u8>,
 }
 
+impl Ended {
+    /// Whether it ended with this status, and wrote just this.
+    pub(crate) fn is(&self, status: u8, out: &str, err: &str) -> bool {
+        self.status == status
+            && self.out.as_slice() == out.as_bytes()
+            && self.err.as_slice() == err.as_bytes()
+    }
+}
+
 pub(crate) fn owned(alloc: Global, words: &[&str]) -> Result<Vec<String>, AllocError> {
     let mut all = Vec::new(alloc);
     for word in words {

@@ -6,7 +6,7 @@ use crate::tests::ready::{REPORT, TRACE, owned};
 use ll_audit::{Ending, Idle, MemorySource, Source, SourceFault, front_ending};
 use ll_source::FailingSource;
 use ll_worked::TREE;
-use std::alloc::AllocError;
+use std::alloc::{AllocError, Global};
 use std::io;
 use std::io::{ErrorKind, Write};
 use std::sync::Wait;
@@ -64,23 +64,34 @@ fn ending_of<R: Threads + Wait + AllocGlobal + Sync, S: Source>(
     Ok(front_ending(rt, rt.alloc(), &words, source, out, err, &Idle))
 }
 
+/// Whether the program ends with a status and a line, which it tells, where its source fails from one call on.
+fn is_ended<R: Threads + Wait + AllocGlobal + Sync>(
+    rt: &R,
+    (good_calls, fault): (u64, SourceFault),
+    status: u8,
+    line: &str,
+) -> Result<bool, Fail> {
+    let files = [("t", TREE.as_bytes()), ("r", TRACE.as_bytes())];
+    let mut source = FailingSource::new(files.as_slice(), good_calls, fault);
+    let (mut out, mut err) = (Vec::new(rt.alloc()), Vec::new(rt.alloc()));
+    let ending = ending_of(rt, WORDS.as_slice(), &mut source, &mut out, &mut err)?;
+    Ok(
+        ending.told
+            && ending.status == status
+            && err.as_slice() == line.as_bytes()
+            && out.is_empty(),
+    )
+}
+
 #[test]
 fn sources_that_fail(rt: HostRuntime) -> Result<(), Fail> {
-    let cases = [
+    for (good_calls, fault, status, line) in [
         (0, SourceFault::Unread, 3, "landaudit: cannot read t\n"),
         (1, SourceFault::Unread, 3, "landaudit: cannot read r\n"),
         (0, SourceFault::Memory, 4, "landaudit: no memory\n"),
         (1, SourceFault::Memory, 4, "landaudit: no memory\n"),
-    ];
-    let files = [("t", TREE.as_bytes()), ("r", TRACE.as_bytes())];
-    for (good_calls, fault, want, line) in cases {
-        let mut source = FailingSource::new(files.as_slice(), good_calls, fault);
-        let (mut out, mut err) = (Vec::new(rt.alloc()), Vec::new(rt.alloc()));
-        let ending = ending_of(&rt, WORDS.as_slice(), &mut source, &mut out, &mut err)?;
-        let told = true;
-        assert_eq!(rt; ending, Ending { status: want, told });
-        assert_eq!(rt; err.as_slice(), line.as_bytes());
-        assert!(rt; out.is_empty());
+    ] {
+        assert!(rt; is_ended(&rt, (good_calls, fault), status, line)?, "{line}");
     }
     Ok(())
 }
@@ -102,48 +113,78 @@ fn run_into<R: Threads + Wait + AllocGlobal + Sync>(
     Ok((ending, out.bytes))
 }
 
+/// Whether the program ends with a status and a line, which it tells, and what it wrote begins the report.
+fn is_broken_off<R: Threads + Wait + AllocGlobal + Sync>(
+    rt: &R,
+    good_calls: u64,
+) -> Result<bool, Fail> {
+    let mut err = Vec::new(rt.alloc());
+    let (ending, out) = run_into(rt, good_calls, &mut err)?;
+    Ok(
+        ending.told
+            && ending.status == 4
+            && err.as_slice() == b"landaudit: cannot write\n".as_slice()
+            && REPORT.as_bytes().starts_with(out.as_slice()),
+    )
+}
+
+/// How many calls write the report: one for each sixteen bytes, and one to flush it.
+fn calls() -> u64 {
+    REPORT.len().div_ceil(16) as u64 + 1
+}
+
 #[test]
 fn outputs_that_fail_at_each_call(rt: HostRuntime) -> Result<(), Fail> {
-    let calls = REPORT.len().div_ceil(16) as u64 + 1;
-    for good_calls in 0..calls {
-        let mut err = Vec::new(rt.alloc());
-        let (ending, out) = run_into(&rt, good_calls, &mut err)?;
-        assert_eq!(rt; ending.status, 4);
-        assert!(rt; ending.told);
-        assert_eq!(rt; err.as_slice(), b"landaudit: cannot write\n".as_slice());
-        assert!(rt; REPORT.as_bytes().starts_with(out.as_slice()));
+    for good_calls in 0..calls() {
+        assert!(rt; is_broken_off(&rt, good_calls)?, "after {good_calls} calls");
     }
-    let mut err = Vec::new(rt.alloc());
-    let (ending, out) = run_into(&rt, calls, &mut err)?;
-    assert_eq!(rt; ending.status, 1);
-    assert_eq!(rt; out.as_slice(), REPORT.as_bytes());
-    assert!(rt; err.is_empty());
     Ok(())
 }
 
 #[test]
-fn a_status_stays_where_nothing_can_be_said(rt: HostRuntime) -> Result<(), Fail> {
-    let mut mute = Stubborn {
+fn an_output_that_fails_after_its_last_call(rt: HostRuntime) -> Result<(), Fail> {
+    let mut err = Vec::new(rt.alloc());
+    let (ending, out) = run_into(&rt, calls(), &mut err)?;
+    assert!(rt; ending.status == 1 && out.as_slice() == REPORT.as_bytes() && err.is_empty());
+    Ok(())
+}
+
+/// A writer that fails at once.
+fn mute(alloc: Global) -> Stubborn {
+    Stubborn {
         interrupts: 0,
         good_calls: 0,
-        bytes: Vec::new(rt.alloc()),
-    };
-    let (ending, _) = run_into(&rt, 0, &mut mute)?;
-    assert_eq!(rt; ending.status, 4);
-    assert!(rt; !ending.told);
-    let cases: [(&[&str], &[u8], u8); 3] = [
-        (WORDS.as_slice(), b"[]", 3),
-        (["landaudit", "--abi", "4", "x", "r"].as_slice(), b"", 3),
-        (["landaudit", "--abi", "6", "t", "r"].as_slice(), b"", 2),
-    ];
-    for (words, tree, want) in cases {
-        let files = [("t", tree), ("r", TRACE.as_bytes())];
-        let mut source = MemorySource::new(files.as_slice());
-        let mut out = Vec::new(rt.alloc());
-        let ending = ending_of(&rt, words, &mut source, &mut out, &mut mute)?;
-        let told = false;
-        assert_eq!(rt; ending, Ending { status: want, told });
-        assert!(rt; out.is_empty());
+        bytes: Vec::new(alloc),
     }
+}
+
+#[test]
+fn a_status_stays_where_no_report_can_be_written(rt: HostRuntime) -> Result<(), Fail> {
+    let (ending, _) = run_into(&rt, 0, &mut mute(rt.alloc()))?;
+    assert!(rt; ending.status == 4 && !ending.told);
+    Ok(())
+}
+
+/// Whether the program ends with a status and without a word, on a tree and the worked trace.
+fn is_mute<R: Threads + Wait + AllocGlobal + Sync>(
+    rt: &R,
+    words: &[&str],
+    tree: &[u8],
+    status: u8,
+) -> Result<bool, Fail> {
+    let files = [("t", tree), ("r", TRACE.as_bytes())];
+    let mut source = MemorySource::new(files.as_slice());
+    let (mut out, mut err) = (Vec::new(rt.alloc()), mute(rt.alloc()));
+    let ending = ending_of(rt, words, &mut source, &mut out, &mut err)?;
+    Ok(ending.status == status && !ending.told && out.is_empty())
+}
+
+#[test]
+fn a_status_stays_where_nothing_can_be_said(rt: HostRuntime) -> Result<(), Fail> {
+    let absent = ["landaudit", "--abi", "4", "x", "r"];
+    let unknown = ["landaudit", "--abi", "6", "t", "r"];
+    assert!(rt; is_mute(&rt, WORDS.as_slice(), b"[]", 3)?);
+    assert!(rt; is_mute(&rt, absent.as_slice(), b"", 3)?);
+    assert!(rt; is_mute(&rt, unknown.as_slice(), b"", 2)?);
     Ok(())
 }

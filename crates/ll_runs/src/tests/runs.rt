@@ -1,33 +1,51 @@
 //! Whole runs of the program over files in memory.
 
-use crate::tests::ready::{REPORT, TRACE, run};
+use crate::tests::ready::{Ended, REPORT, TRACE, run};
 use ll_audit::{Cut, Fault, Idle, audit};
 use ll_rights::Abi;
 use ll_tree::{Cause, ReadFault};
 use ll_worked::TREE;
+use std::alloc::AllocError;
+use std::sync::Wait;
 use std::test::Fail;
+use std::thread::Threads;
+
+/// How the program ends by eight workers on the worked tree and a trace.
+fn ended_on<R: Threads + Wait + AllocGlobal + Sync>(
+    rt: &R,
+    trace: &str,
+) -> Result<Ended, AllocError> {
+    let files = [("t", TREE.as_bytes()), ("r", trace.as_bytes())];
+    let words = ["landaudit", "--abi", "4", "--workers", "8", "t", "r"];
+    run(rt, words.as_slice(), files.as_slice())
+}
+
+const START: &str = "{\"op\":\"start\",\"pid\":10}\n";
+
+const START_REPORT: &str = "\
+1 10 start allowed
+total 1 allowed 1 refused 0 moot 0
+";
 
 #[test]
 fn reports_of_runs(rt: HostRuntime) -> Result<(), Fail> {
-    let seven = TRACE.len()
-        - "{\"op\":\"open\",\"pid\":10,\"path\":\"/b/g\",\"fd\":5,\"mode\":\"w\"}\n".len();
-    let lines = REPORT.len() - "8 10 open allowed\ntotal 8 allowed 7 refused 1 moot 0\n".len();
-    let mut shorter = Vec::from_slice(rt.alloc(), &REPORT.as_bytes()[..lines])?;
-    shorter.extend_from_slice(b"total 7 allowed 6 refused 1 moot 0\n")?;
-    let cases: [(&[u8], &[u8], u8); 3] = [
-        (b"", b"total 0 allowed 0 refused 0 moot 0\n", 0),
-        (TRACE.as_bytes(), REPORT.as_bytes(), 1),
-        (&TRACE.as_bytes()[..seven], shorter.as_slice(), 1),
-    ];
-    for (trace, report, status) in cases {
-        let files = [("t", TREE.as_bytes()), ("r", trace)];
-        let words = ["landaudit", "--abi", "4", "--workers", "8", "t", "r"];
-        let ended = run(&rt, words.as_slice(), files.as_slice())?;
-        assert_eq!(rt; ended.out.as_slice(), report);
-        assert_eq!(rt; ended.status, status);
-        assert!(rt; ended.err.is_empty());
+    for (trace, report, status) in [
+        ("", "total 0 allowed 0 refused 0 moot 0\n", 0),
+        (START, START_REPORT, 0),
+        (TRACE, REPORT, 1),
+    ] {
+        assert!(rt; ended_on(&rt, trace)?.is(status, report, ""), "{report}");
     }
     Ok(())
+}
+
+/// How the program ends on files.
+fn ended_with<R: Threads + Wait + AllocGlobal + Sync>(
+    rt: &R,
+    files: &[(&str, &[u8])],
+) -> Result<Ended, AllocError> {
+    let words = ["landaudit", "--abi", "4", "t", "r"];
+    run(rt, words.as_slice(), files)
 }
 
 #[test]
@@ -44,13 +62,25 @@ fn files_at_fault(rt: HostRuntime) -> Result<(), Fail> {
         (both_bad.as_slice(), "landaudit: tree line 1: NoParent\n"),
     ];
     for (files, line) in cases {
-        let words = ["landaudit", "--abi", "4", "t", "r"];
-        let ended = run(&rt, words.as_slice(), files)?;
-        assert_eq!(rt; ended.err.as_slice(), line.as_bytes());
-        assert_eq!(rt; ended.status, 3);
-        assert!(rt; ended.out.is_empty());
+        assert!(rt; ended_with(&rt, files)?.is(3, "", line), "{line}");
     }
     Ok(())
+}
+
+/// Whether the program ends on words with a status, and writes on one of its outputs alone: where that is 2 on the
+/// second.
+fn is_told<R: Threads + Wait + AllocGlobal + Sync>(
+    rt: &R,
+    words: &[&str],
+    status: u8,
+) -> Result<bool, AllocError> {
+    let files = [("t", TREE.as_bytes()), ("r", TRACE.as_bytes())];
+    let ended = run(rt, words, files.as_slice())?;
+    Ok(
+        ended.status == status
+            && ended.out.is_empty() == (status == 2)
+            && ended.err.is_empty() == (status == 0),
+    )
 }
 
 #[test]
@@ -65,47 +95,34 @@ fn words_at_fault(rt: HostRuntime) -> Result<(), Fail> {
         (["landaudit", "--help"].as_slice(), 0),
     ];
     for (words, status) in cases {
-        let files = [("t", TREE.as_bytes()), ("r", TRACE.as_bytes())];
-        let ended = run(&rt, words, files.as_slice())?;
-        assert_eq!(rt; ended.status, status);
-        assert_eq!(rt; ended.out.is_empty(), status == 2);
-        assert_eq!(rt; ended.err.is_empty(), status == 0);
+        assert!(rt; is_told(&rt, words, status)?, "{words:?}");
     }
     Ok(())
 }
 
+/// The fault of an audit at version 4 by so many workers.
+fn fault_of<R: Threads + Wait + AllocGlobal + Sync>(
+    rt: &R,
+    tree: &str,
+    trace: &str,
+    workers: u64,
+) -> Option<Fault> {
+    let (tree, trace) = (tree.as_bytes(), trace.as_bytes());
+    let cut = Cut::Grain(0);
+    audit(rt, rt.alloc(), tree, trace, Abi::V4, workers, cut, &Idle).err()
+}
+
+/// They are looked at before the files.
 #[test]
-fn numbers_of_workers(rt: HostRuntime) -> Result<(), Fail> {
-    let trees = [TREE, "{}"];
-    for tree in trees {
+fn numbers_of_workers(rt: HostRuntime) {
+    for tree in [TREE, "{}"] {
         for workers in [0, 65] {
-            let answer = audit(
-                &rt,
-                rt.alloc(),
-                tree.as_bytes(),
-                TRACE.as_bytes(),
-                Abi::V4,
-                workers,
-                Cut::List(Vec::new(rt.alloc())),
-                &Idle,
-            );
-            assert_eq!(rt; answer.err(), Some(Fault::Workers));
+            assert_eq!(rt; fault_of(&rt, tree, TRACE, workers), Some(Fault::Workers));
         }
     }
-    let answer = audit(
-        &rt,
-        rt.alloc(),
-        TREE.as_bytes(),
-        b"[]",
-        Abi::V4,
-        64,
-        Cut::Grain(0),
-        &Idle,
-    );
     let place = ReadFault {
         line: 1,
         cause: Cause::Field,
     };
-    assert_eq!(rt; answer.err(), Some(Fault::Trace(place)));
-    Ok(())
+    assert_eq!(rt; fault_of(&rt, TREE, "[]", 64), Some(Fault::Trace(place)));
 }

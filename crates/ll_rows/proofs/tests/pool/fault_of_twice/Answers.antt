@@ -1,11 +1,11 @@
 use Rattle.std.proofs.Common.{◌≡◌, ◌++◌}
 use Rattle.std.proofs.lemmas.List.Elements.{All-append, All-same}
 use Rattle.ll_process.specs.declared.piece.Piece.{Piece}
-use Rattle.ll_rows.proofs.tests.pool.a_piece_made_twice_doubles_the_first_process.Goals as goal
+use Rattle.ll_rows.proofs.tests.pool.fault_of_twice.Goals as goal
 
 pub collect-requires : goal.collect-requires
 collect-requires g c =
-    All-same (λ (x : Piece). x.case.now ≡ c.in_ok-case.case) c.append.new.self.items
+    All-same (λ (x : Piece). x.case.now ≡ c.args.case.now) c.append.new.self.items
     (c.in_ok-pieces.pieces.items ++ c.in_ok-again.again.items) c.in_ok-append.ensures.items
-    (All-append (λ (x : Piece). x.case.now ≡ c.in_ok-case.case) c.in_ok-pieces.pieces.items c.in_ok-again.again.items
+    (All-append (λ (x : Piece). x.case.now ≡ c.args.case.now) c.in_ok-pieces.pieces.items c.in_ok-again.again.items
     c.in_ok-pieces.ensures c.in_ok-again.ensures)
