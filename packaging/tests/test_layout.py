@@ -1,50 +1,78 @@
-"""No line of a proof or of a contract is too long to be read: CONTRIBUTING says how long they may be."""
+"""No line of a proof or of a contract is too long to be read, and what `proof-lines` counts."""
 
 from __future__ import annotations
 
-import re
 import unittest
-from collections.abc import Iterator
+from collections.abc import Iterable, Iterator
 from pathlib import Path
 
-from .places import TOP
+from .places import TOP, script
 
-PROOF = 160
-CLAUSE = 100
-BEGINS = re.compile(r" *(ensures|requires|(pub )?ghost (?!use))")
-TEXT = re.compile(r'"(\\.|[^"\\])*"')
+proof_lines = script("proof-lines")
 
 
-def numbered(file: Path) -> Iterator[tuple[int, str]]:
-    """The lines of a file, numbered from 1, each without its texts, which can't be broken."""
-    for number, line in enumerate(file.read_text(encoding="utf-8").splitlines(), 1):
-        yield number, TEXT.sub('""', line)
+def without_texts(lines: Iterable[tuple[int, str]]) -> Iterator[tuple[int, str]]:
+    """Numbered lines, each without its texts, which can't be broken."""
+    for number, line in lines:
+        yield number, proof_lines.TEXT.sub('""', line)
 
 
-def clauses(file: Path) -> Iterator[tuple[int, str]]:
-    """The lines of a source file that are parts of clauses: from a clause's word to its closing brace."""
-    depth = 0
-    for number, line in numbered(file):
-        if depth > 0 or BEGINS.match(line):
-            depth += line.count("{") - line.count("}")
-            yield number, line
-
-
-def named(file: Path, number: int) -> str:
-    return f"{file.relative_to(TOP)}:{number}"
+def long_lines(file: Path, lines: Iterable[tuple[int, str]], most: int) -> list[str]:
+    """The lines of a file that are longer than so many columns."""
+    return [f"{file.relative_to(TOP)}:{number}" for number, line in without_texts(lines) if len(line) > most]
 
 
 class Layout(unittest.TestCase):
     def test_lines_of_proofs_can_be_read(self) -> None:
         files = sorted(TOP.glob("crates/*/proofs/**/*.antt"))
         self.assertNotEqual(files, [])
-        long = [named(file, number) for file in files for number, line in numbered(file) if len(line) > PROOF]
-        self.assertEqual(long, [])
+        for file in files:
+            lines = enumerate(file.read_text(encoding="utf-8").splitlines(), 1)
+            self.assertEqual(long_lines(file, lines, proof_lines.PROOF), [])
 
     def test_lines_of_clauses_can_be_read(self) -> None:
         # A condition that comes with its proof (`{ .. } by { .. }`) is laid out on one line by `rt fmt`.
         files = sorted(TOP.glob("crates/*/src/**/*.rt"))
         self.assertNotEqual(files, [])
-        lines = [(named(file, number), line) for file in files for number, line in clauses(file)]
-        self.assertGreater(len(lines), len(files))
-        self.assertEqual([name for name, line in lines if len(line) > CLAUSE and " } by { " not in line], [])
+        seen = 0
+        for file in files:
+            lines = list(proof_lines.clauses(file.read_text(encoding="utf-8")))
+            seen += len(lines)
+            kept = [(number, line) for number, line in lines if " } by { " not in line]
+            self.assertEqual(long_lines(file, kept, proof_lines.CLAUSE), [])
+        self.assertGreater(seen, len(files))
+
+
+class Counted(unittest.TestCase):
+    def test_a_line_is_broken_at_spaces(self) -> None:
+        self.assertEqual(proof_lines.broken("a" * 10, 10), 1)
+        self.assertEqual(proof_lines.broken("", 10), 1)
+        self.assertEqual(proof_lines.broken("aaaa bbbb cccc", 10), 2)
+        # What follows is four columns further in, so that two words don't fit there.
+        self.assertEqual(proof_lines.broken("aaaa bbbb cccc dddd", 10), 3)
+        self.assertEqual(proof_lines.broken("a" * 30, 10), 1)
+
+    def test_a_clause_goes_to_its_closing_brace(self) -> None:
+        source = "\n".join(
+            [
+                "fn f() -> u8",
+                "    ensures { result",
+                "        ≡ 1 }",
+                "{",
+                '    g("}")',
+                "}",
+                "ghost use A.{b};",
+                "    ghost kept = { λ a. a };",
+            ]
+        )
+        self.assertEqual([number for number, _ in proof_lines.clauses(source)], [2, 3, 8])
+
+    def test_files_are_counted_by_what_they_are(self) -> None:
+        files = {
+            "c/proofs/A.antt": f"a\n{'b ' * 100}\n",
+            "c/src/a.rt": "fn f(a: u8)\n    requires { 0 < a }\n{\n}\n",
+        }
+        proofs, said = proof_lines.of_files(files)
+        self.assertEqual((proofs.plain, proofs.laid_out), (2, 3))
+        self.assertEqual((said.plain, said.laid_out), (1, 1))
+
