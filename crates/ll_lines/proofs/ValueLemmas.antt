@@ -6,7 +6,7 @@ use Rattle.std.proofs.lemmas.Slice.Eq.{bytes_eq-Decides}
 use Rattle.std.proofs.lemmas.Str.{is_utf8-from_IsUtf8, IsUtf8-from_is_utf8}
 use Rattle.json.specs.Json as json
 use Rattle.json.specs.Find as json_find
-use Rattle.serde_json.specs.Data.{Num, Data, null, boolean, number, string, array, object, Members, no_members, put}
+use Rattle.serde_json.specs.Data.{Num, Data, null, boolean, number, string, array, object, Items, item, Members, no_members, put}
 use Rattle.serde_json.specs.Read.{number_of, of_json, of_items, of_members, read}
 use Rattle.serde_json.specs.Find.{get, get_member, as_str, as_number, as_u64, as_bool, as_array}
 use Rattle.serde_json.proofs.Views.{get_member-put, get_member-put_other}
@@ -17,80 +17,58 @@ use Rattle.ll_lines.specs.Members.{value_at, text_at, number_at, truth_at, flag_
 use Rattle.ll_lines.specs.Values.{number_or_null, data_of, data_of_items, data_of_members, is_in_range, are_in_range, have_range, parsed}
 use Rattle.ll_lines.proofs.MemoryLemmas.{unless-map}
 
-both : (a b : Bool) → (a && b) ≡ true → (a ≡ true) × (b ≡ true)
-both true b e = (refl, e)
-both false b e = absurd (true≢false (sym e))
+-- what counts where a test holds
+abbrev pub when : {A : Type 0} → Bool → A → Option A
+when b x = cond b (Some x) None
 
-a_number : (n : Option Num) → is_some n ≡ true → option_map number n ≡ Some (number_or_null n)
-a_number (Some n) e = refl
-a_number None e = absurd (true≢false (sym e))
+map_when : {A B : Type 0} (f : A → B) (b : Bool) (x : A) → option_map f (when b x) ≡ when b (f x)
+map_when f true x = refl
+map_when f false x = refl
 
-no_number : (n : Option Num) → is_some n ≡ false → option_map number n ≡ None
-no_number None e = refl
-no_number (Some n) e = absurd (true≢false e)
+a_number : (n : Option Num) → option_map number n ≡ when (is_some n) (number_or_null n)
+a_number (Some n) = refl
+a_number None = refl
+
+an_item : (b c : Bool) (value : Data) (others : Items)
+    → option_and_then (λ d. option_map (item d) (when c others)) (when b value) ≡ when (b && c) (item value others)
+an_item true c value others = map_when (item value) c others
+an_item false c value others = refl
+
+a_member : (b c : Bool) (value : Data) (read : Data → Option Members) (all : Members) → read value ≡ when c all
+    → option_and_then read (when b value) ≡ when (b && c) all
+a_member true c value read all reads = reads
+a_member false c value read all reads = refl
 
 -- the whole number below 2 ^ 64 that a number's text is
 abbrev pub whole : List ℕ → Option ℕ
 whole text = option_and_then as_u64 (number_of text)
 
--- what has its numbers in range converts
+-- what has its numbers in range converts, and what has not has no value
 mutual
-  converts : (value : json.Json) → is_in_range value ≡ true → of_json value ≡ Some (data_of value)
-  converts json.null e = refl
-  converts (json.boolean b) e = refl
-  converts (json.number text) e = a_number (number_of text) e
-  converts (json.string text) e = refl
-  converts (json.array values) e = ap (option_map array) (items_convert values e)
-  converts (json.object entries) e = ap (option_map object) (members_convert entries no_members e)
+  converts : (value : json.Json) → of_json value ≡ when (is_in_range value) (data_of value)
+  converts json.null = refl
+  converts (json.boolean b) = refl
+  converts (json.number text) = a_number (number_of text)
+  converts (json.string text) = refl
+  converts (json.array values) = ap (option_map array) (items_convert values) ∙ map_when array (are_in_range values) (data_of_items values)
+  converts (json.object entries) =
+      ap (option_map object) (members_convert entries no_members) ∙ map_when object (have_range entries) (data_of_members entries no_members)
 
-  items_convert : (values : json.Items) → are_in_range values ≡ true → of_items values ≡ Some (data_of_items values)
-  items_convert json.no_items e = refl
-  items_convert (json.item value others) e = let in_range = both (is_in_range value) (are_in_range others) e in
-      rw (converts value in_range.0, items_convert others in_range.1) refl
+  items_convert : (values : json.Items) → of_items values ≡ when (are_in_range values) (data_of_items values)
+  items_convert json.no_items = refl
+  items_convert (json.item value others) =
+      rw (converts value, items_convert others) (an_item (is_in_range value) (are_in_range others) (data_of value) (data_of_items others))
 
-  members_convert : (entries : json.Members) (earlier : Members) → have_range entries ≡ true
-      → of_members entries earlier ≡ Some (data_of_members entries earlier)
-  members_convert json.no_members earlier e = refl
-  members_convert (json.member name value others) earlier e =
-      let in_range = both (is_in_range value) (have_range others) e in
-      rw (converts value in_range.0) (members_convert others (put name (data_of value) earlier) in_range.1)
-
--- and what has not has no value
-item_refused : (value : json.Json) (others : json.Items) (b : Bool) → is_in_range value ≡ b → (b && are_in_range others) ≡ false
-    → (is_in_range value ≡ false → of_json value ≡ None)
-    → (are_in_range others ≡ false → of_items others ≡ None) → of_items (json.item value others) ≡ None
-item_refused value others true is e value_refused others_refused = rw (converts value is, others_refused e) refl
-item_refused value others false is e value_refused others_refused = rw (value_refused is) refl
-
-member_refused : (name : List ℕ) (value : json.Json) (others : json.Members) (earlier : Members) (b : Bool) → is_in_range value ≡ b
-    → (b && have_range others) ≡ false
-    → (is_in_range value ≡ false → of_json value ≡ None) → ((e : Members) → have_range others ≡ false → of_members others e ≡ None)
-    → of_members (json.member name value others) earlier ≡ None
-member_refused name value others earlier true is e value_refused others_refused = rw (converts value is) (others_refused (put name (data_of value) earlier) e)
-member_refused name value others earlier false is e value_refused others_refused = rw (value_refused is) refl
+  members_convert : (entries : json.Members) (earlier : Members) → of_members entries earlier ≡ when (have_range entries) (data_of_members entries earlier)
+  members_convert json.no_members earlier = refl
+  members_convert (json.member name value others) earlier =
+      rw (converts value) (a_member (is_in_range value) (have_range others) (data_of value) (λ d. of_members others (put name d earlier)) _
+      (members_convert others (put name (data_of value) earlier)))
 
 -- the later of two values of a name
 abbrev or_earlier : Option Data → Option Data → Option Data
 or_earlier (Some value) earlier = Some value
 or_earlier None earlier = earlier
-
-mutual
-  refused : (value : json.Json) → is_in_range value ≡ false → of_json value ≡ None
-  refused json.null e = absurd (true≢false e)
-  refused (json.boolean b) e = absurd (true≢false e)
-  refused (json.number text) e = no_number (number_of text) e
-  refused (json.string text) e = absurd (true≢false e)
-  refused (json.array values) e = ap (option_map array) (items_refused values e)
-  refused (json.object entries) e = ap (option_map object) (members_refused entries no_members e)
-
-  items_refused : (values : json.Items) → are_in_range values ≡ false → of_items values ≡ None
-  items_refused json.no_items e = absurd (true≢false e)
-  items_refused (json.item value others) e = item_refused value others (is_in_range value) refl e (refused value) (items_refused others)
-
-  members_refused : (entries : json.Members) (earlier : Members) → have_range entries ≡ false → of_members entries earlier ≡ None
-  members_refused json.no_members earlier e = absurd (true≢false e)
-  members_refused (json.member name value others) earlier e =
-      member_refused name value others earlier (is_in_range value) refl e (refused value) (members_refused others)
 
 found_or : (name key : List ℕ) (value : json.Json) (earlier : Members) (r : Option json.Json) (same : Bool) → bytes_eq key name ≡ same
     → or_earlier (option_map data_of r) (get_member name (put key (data_of value) earlier))
@@ -225,16 +203,14 @@ text : (line : List ℕ) → IsUtf8 line → value_at line ≡ ok_or (option_and
 unfolding value_at
 text line utf8 = rw (is_utf8-from_IsUtf8 line utf8) refl
 
-nothing_parsed : (r : Option json.Json) (cause : Cause) → ok_or r Json ≡ Err cause → ok_or (option_and_then of_json r) Json ≡ Err cause
-nothing_parsed None cause e = let same : Json ≡ cause = cc in ap Err same
-nothing_parsed (Some value) cause e = absurd (let no = e in cc)
-
 parsed_as : (r : Option json.Json) (value : json.Json) → ok_or r Json ≡ Ok value → r ≡ Some value
 parsed_as None value e = absurd (let no = e in cc)
 parsed_as (Some other) value e = let same : other ≡ value = cc in ap Some same
 
 not_parsed : (line : List ℕ) (cause : Cause) → IsUtf8 line → ok_or (parsed line) Json ≡ Err cause → value_at line ≡ Err cause
-not_parsed line cause utf8 e = text line utf8 ∙ nothing_parsed (parsed line) cause e
+not_parsed line cause utf8 e =
+    text line utf8 ∙ elim (parsed line) as (λ r. ok_or r Json ≡ Err cause → ok_or (option_and_then of_json r) Json ≡ Err cause)
+    [ None ↦ λ same. (let is : Json ≡ cause = cc in ap Err is) | Some value ↦ λ same. absurd (let no = same in cc) ] e
 
 pub parse_fails : (line : List ℕ) (cause : Cause) → IsUtf8 line → Fails cause (ok_or (parsed line) Json) → Fails cause (value_at line)
 parse_fails line cause utf8 e =
@@ -242,8 +218,8 @@ parse_fails line cause utf8 e =
 
 pub in_range : (line : List ℕ) (value : json.Json) → IsUtf8 line → ok_or (parsed line) Json ≡ Ok value → is_in_range value ≡ true
     → value_at line ≡ Ok (data_of value)
-in_range line value utf8 e range = text line utf8 ∙ rw (parsed_as (parsed line) value e, converts value range) refl
+in_range line value utf8 e range = text line utf8 ∙ rw (parsed_as (parsed line) value e, converts value, range) refl
 
 pub out_of_range : (line : List ℕ) (value : json.Json) → IsUtf8 line → ok_or (parsed line) Json ≡ Ok value → is_in_range value ≡ false
     → value_at line ≡ Err Json
-out_of_range line value utf8 e range = text line utf8 ∙ rw (parsed_as (parsed line) value e, refused value range) refl
+out_of_range line value utf8 e range = text line utf8 ∙ rw (parsed_as (parsed line) value e, converts value, range) refl

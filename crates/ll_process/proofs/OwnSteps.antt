@@ -22,71 +22,68 @@ use Rattle.ll_process.proofs.Walks.{answer_met, left_met, met_at_start, met_goin
 use Rattle.ll_trace.proofs.Numbers.{StartedAt, ForkedAt, forked_at-is, started_at-is, started_once}
 use Rattle.ll_process.proofs.Weighing.{forked, child_state, child_below}
 
--- the process of an own record
-pub own_process : (of : Matter) (index p : ℕ) (r : Record) → IsOwn of index p → slice_get of.records index ≡ Some r → r.process.0 ≡ p
-own_process of index p r own at = ap (λ (x : Record). x.process.0) (same_Some r own.0 (sym at ∙ own.1)) ∙ own.2
+module _ (of : Matter) (index p : ℕ) where
+  -- the process of an own record
+  pub own_process : (r : Record) → IsOwn of index p → slice_get of.records index ≡ Some r → r.process.0 ≡ p
+  own_process r own at = ap (λ (x : Record). x.process.0) (same_Some r own.0 (sym at ∙ own.1)) ∙ own.2
 
--- a start is allowed
-pub start_answer : (of : Matter) (index p : ℕ) (r : Record) → slice_get of.records index ≡ Some r → is_start r.op ≡ true
-    → Allowed ≡ answer_at of.tree of.abi of.records index
-start_answer of index p r at starts =
-    sym (answer-start of.tree of.abi (world_at of.tree of.abi of.records index).rulesets r.op (state_met of.tree of.abi of.records index r.process.0) starts)
-    ∙ answer_met of.tree of.abi of.records index r at
+  -- a start is allowed
+  pub start_answer : (r : Record) → slice_get of.records index ≡ Some r → is_start r.op ≡ true → Allowed ≡ answer_at of.tree of.abi of.records index
+  start_answer r at starts =
+      sym (answer-start of.tree of.abi (world_at of.tree of.abi of.records index).rulesets r.op (state_met of.tree of.abi of.records index r.process.0) starts)
+      ∙ answer_met of.tree of.abi of.records index r at
 
--- and leaves what it meets
-pub start_leaves : (of : Matter) (index p : ℕ) (r : Record) (own : OwnState) → slice_get of.records index ≡ Some r → is_start r.op ≡ true
-    → Meets of index p own → Leaves of index p own
-unfolding state_left
-start_leaves of index p r own at starts meets =
-    subst (λ (s : State). AgreesIn of own s) (met_at_start of.tree of.abi of.records index p r at starts) meets
+  -- and leaves what it meets
+  pub start_leaves : (r : Record) (own : OwnState) → slice_get of.records index ≡ Some r → is_start r.op ≡ true → Meets of index p own → Leaves of index p own
+  unfolding state_left
+  start_leaves r own at starts meets = subst (λ (s : State). AgreesIn of own s) (met_at_start of.tree of.abi of.records index p r at starts) meets
 
--- what is answered in the state that the record meets is the fold's answer
-pub met_answer : (of : Matter) (index p : ℕ) (r : Record) (given : Answer) → slice_get of.records index ≡ Some r → r.process.0 ≡ p
-    → given ≡ answer of.tree of.abi (world_at of.tree of.abi of.records index).rulesets r.op (state_met of.tree of.abi of.records index p)
-    → given ≡ answer_at of.tree of.abi of.records index
-met_answer of index p r given at own is =
-    is
-    ∙ ap (λ q. answer of.tree of.abi (world_at of.tree of.abi of.records index).rulesets r.op (state_met of.tree of.abi of.records index q)) (sym own)
-    ∙ answer_met of.tree of.abi of.records index r at
+  -- what is answered in the state that the record meets is the fold's answer
+  pub met_answer : (r : Record) (given : Answer) → slice_get of.records index ≡ Some r → r.process.0 ≡ p
+      → given ≡ answer of.tree of.abi (world_at of.tree of.abi of.records index).rulesets r.op (state_met of.tree of.abi of.records index p)
+      → given ≡ answer_at of.tree of.abi of.records index
+  met_answer r given at own is =
+      is
+      ∙ ap (λ q. answer of.tree of.abi (world_at of.tree of.abi of.records index).rulesets r.op (state_met of.tree of.abi of.records index q)) (sym own)
+      ∙ answer_met of.tree of.abi of.records index r at
 
--- and the state after it is what the record leaves
-pub met_leaves : (of : Matter) (index p : ℕ) (r : Record) (own : OwnState) → IsCase of → slice_get of.records index ≡ Some r → r.process.0 ≡ p
-    → AgreesIn of own (state_after of.tree of.abi (world_at of.tree of.abi of.records index).rulesets r.op (state_met of.tree of.abi of.records index p))
-    → Leaves of index p own
-met_leaves of index p r own case at process agrees =
-    subst (λ (s : State). AgreesIn of own s)
-    (ap (λ q. state_after of.tree of.abi (world_at of.tree of.abi of.records index).rulesets r.op (state_met of.tree of.abi of.records index q)) (sym process)
-    ∙ sym (left_met of.tree of.abi of.records index r case.numbered at)
-    ∙ ap (λ q. state_left of.tree of.abi of.records index q) process)
-    agrees
+  -- and the state after it is what the record leaves
+  pub met_leaves : (r : Record) (own : OwnState) → IsCase of → slice_get of.records index ≡ Some r → r.process.0 ≡ p
+      → AgreesIn of own (state_after of.tree of.abi (world_at of.tree of.abi of.records index).rulesets r.op (state_met of.tree of.abi of.records index p))
+      → Leaves of index p own
+  met_leaves r own case at process agrees =
+      subst (λ (s : State). AgreesIn of own s)
+      (ap (λ q. state_after of.tree of.abi (world_at of.tree of.abi of.records index).rulesets r.op (state_met of.tree of.abi of.records index q)) (sym process)
+      ∙ sym (left_met of.tree of.abi of.records index r case.numbered at)
+      ∙ ap (λ q. state_left of.tree of.abi of.records index q) process)
+      agrees
 
--- the note of a record fits what the record meets
-pub note_fits : (of : Matter) (index p : ℕ) (r : Record) (note : Note) → IsCase of → slice_get of.records index ≡ Some r → slice_get of.notes index ≡ Some note
-    → is_start r.op ≡ false → r.process.0 ≡ p → NoteFits (situation_at of index p) r.op note
-note_fits of index p r note case at says goes process =
-    subst (λ (s : State). NoteFits
-    (record { tree = of.tree; layers = of.layers; abi = of.abi; rulesets = (world_at of.tree of.abi of.records index).rulesets; state = s }) r.op note)
-    (sym (met_going_on of.tree of.abi of.records index p r at goes ∙ ap (λ q. (world_at of.tree of.abi of.records index).processes q) (sym process)))
-    (case.settled.fits index r note at says)
+  -- the note of a record fits what the record meets
+  pub note_fits : (r : Record) (note : Note) → IsCase of → slice_get of.records index ≡ Some r → slice_get of.notes index ≡ Some note → is_start r.op ≡ false
+      → r.process.0 ≡ p → NoteFits (situation_at of index p) r.op note
+  note_fits r note case at says goes process =
+      subst (λ (s : State). NoteFits
+      (record { tree = of.tree; layers = of.layers; abi = of.abi; rulesets = (world_at of.tree of.abi of.records index).rulesets; state = s }) r.op note)
+      (sym (met_going_on of.tree of.abi of.records index p r at goes ∙ ap (λ q. (world_at of.tree of.abi of.records index).processes q) (sym process)))
+      (case.settled.fits index r note at says)
 
-pub is_met : (of : Matter) (index p : ℕ) → IsCase of → IsMet (situation_at of index p) of.tree of.layers
-is_met of index p case = record { same_tree = refl; same_layers = refl; inside = case.settled.inside }
+  pub is_met : IsCase of → IsMet (situation_at of index p) of.tree of.layers
+  is_met case = record { same_tree = refl; same_layers = refl; inside = case.settled.inside }
 
--- the same of a result
-pub met_answers : (of : Matter) (index p : ℕ) (r : Record) (result : Result Answer NoMemory) → slice_get of.records index ≡ Some r → r.process.0 ≡ p
-    → IfOk result (λ given. (x : Record) → slice_get of.records index ≡ Some x → given ≡ answered (situation_at of index p) x.op)
-    → IfOk result (λ given. given ≡ answer_at of.tree of.abi of.records index)
-unfolding answered
-met_answers of index p r (Ok given) at own is = met_answer of index p r given at own (is r at)
-met_answers of index p r (Err e) at own is = tt
+  -- the same of a result
+  pub met_answers : (r : Record) (result : Result Answer NoMemory) → slice_get of.records index ≡ Some r → r.process.0 ≡ p
+      → IfOk result (λ given. (x : Record) → slice_get of.records index ≡ Some x → given ≡ answered (situation_at of index p) x.op)
+      → IfOk result (λ given. given ≡ answer_at of.tree of.abi of.records index)
+  unfolding answered
+  met_answers r (Ok given) at own is = met_answer r given at own (is r at)
+  met_answers r (Err e) at own is = tt
 
-pub met_leaving : (of : Matter) (index p : ℕ) (r : Record) (own : OwnState) (result : Result Answer NoMemory) → IsCase of
-    → slice_get of.records index ≡ Some r → r.process.0 ≡ p
-    → OnOk result ((x : Record) → slice_get of.records index ≡ Some x → AgreesIn of own (left (situation_at of index p) x.op))
-    → OnOk result (Leaves of index p own)
-unfolding left
-met_leaving of index p r own (Ok given) case at process agrees = met_leaves of index p r own case at process (agrees r at)
-met_leaving of index p r own (Err e) case at process agrees = tt
+  pub met_leaving : (r : Record) (own : OwnState) (result : Result Answer NoMemory) → IsCase of → slice_get of.records index ≡ Some r → r.process.0 ≡ p
+      → OnOk result ((x : Record) → slice_get of.records index ≡ Some x → AgreesIn of own (left (situation_at of index p) x.op))
+      → OnOk result (Leaves of index p own)
+  unfolding left
+  met_leaving r own (Ok given) case at process agrees = met_leaves r own case at process (agrees r at)
+  met_leaving r own (Err e) case at process agrees = tt
 
 -- ---- the job of a forked child: it begins with what its parent has after the fork record
 

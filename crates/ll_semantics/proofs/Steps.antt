@@ -86,69 +86,65 @@ if_allowed-same (Refused error numbers) x = refl
 
 -- ---- one step
 
-pub step-own : (tree : List Entry) (abi : Abi) (w : World) (process : ℕ) (op : Op) → process ≢ w.count
-    → (step tree abi w process op).processes process ≡ state_after tree abi w.rulesets op (w.processes process)
-unfolding step answer_in state_after change
-step-own tree abi w process op older =
-    let asked : Answer = answer tree abi w.rulesets op (w.processes process) in
-    let does : Effect = effect tree w.rulesets op (w.processes process) in
-    if_allowed-map (λ (v : World). v.processes process) asked (affected w process does) w
-    ∙ ap (λ (s : State). if_allowed asked s (w.processes process)) (affected-own w process does older)
+module _ (tree : List Entry) (abi : Abi) where
+  pub step-own : (w : World) (process : ℕ) (op : Op) → process ≢ w.count
+      → (step tree abi w process op).processes process ≡ state_after tree abi w.rulesets op (w.processes process)
+  unfolding step answer_in state_after change
+  step-own w process op older =
+      let asked : Answer = answer tree abi w.rulesets op (w.processes process) in
+      let does : Effect = effect tree w.rulesets op (w.processes process) in
+      if_allowed-map (λ (v : World). v.processes process) asked (affected w process does) w
+      ∙ ap (λ (s : State). if_allowed asked s (w.processes process)) (affected-own w process does older)
 
-pub step-other : (tree : List Entry) (abi : Abi) (w : World) (process : ℕ) (op : Op) (p : ℕ) → p ≢ process → p ≢ w.count
-    → (step tree abi w process op).processes p ≡ w.processes p
-unfolding step answer_in
-step-other tree abi w process op p other older =
-    let asked : Answer = answer tree abi w.rulesets op (w.processes process) in
-    let does : Effect = effect tree w.rulesets op (w.processes process) in
-    if_allowed-map (λ (v : World). v.processes p) asked (affected w process does) w
-    ∙ ap (λ (s : State). if_allowed asked s (w.processes p)) (affected-other w process p does other older)
-    ∙ if_allowed-same asked (w.processes p)
+  pub step-other : (w : World) (process : ℕ) (op : Op) (p : ℕ) → p ≢ process → p ≢ w.count → (step tree abi w process op).processes p ≡ w.processes p
+  unfolding step answer_in
+  step-other w process op p other older =
+      let asked : Answer = answer tree abi w.rulesets op (w.processes process) in
+      let does : Effect = effect tree w.rulesets op (w.processes process) in
+      if_allowed-map (λ (v : World). v.processes p) asked (affected w process does) w
+      ∙ ap (λ (s : State). if_allowed asked s (w.processes p)) (affected-other w process p does other older)
+      ∙ if_allowed-same asked (w.processes p)
 
-pub step-rulesets : (tree : List Entry) (abi : Abi) (w : World) (process : ℕ) (op : Op)
-    → (step tree abi w process op).rulesets ≡ rulesets_after tree abi w.rulesets op (w.processes process)
-unfolding step answer_in rulesets_after rules
-step-rulesets tree abi w process op =
-    let asked : Answer = answer tree abi w.rulesets op (w.processes process) in
-    let does : Effect = effect tree w.rulesets op (w.processes process) in
-    if_allowed-map (λ (v : World). v.rulesets) asked (affected w process does) w
-    ∙ ap (λ (rulesets : List Layer). if_allowed asked rulesets w.rulesets) (affected-rulesets w process does)
+  pub step-rulesets : (w : World) (process : ℕ) (op : Op) → (step tree abi w process op).rulesets ≡ rulesets_after tree abi w.rulesets op (w.processes process)
+  unfolding step answer_in rulesets_after rules
+  step-rulesets w process op =
+      let asked : Answer = answer tree abi w.rulesets op (w.processes process) in
+      let does : Effect = effect tree w.rulesets op (w.processes process) in
+      if_allowed-map (λ (v : World). v.rulesets) asked (affected w process does) w
+      ∙ ap (λ (rulesets : List Layer). if_allowed asked rulesets w.rulesets) (affected-rulesets w process does)
 
--- ---- what starts a process
+  -- ---- what starts a process
 
--- only a start and a fork begin a process, and both are allowed
-pub begun_is_allowed : (tree : List Entry) (abi : Abi) (rulesets : List Layer) (op : Op) (s child : State) → started tree rulesets op s ≡ Some child
-    → answer tree abi rulesets op s ≡ Allowed
-unfolding started begun_by effect answer
-begun_is_allowed tree abi rulesets (Start nnp admin) s child is = refl
-begun_is_allowed tree abi rulesets (Fork c) s child is = refl
-begun_is_allowed tree abi rulesets op s child is = absurd (cc)
+  -- only a start and a fork begin a process, and both are allowed
+  pub begun_is_allowed : (rulesets : List Layer) (op : Op) (s child : State) → started tree rulesets op s ≡ Some child → answer tree abi rulesets op s ≡ Allowed
+  unfolding started begun_by effect answer
+  begun_is_allowed rulesets (Start nnp admin) s child is = refl
+  begun_is_allowed rulesets (Fork c) s child is = refl
+  begun_is_allowed rulesets op s child is = absurd (cc)
 
-pub step-begun : (tree : List Entry) (abi : Abi) (w : World) (process : ℕ) (op : Op) (p : ℕ) (child : State)
-    → started tree w.rulesets op (w.processes process) ≡ Some child
-    → (step tree abi w process op).processes p ≡ with_state w.processes w.count child p
-unfolding step answer_in started
-step-begun tree abi w process op p child is =
-    let does : Effect = effect tree w.rulesets op (w.processes process) in
-    ap (λ (a : Answer). (if_allowed a (affected w process does) w).processes p) (begun_is_allowed tree abi w.rulesets op (w.processes process) child is)
-    ∙ affected-begun w process p does child is
+  pub step-begun : (w : World) (process : ℕ) (op : Op) (p : ℕ) (child : State) → started tree w.rulesets op (w.processes process) ≡ Some child
+      → (step tree abi w process op).processes p ≡ with_state w.processes w.count child p
+  unfolding step answer_in started
+  step-begun w process op p child is =
+      let does : Effect = effect tree w.rulesets op (w.processes process) in
+      ap (λ (a : Answer). (if_allowed a (affected w process does) w).processes p) (begun_is_allowed w.rulesets op (w.processes process) child is)
+      ∙ affected-begun w process p does child is
 
-pub step-new : (tree : List Entry) (abi : Abi) (w : World) (process : ℕ) (op : Op) (child : State)
-    → started tree w.rulesets op (w.processes process) ≡ Some child
-    → (step tree abi w process op).processes w.count ≡ child
-step-new tree abi w process op child is = step-begun tree abi w process op w.count child is ∙ with_state-own w.processes w.count child
+  pub step-new : (w : World) (process : ℕ) (op : Op) (child : State) → started tree w.rulesets op (w.processes process) ≡ Some child
+      → (step tree abi w process op).processes w.count ≡ child
+  step-new w process op child is = step-begun w process op w.count child is ∙ with_state-own w.processes w.count child
 
-pub step-unbegun : (tree : List Entry) (abi : Abi) (w : World) (process : ℕ) (op : Op) (p : ℕ) → started tree w.rulesets op (w.processes process) ≡ None
-    → (step tree abi w process op).processes p ≡ with_state w.processes process (state_after tree abi w.rulesets op (w.processes process)) p
-unfolding step answer_in started state_after change
-step-unbegun tree abi w process op p none =
-    let asked : Answer = answer tree abi w.rulesets op (w.processes process) in
-    let does : Effect = effect tree w.rulesets op (w.processes process) in
-    let after : State = state_by does (w.processes process) in
-    if_allowed-map (λ (v : World). v.processes p) asked (affected w process does) w
-    ∙ ap (λ (s : State). if_allowed asked s (w.processes p)) (affected-unbegun w process p does none)
-    ∙ ap (λ (s : State). if_allowed asked (with_state w.processes process after p) s) (sym (with_state-same w.processes process p))
-    ∙ sym (if_allowed-map (λ (s : State). with_state w.processes process s p) asked after (w.processes process))
+  pub step-unbegun : (w : World) (process : ℕ) (op : Op) (p : ℕ) → started tree w.rulesets op (w.processes process) ≡ None
+      → (step tree abi w process op).processes p ≡ with_state w.processes process (state_after tree abi w.rulesets op (w.processes process)) p
+  unfolding step answer_in started state_after change
+  step-unbegun w process op p none =
+      let asked : Answer = answer tree abi w.rulesets op (w.processes process) in
+      let does : Effect = effect tree w.rulesets op (w.processes process) in
+      let after : State = state_by does (w.processes process) in
+      if_allowed-map (λ (v : World). v.processes p) asked (affected w process does) w
+      ∙ ap (λ (s : State). if_allowed asked s (w.processes p)) (affected-unbegun w process p does none)
+      ∙ ap (λ (s : State). if_allowed asked (with_state w.processes process after p) s) (sym (with_state-same w.processes process p))
+      ∙ sym (if_allowed-map (λ (s : State). with_state w.processes process s p) asked after (w.processes process))
 
 -- ---- how many processes there are
 
@@ -211,50 +207,48 @@ kept_unless Allowed after before other = absurd (other refl)
 kept_unless Moot after before other = refl
 kept_unless (Refused error numbers) after before other = refl
 
-pub world_kept : (tree : List Entry) (abi : Abi) (w : World) (process : ℕ) (op : Op) → answer_in tree abi w process op ≢ Allowed
-    → step tree abi w process op ≡ w
-unfolding step
-world_kept tree abi w process op other =
-    kept_unless (answer_in tree abi w process op) (affected w process (effect tree w.rulesets op (w.processes process))) w other
+module _ (tree : List Entry) (abi : Abi) where
+  pub world_kept : (w : World) (process : ℕ) (op : Op) → answer_in tree abi w process op ≢ Allowed → step tree abi w process op ≡ w
+  unfolding step
+  world_kept w process op other = kept_unless (answer_in tree abi w process op) (affected w process (effect tree w.rulesets op (w.processes process))) w other
 
-pub begins_allowed : (tree : List Entry) (abi : Abi) (w : World) (process : ℕ) (op : Op) (child : State)
-    → effect tree w.rulesets op (w.processes process) ≡ begins child → answer_in tree abi w process op ≡ Allowed
-unfolding answer_in started begun_by
-begins_allowed tree abi w process op child is =
-    begun_is_allowed tree abi w.rulesets op (w.processes process) child (ap (λ (e : Effect). begun_by e) is)
+  pub begins_allowed : (w : World) (process : ℕ) (op : Op) (child : State) → effect tree w.rulesets op (w.processes process) ≡ begins child
+      → answer_in tree abi w process op ≡ Allowed
+  unfolding answer_in started begun_by
+  begins_allowed w process op child is = begun_is_allowed tree abi w.rulesets op (w.processes process) child (ap (λ (e : Effect). begun_by e) is)
 
--- ---- the fold, record by record
+  -- ---- the fold, record by record
 
-pub length-judged_from : (tree : List Entry) (abi : Abi) (w : World) (rs : List Record) → length (judged_from tree abi w rs) ≡ length rs
-unfolding judged_from
-length-judged_from tree abi w [] = refl
-length-judged_from tree abi w (r ∷ rs) = ap suc (length-judged_from tree abi (step tree abi w r.process.0 r.op) rs)
+  pub length-judged_from : (w : World) (rs : List Record) → length (judged_from tree abi w rs) ≡ length rs
+  unfolding judged_from
+  length-judged_from w [] = refl
+  length-judged_from w (r ∷ rs) = ap suc (length-judged_from (step tree abi w r.process.0 r.op) rs)
 
-pub judged_from-at : (tree : List Entry) (abi : Abi) (w : World) (rs : List Record) (k : ℕ) (r : Record) → slice_get rs k ≡ Some r
-    → slice_get (judged_from tree abi w rs) k ≡ Some (answer_in tree abi (world_after tree abi w (take k rs)) r.process.0 r.op)
-unfolding judged_from world_after
-judged_from-at tree abi w [] k r at = cc
-judged_from-at tree abi w (x ∷ rs) zero r at = cc
-judged_from-at tree abi w (x ∷ rs) (suc k) r at = judged_from-at tree abi (step tree abi w x.process.0 x.op) rs k r at
+  pub judged_from-at : (w : World) (rs : List Record) (k : ℕ) (r : Record) → slice_get rs k ≡ Some r
+      → slice_get (judged_from tree abi w rs) k ≡ Some (answer_in tree abi (world_after tree abi w (take k rs)) r.process.0 r.op)
+  unfolding judged_from world_after
+  judged_from-at w [] k r at = cc
+  judged_from-at w (x ∷ rs) zero r at = cc
+  judged_from-at w (x ∷ rs) (suc k) r at = judged_from-at (step tree abi w x.process.0 x.op) rs k r at
 
-pub world_after-more : (tree : List Entry) (abi : Abi) (w : World) (rs : List Record) (k : ℕ) (r : Record) → slice_get rs k ≡ Some r
-    → world_after tree abi w (take (suc k) rs) ≡ step tree abi (world_after tree abi w (take k rs)) r.process.0 r.op
-unfolding world_after
-world_after-more tree abi w [] k r at = cc
-world_after-more tree abi w (x ∷ rs) zero r at = cc
-world_after-more tree abi w (x ∷ rs) (suc k) r at = world_after-more tree abi (step tree abi w x.process.0 x.op) rs k r at
+  pub world_after-more : (w : World) (rs : List Record) (k : ℕ) (r : Record) → slice_get rs k ≡ Some r
+      → world_after tree abi w (take (suc k) rs) ≡ step tree abi (world_after tree abi w (take k rs)) r.process.0 r.op
+  unfolding world_after
+  world_after-more w [] k r at = cc
+  world_after-more w (x ∷ rs) zero r at = cc
+  world_after-more w (x ∷ rs) (suc k) r at = world_after-more (step tree abi w x.process.0 x.op) rs k r at
 
-pub world_at-more : (tree : List Entry) (abi : Abi) (records : List Record) (k : ℕ) (r : Record) → slice_get records k ≡ Some r
-    → world_at tree abi records (k + 1) ≡ step tree abi (world_at tree abi records k) r.process.0 r.op
-unfolding world_at
-world_at-more tree abi records k r at = rw add-one (world_after-more tree abi empty_world records k r at)
+  pub world_at-more : (records : List Record) (k : ℕ) (r : Record) → slice_get records k ≡ Some r
+      → world_at tree abi records (k + 1) ≡ step tree abi (world_at tree abi records k) r.process.0 r.op
+  unfolding world_at
+  world_at-more records k r at = rw add-one (world_after-more empty_world records k r at)
 
--- each answer of a trace is that of the world before its record
-pub judged-at : (tree : List Entry) (abi : Abi) (records : List Record) (k : ℕ) (r : Record) → slice_get records k ≡ Some r
-    → slice_get (judged tree abi records) k ≡ Some (answer_in tree abi (world_at tree abi records k) r.process.0 r.op)
-unfolding judged world_at
-judged-at tree abi records k r at = judged_from-at tree abi empty_world records k r at
+  -- each answer of a trace is that of the world before its record
+  pub judged-at : (records : List Record) (k : ℕ) (r : Record) → slice_get records k ≡ Some r
+      → slice_get (judged tree abi records) k ≡ Some (answer_in tree abi (world_at tree abi records k) r.process.0 r.op)
+  unfolding judged world_at
+  judged-at records k r at = judged_from-at empty_world records k r at
 
-pub length-judged : (tree : List Entry) (abi : Abi) (records : List Record) → length (judged tree abi records) ≡ length records
-unfolding judged
-length-judged tree abi records = length-judged_from tree abi empty_world records
+  pub length-judged : (records : List Record) → length (judged tree abi records) ≡ length records
+  unfolding judged
+  length-judged records = length-judged_from empty_world records

@@ -244,9 +244,6 @@ module _ {A : Type 0} (objects : List Object) (value : List Entry) (view : entri
     unfolding entry_of
     listed_push = entries_of-push objects object ∙ ap (λ es. es ++ new ∷ []) view
 
-    size : length value ≡ length objects
-    size = ap length (sym view) ∙ length-entries_of objects
-
     found_later : (other : Path) → is_path other ≡ true → number_of later.entries (text_of other) ≡ position_of other (value ++ new ∷ [])
     found_later other other_shape =
         let text_is : text_of path ≡ string_bytes key =
@@ -262,17 +259,18 @@ module _ {A : Type 0} (objects : List Object) (value : List Entry) (view : entri
     sound_push : IsSound (objects ++ object ∷ []) later.entries
     sound_push = record {
       listed = rw listed_push (grown value new up listed fits);
-      small = let pushed = length_push objects object in let same = size in omega arith;
+      small = let pushed = length_push objects object in let same = length_is objects value view in omega arith;
       found = λ other shape. rw listed_push (found_later other shape);
       each = λ n other within. rw listed_push (each_push (λ n (o : Object). IsOf (value ++ new ∷ []) n o) objects object other
-          (λ n inside. let there : n < length value = let same = size in omega arith in
+          (λ n inside. let there : n < length value = let same = length_is objects value view in omega arith in
           let before : IsOf value n (get_or objects n other) =
           subst (λ (es : List Entry). IsOf es n (get_or objects n other)) view (sound.each n other inside) in
           record {
             parent = before.parent ∙ sym (parent_at-old value new up listed fits (node n) there);
             depth = before.depth ∙ sym (depth_at-old value new up listed fits (node n) there);
           })
-          (rw (← size) record { parent = parent ∙ sym (parent_at-new value new up listed fits); depth = deeper ∙ sym (depth_at-new value new up listed fits) })
+          (rw (← length_is objects value view)
+          record { parent = parent ∙ sym (parent_at-new value new up listed fits); depth = deeper ∙ sym (depth_at-new value new up listed fits) })
           n within);
     }
 
