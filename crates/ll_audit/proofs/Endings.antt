@@ -17,7 +17,7 @@ use Rattle.ll_endings.specs.Outcomes.{Complains, EndsWith}
 use Rattle.ll_command.proofs.CommandLine.{asks_for_no_run}
 
 -- a failure's status is 3 or 4
-status_of-high : (of : Failure) → (failure_status of ≡ 3) ⊎ (failure_status of ≡ 4)
+status_of-high : (one : Failure) → (failure_status one ≡ 3) ⊎ (failure_status one ≡ 4)
 status_of-high (failure.Tree fault) = inl refl
 status_of-high (failure.Trace fault) = inl refl
 status_of-high (failure.Unread name) = inl refl
@@ -25,8 +25,8 @@ status_of-high failure.Memory = inr refl
 status_of-high failure.NoThread = inr refl
 status_of-high failure.Unwritten = inr refl
 
-failing : (of : Failure) (status : ℕ) → status ≡ failure_status of → (status ≡ 3) ⊎ (status ≡ 4)
-failing of status is = subst (λ (n : ℕ). (n ≡ 3) ⊎ (n ≡ 4)) (sym is) (status_of-high of)
+failing : (one : Failure) (status : ℕ) → status ≡ failure_status one → (status ≡ 3) ⊎ (status ≡ 4)
+failing one status is = subst (λ (n : ℕ). (n ≡ 3) ⊎ (n ≡ 4)) (sym is) (status_of-high one)
 
 abbrev zero_or_one : Bool → ℕ
 zero_or_one b = cond b 0 1
@@ -74,27 +74,27 @@ four_wrong status a (inr b) = omega (arith, a, b)
 
 module _ {Output Errors : Type 0} (contents : Output → Option (List ℕ)) (lines : Errors
     → Option (List ℕ)) (ending : Ending) (old new : Output) (errors_old errors_new : Errors) where
-  pub bounded : (of : Outcome) → EndsWith contents lines of ending old new errors_old errors_new → ending.status ≤ 4
+  pub bounded : (one : Outcome) → EndsWith contents lines one ending old new errors_old errors_new → ending.status ≤ 4
   bounded (outcome.Report report) (inl (why, _)) = high_bounded ending.status (inr why.0)
   bounded (outcome.Report report) (inr written) = low_bounded ending.status (reporting report.refused ending.status written.0)
   bounded (outcome.Text error) (inl why) = high_bounded ending.status (inr why.0)
   bounded (outcome.Text error) (inr written) = omega (arith, written.0)
   bounded (outcome.Usage error) ends = omega (arith, ends.0)
   bounded (outcome.Misuse misuse) ends = omega (arith, ends.0)
-  bounded (outcome.Failure of) ends = high_bounded ending.status (failing of ending.status ends.0.0)
+  bounded (outcome.Failure one) ends = high_bounded ending.status (failing one ending.status ends.0.0)
 
-  pub stays_quiet : (of : Outcome) → EndsWith contents lines of ending old new errors_old errors_new → StaysQuiet ending.status errors_old errors_new
+  pub stays_quiet : (one : Outcome) → EndsWith contents lines one ending old new errors_old errors_new → StaysQuiet ending.status errors_old errors_new
   stays_quiet (outcome.Report report) (inl (why, _)) low = absurd (low_high ending.status low (inr why.0))
   stays_quiet (outcome.Report report) (inr written) low = written.2
   stays_quiet (outcome.Text error) (inl why) low = absurd (low_high ending.status low (inr why.0))
   stays_quiet (outcome.Text error) (inr written) low = written.1
   stays_quiet (outcome.Usage error) ends low = absurd (low_two ending.status low ends.0)
   stays_quiet (outcome.Misuse misuse) ends low = absurd (low_two ending.status low ends.0)
-  stays_quiet (outcome.Failure of) ends low = absurd (low_high ending.status low (failing of ending.status ends.0.0))
+  stays_quiet (outcome.Failure one) ends low = absurd (low_high ending.status low (failing one ending.status ends.0.0))
 
 module _ {Output Errors : Type 0} (contents : Output → Option (List ℕ)) (lines : Errors
     → Option (List ℕ)) (words : List Text) (files : Option Files) (before after : ℕ) (ending : Ending) (old new : Output) (errors_old errors_new : Errors) where
-  pub writes_report : (of : Outcome) → IsOutcomeOf words files before after of → EndsWith contents lines of ending old new errors_old errors_new
+  pub writes_report : (one : Outcome) → IsOutcomeOf words files before after one → EndsWith contents lines one ending old new errors_old errors_new
       → WritesReport words files ending.status (contents old) (contents new)
   writes_report (outcome.Report report) has (inl (why, _)) low request asked = absurd (low_high ending.status low (inr why.0))
   writes_report (outcome.Report report) has (inr written) low request asked =
@@ -103,9 +103,9 @@ module _ {Output Errors : Type 0} (contents : Output → Option (List ℕ)) (lin
   writes_report (outcome.Text error) help ends low request asked = absurd (none-some request (sym (asks_for_no_run words help) ∙ asked))
   writes_report (outcome.Usage error) wrong ends low request asked = absurd (low_two ending.status low ends.0)
   writes_report (outcome.Misuse misuse) wrong ends low request asked = absurd (low_two ending.status low ends.0)
-  writes_report (outcome.Failure of) has ends low request asked = absurd (low_high ending.status low (failing of ending.status ends.0.0))
+  writes_report (outcome.Failure one) has ends low request asked = absurd (low_high ending.status low (failing one ending.status ends.0.0))
 
-  pub wrong_words : (of : Outcome) → IsOutcomeOf words files before after of → EndsWith contents lines of ending old new errors_old errors_new
+  pub wrong_words : (one : Outcome) → IsOutcomeOf words files before after one → EndsWith contents lines one ending old new errors_old errors_new
       → HasWrongWords words ending.status
   wrong_words (outcome.Report report) has (inl (why, _)) two = absurd (two_high ending.status two (inr why.0))
   wrong_words (outcome.Report report) has (inr written) two = absurd (low_two ending.status (reporting report.refused ending.status written.0) two)
@@ -113,22 +113,22 @@ module _ {Output Errors : Type 0} (contents : Output → Option (List ℕ)) (lin
   wrong_words (outcome.Text error) help (inr written) two = absurd (low_two ending.status (inl written.0) two)
   wrong_words (outcome.Usage error) wrong ends two = wrong
   wrong_words (outcome.Misuse misuse) wrong ends two = wrong
-  wrong_words (outcome.Failure of) has ends two = absurd (two_high ending.status two (failing of ending.status ends.0.0))
+  wrong_words (outcome.Failure one) has ends two = absurd (two_high ending.status two (failing one ending.status ends.0.0))
 
-  no_run_failing : (of : Failure) → HasFailure words files before after of → ending.status ≡ failure_status of → request_of words ≡ None → ending.status ≡ 4
-  no_run_failing of (inl memory) is none = is ∙ ap (λ (f : Failure). failure_status f) memory
-  no_run_failing of (inr (request, asked, fails)) is none = absurd (none-some request (sym none ∙ asked))
+  no_run_failing : (one : Failure) → HasFailure words files before after one → ending.status ≡ failure_status one → request_of words ≡ None → ending.status ≡ 4
+  no_run_failing one (inl memory) is none = is ∙ ap (λ (f : Failure). failure_status f) memory
+  no_run_failing one (inr (request, asked, fails)) is none = absurd (none-some request (sym none ∙ asked))
 
-  pub ends_without_run : (of : Outcome) → IsOutcomeOf words files before after of → EndsWith contents lines of ending old new errors_old errors_new
+  pub ends_without_run : (one : Outcome) → IsOutcomeOf words files before after one → EndsWith contents lines one ending old new errors_old errors_new
       → EndsWithoutRun words ending.status
   ends_without_run (outcome.Report report) has ends none = absurd (none-some has.request (sym none ∙ has.asked))
   ends_without_run (outcome.Text error) help (inl why) none = inr (inr why.0)
   ends_without_run (outcome.Text error) help (inr written) none = inr (inl (written.0, help))
   ends_without_run (outcome.Usage error) wrong ends none = inl ends.0
   ends_without_run (outcome.Misuse misuse) wrong ends none = inl ends.0
-  ends_without_run (outcome.Failure of) has ends none = inr (inr (no_run_failing of has ends.0.0 none))
+  ends_without_run (outcome.Failure one) has ends none = inr (inr (no_run_failing one has ends.0.0 none))
 
-  pub writes_nothing : (of : Outcome) → IsOutcomeOf words files before after of → EndsWith contents lines of ending old new errors_old errors_new
+  pub writes_nothing : (one : Outcome) → IsOutcomeOf words files before after one → EndsWith contents lines one ending old new errors_old errors_new
       → WritesNothing contents words files ending.status old new
   writes_nothing (outcome.Report report) has (inl (why, beginning)) =
       (λ wrong. absurd (four_wrong ending.status why.0 wrong), λ _. inr (inr (report, has, beginning)))
@@ -140,9 +140,9 @@ module _ {Output Errors : Type 0} (contents : Output → Option (List ℕ)) (lin
   writes_nothing (outcome.Text error) help (inr written) = (λ wrong. absurd (low_wrong ending.status (inl written.0) wrong), λ _. inr (inl help))
   writes_nothing (outcome.Usage error) wrong ends = (λ _. ends.1, λ _. inl ends.1)
   writes_nothing (outcome.Misuse misuse) wrong ends = (λ _. ends.1, λ _. inl ends.1)
-  writes_nothing (outcome.Failure of) has ends = (λ _. ends.1, λ _. inl ends.1)
+  writes_nothing (outcome.Failure one) has ends = (λ _. ends.1, λ _. inl ends.1)
 
-  pub tells_why : (of : Outcome) → IsOutcomeOf words files before after of → EndsWith contents lines of ending old new errors_old errors_new
+  pub tells_why : (one : Outcome) → IsOutcomeOf words files before after one → EndsWith contents lines one ending old new errors_old errors_new
       → TellsWhy words files before after ending (lines errors_old) (lines errors_new)
   tells_why (outcome.Report report) has (inl (why, _)) high = (failure.Unwritten, inr (refl, inr (report, has)), why)
   tells_why (outcome.Report report) has (inr written) high = absurd (low_high ending.status (reporting report.refused ending.status written.0) high)
@@ -150,13 +150,13 @@ module _ {Output Errors : Type 0} (contents : Output → Option (List ℕ)) (lin
   tells_why (outcome.Text error) help (inr written) high = absurd (low_high ending.status (inl written.0) high)
   tells_why (outcome.Usage error) wrong ends high = absurd (two_high ending.status ends.0 high)
   tells_why (outcome.Misuse misuse) wrong ends high = absurd (two_high ending.status ends.0 high)
-  tells_why (outcome.Failure of) has ends high = (of, inl has, ends.0)
+  tells_why (outcome.Failure one) has ends high = (one, inl has, ends.0)
 
 -- what is told has a reason
 module _ (words : List Text) (files : Option Files) (before after : ℕ) (ending : Ending) (old new : Option (List ℕ)) where
-  reason_of : (of : Failure) × IsWhy words files before after of × Complains of ending old new
-      → (of : Failure) × IsWhy words files before after of × (ending.status ≡ failure_status of)
-  reason_of (of, why, complains) = (of, why, complains.0)
+  reason_of : (one : Failure) × IsWhy words files before after one × Complains one ending old new
+      → (one : Failure) × IsWhy words files before after one × (ending.status ≡ failure_status one)
+  reason_of (one, why, complains) = (one, why, complains.0)
 
   pub has_reason : TellsWhy words files before after ending old new → HasReason words files before after ending.status
   has_reason tells high = reason_of (tells high)

@@ -49,8 +49,8 @@ op_name-kept abi op = refl
 
 told-at_best_effort : (abi : Abi) (records : List Record) → map told_of (records_at_best_effort abi records) ≡ map told_of records
 told-at_best_effort abi [] = refl
-told-at_best_effort abi (of ∷ others) =
-    ap₂ (λ (name : List ℕ) (rest : List (List ℕ)). record_text of.line of.pid name ∷ rest) (op_name-kept abi of.op) (told-at_best_effort abi others)
+told-at_best_effort abi (r ∷ others) =
+    ap₂ (λ (name : List ℕ) (rest : List (List ℕ)). record_text r.line r.pid name ∷ rest) (op_name-kept abi r.op) (told-at_best_effort abi others)
 
 told-taken : (effort : Effort) (abi : Abi) (records : List Record) → map told_of (taken effort abi records) ≡ map told_of records
 told-taken AsRecorded abi records = refl

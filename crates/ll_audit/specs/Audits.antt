@@ -45,7 +45,7 @@ ReadsAsTrace bytes = (records : List Record) × IsTrace bytes records
 -- read. Being out of memory says nothing of the files.
 abbrev pub IsFaultOf : ℕ → List ℕ → List ℕ → Fault → Type 0
 IsFaultOf workers tree_bytes trace_bytes fault.Workers = IsCrew workers → ⊥
-IsFaultOf workers tree_bytes trace_bytes (fault.Tree of) = IsCrew workers × IsBad tree_format tree_bytes of
-IsFaultOf workers tree_bytes trace_bytes (fault.Trace of) = IsCrew workers × ReadsAsTree tree_bytes × IsBad trace_file trace_bytes of
+IsFaultOf workers tree_bytes trace_bytes (fault.Tree bad) = IsCrew workers × IsBad tree_format tree_bytes bad
+IsFaultOf workers tree_bytes trace_bytes (fault.Trace bad) = IsCrew workers × ReadsAsTree tree_bytes × IsBad trace_file trace_bytes bad
 IsFaultOf workers tree_bytes trace_bytes fault.Memory = IsCrew workers
 IsFaultOf workers tree_bytes trace_bytes fault.NoThread = IsCrew workers × ReadsAsTree tree_bytes × ReadsAsTrace trace_bytes

@@ -4,19 +4,19 @@ use Rattle.std.specs.Prelude.{◌≡◌, ◌⊎◌, ℕ, List}
 use Rattle.ll_lines.specs.Reading.{IsBad}
 use Rattle.ll_tree.specs.TreeReading.{tree_format}
 use Rattle.ll_trace.specs.Entries.{trace_file}
-use Rattle.ll_pool.specs.declared.running.PoolFault.{PoolFault}
-use Rattle.ll_pool.specs.declared.running.PoolFault.TheVariants as pool
+use Rattle.ll_pool.specs.declared.workers.PoolFault.{PoolFault}
+use Rattle.ll_pool.specs.declared.workers.PoolFault.TheVariants as pool
 use Rattle.ll_audit.specs.declared.fault.Fault.{Fault}
 use Rattle.ll_audit.specs.declared.fault.Fault.TheVariants as fault
 
 -- a reader's answer for bytes that don't read
 abbrev pub IsTreeFault : List ℕ → Fault → Type 0
-IsTreeFault bytes (fault.Tree of) = IsBad tree_format bytes of
+IsTreeFault bytes (fault.Tree one) = IsBad tree_format bytes one
 IsTreeFault bytes fault.Memory = Unit {0}
 IsTreeFault bytes _ = ⊥
 
 abbrev pub IsTraceFault : List ℕ → Fault → Type 0
-IsTraceFault bytes (fault.Trace of) = IsBad trace_file bytes of
+IsTraceFault bytes (fault.Trace one) = IsBad trace_file bytes one
 IsTraceFault bytes fault.Memory = Unit {0}
 IsTraceFault bytes _ = ⊥
 
@@ -27,4 +27,4 @@ fault_of_pool pool.NoThread = fault.NoThread
 
 -- out of memory, or a thread is missing
 abbrev pub IsWant : Fault → Type 0
-IsWant of = (of ≡ fault.Memory) ⊎ (of ≡ fault.NoThread)
+IsWant one = (one ≡ fault.Memory) ⊎ (one ≡ fault.NoThread)

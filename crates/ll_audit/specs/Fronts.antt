@@ -65,9 +65,9 @@ IsFailureOf files request before after failure.Unwritten = ⊥
 
 -- out of memory, or the words ask for a run that fails in this way
 abbrev pub HasFailure : List Text → Option Files → ℕ → ℕ → Failure → Type 0
-HasFailure words files before after of =
-    (of ≡ failure.Memory)
-    ⊎ ((request : Request) × (request_of words ≡ Some request) × IsFailureOf files request before after of)
+HasFailure words files before after one =
+    (one ≡ failure.Memory)
+    ⊎ ((request : Request) × (request_of words ≡ Some request) × IsFailureOf files request before after one)
 
 -- what an outcome says of the words and of the files
 abbrev pub IsOutcomeOf : List Text → Option Files → ℕ → ℕ → Outcome → Type 0
@@ -75,7 +75,7 @@ IsOutcomeOf words files before after (outcome.Report report) = HasReport words f
 IsOutcomeOf words files before after (outcome.Text error) = AskForText words
 IsOutcomeOf words files before after (outcome.Usage error) = AreWrong words
 IsOutcomeOf words files before after (outcome.Misuse why) = AreWrong words
-IsOutcomeOf words files before after (outcome.Failure of) = HasFailure words files before after of
+IsOutcomeOf words files before after (outcome.Failure one) = HasFailure words files before after one
 
 -- there is help, the version or a report to be written
 abbrev pub HasOutput : List Text → Option Files → Type 0
@@ -117,17 +117,17 @@ StaysQuiet status old new = (status ≡ 0) ⊎ (status ≡ 1) → new ≡ old
 
 -- why a run ends with status 3 or 4: it fails, or the help, the version or the report that there is can't be written
 abbrev pub IsWhy : List Text → Option Files → ℕ → ℕ → Failure → Type 0
-IsWhy words files before after of =
-    HasFailure words files before after of ⊎ ((of ≡ failure.Unwritten) × HasOutput words files)
+IsWhy words files before after one =
+    HasFailure words files before after one ⊎ ((one ≡ failure.Unwritten) × HasOutput words files)
 
 -- With status 3 or 4 there is a reason of that status, and its line is appended to the error output, if it could be told.
 abbrev pub TellsWhy : List Text → Option Files → ℕ → ℕ → Ending → Option (List ℕ) → Option (List ℕ) → Type 0
 TellsWhy words files before after ending old new =
     (ending.status ≡ 3) ⊎ (ending.status ≡ 4) →
-    (of : Failure) × IsWhy words files before after of × Complains of ending old new
+    (one : Failure) × IsWhy words files before after one × Complains one ending old new
 
 -- With status 3 or 4 there is a reason of that status.
 abbrev pub HasReason : List Text → Option Files → ℕ → ℕ → ℕ → Type 0
 HasReason words files before after status =
     (status ≡ 3) ⊎ (status ≡ 4) →
-    (of : Failure) × IsWhy words files before after of × (status ≡ failure_status of)
+    (one : Failure) × IsWhy words files before after one × (status ≡ failure_status one)

@@ -8,6 +8,7 @@ ghost use Rattle.ll_audit.specs.Causes.{IsWant};
 use crate::fault::Fault;
 use ll_pool::{Gate, collect_whole, run};
 use ll_process::{Answer, Case};
+use ll_trace::ProcessId;
 use std::alloc::Global;
 use std::sync::Wait;
 use std::thread::Threads;
@@ -34,4 +35,12 @@ impl<'a, R: Threads + Wait + Sync, G: Gate + Sync> Crew<'a, R, G> {
         let pieces = run(self.rt, self.alloc, case, workers, self.cuts, self.gate)?;
         Ok(collect_whole(self.alloc, case, pieces)?)
     }
+}
+
+/// A gate that lets every job through at once.
+#[derive(Clone, Copy, Debug)]
+pub struct Idle;
+
+impl Gate for Idle {
+    fn begun(&self, _process: ProcessId) {}
 }

@@ -15,8 +15,8 @@ ghost use Rattle.ll_trace.specs.SaidByName.{SaysOperation};
 /// The word by which the report tells of a record's operation is the one that the record's line of the
 /// trace says.
 pub fn the_report_has_the_words_of_the_trace()
-    ensures { (line : Line) (of : Record) (answer : Answer) → entry_at line ≡ Ok (entry_of of)
-        → SaysOperation line (line_of of answer).op }
+    ensures { (line : Line) (r : Record) (answer : Answer) → entry_at line ≡ Ok (entry_of r)
+        → SaysOperation line (line_of r answer).op }
 {}
 
 /// Two reports on the same bytes under the same version are the same bytes, whatever workers judged

@@ -5,16 +5,15 @@ mod auditing;
 mod crew;
 mod cut;
 mod fault;
-mod idle;
 mod inputs;
 mod laws;
 mod program;
 mod ranging;
 
 pub use auditing::{audit, audit_with};
+pub use crew::Idle;
 pub use cut::Cut;
 pub use fault::Fault;
-pub use idle::Idle;
 pub use laws::{the_report_has_the_words_of_the_trace, the_same_bytes_have_one_report};
 pub use ll_command::{command_lines, words_without_a_fault_name_a_run};
 pub use ll_endings::Ending;

@@ -1,7 +1,7 @@
 //! The stages of an audit, measured one after another.
 
 ghost use Rattle.std.specs.Prelude.{◌≤◌, IfOk};
-ghost use Rattle.ll_pool.specs.Gathered.{AllOf};
+ghost use Rattle.ll_pool.specs.Gathered.{ArePiecesOf};
 
 use crate::stopwatch::Stopwatch;
 use anyhow::{Context, Result};
@@ -98,7 +98,7 @@ fn pieces_by<'c, R: AllocGlobal + Threads + Wait + Sync>(
     workers: usize,
 ) -> Result<Vec<Piece<'c>>>
     requires { (1 ≤ workers) × (workers ≤ 64) }
-    ensures { IfOk result (λ pieces. AllOf case.now pieces.items) }
+    ensures { IfOk result (λ pieces. ArePiecesOf case.now pieces.items) }
 {
     let cut = vec![in rt.alloc(); true; case.trace().processes() as usize]?;
     run(rt, rt.alloc(), case, workers, &cut, &Idle)

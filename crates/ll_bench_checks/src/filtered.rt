@@ -55,13 +55,13 @@ impl FilteredLayer {
 impl Refuses for FilteredLayer {
     fn refuses(&self, tree: &Tree, node: NodeId, wanted: Fs) -> bool {
         let mut lacking = wanted.intersection(self.files);
-        let mut at = Some(node);
-        while let Some(here) = at {
+        let mut cursor = Some(node);
+        while let Some(here) = cursor {
             if lacking.is_empty() {
                 return false;
             }
             lacking = lacking.difference(self.rule_on(here));
-            at = tree.parent(here);
+            cursor = tree.parent(here);
         }
         !lacking.is_empty()
     }

@@ -17,8 +17,8 @@ AppendsBeginning old new bytes = (count : ℕ) × Appends old new (take count by
 
 -- A failure has its status, and its line was appended to the lines on standard error, if it could be told.
 abbrev pub Complains : Failure → Ending → Option (List ℕ) → Option (List ℕ) → Type 0
-Complains of ending lines_old lines_new =
-    (ending.status ≡ failure_status of) × OnTrue ending.told (Appends lines_old lines_new (failure_line of))
+Complains one ending lines_old lines_new =
+    (ending.status ≡ failure_status one) × OnTrue ending.told (Appends lines_old lines_new (failure_line one))
 
 -- An outcome ends in this way, and turns what the output and the error output were into what they are.
 abbrev pub EndsWith : {Output Errors : Type 0} → (Output → Option (List ℕ)) → (Errors → Option (List ℕ)) → Outcome → Ending
@@ -32,5 +32,5 @@ EndsWith contents lines (outcome.Text error) ending old new errors_old errors_ne
     Complains Unwritten ending (lines errors_old) (lines errors_new) ⊎ ((ending.status ≡ 0) × (errors_new ≡ errors_old))
 EndsWith contents lines (outcome.Usage error) ending old new errors_old errors_new = (ending.status ≡ 2) × (new ≡ old)
 EndsWith contents lines (outcome.Misuse why) ending old new errors_old errors_new = (ending.status ≡ 2) × (new ≡ old)
-EndsWith contents lines (outcome.Failure of) ending old new errors_old errors_new =
-    Complains of ending (lines errors_old) (lines errors_new) × (new ≡ old)
+EndsWith contents lines (outcome.Failure one) ending old new errors_old errors_new =
+    Complains one ending (lines errors_old) (lines errors_new) × (new ≡ old)

@@ -16,7 +16,7 @@ use Rattle.ll_semantics.specs.declared.answer.Answer.{Answer}
 use Rattle.ll_semantics.specs.declared.answer.Answer.TheVariants.{Allowed, Moot, Refused}
 use Rattle.ll_semantics.specs.Answers.{answer}
 use Rattle.ll_semantics.specs.Worlds.{World, answer_in, judged}
-use Rattle.ll_semantics.specs.Situations.{world_at}
+use Rattle.ll_semantics.specs.CallContexts.{world_at}
 use Rattle.ll_semantics.proofs.Steps.{judged-at, length-judged}
 use Rattle.ll_reasons.specs.Conditions.{condition}
 use Rattle.ll_reasons.specs.Explanations.{domain_at, explained, explained_at, objections_to, origins_at}
@@ -39,10 +39,10 @@ module _ (tree : List Entry) (abi : Abi) (records : List Record) (place : ℕ) w
   -- a record that isn't allowed starts nothing
   pub starts_nothing : (r : Record) (a : Answer) → slice_get records place ≡ Some r → slice_get (judged tree abi records) place ≡ Some a
       → a ≢ Allowed → is_start r.op ≡ false
-  starts_nothing r a at is not_allowed = elim (cases_Bool (is_start r.op)) [
+  starts_nothing r a eq is not_allowed = elim (cases_Bool (is_start r.op)) [
     | inl starts ↦
         let told : answer_in tree abi (world_at tree abi records place) r.process.0 r.op ≡ a =
-        same_Some _ a (sym (judged-at tree abi records place r at) ∙ is) in
+        same_Some _ a (sym (judged-at tree abi records place r eq) ∙ is) in
         absurd (not_allowed (sym told ∙ start_allowed tree abi (world_at tree abi records place) r.process.0 r.op starts))
     | inr goes ↦ goes
   ]
@@ -50,7 +50,7 @@ module _ (tree : List Entry) (abi : Abi) (records : List Record) (place : ℕ) w
   both : (r : Record) (a : Answer) → slice_get records place ≡ Some r → slice_get (judged tree abi records) place ≡ Some a
       → text_at tree abi records place ≡ text_of_both tree abi records place (Some r) (Some a)
   unfolding text_at
-  both r a at is = ap (λ (x : Option Record). text_of_both tree abi records place x (slice_get (judged tree abi records) place)) at
+  both r a eq is = ap (λ (x : Option Record). text_of_both tree abi records place x (slice_get (judged tree abi records) place)) eq
       ∙ ap (λ (x : Option Answer). text_of_both tree abi records place (Some r) x) is
 
   allowed_or_none : (found : Option Record) → text_of_both tree abi records place found (Some Allowed) ≡ []
@@ -65,12 +65,12 @@ module _ (tree : List Entry) (abi : Abi) (records : List Record) (place : ℕ) w
   pub text_moot : (r : Record) → slice_get records place ≡ Some r → slice_get (judged tree abi records) place ≡ Some Moot
       → text_at tree abi records place ≡ mootness_text (reason tree (origins_at tree abi records place r.process.0) r.op)
   unfolding explained_at explained explanation_text
-  text_moot r at is = both r Moot at is
+  text_moot r eq is = both r Moot eq is
 
   pub text_failure : (r : Record) (error : Errno) → slice_get records place ≡ Some r → slice_get (judged tree abi records) place ≡ Some (Refused error [])
       → text_at tree abi records place ≡ alone (condition_text (condition abi records (origins_at tree abi records place r.process.0) r.op error))
   unfolding explained_at explained explanation_text
-  text_failure r error at is = both r (Refused error []) at is
+  text_failure r error eq is = both r (Refused error []) eq is
 
   refusing : (r : Record) (error : Errno) (numbers : List ℕ) → numbers ≢ []
       → text_of_both tree abi records place (Some r) (Some (Refused error numbers))
@@ -85,7 +85,7 @@ module _ (tree : List Entry) (abi : Abi) (records : List Record) (place : ℕ) w
       → text_at tree abi records place
       ≡ flat_map (layer_text records (origins_at tree abi records place r.process.0).layers)
       (objections_to tree (domain_at tree abi records place r.process.0) (origins_at tree abi records place r.process.0) r.op error numbers)
-  text_refusing r error numbers at is some = both r (Refused error numbers) at is ∙ refusing r error numbers some
+  text_refusing r error numbers eq is some = both r (Refused error numbers) eq is ∙ refusing r error numbers some
 
 -- a set without layers
 pub none_of : (numbers : List ℕ) → (length numbers == 0) ≡ true → numbers ≡ []

@@ -13,7 +13,7 @@ use Rattle.ll_reasons.specs.Objections.{Objection}
 use Rattle.ll_reasons.specs.Origins.{Origins}
 use Rattle.ll_trails.specs.Trails.{Follows}
 use Rattle.ll_trails.specs.declared.trail.Trail.{Trail}
-use Rattle.ll_explain.specs.Followed.{followed}
+use Rattle.ll_explain.specs.Confined.{followed}
 use Rattle.ll_explain.specs.Words.{layer_text}
 
 module _ (tree : List Entry) (domain : List Layer) (trail : Trail) (o : Origins) (follows : Follows trail o) (error : Errno) (numbers : List ℕ) where

@@ -7,6 +7,7 @@ use Rattle.std.proofs.lemmas.List.{append-nil}
 use Rattle.std.proofs.lemmas.Grind.{flat_map-append}
 use Rattle.ll_rights.specs.Rights as files
 use Rattle.ll_trace.specs.declared.record.Record.{Record}
+use Rattle.ll_rules.specs.declared.domain.TheConstants.{MOST_LAYERS}
 use Rattle.ll_rules.specs.LayerNumbers.{passing_upto}
 use Rattle.ll_reasons.specs.Explanations.{kept_by}
 use Rattle.ll_explain.specs.Kept.{kept_entry, kept_text}
@@ -55,7 +56,7 @@ module _ (records : List Record) (layers : List ℕ) (right : files.FsRight) (pl
       let fails : test (suc index) ≡ false = ap test (sym next) ∙ is in
       so_far ∙ ap (λ t. start ++ t) (sym (append-nil (lines_upto test index)) ∙ sym (lines_next test index false fails) ∙ ap (lines_upto test) (sym next))
 
-  pub lines_all : (numbers : List ℕ) (test : ℕ → Bool) (index : ℕ) (start text : List ℕ) → index ≡ 16 → passing_upto test 16 ≡ numbers
+  pub lines_all : (numbers : List ℕ) (test : ℕ → Bool) (index : ℕ) (start text : List ℕ) → index ≡ MOST_LAYERS → passing_upto test MOST_LAYERS ≡ numbers
       → text ≡ start ++ lines_upto test index →
       text ≡ start ++ flat_map (layer_text records layers) (kept_by right numbers (Some place))
   unfolding lines_upto kept_entry

@@ -70,7 +70,7 @@ none_before test set none = record { before = λ right there. absurd (omega arit
 
 pub one_more : (test : files.FsRight → Bool) (set : Fs) (place : ℕ) (one : files.FsRight) → files.bit_of one ≡ place → test one ≡ true
     → AreBefore test set place → AreBefore test (files.united set (files.only one)) (place + 1)
-one_more test set place one at passes are = record {
+one_more test set place one eq passes are = record {
   before = λ right there. fs_has-united set (files.only one) right ∙ ap (λ b. files.has set right || b) (fs_has-only right one)
       ∙ elim (cases_eq (files.bit_of right) (files.bit_of one)) [
         | inl same ↦
@@ -78,10 +78,10 @@ one_more test set place one at passes are = record {
             let it : right ≡ one = same_right right one is in
             rw (is, it, passes) (or_true (files.has set one))
         | inr other ↦
-            rw (ne_eqb (files.bit_of right) (files.bit_of one) other) (or_false (files.has set right) ∙ are.before right (omega (arith, at, there, other)))
+            rw (ne_eqb (files.bit_of right) (files.bit_of one) other) (or_false (files.has set right) ∙ are.before right (omega (arith, eq, there, other)))
       ];
   behind = λ right there.
-      let other : files.bit_of right ≡ files.bit_of one → ⊥ = λ same. absurd (omega (arith, at, there, same)) in
+      let other : files.bit_of right ≡ files.bit_of one → ⊥ = λ same. absurd (omega (arith, eq, there, same)) in
       fs_has-united set (files.only one) right
       ∙ ap (λ b. files.has set right || b) (fs_has-only right one ∙ ne_eqb (files.bit_of right) (files.bit_of one) other)
       ∙ or_false (files.has set right) ∙ are.behind right (omega (arith, there));
@@ -92,12 +92,12 @@ one_more test set place one at passes are = record {
 
 pub none_more : (test : files.FsRight → Bool) (set : Fs) (place : ℕ) (one : files.FsRight) → files.bit_of one ≡ place → test one ≡ false
     → AreBefore test set place → AreBefore test set (place + 1)
-none_more test set place one at fails are = record {
+none_more test set place one eq fails are = record {
   before = λ right there. elim (cases_eq (files.bit_of right) (files.bit_of one)) [
     | inl same ↦
         let it : right ≡ one = same_right right one (eq-eqb (files.bit_of right) (files.bit_of one) same) in
-        are.behind right (omega (arith, at, same)) ∙ rw (it, fails) refl
-    | inr other ↦ are.before right (omega (arith, at, there, other))
+        are.behind right (omega (arith, eq, same)) ∙ rw (it, fails) refl
+    | inr other ↦ are.before right (omega (arith, eq, there, other))
   ];
   behind = λ right there. are.behind right (omega (arith, there));
 }

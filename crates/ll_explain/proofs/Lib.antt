@@ -1,6 +1,5 @@
 pub mod Listing
 pub mod RightPlaces
-pub mod PathTexts
 pub mod Appending
 pub mod Lacking
 pub mod SaidOfLayers
@@ -12,6 +11,5 @@ pub mod PortsSaid
 pub mod KeptSaid
 pub mod Following
 pub mod MovesNamed
-pub mod FileRights
 pub mod Gaining
 pub mod Moving

@@ -60,8 +60,8 @@ module _ (layer : Layer) where
 
   on_refer : (here path : Path) (said : List Objection) → here ≡ path → said ≡ on_path here (files.has (files.only files.refer)) layer
       → said ≡ on_path path (one_of (files.refer ∷ [])) layer
-  on_refer here path said at is = is ∙ ap (λ p. on_path p (files.has (files.only files.refer)) layer)
-      at ∙ on_path-agree path (files.has (files.only files.refer)) (one_of (files.refer ∷ [])) refer_asked
+  on_refer here path said hit is = is ∙ ap (λ p. on_path p (files.has (files.only files.refer)) layer)
+      hit ∙ on_path-agree path (files.has (files.only files.refer)) (one_of (files.refer ∷ [])) refer_asked
 
 module _ (tree : List Entry) (move : Move) where
   abbrev leave : List files.FsRight
@@ -70,7 +70,7 @@ module _ (tree : List Entry) (move : Move) where
   abbrev enter : List files.FsRight
   enter = asked_of_destination (kind_at tree move.moved) (kind_there tree move.target)
 
-module _ (layer : Layer) (tree : List Entry) (move : Move) (here there : NodeId) (from to : Fs) (at : path_at tree here ≡ source_of tree move)
+module _ (layer : Layer) (tree : List Entry) (move : Move) (here there : NodeId) (from to : Fs) (hit : path_at tree here ≡ source_of tree move)
     (leaves : (right : files.FsRight) → files.has from right ≡ one_of (leave tree move) right) (enters : (right : files.FsRight)
     → files.has to right ≡ one_of (enter tree move) right) where
   both : (right : files.FsRight) → files.has (files.united from to) right ≡ one_of (leave tree move ++ enter tree move) right
@@ -82,7 +82,7 @@ module _ (layer : Layer) (tree : List Entry) (move : Move) (here there : NodeId)
       path_eq (source_of tree move) (destination_of tree move.target) ≡ true → said ≡ on_directories tree move layer
   unfolding on_directories
   within_one said is one =
-      is ∙ ap (λ p. on_path p (files.has (files.united from to)) layer) at
+      is ∙ ap (λ p. on_path p (files.has (files.united from to)) layer) hit
       ∙ on_path-agree layer (source_of tree move) (files.has (files.united from to)) (one_of (leave tree move ++ enter tree move)) both ∙ rw one refl
 
   pub between_two : (a b : Part) → path_at tree there ≡ destination_of tree move.target →
@@ -91,7 +91,7 @@ module _ (layer : Layer) (tree : List Entry) (move : Move) (here there : NodeId)
   unfolding on_directories
   between_two a b goes is also two =
       said_two a b (on_path (source_of tree move) (one_of (leave tree move)) layer) (on_path (destination_of tree move.target) (one_of (enter tree move)) layer)
-      (is ∙ ap (λ p. on_path p (files.has from) layer) at ∙ on_path-agree layer (source_of tree move) (files.has from) (one_of (leave tree move)) leaves)
+      (is ∙ ap (λ p. on_path p (files.has from) layer) hit ∙ on_path-agree layer (source_of tree move) (files.has from) (one_of (leave tree move)) leaves)
       (also ∙ ap (λ p. on_path p (files.has to) layer) goes
       ∙ on_path-agree layer (destination_of tree move.target) (files.has to) (one_of (enter tree move)) enters)
       ∙ rw two refl
@@ -103,8 +103,8 @@ module _ (layer : Layer) (tree : List Entry) (move : Move) where
       → said_of (o ∷ []) ≡ on_other_gain tree move move.how move.target layer →
       said_of (a ∷ b ∷ g ∷ o ∷ []) ≡ on_crossing tree move layer
   unfolding on_crossing
-  crossing_said a b g o here there at goes is also gains other =
-      said_four a b g o _ _ _ _ (on_refer layer here (source_of tree move) (said_of (a ∷ [])) at is)
+  crossing_said a b g o here there hit goes is also gains other =
+      said_four a b g o _ _ _ _ (on_refer layer here (source_of tree move) (said_of (a ∷ [])) hit is)
       (on_refer layer there (destination_of tree move.target) (said_of (b ∷ [])) goes also)
       (gains ∙ ap (λ p. on_gain (kind_at tree move.moved) (path_at tree move.moved) p layer) goes) other
 
@@ -118,7 +118,7 @@ module _ (tree : List Entry) (move : Move) (layer : Layer) (said : List Objectio
   pub other_over : (how : How) (target : Target) (there : NodeId) (here : Path) → how ≡ Exchange → target ≡ Over there → here ≡ source_of tree move →
       said ≡ on_gain (kind_at tree there) (path_at tree there) here layer → said ≡ on_other_gain tree move how target layer
   unfolding on_other_gain
-  other_over how target there here is goes at gains = rw (is, goes) (gains ∙ ap (λ p. on_gain (kind_at tree there) (path_at tree there) p layer) at)
+  other_over how target there here is goes hit gains = rw (is, goes) (gains ∙ ap (λ p. on_gain (kind_at tree there) (path_at tree there) p layer) hit)
 
   pub other_new : (how : How) (target : Target) (directory : NodeId) → how ≡ Exchange → target ≡ New directory → said ≡ []
       → said ≡ on_other_gain tree move how target layer

@@ -21,6 +21,18 @@ use Rattle.ll_semantics.specs.declared.request.Wanted.TheVariants.{Open, OnFile,
 use Rattle.ll_semantics.specs.Requests.{asks, open_kind, regular_kind, remove_from}
 use Rattle.ll_reasons.specs.Reasons.{path_or_root, spelt}
 use Rattle.ll_explain.specs.Named.{named_by}
+use Rattle.json.specs.Print.{escape}
+use Rattle.ll_lines.specs.PathTexts.{text_of}
+use Rattle.ll_lines.proofs.PathLaws.{text_of-path_of}
+use Rattle.ll_explain.specs.Words.{path_text}
+
+spelt_from : (text : List ℕ) (read : Option Path) → path_of text ≡ read → IsTrue (is_some read) → text_of (path_or_root read) ≡ text
+spelt_from text None is some = cc
+spelt_from text (Some path) is some = text_of-path_of text path is
+
+pub path_text_spelt : (text : List ℕ) → IsTrue (is_some (path_of text)) → path_text (spelt text) ≡ escape text
+unfolding path_text
+path_text_spelt text some = ap escape (spelt_from text (path_of text) refl some)
 
 -- the node of a path has that path
 node_at-path : (tree : List Entry) (path : Path) (here : NodeId) → node_at tree path ≡ Some here → path_at tree here ≡ path
@@ -28,8 +40,8 @@ unfolding node_at path_at
 node_at-path tree path here is = go (position_of path tree) refl is where
   go : (found : Option ℕ) → position_of path tree ≡ found → option_map (λ n. let one : NodeId = record { 0 = n } in one) found ≡ Some here
       → path_at tree here ≡ path
-  go None at is = absurd (none-some here is)
-  go (Some n) at is = ap (path_at tree) (sym (same_Some _ here is)) ∙ (at_position path tree n at).1
+  go None eq is = absurd (none-some here is)
+  go (Some n) eq is = ap (path_at tree) (sym (same_Some _ here is)) ∙ (at_position path tree n eq).1
 
 -- a path is that of the node of its place, or the one above it is
 abbrev pub Names : List Entry → Path → Place → Type 0
@@ -39,16 +51,16 @@ Names tree path Nowhere = Unit {0}
 
 named_gap : (tree : List Entry) (path : Path) (found : Option NodeId) → node_at tree (front path) ≡ found → Names tree path (gap_in tree found)
 unfolding gap_in
-named_gap tree path None at = tt
-named_gap tree path (Some up) at = go (is_dir (kind_at tree up)) where
+named_gap tree path None eq = tt
+named_gap tree path (Some up) eq = go (is_dir (kind_at tree up)) where
   go : (b : Bool) → Names tree path (cond b (Gap up) Nowhere)
-  go true = sym (node_at-path tree (front path) up at)
+  go true = sym (node_at-path tree (front path) up eq)
   go false = tt
 
 named_place : (tree : List Entry) (path : Path) (found : Option NodeId) → node_at tree path ≡ found → Names tree path (place_or_gap tree path found)
 unfolding place_or_gap
-named_place tree path (Some here) at = sym (node_at-path tree path here at)
-named_place tree path None at = named_gap tree path (node_at tree (front path)) refl
+named_place tree path (Some here) eq = sym (node_at-path tree path here eq)
+named_place tree path None eq = named_gap tree path (node_at tree (front path)) refl
 
 pub named : (tree : List Entry) (text : List ℕ) → Names tree (spelt text) (place tree text)
 unfolding place place_of
@@ -84,9 +96,9 @@ on_file tree path here kind rights is = tt
 remove_at : (tree : List Entry) (path : Path) (kind : Kind) (found : Option NodeId) → parent_of tree path ≡ found
     → IsOn tree (front path) (remove_from kind found)
 unfolding remove_from parent_of IsOn
-remove_at tree path kind None at = tt
-remove_at tree [] kind (Some up) at = absurd (none-some up at)
-remove_at tree (name ∷ names) kind (Some up) at = sym (node_at-path tree (front (name ∷ names)) up at)
+remove_at tree path kind None eq = tt
+remove_at tree [] kind (Some up) eq = absurd (none-some up eq)
+remove_at tree (name ∷ names) kind (Some up) eq = sym (node_at-path tree (front (name ∷ names)) up eq)
 
 removed : (tree : List Entry) (path : Path) (here : NodeId) (kind : Kind) → path ≡ path_at tree here
     → IsOn tree (front path) (remove_from kind (parent_at tree here))

@@ -10,6 +10,7 @@ use Rattle.ll_rights.specs.declared.fs.Fs.{Fs}
 use Rattle.ll_rights.specs.Abis.{knows_fs}
 use Rattle.ll_reasons.specs.Conditions.{directory_rights, rights_beyond, unknown_rights}
 use Rattle.ll_rights.specs.Rights as files
+use Rattle.ll_rights.specs.declared.fs.TheConstants.Fs.{FILE}
 
 -- each right is at the place of its bit
 numbered : {R : Type 0} (bit_of : R → ℕ) (rights : List R) (none : R) (count : ℕ) → length rights ≡ count
@@ -47,3 +48,8 @@ pub directory_beyond : (wanted file : Fs) → ((right : files.FsRight) → files
 directory_beyond wanted file same =
     filter_agree (λ right. files.has wanted right && not (files.has file right)) (λ right. files.has wanted right && not (files.is_file_right right))
     (λ right. ap (λ b. files.has wanted right && not b) (same right)) files.all_rights
+
+pub is_file : (right : files.FsRight) → files.has FILE right ≡ files.is_file_right right
+unfolding files.has
+is_file files.other = refl
+is_file right = refl

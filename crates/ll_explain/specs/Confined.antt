@@ -9,15 +9,24 @@ use Rattle.ll_reasons.specs.Objections.{Objection}
 use Rattle.ll_explain.specs.Words.{layer_text}
 use Rattle.ll_explain.specs.declared.confinement.Confinement.{Confinement}
 use Rattle.ll_explain.specs.declared.confinement.OneLayer.{OneLayer}
+use Rattle.std.specs.FinMap.{get}
+use Rattle.ll_reasons.specs.Origins.{Origins}
+use Rattle.ll_trails.specs.Opened.{opened}
+use Rattle.ll_trails.specs.declared.trail.Trail.{Trail}
 
 -- the layers, the oldest first
 abbrev pub stacked : Confinement → List Layer
-stacked of = all_in_tree of.tree.now (domain_of of.layers.now of.domain.now)
+stacked ctx = all_in_tree ctx.tree.now (domain_of ctx.layers.now ctx.domain.now)
 
 -- the rules of one of them
 abbrev pub rules_of : OneLayer → Layer
-rules_of layer = in_tree layer.of.tree.now (layer_at layer.of.layers.now layer.id)
+rules_of layer = in_tree layer.ctx.tree.now (layer_at layer.ctx.layers.now layer.id)
 
 -- the lines on what some of them object to
 abbrev pub lines : Confinement → List (ℕ × List Objection) → List ℕ
-lines of said = flat_map (layer_text of.records.now of.trail.now.layers.items) said
+lines ctx said = flat_map (layer_text ctx.records.now ctx.trail.now.layers.items) said
+
+-- ---- where what a process has comes from, as its trail keeps it
+
+abbrev pub followed : Trail → Origins
+followed trail = record { layers = trail.layers.items; openings = λ fd. opened trail.openings fd; rulesets = λ rs. get trail.rulesets rs }

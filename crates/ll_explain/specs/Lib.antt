@@ -6,7 +6,6 @@ pub mod Named
 pub mod Parts
 pub mod PortRights
 pub mod Kept
-pub mod Followed
 pub mod Route
 pub mod Questions
 pub mod Explained

@@ -31,11 +31,11 @@ pub(crate) struct Confinement<'a> {
 #[derive(Clone, Copy)]
 pub(crate) struct OneLayer<'a> {
     /// All layers of the process.
-    pub(crate) of: Confinement<'a>,
+    pub(crate) ctx: Confinement<'a>,
     /// Its number among these, from 1 on.
     pub(crate) number: u64,
     /// Its place among the layers of the case.
     pub(crate) id: LayerId,
     ghost positive: { 0 < number },
-    ghost inside: { id.0 < length of.layers.now },
+    ghost inside: { id.0 < length ctx.layers.now },
 }

@@ -95,14 +95,14 @@ fn push_refusing(
 {
     let (found, trail) = found_at(case, trails, place, Answer::Refused(error, numbers));
     let domain = domain_of(alloc, case, trail)?;
-    let of = Confinement {
+    let ctx = Confinement {
         records: case.trace().records(),
         trail,
         tree: case.tree(),
         layers: case.layers(),
         domain: &domain,
     };
-    push_objections(text, &of, &found.op, error, numbers)?;
+    push_objections(text, &ctx, &found.op, error, numbers)?;
     Ok(())
 }
 

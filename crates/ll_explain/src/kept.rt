@@ -14,7 +14,7 @@ use crate::parts::push_head;
 use crate::rights::word_for;
 use crate::words::{Added, push_escaped, push_number};
 use ll_rights::FsRight;
-use ll_rules::LayerSet;
+use ll_rules::{LayerSet, MOST_LAYERS};
 use ll_trace::{Op, Record};
 
 /// Adds the path that the record at a place opens, if it opens one.
@@ -58,18 +58,18 @@ fn push_opened(text: &mut Vec<u8>, records: &[Record], name: &str, place: u32) -
 /// Adds the line of a layer under which a right was missing when the record at a place of the trace opened a file.
 fn push_kept_line(
     text: &mut Vec<u8>,
-    of: &Confinement,
+    ctx: &Confinement,
     number: u64,
     right: FsRight,
     place: u32,
 ) -> Added
     requires number { 0 < number }
     ensures { OnOk result (text.new.items
-        ≡ text.old.items ++ layer_text of.now.records.now of.now.trail.now.layers.items
+        ≡ text.old.items ++ layer_text ctx.now.records.now ctx.now.trail.now.layers.items
         (kept_entry (fs_right right) place number)) }
 {
-    push_head(text, of, number)?;
-    push_opened(text, of.records, word_for(right.name()), place)?;
+    push_head(text, ctx, number)?;
+    push_opened(text, ctx.records, word_for(right.name()), place)?;
     text.push(b'\n')?;
     Ok(())
 }
@@ -78,20 +78,20 @@ fn push_kept_line(
 /// file.
 fn push_kept_lines(
     text: &mut Vec<u8>,
-    of: &Confinement,
+    ctx: &Confinement,
     right: FsRight,
     numbers: LayerSet,
     place: u32,
 ) -> Added
     ensures { OnOk result (text.new.items
-        ≡ text.old.items ++ lines of.now (kept_by (fs_right right) numbers (Some place))) }
+        ≡ text.old.items ++ lines ctx.now (kept_by (fs_right right) numbers (Some place))) }
 {
     if numbers.is_empty() {
         return Ok(());
     }
-    for index in 0..16 {
+    for index in 0..MOST_LAYERS as u32 {
         if numbers.has(index + 1) {
-            push_kept_line(text, of, index as u64 + 1, right, place)?;
+            push_kept_line(text, ctx, index as u64 + 1, right, place)?;
         }
     }
     Ok(())
@@ -100,16 +100,17 @@ fn push_kept_lines(
 /// Adds the lines for a call on a descriptor that some layers refuse, by the record that opened it.
 pub(crate) fn push_kept(
     text: &mut Vec<u8>,
-    of: &Confinement,
+    ctx: &Confinement,
     right: FsRight,
     numbers: LayerSet,
     fd: u64,
 ) -> Added
     ensures { OnOk result (text.new.items ≡ text.old.items
-        ++ lines of.now (kept_by (fs_right right) numbers (opened of.now.trail.now.openings fd))) }
+        ++ lines ctx.now (kept_by (fs_right right) numbers
+        (opened ctx.now.trail.now.openings fd))) }
 {
-    match of.trail.openings.get(fd) {
+    match ctx.trail.openings.get(fd) {
         None => Ok(()),
-        Some(place) => push_kept_lines(text, of, right, numbers, place),
+        Some(place) => push_kept_lines(text, ctx, right, numbers, place),
     }
 }

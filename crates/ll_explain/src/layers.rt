@@ -30,10 +30,10 @@ pub(crate) enum Question<'p> {
 
 /// Adds the line of a layer, if it objects to what is asked.
 fn push_layer(text: &mut Vec<u8>, layer: &OneLayer, question: &Question) -> Added
-    requires { IsAsked layer.now.of.tree.now question.now }
+    requires { IsAsked layer.now.ctx.tree.now question.now }
     ensures { OnOk result (text.new.items ≡ text.old.items
-        ++ lines layer.now.of (of_layer layer.now.number
-        (objections layer.now.of.tree.now question.now (rules_of layer.now)))) }
+        ++ lines layer.now.ctx (of_layer layer.now.number
+        (objections layer.now.ctx.tree.now question.now (rules_of layer.now)))) }
 {
     match question {
         Question::OnNode(named, rights) => {
@@ -49,14 +49,14 @@ fn push_layer(text: &mut Vec<u8>, layer: &OneLayer, question: &Question) -> Adde
 }
 
 /// Adds the lines of the layers of a process that object to what is asked.
-pub(crate) fn push_asked(text: &mut Vec<u8>, of: &Confinement, question: &Question) -> Added
-    requires { IsAsked of.now.tree.now question.now }
+pub(crate) fn push_asked(text: &mut Vec<u8>, ctx: &Confinement, question: &Question) -> Added
+    requires { IsAsked ctx.now.tree.now question.now }
     ensures { OnOk result (text.new.items ≡ text.old.items
-        ++ lines of.now (objecting (objections of.now.tree.now question.now) (stacked of.now))) }
+        ++ lines ctx.now (objecting (objections ctx.now.tree.now question.now) (stacked ctx.now))) }
 {
-    for (index, id) in of.domain.iter().enumerate() {
+    for (index, id) in ctx.domain.iter().enumerate() {
         let layer = OneLayer {
-            of: *of,
+            ctx: *ctx,
             number: index as u64 + 1,
             id: *id,
         };

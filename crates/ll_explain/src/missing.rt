@@ -35,19 +35,19 @@ pub(crate) fn alone(id: LayerId) -> Domain
 
 /// Whether a layer handles a right of a set and doesn't grant it on a node.
 fn lacks(layer: &OneLayer, node: NodeId, rights: Fs) -> bool
-    requires { IsNode layer.now.of.tree.now node }
+    requires { IsNode layer.now.ctx.tree.now node }
     ensures { result
-        ≡ is_lacking_on (rules_of layer.now) (path_at layer.now.of.tree.now node) rights }
+        ≡ is_lacking_on (rules_of layer.now) (path_at layer.now.ctx.tree.now node) rights }
 {
     let domain = alone(layer.id);
-    !check_path(layer.of.tree, layer.of.layers, &domain, node, rights).is_empty()
+    !check_path(layer.ctx.tree, layer.ctx.layers, &domain, node, rights).is_empty()
 }
 
 /// Whether a right is in a set, and a layer handles it and doesn't grant it on a node.
 fn is_missing(layer: &OneLayer, node: NodeId, asked: Fs, right: FsRight) -> bool
-    requires { IsNode layer.now.of.tree.now node }
+    requires { IsNode layer.now.ctx.tree.now node }
     ensures { result
-        ≡ lacked (rules_of layer.now) (path_at layer.now.of.tree.now node) asked (fs_right right) }
+        ≡ lacked (rules_of layer.now) (path_at layer.now.ctx.tree.now node) asked (fs_right right) }
 {
     if asked.has(right) {
         lacks(layer, node, right.set())
@@ -73,23 +73,23 @@ fn is_won(lacking: bool, directory: bool, file_right: bool, lacking_there: bool)
 
 /// Whether an object would gain a right in a directory, under a layer.
 fn is_gained(layer: &OneLayer, object: NodeId, directory: NodeId, right: FsRight) -> bool
-    requires object { IsNode layer.now.of.tree.now object }
-    requires directory { IsNode layer.now.of.tree.now directory }
-    ensures { result ≡ gainable (rules_of layer.now) (kind_at layer.now.of.tree.now object)
-        (path_at layer.now.of.tree.now object)
-        (path_at layer.now.of.tree.now directory) (fs_right right) }
+    requires object { IsNode layer.now.ctx.tree.now object }
+    requires directory { IsNode layer.now.ctx.tree.now directory }
+    ensures { result ≡ gainable (rules_of layer.now) (kind_at layer.now.ctx.tree.now object)
+        (path_at layer.now.ctx.tree.now object)
+        (path_at layer.now.ctx.tree.now directory) (fs_right right) }
 {
     let set = right.set();
     let lacking = lacks(layer, object, set);
     let lacking_there = lacks(layer, directory, set);
-    let holder = layer.of.tree.is_directory(object);
+    let holder = layer.ctx.tree.is_directory(object);
     is_won(lacking, holder, is_file_right(right), lacking_there)
 }
 
 /// Whether a right passes a test under a layer.
 fn does_pass(layer: &OneLayer, test: Test, right: FsRight) -> bool
-    requires { IsTest layer.now.of.tree.now test }
-    ensures { result ≡ passes layer.now.of.tree.now (rules_of layer.now) test (fs_right right) }
+    requires { IsTest layer.now.ctx.tree.now test }
+    ensures { result ≡ passes layer.now.ctx.tree.now (rules_of layer.now) test (fs_right right) }
 {
     match test {
         Test::Lacking { node, asked } => is_missing(layer, node, asked, right),
@@ -99,9 +99,9 @@ fn does_pass(layer: &OneLayer, test: Test, right: FsRight) -> bool
 
 /// The rights that pass a test under a layer.
 pub(crate) fn passing(layer: &OneLayer, test: Test) -> Fs
-    requires { IsTest layer.now.of.tree.now test }
+    requires { IsTest layer.now.ctx.tree.now test }
     ensures { (right : files.FsRight)
-        → files.has result right ≡ passes layer.now.of.tree.now (rules_of layer.now) test right }
+        → files.has result right ≡ passes layer.now.ctx.tree.now (rules_of layer.now) test right }
 {
     let mut rights = Fs::NONE;
     for right in FsRight::all() {

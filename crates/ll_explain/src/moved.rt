@@ -49,63 +49,64 @@ fn route_of<'p>(tree: &Tree, from: &'p PathText, to: &'p PathText, attempt: Move
 #[tactic(auto, unfolding(ll_reasons::specs::Objections::to_move))]
 fn push_moved(
     text: &mut Vec<u8>,
-    of: &Confinement,
+    ctx: &Confinement,
     from: &PathText,
     to: &PathText,
     asked: Option<Move>,
     error: Errno,
 ) -> Added
-    requires fit { IfSome asked (IsFitMove of.now.tree.now) }
-    requires between { IsMove of.now.tree.now from.now to.now asked }
+    requires fit { IfSome asked (IsFitMove ctx.now.tree.now) }
+    requires between { IsMove ctx.now.tree.now from.now to.now asked }
     ensures { OnOk result (text.new.items
-        ≡ text.old.items ++ lines of.now (to_move of.now.tree.now (stacked of.now) error asked)) }
+        ≡ text.old.items
+        ++ lines ctx.now (to_move ctx.now.tree.now (stacked ctx.now) error asked)) }
 {
     let Some(attempt) = asked else {
         return Ok(());
     };
-    let route = route_of(of.tree, from, to, attempt);
-    push_asked(text, of, &Question::Moving(route, error))
+    let route = route_of(ctx.tree, from, to, attempt);
+    push_asked(text, ctx, &Question::Moving(route, error))
 }
 
 /// Adds the lines for rename(2), by the error that it is refused with.
 pub(crate) fn push_renamed(
     text: &mut Vec<u8>,
-    of: &Confinement,
+    ctx: &Confinement,
     from: &PathText,
     to: &PathText,
     exchange: bool,
     error: Errno,
 ) -> Added
-    ensures { OnOk result (text.new.items ≡ text.old.items ++ lines of.now
-        (to_move of.now.tree.now (stacked of.now) error
-        (renaming of.now.tree.now from.now to.now exchange))) }
+    ensures { OnOk result (text.new.items ≡ text.old.items ++ lines ctx.now
+        (to_move ctx.now.tree.now (stacked ctx.now) error
+        (renaming ctx.now.tree.now from.now to.now exchange))) }
 {
-    let source = place_of(of.tree, from, None);
-    let target = place_of(of.tree, to, None);
-    let asked = rename_move(of.tree, source, target, exchange);
-    push_moved(text, of, from, to, asked, error)
+    let source = place_of(ctx.tree, from, None);
+    let target = place_of(ctx.tree, to, None);
+    let asked = rename_move(ctx.tree, source, target, exchange);
+    push_moved(text, ctx, from, to, asked, error)
 }
 
 /// Adds the lines for link(2), by the error that it is refused with.
 pub(crate) fn push_linked(
     text: &mut Vec<u8>,
-    of: &Confinement,
+    ctx: &Confinement,
     from: &PathText,
     to: &PathText,
     error: Errno,
 ) -> Added
-    ensures { OnOk result (text.new.items ≡ text.old.items ++ lines of.now
-        (to_move of.now.tree.now (stacked of.now) error
-        (linking of.now.tree.now from.now to.now))) }
+    ensures { OnOk result (text.new.items ≡ text.old.items ++ lines ctx.now
+        (to_move ctx.now.tree.now (stacked ctx.now) error
+        (linking ctx.now.tree.now from.now to.now))) }
 {
-    let source = place_of(of.tree, from, None);
-    let target = place_of(of.tree, to, None);
+    let source = place_of(ctx.tree, from, None);
+    let target = place_of(ctx.tree, to, None);
     push_moved(
         text,
-        of,
+        ctx,
         from,
         to,
-        link_move(of.tree, source, target),
+        link_move(ctx.tree, source, target),
         error,
     )
 }

@@ -2,8 +2,7 @@
 
 ghost use Rattle.std.specs.Prelude.{◌≡◌, ◌++◌, OnOk};
 ghost use Rattle.ll_reasons.specs.Explanations.{objections_to};
-ghost use Rattle.ll_explain.specs.Confined.{lines, stacked};
-ghost use Rattle.ll_explain.specs.Followed.{followed};
+ghost use Rattle.ll_explain.specs.Confined.{lines, stacked, followed};
 
 use crate::confinement::Confinement;
 use crate::kept::push_kept;
@@ -20,25 +19,25 @@ use ll_trace::Op;
 #[tactic(auto, unfolding(ll_reasons::specs::Explanations::objections_to, ll_rights::specs::Rights::only, ll_rights::specs::NetRights::only))]
 pub(crate) fn push_objections(
     text: &mut Vec<u8>,
-    of: &Confinement,
+    ctx: &Confinement,
     op: &Op,
     error: Errno,
     numbers: LayerSet,
 ) -> Added
-    ensures { OnOk result (text.new.items ≡ text.old.items ++ lines of.now
-        (objections_to of.now.tree.now (stacked of.now)
-        (followed of.now.trail.now) op.now error numbers)) }
+    ensures { OnOk result (text.new.items ≡ text.old.items ++ lines ctx.now
+        (objections_to ctx.now.tree.now (stacked ctx.now)
+        (followed ctx.now.trail.now) op.now error numbers)) }
 {
     match op {
-        Op::Ftruncate { fd } => push_kept(text, of, FsRight::Truncate, numbers, *fd),
-        Op::Ioctl { fd, .. } => push_kept(text, of, FsRight::IoctlDev, numbers, *fd),
+        Op::Ftruncate { fd } => push_kept(text, ctx, FsRight::Truncate, numbers, *fd),
+        Op::Ioctl { fd, .. } => push_kept(text, ctx, FsRight::IoctlDev, numbers, *fd),
         Op::Rename { from, to, exchange } => {
-            push_renamed(text, of, from, to.path(), *exchange, error)
+            push_renamed(text, ctx, from, to.path(), *exchange, error)
         }
-        Op::Link { from, to } => push_linked(text, of, from, to.path(), error),
-        Op::Mount => push_asked(text, of, &Question::Mounting),
-        Op::Bind { port } => push_asked(text, of, &Question::OnPort(*port, Net::BIND_TCP)),
-        Op::Connect { port } => push_asked(text, of, &Question::OnPort(*port, Net::CONNECT_TCP)),
-        _ => push_request(text, of, op),
+        Op::Link { from, to } => push_linked(text, ctx, from, to.path(), error),
+        Op::Mount => push_asked(text, ctx, &Question::Mounting),
+        Op::Bind { port } => push_asked(text, ctx, &Question::OnPort(*port, Net::BIND_TCP)),
+        Op::Connect { port } => push_asked(text, ctx, &Question::OnPort(*port, Net::CONNECT_TCP)),
+        _ => push_request(text, ctx, op),
     }
 }

@@ -182,13 +182,13 @@ fn line_at(records: &[Record], layers: &[u32], number: u64) -> u64
 }
 
 /// Begins the line of a layer, which says where the layer comes from.
-pub(crate) fn push_head(text: &mut Vec<u8>, of: &Confinement, number: u64) -> Added
+pub(crate) fn push_head(text: &mut Vec<u8>, ctx: &Confinement, number: u64) -> Added
     requires { 0 < number }
     ensures { OnOk result (text.new.items
-        ≡ text.old.items ++ layer_head of.now.records.now of.now.trail.now.layers.items number) }
+        ≡ text.old.items ++ layer_head ctx.now.records.now ctx.now.trail.now.layers.items number) }
 {
     push_numbered(text, "    layer ", number, " (line ")?;
-    let line = line_at(of.records, of.trail.layers.as_slice(), number);
+    let line = line_at(ctx.records, ctx.trail.layers.as_slice(), number);
     push_number(text, line)?;
     text.extend_from_slice(b"): ")?;
     Ok(())
@@ -198,12 +198,12 @@ pub(crate) fn push_head(text: &mut Vec<u8>, of: &Confinement, number: u64) -> Ad
 pub(crate) fn push_line(text: &mut Vec<u8>, layer: &OneLayer, parts: &[Part]) -> Added
     requires { All IsSpelt parts.now }
     ensures { OnOk result (text.new.items
-        ≡ text.old.items ++ lines layer.now.of (of_layer layer.now.number (said_of parts.now))) }
+        ≡ text.old.items ++ lines layer.now.ctx (of_layer layer.now.number (said_of parts.now))) }
 {
     if !some_said(parts) {
         return Ok(());
     }
-    push_head(text, &layer.of, layer.number)?;
+    push_head(text, &layer.ctx, layer.number)?;
     push_parts(text, parts)?;
     text.push(b'\n')?;
     Ok(())

@@ -16,8 +16,8 @@ use ll_rights::Fs;
 
 /// What a layer lacks of rights on a node.
 pub(crate) fn part_on_path<'p>(layer: &OneLayer, named: NamedNode<'p>, asked: Fs) -> Part<'p>
-    requires { IsNamed layer.now.of.tree.now named }
-    ensures said { said_of (result ∷ []) ≡ on_path (path_at layer.now.of.tree.now named.entry.node)
+    requires { IsNamed layer.now.ctx.tree.now named }
+    ensures said { said_of (result ∷ []) ≡ on_path (path_at layer.now.ctx.tree.now named.entry.node)
         (files.has asked) (rules_of layer.now) }
     ensures spelt { IsSpelt result }
 {
@@ -34,11 +34,12 @@ pub(crate) fn part_gained<'p>(
     object: NamedNode<'p>,
     into: NamedNode<'p>,
 ) -> Part<'p>
-    requires object { IsNamed layer.now.of.tree.now object }
-    requires into { IsNamed layer.now.of.tree.now into }
-    ensures said { said_of (result ∷ []) ≡ on_gain (kind_at layer.now.of.tree.now object.entry.node)
-        (path_at layer.now.of.tree.now object.entry.node)
-        (path_at layer.now.of.tree.now into.entry.node) (rules_of layer.now) }
+    requires object { IsNamed layer.now.ctx.tree.now object }
+    requires into { IsNamed layer.now.ctx.tree.now into }
+    ensures said { said_of (result ∷ [])
+        ≡ on_gain (kind_at layer.now.ctx.tree.now object.entry.node)
+        (path_at layer.now.ctx.tree.now object.entry.node)
+        (path_at layer.now.ctx.tree.now into.entry.node) (rules_of layer.now) }
     ensures spelt { IsSpelt result }
 {
     let test = Test::Gaining {

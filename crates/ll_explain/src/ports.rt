@@ -18,14 +18,14 @@ use ll_rules::{check_mount, check_port};
 fn lacks_on_port(layer: &OneLayer, port: u16, rights: Net) -> bool
     ensures { result ≡ lacks_on_port (rules_of layer.now) port rights }
 {
-    !check_port(layer.of.layers, &alone(layer.id), port, rights).is_empty()
+    !check_port(layer.ctx.layers, &alone(layer.id), port, rights).is_empty()
 }
 
 /// Whether a layer handles a right for files.
 fn handles_files(layer: &OneLayer) -> bool
     ensures { result ≡ not (files.is_empty (rules_of layer.now).handled_files) }
 {
-    !check_mount(layer.of.layers, &alone(layer.id)).is_empty()
+    !check_mount(layer.ctx.layers, &alone(layer.id)).is_empty()
 }
 
 /// What a layer lacks of one right on a port.

@@ -11,7 +11,7 @@ use ll_reasons::{SpeltPath, Why};
 use ll_rights::Kind;
 
 /// Adds a path.
-#[tactic(auto, using(crate::proofs::PathTexts::path_text_spelt))]
+#[tactic(auto, using(crate::proofs::PlacesNamed::path_text_spelt))]
 pub(crate) fn push_path(text: &mut Vec<u8>, path: &str) -> Added
     requires { IsTrue (is_some (path_of path.now)) }
     ensures { OnOk result (text.new.items ≡ text.old.items ++ path_text (spelt path.now)) }

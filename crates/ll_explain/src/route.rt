@@ -36,9 +36,9 @@ pub(crate) struct Route<'p> {
 /// What the object that is there already would gain in an exchange, by the directory that it goes to; nothing in
 /// other moves.
 fn part_of_other<'p>(layer: &OneLayer, route: &Route<'p>) -> Part<'p>
-    requires { IsRoute layer.now.of.tree.now route.now }
+    requires { IsRoute layer.now.ctx.tree.now route.now }
     ensures said { said_of (result ∷ [])
-        ≡ on_other_gain layer.now.of.tree.now route.now.attempt route.now.attempt.how
+        ≡ on_other_gain layer.now.ctx.tree.now route.now.attempt route.now.attempt.how
         route.now.attempt.target (rules_of layer.now) }
     ensures spelt { IsSpelt result }
 {
@@ -62,10 +62,10 @@ fn part_of_other<'p>(layer: &OneLayer, route: &Route<'p>) -> Part<'p>
 /// Adds the line of a layer that lacks something of what a move asks of its two directories, in one list if they are
 /// one.
 pub(crate) fn push_denied(text: &mut Vec<u8>, layer: &OneLayer, route: &Route) -> Added
-    requires { IsRoute layer.now.of.tree.now route.now }
+    requires { IsRoute layer.now.ctx.tree.now route.now }
     ensures { OnOk result (text.new.items ≡ text.old.items
-        ++ lines layer.now.of (of_layer layer.now.number
-        (on_directories layer.now.of.tree.now route.now.attempt (rules_of layer.now)))) }
+        ++ lines layer.now.ctx (of_layer layer.now.number
+        (on_directories layer.now.ctx.tree.now route.now.attempt (rules_of layer.now)))) }
 {
     if route.destination.node == route.source.node {
         let asked = route.leaving.union(route.entering);
@@ -80,10 +80,10 @@ pub(crate) fn push_denied(text: &mut Vec<u8>, layer: &OneLayer, route: &Route) -
 /// Adds the line of a layer that keeps a move from leaving its directory: where `refer` is missing, and what objects
 /// would gain.
 pub(crate) fn push_held_back(text: &mut Vec<u8>, layer: &OneLayer, route: &Route) -> Added
-    requires { IsRoute layer.now.of.tree.now route.now }
+    requires { IsRoute layer.now.ctx.tree.now route.now }
     ensures { OnOk result (text.new.items ≡ text.old.items
-        ++ lines layer.now.of (of_layer layer.now.number
-        (on_crossing layer.now.of.tree.now route.now.attempt (rules_of layer.now)))) }
+        ++ lines layer.now.ctx (of_layer layer.now.number
+        (on_crossing layer.now.ctx.tree.now route.now.attempt (rules_of layer.now)))) }
 {
     let source = part_on_path(layer, route.source, Fs::REFER);
     let destination = part_on_path(layer, route.destination, Fs::REFER);

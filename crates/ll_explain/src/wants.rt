@@ -16,31 +16,32 @@ use ll_trace::{Op, PathText};
 
 /// Adds the lines for what a call wants at a path.
 #[tactic(auto, unfolding(ll_reasons::specs::Objections::to_request))]
-fn push_wanted(text: &mut Vec<u8>, of: &Confinement, path: &PathText, wanted: Wanted) -> Added
+fn push_wanted(text: &mut Vec<u8>, ctx: &Confinement, path: &PathText, wanted: Wanted) -> Added
     ensures { OnOk result (text.new.items
         ≡ text.old.items
-        ++ lines of.now (to_request of.now.tree.now (stacked of.now)
-        (asks of.now.tree.now (place of.now.tree.now path.now) wanted))) }
+        ++ lines ctx.now (to_request ctx.now.tree.now (stacked ctx.now)
+        (asks ctx.now.tree.now (place ctx.now.tree.now path.now) wanted))) }
 {
-    let place = place_of(of.tree, path, None);
-    let Some(request) = asks(of.tree, place, wanted) else {
+    let place = place_of(ctx.tree, path, None);
+    let Some(request) = asks(ctx.tree, place, wanted) else {
         return Ok(());
     };
     let asked = NamedNode {
         node: request.node,
         path: text_for(place, wanted, path),
     };
-    push_asked(text, of, &Question::OnNode(asked, request.rights))
+    push_asked(text, ctx, &Question::OnNode(asked, request.rights))
 }
 
 /// Adds the lines for a call that may want something at a path.
 #[tactic(auto, unfolding(ll_reasons::specs::Objections::to_request))]
-pub(crate) fn push_request(text: &mut Vec<u8>, of: &Confinement, op: &Op) -> Added
-    ensures { OnOk result (text.new.items ≡ text.old.items ++ lines of.now
-        (to_request of.now.tree.now (stacked of.now) (request of.now.tree.now (wanted op.now)))) }
+pub(crate) fn push_request(text: &mut Vec<u8>, ctx: &Confinement, op: &Op) -> Added
+    ensures { OnOk result (text.new.items ≡ text.old.items ++ lines ctx.now
+        (to_request ctx.now.tree.now (stacked ctx.now)
+        (request ctx.now.tree.now (wanted op.now)))) }
 {
     match wanted(op) {
         None => Ok(()),
-        Some((path, wanted)) => push_wanted(text, of, path, wanted),
+        Some((path, wanted)) => push_wanted(text, ctx, path, wanted),
     }
 }

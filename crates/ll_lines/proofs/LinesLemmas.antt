@@ -86,8 +86,7 @@ lines-append (b ∷ front) after = rw (lines-append front after) (more-append (e
 length-lines : (front : List ℕ) → length (lines (front ++ 10 ∷ [])) ≡ line_feeds (front ++ 10 ∷ [])
 unfolding lines
 length-lines [] = refl
-length-lines (b ∷ front) =
-    more-length (eqb b 10) b (lines (front ++ 10 ∷ [])) (some_lines front)
+length-lines (b ∷ front) = more-length (eqb b 10) b (lines (front ++ 10 ∷ [])) (some_lines front)
     ∙ (ap (λ n. cond (eqb b 10) 1 0 + n) (length-lines front) ∙ sym (sum_by-cons (λ x. cond (eqb x 10) 1 0) b (front ++ 10 ∷ [])))
 
 numbered-append : (n : ℕ) (xs ys : List (List ℕ)) → numbered_from n (xs ++ ys) ≡ numbered_from n xs ++ numbered_from (n + length xs) ys

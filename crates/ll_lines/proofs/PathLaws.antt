@@ -6,6 +6,7 @@ use Rattle.std.specs.Prelude.{◌≢◌, is_some, not, codes}
 use Rattle.std.specs.List.{list_all, slice_split, All, join_with_byte}
 use Rattle.std.proofs.lemmas.Bool.{le-leb, leb-true, false≢true, and_parts, cases_lt}
 use Rattle.std.proofs.lemmas.Bool.Decides.{nat_tests, Decides-like, same_from_decides}
+use Rattle.ll_lines.specs.declared.path.TheConstants.{LONGEST_PATH}
 use Rattle.ll_lines.specs.Paths.{is_slash, is_name, names_in, after_slash, path_of, Path, Name, is_name_byte, path_eq, front}
 use Rattle.ll_lines.specs.PathTexts.{is_path, text_of}
 use Rattle.std.specs.Str.{bytes_eq}
@@ -19,12 +20,12 @@ use Rattle.std.proofs.lemmas.List.{append_assoc, length-append, get_or_at, get_o
 -- ---- what `path_of` answers, by the first byte of the text and its names
 
 -- a text of at most 4,096 bytes
-pub path_of-short : (text : List ℕ) → length text ≤ 4096 → path_of text ≡ after_slash text
+pub path_of-short : (text : List ℕ) → length text ≤ LONGEST_PATH → path_of text ≡ after_slash text
 unfolding path_of
-path_of-short text fits = rw (le-leb (length text) 4096 fits) refl
+path_of-short text fits = rw (le-leb (length text) LONGEST_PATH fits) refl
 
 -- a text that doesn't begin with a slash is no path
-pub path_of-other : (text : List ℕ) → length text ≤ 4096 → ((rest : List ℕ) → text ≢ 47 ∷ rest) → path_of text ≡ None
+pub path_of-other : (text : List ℕ) → length text ≤ LONGEST_PATH → ((rest : List ℕ) → text ≢ 47 ∷ rest) → path_of text ≡ None
 unfolding after_slash
 path_of-other [] fits other = path_of-short [] fits
 path_of-other (byte ∷ bytes) fits other =
@@ -33,12 +34,12 @@ path_of-other (byte ∷ bytes) fits other =
     path_of-short (byte ∷ bytes) fits ∙ rw test refl
 
 -- a text of at most 4,096 bytes that begins with a slash
-pub path_of-slash : (text names : List ℕ) → length text ≤ 4096 → text ≡ 47 ∷ names → path_of text ≡ names_in names
+pub path_of-slash : (text names : List ℕ) → length text ≤ LONGEST_PATH → text ≡ 47 ∷ names → path_of text ≡ names_in names
 unfolding after_slash
 path_of-slash text names fits is = path_of-short text fits ∙ rw is refl
 
 -- the slash alone is the root
-pub path_of-root : (text names : List ℕ) → length text ≤ 4096 → text ≡ 47 ∷ names → names ≡ [] → path_of text ≡ Some []
+pub path_of-root : (text names : List ℕ) → length text ≤ LONGEST_PATH → text ≡ 47 ∷ names → names ≡ [] → path_of text ≡ Some []
 unfolding names_in
 path_of-root text names fits is empty = path_of-slash text names fits is ∙ ap names_in empty
 
@@ -53,12 +54,12 @@ is_some-names_in (byte ∷ bytes) some =
 -- ---- texts and paths
 
 -- what is read of a text, and that it is short
-read_parts : (text : List ℕ) (path : Path) → path_of text ≡ Some path → (length text ≤ 4096) × (after_slash text ≡ Some path)
+read_parts : (text : List ℕ) (path : Path) → path_of text ≡ Some path → (length text ≤ LONGEST_PATH) × (after_slash text ≡ Some path)
 unfolding path_of
 read_parts text path is =
-    elim (leb (length text) 4096) as (λ b. leb (length text) 4096 ≡ b → cond b (after_slash text) None ≡ Some path
-    → (length text ≤ 4096) × (after_slash text ≡ Some path))
-    [ true ↦ λ short read. (leb-true (length text) 4096 short, read) | false ↦ λ long read. absurd (none-some path read) ] refl is
+    elim (leb (length text) LONGEST_PATH) as (λ b. leb (length text) LONGEST_PATH ≡ b → cond b (after_slash text) None ≡ Some path
+    → (length text ≤ LONGEST_PATH) × (after_slash text ≡ Some path))
+    [ true ↦ λ short read. (leb-true (length text) LONGEST_PATH short, read) | false ↦ λ long read. absurd (none-some path read) ] refl is
 
 -- the names that are read, joined by slashes, are the text; and each is a name
 joined : (names : List ℕ) (path : Path) → names_in names ≡ Some path → (join_with_byte 47 path ≡ names) × (list_all is_name path ≡ true)
@@ -88,7 +89,7 @@ pub is_path-path_of : (text : List ℕ) (path : Path) → path_of text ≡ Some 
 unfolding is_path
 is_path-path_of text path is =
     let parts = read_parts text path is in
-    let short : leb (length (text_of path)) 4096 ≡ true = rw (text_of-path_of text path is) (le-leb (length text) 4096 parts.0) in
+    let short : leb (length (text_of path)) LONGEST_PATH ≡ true = rw (text_of-path_of text path is) (le-leb (length text) LONGEST_PATH parts.0) in
     rw ((from_slash text path parts.1).1, short) refl
 
 not_slash : (byte : ℕ) → is_name_byte byte ≡ true → is_slash byte ≡ false
@@ -140,15 +141,14 @@ names_in-joined (name ∷ names) are =
 pub path_of-text_of : (path : Path) → is_path path ≡ true → path_of (text_of path) ≡ Some path
 unfolding is_path text_of
 path_of-text_of path is =
-    let parts = and_parts (list_all is_name path) (leb (length (text_of path)) 4096) is in
-    path_of-slash (text_of path) (join_with_byte 47 path) (leb-true (length (text_of path)) 4096 parts.1) refl ∙ names_in-joined path parts.0
+    let parts = and_parts (list_all is_name path) (leb (length (text_of path)) LONGEST_PATH) is in
+    path_of-slash (text_of path) (join_with_byte 47 path) (leb-true (length (text_of path)) LONGEST_PATH parts.1) refl ∙ names_in-joined path parts.0
 
 -- paths are the same exactly where their texts are
 pub bytes_eq-text_of : (a b : Path) → is_path a ≡ true → is_path b ≡ true → bytes_eq (text_of a) (text_of b) ≡ path_eq a b
 unfolding path_eq
 bytes_eq-text_of a b a_is b_is =
-    let by_text : Decides (bytes_eq (text_of a) (text_of b)) (a ≡ b) =
-    Decides-like (bytes_eq (text_of a) (text_of b))
+    let by_text : Decides (bytes_eq (text_of a) (text_of b)) (a ≡ b) = Decides-like (bytes_eq (text_of a) (text_of b))
     (λ same. same_Some a b (sym (path_of-text_of a a_is) ∙ ap path_of same ∙ path_of-text_of b b_is))
     (λ same. ap text_of same)
     (bytes_eq-Decides (text_of a) (text_of b)) in
@@ -169,8 +169,7 @@ join_last : (name next : Name) (names : Path)
     → join_with_byte 47 (name ∷ next ∷ names) ≡ join_with_byte 47 (front (name ∷ next ∷ names)) ++ 47 ∷ last_name (next ∷ names)
 unfolding front last_name
 join_last name next [] = refl
-join_last name next (third ∷ names) =
-    ap (λ rest. name ++ 47 ∷ rest) (join_last next third names)
+join_last name next (third ∷ names) = ap (λ rest. name ++ 47 ∷ rest) (join_last next third names)
     ∙ sym (append_assoc name (47 ∷ join_with_byte 47 (front (next ∷ third ∷ names))) (47 ∷ last_name (third ∷ names)))
 
 last_is_name : (name : Name) (names : Path) → list_all is_name (name ∷ names) ≡ true → is_name (last_name (name ∷ names)) ≡ true
@@ -198,9 +197,9 @@ last_slash text fore rest place is clear within slash after =
     (λ (later : length fore ≤ place). ⊎_elim
     (λ (behind : length fore < place).
     let byte = place - suc (length fore) in
-    let at : place - length fore ≡ suc byte = omega arith in
+    let eq : place - length fore ≡ suc byte = omega arith in
     let found : get_or rest byte 0 ≡ 47 =
-    sym (ap (λ t. get_or t place 0) is ∙ get_or-append_right fore (47 ∷ rest) (length fore) place 0 refl later ∙ ap (λ n. get_or (47 ∷ rest) n 0) at)
+    sym (ap (λ t. get_or t place 0) is ∙ get_or-append_right fore (47 ∷ rest) (length fore) place 0 refl later ∙ ap (λ n. get_or (47 ∷ rest) n 0) eq)
     ∙ slash in
     let other : is_slash (get_or rest byte 0) ≡ false = clear byte 0 (omega arith) in
     absurd (false≢true (sym other ∙ rw found refl)))
@@ -220,21 +219,21 @@ front_read text [] place read within slash after =
     (λ _. refl, λ later. absurd (omega arith))
 front_read text (name ∷ []) place read within slash after =
     let is : 47 ∷ name ≡ text = text_of-path_of text (name ∷ []) read in
-    let are = and_parts (list_all is_name (name ∷ [])) (leb (length (text_of (name ∷ []))) 4096) (is_path-path_of text (name ∷ []) read) in
+    let are = and_parts (list_all is_name (name ∷ [])) (leb (length (text_of (name ∷ []))) LONGEST_PATH) (is_path-path_of text (name ∷ []) read) in
     let first : place ≡ 0 = last_slash text [] name place (sym is) (name_parts name (and_parts (is_name name) true are.0).0).1 within slash after in
     (λ _. refl, λ later. absurd (omega arith))
 front_read text (name ∷ next ∷ names) place read within slash after =
     let path : Path = name ∷ next ∷ names in
     let last = last_name (next ∷ names) in
     let is : text ≡ text_of (front path) ++ 47 ∷ last = sym (text_of-path_of text path read) ∙ ap (λ rest. 47 ∷ rest) (join_last name next names) in
-    let are = and_parts (list_all is_name path) (leb (length (text_of path)) 4096) (is_path-path_of text path read) in
+    let are = and_parts (list_all is_name path) (leb (length (text_of path)) LONGEST_PATH) (is_path-path_of text path read) in
     let others = and_parts (is_name name) (list_all is_name (next ∷ names)) are.0 in
     let end : place ≡ length (text_of (front path)) =
     last_slash text (text_of (front path)) last place is (name_parts last (last_is_name next names others.1)).1 within slash after in
     let size : length text ≡ length (text_of (front path)) + suc (length last) = ap length is ∙ length-append (text_of (front path)) (47 ∷ last) in
-    let fits : length (text_of path) ≤ 4096 = leb-true (length (text_of path)) 4096 are.1 in
+    let fits : length (text_of path) ≤ LONGEST_PATH = leb-true (length (text_of path)) LONGEST_PATH are.1 in
     let whole : length (text_of path) ≡ length text = ap length (text_of-path_of text path read) in
-    let short : leb (length (text_of (front path))) 4096 ≡ true = le-leb (length (text_of (front path))) 4096 (omega arith) in
+    let short : leb (length (text_of (front path))) LONGEST_PATH ≡ true = le-leb (length (text_of (front path))) LONGEST_PATH (omega arith) in
     let taken : take place text ≡ text_of (front path) = ap (take place) is ∙ take_at (text_of (front path)) (47 ∷ last) place (sym end) in
     let named : is_path (front path) ≡ true = rw (front_names path are.0, short) refl in
     (λ first. absurd (omega arith), λ later. ap path_of taken ∙ path_of-text_of (front path) named)

@@ -236,7 +236,7 @@ pub in_one_way : {Entry X : Type 0} (format : Format Entry) (Is : List ℕ → X
     → ((bytes : List ℕ) (x : X) → Is bytes x → Made format make bytes x) → ReadsInOneWay format Is
 in_one_way format Is make makes made = record {
   either = λ bytes. elim (good_or_else_bad format bytes) [ inl good ↦ inl (make good.0, makes bytes good.0 good.1) | inr bad ↦ inr bad ];
-  not_both = λ bytes x fault is bad. let of = made bytes x is in good_or_bad format bytes of.entries fault of.good bad;
+  not_both = λ bytes x fault is bad. let it = made bytes x is in good_or_bad format bytes it.entries fault it.good bad;
   one = λ bytes x other first second.
       let a = made bytes x first in
       let b = made bytes other second in

@@ -4,6 +4,7 @@ use Rattle.std.specs.Prelude.{ℕ, ◌∷◌, [], List, Bool, true, false, ◌&&
 use Rattle.std.specs.List.{list_all, slice_split}
 use Rattle.std.specs.Str.{bytes_eq}
 use Rattle.std.specs.Cmp.Lexicographic.{pointwise}
+use Rattle.ll_lines.specs.declared.path.TheConstants.{LONGEST_PATH}
 
 -- a name is its bytes
 abbrev pub Name : Type 0
@@ -35,7 +36,7 @@ after_slash (byte ∷ bytes) = if is_slash byte then names_in bytes else None
 
 -- the path that a text of at most 4,096 bytes spells, the first of them a slash
 unfoldable pub path_of : List ℕ → Option Path
-path_of text = if nat_le (length text) 4096 then after_slash text else None
+path_of text = if nat_le (length text) LONGEST_PATH then after_slash text else None
 
 -- the path without its last name
 unfoldable pub front : Path → Path

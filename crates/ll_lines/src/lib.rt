@@ -11,5 +11,5 @@ pub mod reading;
 mod value;
 
 pub use fault::{Cause, ReadFault};
-pub use path::{front_text, path_ok, path_texts};
+pub use path::{LONGEST_PATH, front_text, path_ok, path_texts};
 pub use value::value_of;

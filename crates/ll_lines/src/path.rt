@@ -6,7 +6,7 @@ ghost use Rattle.ll_lines.specs.Paths.{Path, is_name_byte, is_name, path_of, fro
 ghost use Rattle.ll_lines.specs.PathTexts.{is_path, text_of};
 
 /// The longest path, in bytes.
-const LONGEST_PATH: usize = 4096;
+pub const LONGEST_PATH: usize = 4096;
 
 /// Whether a text holds neither a slash nor the character of number 0.
 fn has_name_bytes(name: &str) -> bool

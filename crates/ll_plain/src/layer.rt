@@ -6,13 +6,13 @@ ghost use Rattle.ll_rules.specs.KeptLayers.{IsDomainOf};
 
 use bitflags::Flags;
 use ll_rights::{Fs, Kind};
-use ll_rules::{Domain, Full, Layer, LayerId};
+use ll_rules::{Domain, Full, Layer, LayerId, MOST_LAYERS};
 use ll_tree::{NodeId, Tree};
 use std::alloc::{AllocError, Global};
 use std::collections::HashMap;
 
 /// Which of at most sixteen layers refuse, the oldest first.
-pub type Refusing = [bool; 16];
+pub type Refusing = [bool; MOST_LAYERS];
 
 /// A layer in a form that is asked by itself.
 pub trait Refuses {
@@ -57,10 +57,10 @@ impl PlainLayer {
         requires { IsNode tree.now node }
     {
         let mut granted = Fs::NONE;
-        let mut at = Some(node);
-        while let Some(here) = at {
+        let mut cursor = Some(node);
+        while let Some(here) = cursor {
             granted = granted.union(self.rule_on(here));
-            at = tree.parent(here);
+            cursor = tree.parent(here);
         }
         granted
     }
@@ -105,7 +105,7 @@ impl Refuses for PlainLayer {
 pub fn refusing<L: Refuses>(tree: &Tree, layers: &[L], node: NodeId, wanted: Fs) -> Refusing
     requires { IsNode tree.now node }
 {
-    let mut refusing = [false; 16];
+    let mut refusing = [false; MOST_LAYERS];
     for (place, layer) in refusing.iter_mut().zip(layers) {
         *place = layer.refuses(tree, node, wanted);
     }
@@ -117,7 +117,7 @@ pub fn stacked(layers: &[Layer]) -> Result<Domain, Full>
     ensures { IfOk result (IsDomainOf layers.now) }
 {
     let mut domain = Domain::new();
-    for number in 0..16u32 {
+    for number in 0..MOST_LAYERS as u32 {
         if (number as usize) < layers.len() {
             domain.push(LayerId(number))?;
         }

@@ -4,7 +4,7 @@ ghost use Rattle.ll_tree.specs.Trees.{IsNode};
 
 use crate::layer::{PlainLayer, Refuses, Refusing};
 use ll_rights::{Fs, Kind};
-use ll_rules::Errno;
+use ll_rules::{Errno, MOST_LAYERS};
 use ll_tree::{NodeId, Tree};
 
 /// A call that moves an object.
@@ -69,7 +69,7 @@ pub struct Attempt {
     /// The object.
     pub moved: NodeId,
     /// For a rename onto an object and an exchange that object, else the directory of the new name.
-    pub at: NodeId,
+    pub onto: NodeId,
 }
 
 /// The directory that an object is in; the root is in itself.
@@ -93,12 +93,12 @@ pub(crate) fn source_of(tree: &Tree, attempt: &Attempt) -> NodeId
 
 /// The directory of the new name.
 pub(crate) fn destination_of(tree: &Tree, attempt: &Attempt) -> NodeId
-    requires { IsNode tree.now attempt.now.at }
+    requires { IsNode tree.now attempt.now.onto }
     ensures { IsNode tree.now result }
 {
     match attempt.call {
-        Call::RenameToMissing | Call::Link => attempt.at,
-        Call::RenameOnto | Call::Exchange => directory_of(tree, attempt.at),
+        Call::RenameToMissing | Call::Link => attempt.onto,
+        Call::RenameOnto | Call::Exchange => directory_of(tree, attempt.onto),
     }
 }
 
@@ -120,10 +120,10 @@ fn rights_of(asks: &[Asks], moved: Kind, there: Kind) -> Fs {
 /// Whether a layer denies what a move asks of the two directories.
 fn denies(tree: &Tree, layer: &PlainLayer, attempt: &Attempt) -> bool
     requires moved { IsNode tree.now attempt.now.moved }
-    requires at { IsNode tree.now attempt.now.at }
+    requires onto { IsNode tree.now attempt.now.onto }
 {
     let moved = tree.kind(attempt.moved);
-    let there = tree.kind(attempt.at);
+    let there = tree.kind(attempt.onto);
     let source = source_of(tree, attempt);
     let destination = destination_of(tree, attempt);
     for row in TABLE {
@@ -146,7 +146,7 @@ fn denies(tree: &Tree, layer: &PlainLayer, attempt: &Attempt) -> bool
 /// Whether a layer keeps a move from leaving the directory.
 fn holds_back(tree: &Tree, layer: &PlainLayer, attempt: &Attempt) -> bool
     requires moved { IsNode tree.now attempt.now.moved }
-    requires at { IsNode tree.now attempt.now.at }
+    requires onto { IsNode tree.now attempt.now.onto }
 {
     let source = source_of(tree, attempt);
     let destination = destination_of(tree, attempt);
@@ -160,7 +160,7 @@ fn holds_back(tree: &Tree, layer: &PlainLayer, attempt: &Attempt) -> bool
         return true;
     }
     if attempt.call == Call::Exchange {
-        return layer.gains(tree, attempt.at, source);
+        return layer.gains(tree, attempt.onto, source);
     }
     false
 }
@@ -168,9 +168,9 @@ fn holds_back(tree: &Tree, layer: &PlainLayer, attempt: &Attempt) -> bool
 /// Which of the first sixteen layers refuse a rename or a link, and with which error; nothing where it passes.
 pub fn answer(tree: &Tree, layers: &[PlainLayer], attempt: &Attempt) -> Option<(Errno, Refusing)>
     requires moved { IsNode tree.now attempt.now.moved }
-    requires at { IsNode tree.now attempt.now.at }
+    requires onto { IsNode tree.now attempt.now.onto }
 {
-    let mut denied = [false; 16];
+    let mut denied = [false; MOST_LAYERS];
     for (place, layer) in denied.iter_mut().zip(layers) {
         *place = denies(tree, layer, attempt);
     }
@@ -180,7 +180,7 @@ pub fn answer(tree: &Tree, layers: &[PlainLayer], attempt: &Attempt) -> Option<(
     if source_of(tree, attempt) == destination_of(tree, attempt) {
         return None;
     }
-    let mut held_back = [false; 16];
+    let mut held_back = [false; MOST_LAYERS];
     for (place, layer) in held_back.iter_mut().zip(layers) {
         *place = holds_back(tree, layer, attempt);
     }

@@ -1,4 +1,4 @@
--- What members did, put together.
+-- What the hands did, put together.
 use Rattle.std.proofs.Common.{◌≡◌, ℕ, ◌+◌, ◌<◌, List, [], ◌∷◌, ◌++◌, refl, sym, ap, ◌∙◌, subst, append_assoc, arith}
 use Rattle.std.specs.Prelude.{sum_by}
 use Rattle.std.specs.List.{All}
@@ -8,58 +8,58 @@ use Rattle.std.proofs.lemmas.Grind.{flat_map-append}
 use Rattle.ll_process.specs.declared.job.Job.{Job}
 use Rattle.ll_process.specs.declared.piece.Piece.{Piece}
 use Rattle.ll_trace.specs.Processes.{kids, numbers}
-use Rattle.ll_process.specs.Cases.{Matter}
-use Rattle.ll_process.specs.Jobs.{SharesOut, processes_of, AllOf as AllJobsOf}
+use Rattle.ll_process.specs.Cases.{CaseValue}
+use Rattle.ll_process.specs.Jobs.{SharesOut, processes_of, AreJobsOf}
 use Rattle.ll_process.proofs.Descents.{weighed}
-use Rattle.ll_pool.specs.declared.known.Known.{Known}
-use Rattle.ll_pool.specs.Gathered.{AllOf, processes_in}
-use Rattle.ll_pool.specs.Rule.{known, after_taking}
-use Rattle.ll_pool.specs.Crews.{OnlyGave, SeenTo, IsAccount}
+use Rattle.ll_pool.specs.declared.queue.Ledger.{Ledger}
+use Rattle.ll_pool.specs.Gathered.{ArePiecesOf, processes_in}
+use Rattle.ll_pool.specs.Rule.{ledger, after_taking}
+use Rattle.ll_pool.specs.Accounts.{OnlyGave, SeenTo, IsAccount}
 use Rattle.ll_pool.proofs.Sharing.{processes_in-push, no_processes, no_kids, kids-append}
 
 -- ---- passes that only gave
 
-pub gave_nothing : (v : Known) → OnlyGave v v
+pub gave_nothing : (v : Ledger) → OnlyGave v v
 gave_nothing v = record { its_case = refl; parts = refl; taken = refl }
 
-pub gave_more : (a b c : Known) → OnlyGave a b → OnlyGave b c → OnlyGave a c
+pub gave_more : (a b c : Ledger) → OnlyGave a b → OnlyGave b c → OnlyGave a c
 gave_more a b c one two = record { its_case = two.its_case ∙ one.its_case; parts = two.parts ∙ one.parts; taken = two.taken ∙ one.taken }
 
-pub some_part_still : (v w : Known) → OnlyGave v w → 0 < v.parts → 0 < w.parts
+pub some_part_still : (v w : Ledger) → OnlyGave v w → 0 < v.parts → 0 < w.parts
 some_part_still v w gave some_part = omega (arith, gave.parts, some_part)
 
 -- ---- jobs that were seen to
 
-pub seen_judged : (of : Matter) (p : ℕ) (before after : List ℕ) (pieces pieces_after : List Piece) (piece : Piece)
-    → pieces_after ≡ pieces ++ piece ∷ [] → piece.case.now ≡ of
-    → SharesOut of.records p (numbers piece.processes.items) before after → SeenTo of (p ∷ []) before after pieces pieces_after
-seen_judged of p before after pieces pieces_after piece is its shares =
-    subst (λ (xs : List Piece). SeenTo of (p ∷ []) before after pieces xs) (sym is)
+pub seen_judged : (cv : CaseValue) (p : ℕ) (before after : List ℕ) (pieces pieces_after : List Piece) (piece : Piece)
+    → pieces_after ≡ pieces ++ piece ∷ [] → piece.case.now ≡ cv
+    → SharesOut cv.records p (numbers piece.processes.items) before after → SeenTo cv (p ∷ []) before after pieces pieces_after
+seen_judged cv p before after pieces pieces_after piece is its shares =
+    subst (λ (xs : List Piece). SeenTo cv (p ∷ []) before after pieces xs) (sym is)
     (record {
-      pieces_of = λ all. All-push (λ (x : Piece). x.case.now ≡ of) pieces piece all its;
+      pieces_of = λ all. All-push (λ (x : Piece). x.case.now ≡ cv) pieces piece all its;
       shared = λ weight.
-          rw (processes_in-push pieces piece, kids-append of.records (processes_in pieces) (numbers piece.processes.items))
+          rw (processes_in-push pieces piece, kids-append cv.records (processes_in pieces) (numbers piece.processes.items))
           (omega (
             arith,
-            weighed of.records p (numbers piece.processes.items) before after shares weight,
+            weighed cv.records p (numbers piece.processes.items) before after shares weight,
             sum_by-append weight (processes_in pieces) (numbers piece.processes.items),
-            sum_by-append weight (kids of.records (processes_in pieces)) (kids of.records (numbers piece.processes.items)),
-            sum_by-cons weight p (kids of.records (numbers piece.processes.items)),
+            sum_by-append weight (kids cv.records (processes_in pieces)) (kids cv.records (numbers piece.processes.items)),
+            sum_by-cons weight p (kids cv.records (numbers piece.processes.items)),
             sum_by-cons weight p [],
           ));
     })
 
-pub seen_on : (of : Matter) (xs ys g0 g1 g2 : List ℕ) (p0 p1 p2 : List Piece) → SeenTo of xs g0 g1 p0 p1 → SeenTo of ys g1 g2 p1 p2
-    → SeenTo of (xs ++ ys) g0 g2 p0 p2
-seen_on of xs ys g0 g1 g2 p0 p1 p2 one two = record {
+pub seen_on : (cv : CaseValue) (xs ys g0 g1 g2 : List ℕ) (p0 p1 p2 : List Piece) → SeenTo cv xs g0 g1 p0 p1 → SeenTo cv ys g1 g2 p1 p2
+    → SeenTo cv (xs ++ ys) g0 g2 p0 p2
+seen_on cv xs ys g0 g1 g2 p0 p1 p2 one two = record {
   pieces_of = λ all. two.pieces_of (one.pieces_of all);
   shared = λ weight. omega (arith, one.shared weight, two.shared weight, sum_by-append weight xs ys);
 }
 
 -- jobs in another order
-pub seen_alike : (of : Matter) (xs ys g0 g1 : List ℕ) (p0 p1 : List Piece) → ((weight : ℕ → ℕ) → sum_by weight xs ≡ sum_by weight ys) → SeenTo of xs g0 g1 p0 p1
-    → SeenTo of ys g0 g1 p0 p1
-seen_alike of xs ys g0 g1 p0 p1 alike one = record {
+pub seen_alike : (cv : CaseValue) (xs ys g0 g1 : List ℕ) (p0 p1 : List Piece) → ((weight : ℕ → ℕ) → sum_by weight xs ≡ sum_by weight ys)
+    → SeenTo cv xs g0 g1 p0 p1 → SeenTo cv ys g0 g1 p0 p1
+seen_alike cv xs ys g0 g1 p0 p1 alike one = record {
   pieces_of = one.pieces_of;
   shared = λ weight. omega (arith, one.shared weight, alike weight);
 }
@@ -69,115 +69,115 @@ unfolding processes_in
 processes_in-append xs ys = flat_map-append (λ (one : Piece). numbers one.processes.items) xs ys
 
 -- what another did, beside what was done
-seen_beside : (of : Matter) (xs ys g h : List ℕ) (p q : List Piece) → AllOf of q → SeenTo of xs [] g [] p → SeenTo of ys [] h [] q
-    → SeenTo of (xs ++ ys) [] (g ++ h) [] (p ++ q)
-seen_beside of xs ys g h p q theirs one two = record {
-  pieces_of = λ none. All-append (λ (x : Piece). x.case.now ≡ of) p q (one.pieces_of none) theirs;
+seen_beside : (cv : CaseValue) (xs ys g h : List ℕ) (p q : List Piece) → ArePiecesOf cv q → SeenTo cv xs [] g [] p → SeenTo cv ys [] h [] q
+    → SeenTo cv (xs ++ ys) [] (g ++ h) [] (p ++ q)
+seen_beside cv xs ys g h p q theirs one two = record {
+  pieces_of = λ none. All-append (λ (x : Piece). x.case.now ≡ cv) p q (one.pieces_of none) theirs;
   shared = λ weight.
-      rw (processes_in-append p q, kids-append of.records (processes_in p) (processes_in q))
+      rw (processes_in-append p q, kids-append cv.records (processes_in p) (processes_in q))
       (omega (
         arith,
         one.shared weight,
         two.shared weight,
         ap (λ (zs : List ℕ). sum_by weight zs) no_processes,
-        ap (λ (zs : List ℕ). sum_by weight (kids of.records zs)) no_processes,
-        ap (λ (zs : List ℕ). sum_by weight zs) (no_kids of.records),
+        ap (λ (zs : List ℕ). sum_by weight (kids cv.records zs)) no_processes,
+        ap (λ (zs : List ℕ). sum_by weight zs) (no_kids cv.records),
         sum_by-append weight xs ys,
         sum_by-append weight g h,
         sum_by-append weight (processes_in p) (processes_in q),
-        sum_by-append weight (kids of.records (processes_in p)) (kids of.records (processes_in q)),
+        sum_by-append weight (kids cv.records (processes_in p)) (kids cv.records (processes_in q)),
       ));
 }
 
 -- ---- accounts
 
 -- a job was taken and seen to
-pub account_more : (of : Matter) (roots : List ℕ) (p : ℕ) (v taken w : Known) (before after : List Piece) → taken ≡ after_taking v p → OnlyGave taken w
-    → SeenTo of (p ∷ []) taken.given w.given before after
-    → IsAccount of roots v before → IsAccount of roots w after
-account_more of roots p v took w before after is gave seen so_far = record {
-  its_case = gave.its_case ∙ ap (λ (u : Known). u.case) is ∙ so_far.its_case;
+pub account_more : (cv : CaseValue) (roots : List ℕ) (p : ℕ) (v taken w : Ledger) (before after : List Piece) → taken ≡ after_taking v p → OnlyGave taken w
+    → SeenTo cv (p ∷ []) taken.given w.given before after
+    → IsAccount cv roots v before → IsAccount cv roots w after
+account_more cv roots p v took w before after is gave seen so_far = record {
+  its_case = gave.its_case ∙ ap (λ (u : Ledger). u.case) is ∙ so_far.its_case;
   pieces_of = seen.pieces_of so_far.pieces_of;
   seen =
-      seen_alike of ((roots ++ v.taken) ++ p ∷ []) (roots ++ w.taken) [] w.given [] after
+      seen_alike cv ((roots ++ v.taken) ++ p ∷ []) (roots ++ w.taken) [] w.given [] after
       (λ weight.
       omega (
         arith,
         sum_by_push weight (roots ++ v.taken) p,
         sum_by-append weight roots v.taken,
         sum_by-append weight roots w.taken,
-        ap (λ (xs : List ℕ). sum_by weight xs) (gave.taken ∙ ap (λ (u : Known). u.taken) is),
+        ap (λ (xs : List ℕ). sum_by weight xs) (gave.taken ∙ ap (λ (u : Ledger). u.taken) is),
         sum_by_push weight v.taken p,
       ))
-      (seen_on of (roots ++ v.taken) (p ∷ []) [] v.given w.given [] before after so_far.seen
-      (subst (λ (g : List ℕ). SeenTo of (p ∷ []) g w.given before after) (ap (λ (u : Known). u.given) is) seen));
+      (seen_on cv (roots ++ v.taken) (p ∷ []) [] v.given w.given [] before after so_far.seen
+      (subst (λ (g : List ℕ). SeenTo cv (p ∷ []) g w.given before after) (ap (λ (u : Ledger). u.given) is) seen));
 }
 
 -- what a worker did goes to what the caller did
-pub account_joined : (of : Matter) (roots : List ℕ) (v u w : Known) (mine theirs all : List Piece)
-    → w ≡ known v.case (v.parts + u.parts) (v.given ++ u.given) (v.taken ++ u.taken) → all ≡ mine ++ theirs
-    → IsAccount of [] u theirs → IsAccount of roots v mine → IsAccount of roots w all
-account_joined of roots v u w mine theirs all is are worked so_far = record {
-  its_case = ap (λ (x : Known). x.case) is ∙ so_far.its_case;
-  pieces_of = All-same (λ (x : Piece). x.case.now ≡ of) all (mine ++ theirs) are
-      (All-append (λ (x : Piece). x.case.now ≡ of) mine theirs so_far.pieces_of worked.pieces_of);
+pub account_joined : (cv : CaseValue) (roots : List ℕ) (v u w : Ledger) (mine theirs all : List Piece)
+    → w ≡ ledger v.case (v.parts + u.parts) (v.given ++ u.given) (v.taken ++ u.taken) → all ≡ mine ++ theirs
+    → IsAccount cv [] u theirs → IsAccount cv roots v mine → IsAccount cv roots w all
+account_joined cv roots v u w mine theirs all is are worked so_far = record {
+  its_case = ap (λ (x : Ledger). x.case) is ∙ so_far.its_case;
+  pieces_of = All-same (λ (x : Piece). x.case.now ≡ cv) all (mine ++ theirs) are
+      (All-append (λ (x : Piece). x.case.now ≡ cv) mine theirs so_far.pieces_of worked.pieces_of);
   seen =
-      subst (λ (xs : List Piece). SeenTo of (roots ++ w.taken) [] w.given [] xs) (sym are)
-      (subst (λ (g : List ℕ). SeenTo of (roots ++ w.taken) [] g [] (mine ++ theirs)) (sym (ap (λ (x : Known). x.given) is))
-      (seen_alike of ((roots ++ v.taken) ++ u.taken) (roots ++ w.taken) [] (v.given ++ u.given) [] (mine ++ theirs)
+      subst (λ (xs : List Piece). SeenTo cv (roots ++ w.taken) [] w.given [] xs) (sym are)
+      (subst (λ (g : List ℕ). SeenTo cv (roots ++ w.taken) [] g [] (mine ++ theirs)) (sym (ap (λ (x : Ledger). x.given) is))
+      (seen_alike cv ((roots ++ v.taken) ++ u.taken) (roots ++ w.taken) [] (v.given ++ u.given) [] (mine ++ theirs)
       (λ weight.
       omega (
         arith,
         sum_by-append weight (roots ++ v.taken) u.taken,
         sum_by-append weight roots v.taken,
         sum_by-append weight roots w.taken,
-        ap (λ (x : Known). sum_by weight x.taken) is,
+        ap (λ (x : Ledger). sum_by weight x.taken) is,
         sum_by-append weight v.taken u.taken,
       ))
-      (seen_beside of (roots ++ v.taken) u.taken v.given u.given mine theirs worked.pieces_of so_far.seen worked.seen)));
+      (seen_beside cv (roots ++ v.taken) u.taken v.given u.given mine theirs worked.pieces_of so_far.seen worked.seen)));
 }
 
 -- where all that was given was taken, the processes judged are the roots with the children of all of them
-pub account_settled : (of : Matter) (roots : List ℕ) (v : Known) (pieces : List Piece) → ((weight : ℕ → ℕ) → sum_by weight v.given ≡ sum_by weight v.taken)
-    → IsAccount of roots v pieces
-    → (weight : ℕ → ℕ) → sum_by weight (processes_in pieces) ≡ sum_by weight roots + sum_by weight (kids of.records (processes_in pieces))
-account_settled of roots v pieces settled account weight = omega (
+pub account_balanced : (cv : CaseValue) (roots : List ℕ) (v : Ledger) (pieces : List Piece) → ((weight : ℕ → ℕ) → sum_by weight v.given ≡ sum_by weight v.taken)
+    → IsAccount cv roots v pieces
+    → (weight : ℕ → ℕ) → sum_by weight (processes_in pieces) ≡ sum_by weight roots + sum_by weight (kids cv.records (processes_in pieces))
+account_balanced cv roots v pieces balanced account weight = omega (
   arith,
   account.seen.shared weight,
-  settled weight,
+  balanced weight,
   ap (λ (zs : List ℕ). sum_by weight zs) no_processes,
-  ap (λ (zs : List ℕ). sum_by weight (kids of.records zs)) no_processes,
-  ap (λ (zs : List ℕ). sum_by weight zs) (no_kids of.records),
+  ap (λ (zs : List ℕ). sum_by weight (kids cv.records zs)) no_processes,
+  ap (λ (zs : List ℕ). sum_by weight zs) (no_kids cv.records),
   sum_by-append weight roots v.taken,
 )
 
 -- ---- jobs that are seen to one after another
 
 -- of these jobs some were seen to, and others are left
-pub record Halfway (of : Matter) (all : List ℕ) (left : List Job) (g0 g1 : List ℕ) (p0 p1 : List Piece) : Type 0 where
-  pub left_of : AllJobsOf of left
+pub record Halfway (cv : CaseValue) (all : List ℕ) (left : List Job) (g0 g1 : List ℕ) (p0 p1 : List Piece) : Type 0 where
+  pub left_of : AreJobsOf cv left
   pub done : List ℕ
   pub parts : all ≡ done ++ processes_of left
-  pub seen : SeenTo of done g0 g1 p0 p1
+  pub seen : SeenTo cv done g0 g1 p0 p1
 
-pub halfway_more : (of : Matter) (all : List ℕ) (left rest : List Job) (job : Job) (g0 g1 g2 : List ℕ) (p0 p1 p2 : List Piece) → left ≡ job ∷ rest
-    → SeenTo of (job.process.0 ∷ []) g1 g2 p1 p2
-    → Halfway of all left g0 g1 p0 p1 → Halfway of all rest g0 g2 p0 p2
-halfway_more of all left rest job g0 g1 g2 p0 p1 p2 is seen so_far = record {
-  left_of = All-tail (λ (j : Job). j.case.now ≡ of) job rest (subst (λ (xs : List Job). AllJobsOf of xs) is so_far.left_of);
+pub halfway_more : (cv : CaseValue) (all : List ℕ) (left rest : List Job) (job : Job) (g0 g1 g2 : List ℕ) (p0 p1 p2 : List Piece) → left ≡ job ∷ rest
+    → SeenTo cv (job.process.0 ∷ []) g1 g2 p1 p2
+    → Halfway cv all left g0 g1 p0 p1 → Halfway cv all rest g0 g2 p0 p2
+halfway_more cv all left rest job g0 g1 g2 p0 p1 p2 is seen so_far = record {
+  left_of = All-tail (λ (j : Job). j.case.now ≡ cv) job rest (subst (λ (xs : List Job). AreJobsOf cv xs) is so_far.left_of);
   done = so_far.done ++ job.process.0 ∷ [];
   parts = so_far.parts ∙ ap (λ (xs : List Job). so_far.done ++ processes_of xs) is ∙ sym (append_assoc so_far.done (job.process.0 ∷ []) (processes_of rest));
-  seen = seen_on of so_far.done (job.process.0 ∷ []) g0 g1 g2 p0 p1 p2 so_far.seen seen;
+  seen = seen_on cv so_far.done (job.process.0 ∷ []) g0 g1 g2 p0 p1 p2 so_far.seen seen;
 }
 
 -- ---- the caller's roots
 
 -- a job was judged with a hand that keeps nothing
-pub seen_unkept : (of : Matter) (p : ℕ) (given : List ℕ) (pieces pieces_after : List Piece) (piece : Piece)
-    → pieces_after ≡ pieces ++ piece ∷ [] → piece.case.now ≡ of
-    → SharesOut of.records p (numbers piece.processes.items) [] [] → SeenTo of (p ∷ []) given given pieces pieces_after
-seen_unkept of p given pieces pieces_after piece is its shares =
-    let one : SeenTo of (p ∷ []) [] [] pieces pieces_after = seen_judged of p [] [] pieces pieces_after piece is its shares in
+pub seen_unkept : (cv : CaseValue) (p : ℕ) (given : List ℕ) (pieces pieces_after : List Piece) (piece : Piece)
+    → pieces_after ≡ pieces ++ piece ∷ [] → piece.case.now ≡ cv
+    → SharesOut cv.records p (numbers piece.processes.items) [] [] → SeenTo cv (p ∷ []) given given pieces pieces_after
+seen_unkept cv p given pieces pieces_after piece is its shares =
+    let one : SeenTo cv (p ∷ []) [] [] pieces pieces_after = seen_judged cv p [] [] pieces pieces_after piece is its shares in
     record { pieces_of = one.pieces_of; shared = λ weight. omega (arith, one.shared weight) }
 
 -- ---- lists that are gone through

@@ -5,33 +5,33 @@ use Rattle.std.proofs.lemmas.List.{map-append, take-append-drop}
 use Rattle.ll_process.specs.declared.job.Job.{Job}
 use Rattle.ll_process.specs.declared.piece.Piece.{Piece}
 use Rattle.ll_trace.specs.Processes.{IsNumbered, process_count, roots, times}
-use Rattle.ll_process.specs.Cases.{Matter}
+use Rattle.ll_process.specs.Cases.{CaseValue}
 use Rattle.ll_process.specs.Jobs.{processes_of}
 use Rattle.ll_trace.proofs.EachOnce.{each_once_weighed}
-use Rattle.ll_pool.specs.declared.known.Known.{Known}
+use Rattle.ll_pool.specs.declared.queue.Ledger.{Ledger}
 use Rattle.ll_pool.specs.Gathered.{processes_in}
-use Rattle.ll_pool.specs.Rule.{IsSettled}
-use Rattle.ll_pool.specs.Crews.{IsAccount}
-use Rattle.ll_pool.proofs.Accounting.{account_settled}
+use Rattle.ll_pool.specs.Rule.{IsBalanced}
+use Rattle.ll_pool.specs.Accounts.{IsAccount}
+use Rattle.ll_pool.proofs.Accounting.{account_balanced}
 
 -- the processes of jobs that were cut into two lists
-pub cut_processes : (at : ℕ) (jobs first rest : List Job) → first ≡ take at jobs → rest ≡ drop at jobs
+pub cut_processes : (cut : ℕ) (jobs first rest : List Job) → first ≡ take cut jobs → rest ≡ drop cut jobs
     → processes_of first ++ processes_of rest ≡ processes_of jobs
-cut_processes at jobs first rest one two =
+cut_processes cut jobs first rest one two =
     sym (map-append (λ (job : Job). job.process.0) first rest)
-    ∙ ap (λ (xs : List Job). processes_of xs) (ap (λ (xs : List Job). xs ++ rest) one ∙ ap (λ (xs : List Job). take at jobs ++ xs) two
-    ∙ take-append-drop at jobs)
+    ∙ ap (λ (xs : List Job). processes_of xs) (ap (λ (xs : List Job). xs ++ rest) one ∙ ap (λ (xs : List Job). take cut jobs ++ xs) two
+    ∙ take-append-drop cut jobs)
 
-pub all_once : (of : Matter) (at : ℕ) (jobs first rest : List Job) (v : Known) (pieces : List Piece) → IsNumbered of.records → first ≡ take at jobs
-    → rest ≡ drop at jobs → processes_of jobs ≡ roots of.records
-    → IsSettled v → IsAccount of (processes_of first ++ processes_of rest) v pieces → (process : ℕ) → process < process_count of.records
+pub all_once : (cv : CaseValue) (cut : ℕ) (jobs first rest : List Job) (v : Ledger) (pieces : List Piece) → IsNumbered cv.records → first ≡ take cut jobs
+    → rest ≡ drop cut jobs → processes_of jobs ≡ roots cv.records
+    → IsBalanced v → IsAccount cv (processes_of first ++ processes_of rest) v pieces → (process : ℕ) → process < process_count cv.records
     → times process (processes_in pieces) ≡ 1
-all_once of at jobs first rest v pieces numbered one two are settled account process below =
-    each_once_weighed of.records (processes_in pieces) numbered
+all_once cv cut jobs first rest v pieces numbered one two are balanced account process below =
+    each_once_weighed cv.records (processes_in pieces) numbered
     (λ weight.
     omega (
       arith,
-      account_settled of (processes_of first ++ processes_of rest) v pieces settled account weight,
-      ap (λ (xs : List ℕ). sum_by weight xs) (cut_processes at jobs first rest one two ∙ are),
+      account_balanced cv (processes_of first ++ processes_of rest) v pieces balanced account weight,
+      ap (λ (xs : List ℕ). sum_by weight xs) (cut_processes cut jobs first rest one two ∙ are),
     ))
     process below

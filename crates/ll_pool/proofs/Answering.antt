@@ -14,11 +14,11 @@ use Rattle.ll_semantics.specs.Worlds.{judged}
 use Rattle.ll_process.specs.declared.piece.Piece.{Piece}
 use Rattle.ll_trace.specs.Processes.{own_records, numbers, times, process_count}
 use Rattle.ll_process.specs.Judging.{answer_at, answers_of}
-use Rattle.ll_process.specs.Cases.{Matter, IsCase, answers_in as answers_to}
+use Rattle.ll_process.specs.Cases.{CaseValue, IsCase, own_answers}
 use Rattle.ll_semantics.proofs.Steps.{length-judged}
 use Rattle.ll_trace.proofs.Numbers.{numbered_below, count-all}
 use Rattle.ll_trace.proofs.OwnRecords.{own_place, own_record, stands_at}
-use Rattle.ll_pool.specs.Gathered.{AllOf, processes_in, answers_in, placed}
+use Rattle.ll_pool.specs.Gathered.{ArePiecesOf, processes_in, answers_of_pieces, placed}
 use Rattle.ll_trace.proofs.EachOnce.{times-append, times-cons, times-nil, times-same, times-other}
 use Rattle.ll_pool.proofs.Placing.{length-placed}
 
@@ -31,21 +31,21 @@ own_within records p =
     × (r.process.0 ≡ p) = own_record records p i (get_or (own_records records p) i d) (slice_get-get_or (own_records records p) i d within) in
     slice_get_within records (get_or (own_records records p) i d) found.0 found.1)
 
-answers_within : (of : Matter) (p : ℕ) → All (λ (part : ℕ × Answer). part.0 < length of.records) (answers_to of p)
+answers_within : (cv : CaseValue) (p : ℕ) → All (λ (part : ℕ × Answer). part.0 < length cv.records) (own_answers cv p)
 unfolding answers_of
-answers_within of p = All-map (λ (part : ℕ × Answer). part.0 < length of.records) (λ k. (k, answer_at of.tree of.abi of.records k)) (own_records of.records p)
-    (own_within of.records p)
+answers_within cv p = All-map (λ (part : ℕ × Answer). part.0 < length cv.records) (λ k. (k, answer_at cv.tree cv.abi cv.records k)) (own_records cv.records p)
+    (own_within cv.records p)
 
-all_within : (of : Matter) (ps : List ℕ) → All (λ (part : ℕ × Answer). part.0 < length of.records) (flat_map (answers_to of) ps)
-all_within of [] = All-nil (λ (part : ℕ × Answer). part.0 < length of.records)
-all_within of (p ∷ ps) =
-    All-append (λ (part : ℕ × Answer). part.0 < length of.records) (answers_to of p) (flat_map (answers_to of) ps) (answers_within of p) (all_within of ps)
+all_within : (cv : CaseValue) (ps : List ℕ) → All (λ (part : ℕ × Answer). part.0 < length cv.records) (flat_map (own_answers cv) ps)
+all_within cv [] = All-nil (λ (part : ℕ × Answer). part.0 < length cv.records)
+all_within cv (p ∷ ps) =
+    All-append (λ (part : ℕ × Answer). part.0 < length cv.records) (own_answers cv p) (flat_map (own_answers cv) ps) (answers_within cv p) (all_within cv ps)
 
-pub all_places : (of : Matter) (piece : Piece) (n : ℕ) → piece.case.now ≡ of → length of.records ≡ n
+pub all_places : (cv : CaseValue) (piece : Piece) (n : ℕ) → piece.case.now ≡ cv → length cv.records ≡ n
     → All (λ (part : ℕ × Answer). part.0 < n) piece.answers.items
-all_places of piece n its len =
-    All-same (λ (part : ℕ × Answer). part.0 < n) piece.answers.items (flat_map (answers_to piece.case.now) (numbers piece.processes.items)) piece.answered
-    (λ i d within. omega (arith, all_within piece.case.now (numbers piece.processes.items) i d within, ap (λ (m : Matter). length m.records) its, len))
+all_places cv piece n its len =
+    All-same (λ (part : ℕ × Answer). part.0 < n) piece.answers.items (flat_map (own_answers piece.case.now) (numbers piece.processes.items)) piece.answered
+    (λ i d within. omega (arith, all_within piece.case.now (numbers piece.processes.items) i d within, ap (λ (m : CaseValue). length m.records) its, len))
 
 -- ---- every record has its answer
 
@@ -67,13 +67,13 @@ placed_map f (j ∷ js) xs k d known within =
     inside
 
 stands_often : (k : ℕ) (xs : List ℕ) (j : ℕ) → slice_get xs j ≡ Some k → 0 < times k xs
-stands_often k [] j at = absurd (none-some k at)
-stands_often k (x ∷ xs) zero at = omega (arith, times-cons k x xs, times-same k x (same_Some x k at))
-stands_often k (x ∷ xs) (suc j) at = omega (arith, times-cons k x xs, stands_often k xs j at)
+stands_often k [] j eq = absurd (none-some k eq)
+stands_often k (x ∷ xs) zero eq = omega (arith, times-cons k x xs, times-same k x (same_Some x k eq))
+stands_often k (x ∷ xs) (suc j) eq = omega (arith, times-cons k x xs, stands_often k xs j eq)
 
 own_has : (records : List Record) (k : ℕ) (r : Record) → slice_get records k ≡ Some r → 0 < times k (own_records records r.process.0)
-own_has records k r at =
-    let (j, there) = own_place records r.process.0 k r at refl in
+own_has records k r eq =
+    let (j, there) = own_place records r.process.0 k r eq refl in
     stands_often k (own_records records r.process.0) j there
 
 flat_has : (f : ℕ → List ℕ) (k p : ℕ) (ps : List ℕ) → 0 < times p ps → 0 < times k (f p) → 0 < times k (flat_map f ps)
@@ -85,49 +85,49 @@ flat_has f k p (q ∷ qs) some has = elim (cases_eq q p) [
       omega (arith, times-append k (f q) (flat_map f qs), flat_has f k p qs rest has))
 ]
 
-flat_answers : (of : Matter) (ps : List ℕ)
-    → flat_map (answers_to of) ps ≡ map (λ k. (k, answer_at of.tree of.abi of.records k)) (flat_map (own_records of.records) ps)
+flat_answers : (cv : CaseValue) (ps : List ℕ)
+    → flat_map (own_answers cv) ps ≡ map (λ k. (k, answer_at cv.tree cv.abi cv.records k)) (flat_map (own_records cv.records) ps)
 unfolding answers_of
-flat_answers of [] = refl
-flat_answers of (p ∷ ps) =
-    ap (λ xs. map (λ k. (k, answer_at of.tree of.abi of.records k)) (own_records of.records p) ++ xs) (flat_answers of ps)
-    ∙ sym (map-append (λ k. (k, answer_at of.tree of.abi of.records k)) (own_records of.records p) (flat_map (own_records of.records) ps))
+flat_answers cv [] = refl
+flat_answers cv (p ∷ ps) =
+    ap (λ xs. map (λ k. (k, answer_at cv.tree cv.abi cv.records k)) (own_records cv.records p) ++ xs) (flat_answers cv ps)
+    ∙ sym (map-append (λ k. (k, answer_at cv.tree cv.abi cv.records k)) (own_records cv.records p) (flat_map (own_records cv.records) ps))
 
-pieces_answer : (of : Matter) (pieces : List Piece) → AllOf of pieces → answers_in pieces ≡ flat_map (answers_to of) (processes_in pieces)
-unfolding answers_in processes_in
-pieces_answer of [] all = refl
-pieces_answer of (x ∷ xs) all =
-    ap (λ (ys : List (ℕ × Answer)). ys ++ answers_in xs) (x.answered
-    ∙ ap (λ (m : Matter). flat_map (answers_to m) (numbers x.processes.items)) (All-head (λ (piece : Piece). piece.case.now ≡ of) x xs all))
-    ∙ ap (λ (ys : List (ℕ × Answer)). flat_map (answers_to of) (numbers x.processes.items) ++ ys)
-    (pieces_answer of xs (All-tail (λ (piece : Piece). piece.case.now ≡ of) x xs all))
-    ∙ sym (flat_map-append (answers_to of) (numbers x.processes.items) (processes_in xs))
+pieces_answer : (cv : CaseValue) (pieces : List Piece) → ArePiecesOf cv pieces → answers_of_pieces pieces ≡ flat_map (own_answers cv) (processes_in pieces)
+unfolding answers_of_pieces processes_in
+pieces_answer cv [] all = refl
+pieces_answer cv (x ∷ xs) all =
+    ap (λ (ys : List (ℕ × Answer)). ys ++ answers_of_pieces xs) (x.answered
+    ∙ ap (λ (m : CaseValue). flat_map (own_answers m) (numbers x.processes.items)) (All-head (λ (piece : Piece). piece.case.now ≡ cv) x xs all))
+    ∙ ap (λ (ys : List (ℕ × Answer)). flat_map (own_answers cv) (numbers x.processes.items) ++ ys)
+    (pieces_answer cv xs (All-tail (λ (piece : Piece). piece.case.now ≡ cv) x xs all))
+    ∙ sym (flat_map-append (own_answers cv) (numbers x.processes.items) (processes_in xs))
 
-answer_there : (of : Matter) (pieces : List Piece) (before : List Answer) (k : ℕ) → IsCase of → AllOf of pieces
-    → ((q : ℕ) → q < process_count of.records → 0 < times q (processes_in pieces)) → length before ≡ length of.records → k < length of.records
-    → get_or (placed (answers_in pieces) before) k Moot ≡ answer_at of.tree of.abi of.records k
-answer_there of pieces before k case all each len within =
-    let found : (r : Record) × (slice_get of.records k ≡ Some r) = stands_at of.records k within in
-    let below : found.0.process.0 < process_count of.records =
-    omega (arith, numbered_below of.records k found.0 case.numbered found.1, count-all of.records (suc k)) in
-    let has : 0 < times k (flat_map (own_records of.records) (processes_in pieces)) =
-    flat_has (own_records of.records) k found.0.process.0 (processes_in pieces) (each found.0.process.0 below) (own_has of.records k found.0 found.1) in
-    ap (λ (ps : List (ℕ × Answer)). get_or (placed ps before) k Moot) (pieces_answer of pieces all ∙ flat_answers of (processes_in pieces))
-    ∙ placed_map (answer_at of.tree of.abi of.records) (flat_map (own_records of.records) (processes_in pieces)) before k Moot (inl has)
+answer_there : (cv : CaseValue) (pieces : List Piece) (before : List Answer) (k : ℕ) → IsCase cv → ArePiecesOf cv pieces
+    → ((q : ℕ) → q < process_count cv.records → 0 < times q (processes_in pieces)) → length before ≡ length cv.records → k < length cv.records
+    → get_or (placed (answers_of_pieces pieces) before) k Moot ≡ answer_at cv.tree cv.abi cv.records k
+answer_there cv pieces before k case all each len within =
+    let found : (r : Record) × (slice_get cv.records k ≡ Some r) = stands_at cv.records k within in
+    let below : found.0.process.0 < process_count cv.records =
+    omega (arith, numbered_below cv.records k found.0 case.numbered found.1, count-all cv.records (suc k)) in
+    let has : 0 < times k (flat_map (own_records cv.records) (processes_in pieces)) =
+    flat_has (own_records cv.records) k found.0.process.0 (processes_in pieces) (each found.0.process.0 below) (own_has cv.records k found.0 found.1) in
+    ap (λ (ps : List (ℕ × Answer)). get_or (placed ps before) k Moot) (pieces_answer cv pieces all ∙ flat_answers cv (processes_in pieces))
+    ∙ placed_map (answer_at cv.tree cv.abi cv.records) (flat_map (own_records cv.records) (processes_in pieces)) before k Moot (inl has)
     (omega (arith, within, len))
 
-judged_there : (of : Matter) (k : ℕ) → get_or (judged of.tree of.abi of.records) k Moot ≡ answer_at of.tree of.abi of.records k
+judged_there : (cv : CaseValue) (k : ℕ) → get_or (judged cv.tree cv.abi cv.records) k Moot ≡ answer_at cv.tree cv.abi cv.records k
 unfolding answer_at
-judged_there of k = sym (unwrap_or-slice_get (judged of.tree of.abi of.records) k Moot)
+judged_there cv k = sym (unwrap_or-slice_get (judged cv.tree cv.abi cv.records) k Moot)
 
-pub all_answered : (of : Matter) (pieces : List Piece) (before answers : List Answer) → IsCase of → AllOf of pieces
-    → ((q : ℕ) → q < process_count of.records → 0 < times q (processes_in pieces)) → length before ≡ length of.records
-    → answers ≡ placed (answers_in pieces) before
-    → answers ≡ judged of.tree of.abi of.records
-all_answered of pieces before answers case all each len is =
+pub all_answered : (cv : CaseValue) (pieces : List Piece) (before answers : List Answer) → IsCase cv → ArePiecesOf cv pieces
+    → ((q : ℕ) → q < process_count cv.records → 0 < times q (processes_in pieces)) → length before ≡ length cv.records
+    → answers ≡ placed (answers_of_pieces pieces) before
+    → answers ≡ judged cv.tree cv.abi cv.records
+all_answered cv pieces before answers case all each len is =
     is
-    ∙ ext_get_or Moot (placed (answers_in pieces) before) (judged of.tree of.abi of.records)
-    (length-placed (answers_in pieces) before ∙ len ∙ sym (length-judged of.tree of.abi of.records))
+    ∙ ext_get_or Moot (placed (answers_of_pieces pieces) before) (judged cv.tree cv.abi cv.records)
+    (length-placed (answers_of_pieces pieces) before ∙ len ∙ sym (length-judged cv.tree cv.abi cv.records))
     (λ k inside.
-    (let within : k < length of.records = omega (arith, inside, length-placed (answers_in pieces) before, len) in
-    answer_there of pieces before k case all each len within ∙ sym (judged_there of k)))
+    (let within : k < length cv.records = omega (arith, inside, length-placed (answers_of_pieces pieces) before, len) in
+    answer_there cv pieces before k case all each len within ∙ sym (judged_there cv k)))

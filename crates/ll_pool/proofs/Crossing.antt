@@ -1,4 +1,4 @@
--- What the members of a crew hold may be handed to another thread.
+-- What the hands of the pool hold may be handed to another thread.
 use denote.RattleType.{RattleType}
 use denote.Ref.{NamedLft}
 use denote.Param.Send.{IsSend, IsSync, sendable, recorded_sync, recorded_send, struct_sync, struct_send}
@@ -8,10 +8,10 @@ use Rattle.std.proofs.option.Option.TheSendSync as option
 use Rattle.crossbeam_queue.proofs.array_queue.Slotted.TheSendSync as slotted
 use Rattle.crossbeam_queue.below.atomic_table.proofs.shared.Seat.TheSendSync as seat
 use Rattle.ll_process.proofs.Crossing.{job_send, piece_send}
-use Rattle.ll_pool.specs.declared.rule.Naming.{Ghosts}
-use Rattle.ll_pool.specs.contracts.pool.Pool as Pool
-use Rattle.ll_pool.specs.contracts.member.Member as Member
-use Rattle.ll_pool.specs.contracts.worker.Worked as Worked
+use Rattle.ll_pool.specs.declared.queue.Naming.{Ghosts}
+use Rattle.ll_pool.specs.contracts.hand.Pool as Pool
+use Rattle.ll_pool.specs.contracts.hand.QueueHand as QueueHand
+use Rattle.ll_pool.specs.contracts.hand.Worked as Worked
 
 pub pool_sync : (a a' : NamedLft) (T T' T'' : RattleType) (g : Ghosts T.Denot) → IsSend T → IsSync T → IsSync T' → IsSync T''
     → IsSync (Pool.the_row a a' T T' T'' g)
@@ -31,11 +31,11 @@ pool_sync a a' T T' T'' g send sync sync' sync'' =
       ),
     ))
 
-pub member_send : (a a' a'' : NamedLft) (T T' T'' : RattleType) (g : Ghosts T.Denot) → IsSend T → IsSync T → IsSync T' → IsSync T''
-    → IsSend (Member.the_row a a' a'' T T' T'' g)
-member_send a a' a'' T T' T'' g send sync sync' sync'' =
-    recorded_send (Member.the_field a a' a'' T T' T'' g).row _ _ (Member.the_type a a' a'' T T' T'' g).to_one
-    (struct_send (shape (Member.the_type a a' a'' T T' T'' g)) (
+pub hand_send : (a a' a'' : NamedLft) (T T' T'' : RattleType) (g : Ghosts T.Denot) → IsSend T → IsSync T → IsSync T' → IsSync T''
+    → IsSend (QueueHand.the_row a a' a'' T T' T'' g)
+hand_send a a' a'' T T' T'' g send sync sync' sync'' =
+    recorded_send (QueueHand.the_field a a' a'' T T' T'' g).row _ _ (QueueHand.the_type a a' a'' T T' T'' g).to_one
+    (struct_send (shape (QueueHand.the_type a a' a'' T T' T'' g)) (
       search (pool_sync, sendable) depth 20,
       (search (seat.the_send, option.the_send, job_send, crosses, sendable) depth 40, tt),
     ))

@@ -5,5 +5,4 @@ pub mod Counts
 pub mod Placing
 pub mod Answering
 pub mod Sharing
-pub mod FaultFree
 pub mod Crossing

@@ -7,7 +7,7 @@ use Rattle.std.proofs.lemmas.Grind.{flat_map-append}
 use Rattle.std.proofs.lemmas.Option.{slice_get_within, get_or_from_slice_get}
 use Rattle.ll_semantics.specs.declared.answer.Answer.{Answer}
 use Rattle.ll_process.specs.declared.piece.Piece.{Piece}
-use Rattle.ll_pool.specs.Gathered.{answers_in, placed}
+use Rattle.ll_pool.specs.Gathered.{answers_of_pieces, placed}
 
 pub placed-nil : (xs : List Answer) → placed [] xs ≡ xs
 unfolding placed
@@ -27,23 +27,24 @@ unfolding placed
 length-placed [] xs = refl
 length-placed (p ∷ ps) xs = length-placed ps (set xs p.0 p.1) ∙ length-set xs p.0 p.1
 
-pub answers_in-nil : answers_in [] ≡ []
-unfolding answers_in
-answers_in-nil = refl
+pub answers_of_pieces-nil : answers_of_pieces [] ≡ []
+unfolding answers_of_pieces
+answers_of_pieces-nil = refl
 
-pub answers_in-next : (pieces : List Piece) (i : ℕ) (piece : Piece) → slice_get pieces i ≡ Some piece
-    → answers_in (take (i + 1) pieces) ≡ answers_in (take i pieces) ++ piece.answers.items
-unfolding answers_in
-answers_in-next pieces i piece at =
-    ap (λ (xs : List Piece). flat_map (λ (x : Piece). x.answers.items) xs) (take_more pieces i piece (slice_get_within pieces i piece at)
-    ∙ ap (λ (x : Piece). take i pieces ++ x ∷ []) (get_or_from_slice_get pieces i piece piece at))
+pub answers_of_pieces-next : (pieces : List Piece) (i : ℕ) (piece : Piece) → slice_get pieces i ≡ Some piece
+    → answers_of_pieces (take (i + 1) pieces) ≡ answers_of_pieces (take i pieces) ++ piece.answers.items
+unfolding answers_of_pieces
+answers_of_pieces-next pieces i piece eq =
+    ap (λ (xs : List Piece). flat_map (λ (x : Piece). x.answers.items) xs) (take_more pieces i piece (slice_get_within pieces i piece eq)
+    ∙ ap (λ (x : Piece). take i pieces ++ x ∷ []) (get_or_from_slice_get pieces i piece piece eq))
     ∙ flat_map-append (λ (x : Piece). x.answers.items) (take i pieces) (piece ∷ [])
     ∙ ap (λ (xs : List (ℕ × Answer)). flat_map (λ (x : Piece). x.answers.items) (take i pieces) ++ xs) (append-nil piece.answers.items)
 
 pub assembled_more : (pieces : List Piece) (i : ℕ) (piece : Piece) (before xs xs_after : List Answer) → slice_get pieces i ≡ Some piece
-    → xs ≡ placed (answers_in (take i pieces)) before → xs_after ≡ placed piece.answers.items xs → xs_after ≡ placed (answers_in (take (i + 1) pieces)) before
-assembled_more pieces i piece before xs xs_after at so_far is =
+    → xs ≡ placed (answers_of_pieces (take i pieces)) before → xs_after ≡ placed piece.answers.items xs
+    → xs_after ≡ placed (answers_of_pieces (take (i + 1) pieces)) before
+assembled_more pieces i piece before xs xs_after eq so_far is =
     is
     ∙ ap (λ (ys : List Answer). placed piece.answers.items ys) so_far
-    ∙ sym (placed-append (answers_in (take i pieces)) piece.answers.items before)
-    ∙ ap (λ (ps : List (ℕ × Answer)). placed ps before) (sym (answers_in-next pieces i piece at))
+    ∙ sym (placed-append (answers_of_pieces (take i pieces)) piece.answers.items before)
+    ∙ ap (λ (ps : List (ℕ × Answer)). placed ps before) (sym (answers_of_pieces-next pieces i piece eq))

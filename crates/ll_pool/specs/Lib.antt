@@ -1,4 +1,3 @@
-pub mod Crews
+pub mod Accounts
 pub mod Rule
 pub mod Gathered
-pub mod Faults

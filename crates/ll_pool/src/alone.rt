@@ -3,18 +3,17 @@
 ghost use Rattle.std.specs.Prelude.{◌≡◌, ℕ, ◌+◌, List, [], IfOk, sum_by};
 ghost use Rattle.ll_semantics.specs.Worlds.{judged};
 ghost use Rattle.ll_trace.specs.Processes.{kids, roots, IsNumbered};
-ghost use Rattle.ll_pool.specs.Gathered.{AllOf, processes_in};
+ghost use Rattle.ll_pool.specs.Gathered.{ArePiecesOf, processes_in};
 
-use crate::empty::Empty;
-use crate::gather::collect_whole;
-use crate::keep::keep;
+use crate::gather::{collect_whole, keep};
+use crate::hand::EmptyHand;
 use ll_process::{Answer, Case, Piece, judge};
 use ll_rules::NoMemory;
 use std::alloc::Global;
 
 /// One piece for each root, with all of its descendants.
 fn pieces_of(alloc: Global, case: &Case) -> Result<Vec<Piece<'_>>, NoMemory>
-    ensures of_case { IfOk result (λ pieces. AllOf case.now pieces.items) }
+    ensures of_case { IfOk result (λ pieces. ArePiecesOf case.now pieces.items) }
     ensures numbered { IfOk result (λ pieces. IsNumbered case.now.records) }
     ensures shared { IfOk result (λ pieces. (weight : ℕ → ℕ)
         → sum_by weight (processes_in pieces.items)
@@ -24,7 +23,7 @@ fn pieces_of(alloc: Global, case: &Case) -> Result<Vec<Piece<'_>>, NoMemory>
     let mut jobs = case.roots(alloc)?;
     let mut pieces = Vec::new(alloc);
     while let Some(job) = jobs.pop() {
-        let piece = judge(alloc, job, &mut Empty)?;
+        let piece = judge(alloc, job, &mut EmptyHand)?;
         keep(&mut pieces, piece)?;
     }
     Ok(pieces)

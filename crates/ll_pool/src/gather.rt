@@ -1,14 +1,12 @@
 //! Collecting the answers of pieces in the order of the records.
 
-ghost use Rattle.std.specs.Prelude.{◌≡◌, ℕ, ◌<◌, IfOk, IfErr};
+ghost use Rattle.std.specs.Prelude.{◌≡◌, ℕ, ◌<◌, IfOk, IfErr, ◌+◌, ◌≤◌, min, length, slice_index, All, IfSome, IfNone, vec_len, ◌++◌, ◌∷◌, [], OnOk};
 ghost use Rattle.ll_semantics.specs.Worlds.{judged};
-ghost use Rattle.ll_trace.specs.Processes.{process_count, times};
+ghost use Rattle.ll_trace.specs.Processes.{process_count, times, numbers};
 ghost use Rattle.ll_pool.specs.declared.gather.CollectFault.TheVariants.{Memory};
-ghost use Rattle.ll_pool.specs.Faults.{IsFault};
-ghost use Rattle.ll_pool.specs.Gathered.{AllOf, processes_in};
+ghost use Rattle.ll_pool.specs.Gathered.{IsFault, ArePiecesOf, processes_in, IsTally, placed};
+ghost use Rattle.ll_trace.specs.declared.reader.TheConstants.{MOST_PROCESSES};
 
-use crate::assemble::assemble;
-use crate::tally::{first_absent, first_double, tally};
 use ll_process::{Answer, Case, Piece};
 use ll_rules::NoMemory;
 use ll_trace::ProcessId;
@@ -40,7 +38,7 @@ pub fn collect(
     case: &Case,
     pieces: Vec<Piece<'_>>,
 ) -> Result<Vec<Answer>, CollectFault>
-    requires { AllOf case.now pieces.items }
+    requires { ArePiecesOf case.now pieces.items }
     ensures answers { IfOk result
         (λ answers. answers.items ≡ judged case.now.tree case.now.abi case.now.records) }
     ensures each_once { IfOk result (λ answers. (process : ℕ)
@@ -64,7 +62,7 @@ pub fn collect_whole(
     case: &Case,
     pieces: Vec<Piece<'_>>,
 ) -> Result<Vec<Answer>, NoMemory>
-    requires of_case { AllOf case.now pieces.items }
+    requires of_case { ArePiecesOf case.now pieces.items }
     requires each_once { (process : ℕ) → process < process_count case.now.records
         → times process (processes_in pieces.items) ≡ 1 }
     ensures { IfOk result (λ answers. answers.items
@@ -75,5 +73,116 @@ pub fn collect_whole(
         Err(CollectFault::Memory) => Err(NoMemory),
         Err(CollectFault::Missing(_absent)) => unreachable!(),
         Err(CollectFault::Double(_doubled)) => unreachable!(),
+    }
+}
+
+/// Counts each of the processes once more.
+fn count(seen: &mut Vec<u8>, processes: &[ProcessId])
+    requires { All (λ process. process.0 < vec_len seen.old) processes.now }
+    ensures len { length seen.new.items ≡ length seen.old.items }
+    ensures each { (process : ℕ) → process < length seen.old.items →
+        slice_index seen.new.items process
+        ≡ min 255 (slice_index seen.old.items process + times process (numbers processes.now)) }
+{
+    for process in processes {
+        let place = process.0 as usize;
+        seen[place] = seen[place].saturating_add(1);
+    }
+}
+
+/// How often each process of the case is in the pieces, counted up to 255.
+fn tally(alloc: Global, case: &Case, pieces: &[Piece<'_>]) -> Result<Vec<u8>, AllocError>
+    requires { ArePiecesOf case.now pieces.now }
+    ensures len { IfOk result (λ seen. length seen.items ≡ process_count case.now.records) }
+    ensures few { IfOk result (λ seen. length seen.items ≤ MOST_PROCESSES) }
+    ensures each { IfOk result (λ seen. IsTally (processes_in pieces.now) seen.items) }
+{
+    let mut seen = vec![in alloc; 0u8; case.trace().processes() as usize]?;
+    for piece in pieces {
+        count(&mut seen, piece.processes());
+    }
+    Ok(seen)
+}
+
+/// The first process that is there more than once.
+fn first_double(seen: &[u8]) -> Option<u32>
+    requires { length seen.now ≤ MOST_PROCESSES }
+    ensures found { IfSome result (λ first. (first < length seen.now)
+        × (1 < slice_index seen.now first)
+        × ((process : ℕ) → process < first → slice_index seen.now process ≤ 1)) }
+    ensures none { IfNone result ((process : ℕ) → process < length seen.now
+        → slice_index seen.now process ≤ 1) }
+{
+    for process in 0..seen.len() as u32 {
+        if seen[process as usize] > 1 {
+            return Some(process);
+        }
+    }
+    None
+}
+
+/// The first process that isn't there.
+fn first_absent(seen: &[u8]) -> Option<u32>
+    requires { length seen.now ≤ MOST_PROCESSES }
+    ensures found { IfSome result (λ first. (first < length seen.now)
+        × (slice_index seen.now first ≡ 0)
+        × ((process : ℕ) → process < first → 0 < slice_index seen.now process)) }
+    ensures none { IfNone result ((process : ℕ) → process < length seen.now
+        → 0 < slice_index seen.now process) }
+{
+    for process in 0..seen.len() as u32 {
+        if seen[process as usize] == 0 {
+            return Some(process);
+        }
+    }
+    None
+}
+
+/// Puts answers in their places.
+fn place(answers: &mut Vec<Answer>, parts: &[(u32, Answer)])
+    requires { All (λ part. part.0 < vec_len answers.old) parts.now }
+    ensures len { length answers.new.items ≡ length answers.old.items }
+    ensures placed { answers.new.items ≡ placed parts.now answers.old.items }
+{
+    for part in parts {
+        answers[part.0 as usize] = part.1;
+    }
+}
+
+/// The answers of pieces in the order of the records, where each process is in some piece.
+fn assemble(alloc: Global, case: &Case, pieces: &[Piece<'_>]) -> Result<Vec<Answer>, AllocError>
+    requires of_case { ArePiecesOf case.now pieces.now }
+    requires each { (process : ℕ) → process < process_count case.now.records →
+        0 < times process (processes_in pieces.now) }
+    ensures { IfOk result
+        (λ answers. answers.items ≡ judged case.now.tree case.now.abi case.now.records) }
+{
+    let mut answers = vec![in alloc; Answer::Moot; case.trace().records().len()]?;
+    for piece in pieces {
+        place(&mut answers, piece.answers());
+    }
+    Ok(answers)
+}
+
+/// Adds a piece behind those that are there.
+pub(crate) fn keep<'c>(pieces: &mut Vec<Piece<'c>>, piece: Piece<'c>) -> Result<(), NoMemory>
+    ensures { OnOk result (pieces.new.items ≡ pieces.old.items ++ piece.entry ∷ []) }
+{
+    match pieces.push(piece) {
+        Ok(()) => Ok(()),
+        Err(_) => Err(NoMemory),
+    }
+}
+
+/// Adds pieces behind those that are there.
+pub(crate) fn keep_all<'c>(
+    pieces: &mut Vec<Piece<'c>>,
+    mut more: Vec<Piece<'c>>,
+) -> Result<(), NoMemory>
+    ensures { OnOk result (pieces.new.items ≡ pieces.old.items ++ more.entry.items) }
+{
+    match pieces.append(&mut more) {
+        Ok(()) => Ok(()),
+        Err(_) => Err(NoMemory),
     }
 }

@@ -2,25 +2,14 @@
 #![tactic(auto)]
 
 mod alone;
-mod assemble;
-mod busy;
-mod crew;
-mod drain;
-mod empty;
-mod gate;
 mod gather;
-mod keep;
-mod known;
-mod lead;
-mod line;
-mod member;
-mod pool;
-mod rule;
+mod hand;
+mod queue;
 mod running;
-mod tally;
-mod worker;
+mod workers;
 
 pub use alone::judge_alone;
-pub use gate::Gate;
 pub use gather::{CollectFault, collect, collect_whole};
-pub use running::{PoolFault, run};
+pub use hand::Gate;
+pub use running::run;
+pub use workers::PoolFault;

@@ -1,41 +1,23 @@
 //! Judging all processes of a case by workers.
-ghost use Rattle.std.specs.Prelude.{◌≡◌, ◌≤◌, ◌<◌, ◌+◌, ◌-◌, ◌^◌, ℕ, IfOk, count_by, drop, length, min, take};
-ghost use Rattle.ll_trace.specs.Processes.{process_count, times};
-ghost use Rattle.ll_pool.specs.declared.running.PoolFault.TheVariants.{Memory};
-ghost use Rattle.ll_pool.specs.Gathered.{AllOf, processes_in};
 
-use crate::busy::Busy;
-use crate::drain::drain;
-use crate::gate::Gate;
-use crate::lead::{Roots, lead};
-use crate::line::{ROOM, open};
-use crate::member::Member;
-use crate::pool::Pool;
-use crate::rule::Naming;
-use crate::worker::Worked;
-use ll_process::{Case, Job, Piece};
+ghost use Rattle.std.specs.Prelude.{◌≡◌, ◌≤◌, ◌<◌, ◌+◌, ◌-◌, ◌^◌, ℕ, IfOk, count_by, drop, length, min, take, List, OnOk};
+ghost use Rattle.ll_trace.specs.Processes.{process_count, times};
+ghost use Rattle.ll_pool.specs.declared.queue.TheConstants.{PARTS, ROOM};
+ghost use Rattle.ll_pool.specs.Gathered.{ArePiecesOf, processes_in};
+ghost use Rattle.crossbeam_queue.specs.Passes.{view, IsPassOf};
+ghost use Rattle.ll_pool.specs.Rule.{IsBalanced};
+ghost use Rattle.ll_pool.specs.Accounts.{IsAccount};
+
+use crate::gather::keep;
+use crate::hand::{Busy, EmptyHand, Gate, Pool, QueueHand, Worked};
+use crate::queue::{Naming, QueuePass, ROOM, open, pop};
+use crate::workers::{PoolFault, Roots, judge_by_workers};
+use ll_process::{Case, Job, Piece, judge};
 use ll_rules::NoMemory;
 use std::alloc::Global;
 use std::marker::Brand;
 use std::sync::Wait;
 use std::thread::Threads;
-
-/// Why not all was judged.
-#[derive(Clone, Copy, Debug, PartialEq, Eq)]
-pub enum PoolFault {
-    /// Out of memory.
-    Memory,
-    /// A thread could not be started.
-    NoThread,
-}
-
-impl From<NoMemory> for PoolFault {
-    ghost from_gives = { λ _ e. e ≡ Memory };
-
-    fn from(_failed: NoMemory) -> PoolFault {
-        PoolFault::Memory
-    }
-}
 
 /// Judges all processes of a case, each in one piece: by this many workers, each on a thread of
 /// its own, who share a queue of 1,024 jobs. The roots go to the queue, and so does each child where
@@ -53,7 +35,7 @@ pub fn run<'c, R: Threads + Wait + Sync, G: Gate + Sync>(
     gate: &G,
 ) -> Result<Vec<Piece<'c>>, PoolFault>
     requires { (1 ≤ workers) × (workers ≤ 64) }
-    ensures of_case { IfOk result (λ pieces. AllOf case.now pieces.items) }
+    ensures of_case { IfOk result (λ pieces. ArePiecesOf case.now pieces.items) }
     ensures each_once { IfOk result
         (λ pieces. (process : ℕ) → process < process_count case.now.records
         → times process (processes_in pieces.items) ≡ 1) }
@@ -71,9 +53,9 @@ fn most_jobs(roots: usize, cut: &[bool]) -> usize
 /// The jobs behind those for which the queue has room.
 fn beyond_room<'c>(jobs: &mut Vec<Job<'c>>) -> Result<Vec<Job<'c>>, NoMemory>
     ensures items { IfOk result
-        (λ rest. jobs.new.items ≡ take (min (length jobs.old.items) 1024) jobs.old.items) }
+        (λ rest. jobs.new.items ≡ take (min (length jobs.old.items) ROOM) jobs.old.items) }
     ensures tail { IfOk result
-        (λ rest. rest.items ≡ drop (min (length jobs.old.items) 1024) jobs.old.items) }
+        (λ rest. rest.items ≡ drop (min (length jobs.old.items) ROOM) jobs.old.items) }
 {
     Ok(jobs.split_off(jobs.len().min(ROOM))?)
 }
@@ -89,28 +71,54 @@ fn run_named<'s, 'c, N: Naming + Send + Sync, R: Threads + Wait + Sync, G: Gate 
 ) -> Result<Vec<Piece<'c>>, PoolFault>
     requires named { case.now ≡ N.case }
     requires workers { workers ≤ 64 }
-    ensures of_case { IfOk result (λ pieces. AllOf case.now pieces.items) }
+    ensures of_case { IfOk result (λ pieces. ArePiecesOf case.now pieces.items) }
     ensures each_once { IfOk result
         (λ pieces. (process : ℕ) → process < process_count case.now.records
         → times process (processes_in pieces.items) ≡ 1) }
 {
     let mut first = case.roots(alloc)?;
-    let crew = workers.min(most_jobs(first.len(), cut));
+    let started = workers.min(most_jobs(first.len(), cut));
     let rest = beyond_room(&mut first)?;
-    let (line, pass) = open::<N>(alloc)?;
+    let (queue, pass) = open::<N>(alloc)?;
     let pool: Pool<'s, 'c, N, R, G> = Pool {
         rt,
         alloc,
         gate,
         cut,
-        line,
+        queue,
         busy: Busy::new(),
     };
-    let me = Member { pool: &pool, pass };
+    let me = QueueHand { pool: &pool, pass };
     let Worked {
         mut pass,
         mut pieces,
-    } = lead(me, Roots { first, rest }, crew)?;
+    } = judge_by_workers(me, Roots { first, rest }, started)?;
     drain(&pool, &mut pass, &mut pieces)?;
     Ok(pieces)
+}
+
+/// Judges all jobs that are left in the queue, with a hand that keeps nothing. The pass has all
+/// parts, so at the end what it gave is what it took.
+fn drain<'s, 'c, N: Naming, R: Wait, G: Gate>(
+    pool: &Pool<'s, 'c, N, R, G>,
+    pass: &mut QueuePass<'c>,
+    pieces: &mut Vec<Piece<'c>>,
+) -> Result<(), NoMemory>
+    requires queue { IsPassOf pool.now.queue pass.old }
+    requires whole { (view pass.old).parts ≡ PARTS }
+    requires of_case { (view pass.old).case ≡ N.case }
+    ensures account { OnOk result ((roots : List ℕ)
+        → IsAccount N.case roots (view pass.old) pieces.old.items
+        → IsAccount N.case roots (view pass.new) pieces.new.items) }
+    ensures balanced { OnOk result (IsBalanced (view pass.new)) }
+{
+    for _ in pool.rt.forever() {
+        let Some(job) = pop(pool.rt, &pool.queue, pass) else {
+            return Ok(());
+        };
+        pool.gate.begun(job.process());
+        let piece = judge(pool.alloc, job, &mut EmptyHand)?;
+        keep(pieces, piece)?;
+    }
+    unreachable!()
 }

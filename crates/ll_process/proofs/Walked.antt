@@ -12,71 +12,71 @@ use Rattle.ll_semantics.specs.States.{State}
 use Rattle.ll_process.specs.declared.job.Job.{Job}
 use Rattle.ll_trace.specs.Processes.{own_records, forked_at, children, process_count, started_at}
 use Rattle.ll_process.specs.Judging.{answer_at, answers_of}
-use Rattle.ll_process.specs.Cases.{Matter, IsCase, BeginsAs, AgreesIn, answers_in}
+use Rattle.ll_process.specs.Cases.{CaseValue, IsCase, BeginsAs, AgreesIn, own_answers}
 use Rattle.ll_process.specs.Own.{IsOwn, Meets, Leaves}
-use Rattle.ll_process.specs.Jobs.{processes_of, AllOf, HandedOut, KeepsMore, weight, weight_of}
+use Rattle.ll_process.specs.Jobs.{processes_of, AreJobsOf, HandedOut, KeepsMore, weight, weight_of}
 use Rattle.ll_trace.proofs.Numbers.{start_of, started_at-from}
 use Rattle.ll_trace.proofs.OwnRecords.{own_record}
 use Rattle.ll_process.proofs.Walks.{met_first, met_next}
 use Rattle.ll_process.proofs.Weighing.{weight_of-children}
 
-module _ (of : Matter) (process : ℕ) where
+module _ (cv : CaseValue) (process : ℕ) where
   abbrev with_answer : ℕ → ℕ × Answer
-  with_answer k = (k, answer_at of.tree of.abi of.records k)
+  with_answer k = (k, answer_at cv.tree cv.abi cv.records k)
 
   -- The own records before place j were walked: what was there before, with all that the process answers and forks, is what there is now with what the rest
   -- answers and forks.
   pub record Walked (j : ℕ) (own : OwnState) (answers_before answers : List (ℕ × Answer)) (kept_before kept : List ℕ) (todo_then todo : List Job) : Type 0 where
-    pub meets : (i : ℕ) → slice_get (own_records of.records process) j ≡ Some i → Meets of i process own
-    pub answered : answers ++ map with_answer (drop j (own_records of.records process)) ≡ answers_before ++ answers_in of process
+    pub meets : (i : ℕ) → slice_get (own_records cv.records process) j ≡ Some i → Meets cv i process own
+    pub answered : answers ++ map with_answer (drop j (own_records cv.records process)) ≡ answers_before ++ own_answers cv process
     pub shared : (weight : ℕ → ℕ)
-        → sum_by weight kept + sum_by weight (processes_of todo) + sum_by weight (filter_map (forked_at of.records) (drop j (own_records of.records process)))
-        ≡ sum_by weight kept_before + sum_by weight (processes_of todo_then) + sum_by weight (children of.records process)
-    pub of_case : AllOf of todo
+        → sum_by weight kept + sum_by weight (processes_of todo) + sum_by weight (filter_map (forked_at cv.records) (drop j (own_records cv.records process)))
+        ≡ sum_by weight kept_before + sum_by weight (processes_of todo_then) + sum_by weight (children cv.records process)
+    pub of_case : AreJobsOf cv todo
 
-  pub walked_none : (own : OwnState) (answers : List (ℕ × Answer)) (kept : List ℕ) (todo : List Job) → IsCase of → process < process_count of.records
-      → BeginsAs of process own → AllOf of todo →
+  pub walked_none : (own : OwnState) (answers : List (ℕ × Answer)) (kept : List ℕ) (todo : List Job) → IsCase cv → process < process_count cv.records
+      → BeginsAs cv process own → AreJobsOf cv todo →
       Walked 0 own answers answers kept kept todo todo
   unfolding answers_of children
   walked_none own answers kept todo case there begins all = record {
     meets = λ i first.
-        let (k, one) = start_of of.records process there in
-        let starts : started_at of.records k ≡ Some process = started_at-from of.records k one.of one.at one.kind ∙ ap (λ (n : ℕ). Some n) (sym one.number) in
-        subst (λ (s : State). AgreesIn of own s) (sym (met_first of.tree of.abi of.records process k i case.numbered one first)) (begins k starts);
+        let (k, one) = start_of cv.records process there in
+        let starts : started_at cv.records k ≡ Some process = started_at-from cv.records k one.of one.at one.kind ∙ ap (λ (n : ℕ). Some n) (sym one.number) in
+        subst (λ (s : State). AgreesIn cv own s) (sym (met_first cv.tree cv.abi cv.records process k i case.numbered one first)) (begins k starts);
     answered = refl;
     shared = λ weight. refl;
     of_case = all;
   }
 
-  module _ (j : ℕ) (items : List ℕ) (is : items ≡ own_records of.records process) where
+  module _ (j : ℕ) (items : List ℕ) (is : items ≡ own_records cv.records process) where
     -- the record that the walk is at
-    pub place_now : j < length items → slice_get (own_records of.records process) j ≡ Some (get_or items j 0)
+    pub place_now : j < length items → slice_get (own_records cv.records process) j ≡ Some (get_or items j 0)
     place_now within = rw (← is) (slice_get-get_or items j 0 within)
 
-    pub own_now : j < length items → IsOwn of (get_or items j 0) process
-    own_now within = own_record of.records process j (get_or items j 0) (place_now within)
+    pub own_now : j < length items → IsOwn cv (get_or items j 0) process
+    own_now within = own_record cv.records process j (get_or items j 0) (place_now within)
 
     pub walked_more : (given : Answer) (own own_after : OwnState) (answers_before answers : List (ℕ × Answer)) (kept_before kept kept_after : List ℕ)
-        (todo_before todo todo_after : List Job) → IsCase of → j < length items →
-        Walked j own answers_before answers kept_before kept todo_before todo → given ≡ answer_at of.tree of.abi of.records (get_or items j 0)
-        → Leaves of (get_or items j 0) process own_after →
-        HandedOut (option_to_list (forked_at of.records (get_or items j 0))) kept kept_after (processes_of todo) (processes_of todo_after)
-        → AllOf of todo_after →
+        (todo_before todo todo_after : List Job) → IsCase cv → j < length items →
+        Walked j own answers_before answers kept_before kept todo_before todo → given ≡ answer_at cv.tree cv.abi cv.records (get_or items j 0)
+        → Leaves cv (get_or items j 0) process own_after →
+        HandedOut (option_to_list (forked_at cv.records (get_or items j 0))) kept kept_after (processes_of todo) (processes_of todo_after)
+        → AreJobsOf cv todo_after →
         Walked (j + 1) own_after answers_before (answers ++ (get_or items j 0, given) ∷ []) kept_before kept_after todo_before todo_after
     walked_more given own own_after answers_before answers kept_before kept kept_after todo_before todo todo_after case within walked told leaves handed all =
         let i : ℕ = get_or items j 0 in
-        let rest : drop j (own_records of.records process) ≡ i ∷ drop (j + 1) (own_records of.records process) = rw (← is) (drop_more items j 0 within) in
+        let rest : drop j (own_records cv.records process) ≡ i ∷ drop (j + 1) (own_records cv.records process) = rw (← is) (drop_more items j 0 within) in
         record {
           meets =
-              λ k next. rw (met_next of.tree of.abi of.records process j i k case.numbered (place_now within)
+              λ k next. rw (met_next cv.tree cv.abi cv.records process j i k case.numbered (place_now within)
               (let more : suc j ≡ j + 1 = omega arith in rw more next)) leaves;
           answered = rw (append_assoc, told) (rw rest at walked.answered);
           shared = λ weight. omega (
             arith,
             handed.shared weight,
             walked.shared weight,
-            ap (λ xs. sum_by weight (filter_map (forked_at of.records) xs)) rest,
-            sum_option weight (forked_at of.records i) (filter_map (forked_at of.records) (drop (j + 1) (own_records of.records process))),
+            ap (λ xs. sum_by weight (filter_map (forked_at cv.records) xs)) rest,
+            sum_option weight (forked_at cv.records i) (filter_map (forked_at cv.records) (drop (j + 1) (own_records cv.records process))),
           );
           of_case = all;
         }
@@ -90,23 +90,23 @@ module _ (of : Matter) (process : ℕ) where
     pub handed_all : (own : OwnState) (answers_before answers : List (ℕ × Answer)) (kept_before kept : List ℕ) (todo_before todo : List Job)
         → length items ≤ j →
         Walked j own answers_before answers kept_before kept todo_before todo
-        → HandedOut (children of.records process) kept_before kept (processes_of todo_before) (processes_of todo)
+        → HandedOut (children cv.records process) kept_before kept (processes_of todo_before) (processes_of todo)
     handed_all own answers_before answers kept_before kept todo_before todo past walked = record {
       shared = λ weight. omega (
         arith,
         walked.shared weight,
-        ap (λ xs. sum_by weight (filter_map (forked_at of.records) (drop j xs))) is,
-        ap (λ xs. sum_by weight (filter_map (forked_at of.records) xs)) (drop_all j items past),
+        ap (λ xs. sum_by weight (filter_map (forked_at cv.records) (drop j xs))) is,
+        ap (λ xs. sum_by weight (filter_map (forked_at cv.records) xs)) (drop_all j items past),
       );
     }
 
   -- what is still to do after a process weighs less than with it
-  pub less_to_do : (kept kept_after todo todo_after : List ℕ) → IsCase of → HandedOut (children of.records process) kept kept_after todo todo_after
-      → KeepsMore of.records kept kept_after →
-      weight_of (process_count of.records) todo_after < weight_of (process_count of.records) todo + weight (process_count of.records) process
+  pub less_to_do : (kept kept_after todo todo_after : List ℕ) → IsCase cv → HandedOut (children cv.records process) kept kept_after todo todo_after
+      → KeepsMore cv.records kept kept_after →
+      weight_of (process_count cv.records) todo_after < weight_of (process_count cv.records) todo + weight (process_count cv.records) process
   unfolding weight_of
   less_to_do kept kept_after todo todo_after case handed keeps =
-      let w = weight (process_count of.records) in
-      let less : sum_by w (children of.records process) < w process =
-      weight_of-children of.records process (process_count of.records) case.numbered (omega arith) in
+      let w = weight (process_count cv.records) in
+      let less : sum_by w (children cv.records process) < w process =
+      weight_of-children cv.records process (process_count cv.records) case.numbered (omega arith) in
       omega (arith, less, handed.shared w, ap (λ xs. sum_by w xs) keeps.grown, sum_by-append w kept keeps.newly)

@@ -9,8 +9,7 @@ use Rattle.ll_trace.specs.declared.record.Record.{Record}
 use Rattle.ll_semantics.specs.declared.answer.Answer.TheVariants.{Moot}
 use Rattle.ll_semantics.specs.Answers.{answer}
 use Rattle.ll_semantics.specs.Worlds.{answer_in, judged}
-use Rattle.ll_semantics.specs.Situations.{world_at}
-use Rattle.ll_semantics.specs.Situations.{state_after}
+use Rattle.ll_semantics.specs.CallContexts.{world_at, state_after}
 use Rattle.ll_trace.specs.Processes.{is_start, process_count, own_records, IsNumbered}
 use Rattle.ll_process.specs.Judging.{place_met, state_met, state_left, answer_at}
 use Rattle.ll_semantics.proofs.Steps.{world_at-more, judged-at, step-other, step-own, count-world_at, answer-start, state_after-start}
@@ -25,13 +24,13 @@ module _ (tree : List Entry) (abi : Abi) (records : List Record) where
       → (world_at tree abi records (b + m)).processes p ≡ (world_at tree abi records b).processes p
   unchanged b zero p within there none = (let same : b + 0 ≡ b = omega arith in ap (λ n. (world_at tree abi records n).processes p) same)
   unchanged b (suc m) p within there none =
-      let (r, at) = stands_at records (b + m) (omega arith) in
+      let (r, eq) = stands_at records (b + m) (omega arith) in
       let next : b + suc m ≡ b + m + 1 = omega arith in
       let older : p < (world_at tree abi records (b + m)).count =
       omega (arith, count-world_at tree abi records (b + m), count-le records b (b + m) (omega arith)) in
       ap (λ n. (world_at tree abi records n).processes p) next
-      ∙ ap (λ w. w.processes p) (world_at-more tree abi records (b + m) r at)
-      ∙ step-other tree abi (world_at tree abi records (b + m)) r.process.0 r.op p (λ same. none (b + m) r (omega arith) (omega arith) at (sym same))
+      ∙ ap (λ w. w.processes p) (world_at-more tree abi records (b + m) r eq)
+      ∙ step-other tree abi (world_at tree abi records (b + m)) r.process.0 r.op p (λ same. none (b + m) r (omega arith) (omega arith) eq (sym same))
       (λ last. omega (arith, older, last))
       ∙ unchanged b m p (omega arith) there (λ n x from less. none n x from (omega arith))
 
@@ -40,31 +39,31 @@ module _ (tree : List Entry) (abi : Abi) (records : List Record) where
 pub met_at_start : (tree : List Entry) (abi : Abi) (records : List Record) (i p : ℕ) (r : Record) → slice_get records i ≡ Some r → is_start r.op ≡ true
     → state_met tree abi records i p ≡ (world_at tree abi records (i + 1)).processes p
 unfolding state_met
-met_at_start tree abi records i p r at starts =
-    let after : place_met i (slice_get records i) ≡ i + 1 = rw (at, starts) refl in
+met_at_start tree abi records i p r eq starts =
+    let after : place_met i (slice_get records i) ≡ i + 1 = rw (eq, starts) refl in
     ap (λ (n : ℕ). (world_at tree abi records n).processes p) after
 
 pub met_going_on : (tree : List Entry) (abi : Abi) (records : List Record) (i p : ℕ) (r : Record) → slice_get records i ≡ Some r → is_start r.op ≡ false
     → state_met tree abi records i p ≡ (world_at tree abi records i).processes p
 unfolding state_met
-met_going_on tree abi records i p r at goes =
-    let before : place_met i (slice_get records i) ≡ i = rw (at, goes) refl in
+met_going_on tree abi records i p r eq goes =
+    let before : place_met i (slice_get records i) ≡ i = rw (eq, goes) refl in
     ap (λ (n : ℕ). (world_at tree abi records n).processes p) before
 
 -- the answer of the fold is that of the state which the record meets
 pub answer_met : (tree : List Entry) (abi : Abi) (records : List Record) (i : ℕ) (r : Record) → slice_get records i ≡ Some r
     → answer tree abi (world_at tree abi records i).rulesets r.op (state_met tree abi records i r.process.0) ≡ answer_at tree abi records i
 unfolding answer_at answer_in
-answer_met tree abi records i r at =
+answer_met tree abi records i r eq =
     let fold : slice_get (judged tree abi records) i ≡ Some
-    (answer tree abi (world_at tree abi records i).rulesets r.op ((world_at tree abi records i).processes r.process.0)) = judged-at tree abi records i r at in
+    (answer tree abi (world_at tree abi records i).rulesets r.op ((world_at tree abi records i).processes r.process.0)) = judged-at tree abi records i r eq in
     elim (cases_Bool (is_start r.op)) [
       | inl starts ↦
           answer-start tree abi (world_at tree abi records i).rulesets r.op (state_met tree abi records i r.process.0) starts
           ∙ sym (ap (λ o. unwrap_or o Moot) fold
           ∙ answer-start tree abi (world_at tree abi records i).rulesets r.op ((world_at tree abi records i).processes r.process.0) starts)
       | inr goes ↦
-          ap (λ s. answer tree abi (world_at tree abi records i).rulesets r.op s) (met_going_on tree abi records i r.process.0 r at goes)
+          ap (λ s. answer tree abi (world_at tree abi records i).rulesets r.op s) (met_going_on tree abi records i r.process.0 r eq goes)
           ∙ sym (ap (λ o. unwrap_or o Moot) fold)
     ]
 
@@ -72,15 +71,15 @@ answer_met tree abi records i r at =
 pub left_met : (tree : List Entry) (abi : Abi) (records : List Record) (i : ℕ) (r : Record) → IsNumbered records → slice_get records i ≡ Some r
     → state_left tree abi records i r.process.0 ≡ state_after tree abi (world_at tree abi records i).rulesets r.op (state_met tree abi records i r.process.0)
 unfolding state_left
-left_met tree abi records i r numbered at = elim (cases_Bool (is_start r.op)) [
+left_met tree abi records i r numbered eq = elim (cases_Bool (is_start r.op)) [
   | inl starts ↦
       sym (state_after-start tree abi (world_at tree abi records i).rulesets r.op (state_met tree abi records i r.process.0) starts
-      ∙ met_at_start tree abi records i r.process.0 r at starts)
+      ∙ met_at_start tree abi records i r.process.0 r eq starts)
   | inr goes ↦
-      (let there : r.process.0 < (world_at tree abi records i).count = omega (arith, count-world_at tree abi records i, numbered.goes_on i r at goes) in
-      ap (λ w. w.processes r.process.0) (world_at-more tree abi records i r at)
+      (let there : r.process.0 < (world_at tree abi records i).count = omega (arith, count-world_at tree abi records i, numbered.goes_on i r eq goes) in
+      ap (λ w. w.processes r.process.0) (world_at-more tree abi records i r eq)
       ∙ step-own tree abi (world_at tree abi records i) r.process.0 r.op (λ last. omega (arith, there, last))
-      ∙ ap (λ s. state_after tree abi (world_at tree abi records i).rulesets r.op s) (sym (met_going_on tree abi records i r.process.0 r at goes)))
+      ∙ ap (λ s. state_after tree abi (world_at tree abi records i).rulesets r.op s) (sym (met_going_on tree abi records i r.process.0 r eq goes)))
 ]
 
 -- ---- from one own record to the next
@@ -90,15 +89,15 @@ module _ (tree : List Entry) (abi : Abi) (records : List Record) (p : ℕ) where
   met_later : (b i : ℕ) (r : Record) → IsNumbered records → slice_get records i ≡ Some r → r.process.0 ≡ p → p < process_count (take b records) → b ≤ i
       → ((n : ℕ) (x : Record) → b ≤ n → n < i → slice_get records n ≡ Some x → x.process.0 ≢ p)
       → state_met tree abi records i p ≡ (world_at tree abi records b).processes p
-  met_later b i r numbered at own there after none =
+  met_later b i r numbered eq own there after none =
       let goes : is_start r.op ≡ false = elim (cases_Bool (is_start r.op)) [
-        | inl starts ↦ absurd (omega (arith, numbered.begins i r at starts, count-le records b i after))
+        | inl starts ↦ absurd (omega (arith, numbered.begins i r eq starts, count-le records b i after))
         | inr goes ↦ goes
       ] in
       let apart : b + (i - b) ≡ i = omega (arith, after) in
-      met_going_on tree abi records i p r at goes
+      met_going_on tree abi records i p r eq goes
       ∙ ap (λ n. (world_at tree abi records n).processes p) (sym apart)
-      ∙ unchanged tree abi records b (i - b) p (omega (arith, apart, slice_get_within records i r at)) there
+      ∙ unchanged tree abi records b (i - b) p (omega (arith, apart, slice_get_within records i r eq)) there
       (λ n x from less. none n x from (omega (arith, apart)))
 
   -- a record meets the state that the own record before it leaves
@@ -106,9 +105,9 @@ module _ (tree : List Entry) (abi : Abi) (records : List Record) (p : ℕ) where
       → state_met tree abi records k p ≡ state_left tree abi records i p
   unfolding state_left
   met_next j i k numbered here next =
-      let (r, at, own) = own_record records p j i here in
+      let (r, eq, own) = own_record records p j i here in
       let (x, there, mine) = own_record records p (suc j) k next in
-      let below : p < process_count (take (i + 1) records) = rw (add-one i) (omega (arith, numbered_below records i r numbered at, own)) in
+      let below : p < process_count (take (i + 1) records) = rw (add-one i) (omega (arith, numbered_below records i r numbered eq, own)) in
       met_later (i + 1) k x numbered there mine below (omega (arith, own_rising records p j (suc j) i k here next (omega arith)))
       (λ n y from less found same. omega (arith, next_own records p j i k n y here next found same (omega arith)))
 
@@ -117,9 +116,9 @@ module _ (tree : List Entry) (abi : Abi) (records : List Record) (p : ℕ) where
       → state_met tree abi records i p ≡ state_left tree abi records k p
   unfolding state_left
   met_first k i numbered one first =
-      let (r, at, own) = own_record records p 0 i first in
+      let (r, eq, own) = own_record records p 0 i first in
       let from : k ≤ i = elim (cases_lt i k) [
-        | inl before ↦ absurd (not_own_before records i k p r numbered one before at own)
+        | inl before ↦ absurd (not_own_before records i k p r numbered one before eq own)
         | inr after ↦ after
       ] in
       elim (cases_Bool (is_start one.of.op)) [
@@ -131,9 +130,9 @@ module _ (tree : List Entry) (abi : Abi) (records : List Record) (p : ℕ) where
               | inl less ↦ omega arith
               | inr other ↦
                   (let here : i ≡ k = omega arith in
-                  let is : r ≡ one.of = same_Some r one.of (sym at ∙ ap (slice_get records) here ∙ one.at) in
+                  let is : r ≡ one.of = same_Some r one.of (sym eq ∙ ap (slice_get records) here ∙ one.at) in
                   absurd (omega (arith, numbered.goes_on k one.of one.at goes, one.number, own, ap (λ (x : Record). x.process.0) is)))
             ] in
             let there : p < process_count (take (k + 1) records) = rw (add-one k) (omega (arith, count-started records k one.of one.at one.kind, one.number)) in
-            met_later (k + 1) i r numbered at own there past (λ n x from less found same. omega (arith, first_own records p i n x first found same))
+            met_later (k + 1) i r numbered eq own there past (λ n x from less found same. omega (arith, first_own records p i n x first found same))
       ]

@@ -7,7 +7,7 @@ use Rattle.ll_rights.specs.declared.abi.Abi.{Abi}
 use Rattle.ll_tree.specs.Trees.{Entry}
 use Rattle.ll_trace.specs.declared.record.Record.{Record}
 use Rattle.ll_semantics.specs.Worlds.{step}
-use Rattle.ll_semantics.specs.Situations.{world_at}
+use Rattle.ll_semantics.specs.CallContexts.{world_at}
 use Rattle.ll_trace.specs.Processes.{is_fork, process_count, IsNumbered, forked_at, own_from, own_records, children}
 use Rattle.ll_process.specs.Judging.{state_met, state_left}
 use Rattle.ll_semantics.proofs.Steps.{world_at-more, step-new, count-world_at, started-fork}
@@ -24,25 +24,25 @@ use Rattle.ll_trace.proofs.OwnRecords.{own_from-yes, own_from-no, own_from-nil}
 -- the child that a fork record starts
 pub forked : (records : List Record) (i : ℕ) (r : Record) → slice_get records i ≡ Some r → is_fork r.op ≡ true
     → StartedAt records i (process_count (take i records))
-forked records i r at forks = record { of = r; at = at; kind = fork-starts r.op forks; number = refl }
+forked records i r eq forks = record { of = r; at = eq; kind = fork-starts r.op forks; number = refl }
 
 pub child_state : (tree : List Entry) (abi : Abi) (records : List Record) (i : ℕ) (r : Record) → slice_get records i ≡ Some r → is_fork r.op ≡ true
     → state_left tree abi records i (process_count (take i records)) ≡ state_met tree abi records i r.process.0
 unfolding state_left
-child_state tree abi records i r at forks =
-    ap (λ w. w.processes (process_count (take i records))) (world_at-more tree abi records i r at)
+child_state tree abi records i r eq forks =
+    ap (λ w. w.processes (process_count (take i records))) (world_at-more tree abi records i r eq)
     ∙ ap (λ p. (step tree abi (world_at tree abi records i) r.process.0 r.op).processes p) (sym (count-world_at tree abi records i))
     ∙ step-new tree abi (world_at tree abi records i) r.process.0 r.op ((world_at tree abi records i).processes r.process.0)
     (started-fork tree (world_at tree abi records i).rulesets r.op ((world_at tree abi records i).processes r.process.0) forks)
-    ∙ sym (met_going_on tree abi records i r.process.0 r at (fork_no_start r.op forks))
+    ∙ sym (met_going_on tree abi records i r.process.0 r eq (fork_no_start r.op forks))
 
 pub child_above : (records : List Record) (i : ℕ) (r : Record) → IsNumbered records → slice_get records i ≡ Some r → is_fork r.op ≡ true
     → r.process.0 < process_count (take i records)
-child_above records i r numbered at forks = numbered.goes_on i r at (fork_no_start r.op forks)
+child_above records i r numbered eq forks = numbered.goes_on i r eq (fork_no_start r.op forks)
 
 pub child_below : (records : List Record) (i : ℕ) (r : Record) → slice_get records i ≡ Some r → is_fork r.op ≡ true
     → process_count (take i records) < process_count records
-child_below records i r at forks = omega (arith, count-started records i r at (fork-starts r.op forks), count-all records (suc i))
+child_below records i r eq forks = omega (arith, count-started records i r eq (fork-starts r.op forks), count-all records (suc i))
 
 -- a power above the weights of a process's children from a place on
 abbrev Covers : List Record → ℕ → ℕ → ℕ → ℕ → Type 0
@@ -81,7 +81,7 @@ pub children_weigh : (records rs : List Record) (b p n e : ℕ) → IsNumbered r
 children_weigh records [] b p n e numbered from all covers =
     subst (λ (xs : List ℕ). sum_by (weight n) (filter_map (forked_at records) xs) < 2 ^ e) (sym (own_from-nil p b)) (pow_pos e)
 children_weigh records (r ∷ rs) b p n e numbered from all covers =
-    let at : slice_get records b ≡ Some r = at_place records b r rs from in
+    let eq : slice_get records b ≡ Some r = at_place records b r rs from in
     let rest : (d : ℕ) → Covers records (b + 1) p n d → sum_by (weight n) (filter_map (forked_at records) (own_from p (b + 1) rs)) < 2 ^ d =
     λ d covered. children_weigh records rs (b + 1) p n d numbered (next_place records b r rs from) all covered in
     elim (cases_Bool (r.process.0 == p)) [
@@ -93,17 +93,17 @@ children_weigh records (r ∷ rs) b p n e numbered from all covers =
           (elim (cases_Bool (is_fork r.op)) [
             | inr goes ↦
                 subst (λ (o : Option ℕ). sum_by (weight n) (cons_option o (filter_map (forked_at records) (own_from p (b + 1) rs))) < 2 ^ e)
-                (sym (forked_at-none records b r at goes)) (rest e (covers_next records b p n e covers))
+                (sym (forked_at-none records b r eq goes)) (rest e (covers_next records b p n e covers))
             | inl forks ↦
                 (let c : ℕ = process_count (take b records) in
-                let above : p < process_count (take b records) = omega (arith, child_above records b r numbered at forks, eqb-true r.process.0 p own) in
+                let above : p < process_count (take b records) = omega (arith, child_above records b r numbered eq forks, eqb-true r.process.0 p own) in
                 let more : process_count (take (b + 1) records) ≡ process_count (take b records) + 1 =
-                rw (add-one b) (count-started records b r at (fork-starts r.op forks)) in
+                rw (add-one b) (count-started records b r eq (fork-starts r.op forks)) in
                 let here : 2 ^ (n - process_count (take b records)) + sum_by (weight n) (filter_map (forked_at records) (own_from p (b + 1) rs)) < 2 ^ e =
-                child_and_rest n (process_count (take b records)) e _ (omega (arith, child_below records b r at forks))
+                child_and_rest n (process_count (take b records)) e _ (omega (arith, child_below records b r eq forks))
                 (covers_fork records b p n e above covers) (λ d covered. rest d (inr (omega (arith, more)))) in
                 subst (λ (o : Option ℕ). sum_by (weight n) (cons_option o (filter_map (forked_at records) (own_from p (b + 1) rs))) < 2 ^ e)
-                (sym (forked_at-from records b r at forks))
+                (sym (forked_at-from records b r eq forks))
                 (subst (λ (m : ℕ). m < 2 ^ e)
                 (sym (sum_by-cons (weight n) (process_count (take b records)) (filter_map (forked_at records) (own_from p (b + 1) rs)))) here))
           ])

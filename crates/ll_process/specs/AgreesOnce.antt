@@ -8,7 +8,7 @@ use Rattle.ll_lines.specs.Paths.{Path}
 use Rattle.ll_rules.specs.Layers.{RulesOn}
 use Rattle.ll_rules.specs.KeptLayers.{SameRules}
 use Rattle.ll_state.specs.declared.own_state.OwnState.{OwnState}
-use Rattle.ll_process.specs.Cases.{Matter, BeginsAs}
+use Rattle.ll_process.specs.Cases.{CaseValue, BeginsAs}
 
 SameRules-once : (a b : RulesOn Path) → IsProp (SameRules a b)
 SameRules-once a b = hlevel props
@@ -19,5 +19,5 @@ same_layers-once [] (y ∷ ys) = hlevel props
 same_layers-once (x ∷ xs) [] = hlevel props
 same_layers-once (x ∷ xs) (y ∷ ys) = ×_prop (SameRules-once x y) (same_layers-once xs ys)
 
-pub BeginsAs-once : (of : Matter) (process : ℕ) (own : OwnState) → IsProp (BeginsAs of process own)
-BeginsAs-once of process own = hlevel (props, same_layers-once)
+pub BeginsAs-once : (case : CaseValue) (process : ℕ) (own : OwnState) → IsProp (BeginsAs case process own)
+BeginsAs-once case process own = hlevel (props, same_layers-once)

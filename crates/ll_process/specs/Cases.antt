@@ -15,7 +15,7 @@ use Rattle.ll_trace.specs.Processes.{IsNumbered, started_at}
 use Rattle.ll_process.specs.Judging.{state_left, answers_of}
 
 -- what contracts see of a case: the layers are those that its trace enforces, with a note for each record
-pub record Matter : Type 0 where
+pub record CaseValue : Type 0 where
   pub tree : List Entry
   pub records : List Record
   pub abi : Abi
@@ -25,18 +25,18 @@ pub record Matter : Type 0 where
 -- The processes are numbered, and the rulebook says of each record what the fold over the whole trace says: the
 -- answer of a call that creates, changes or closes a ruleset, and for a call that restricts by a ruleset the layer
 -- that this ruleset is then.
-pub record IsCase (of : Matter) : Type 0 where
-  pub numbered : IsNumbered of.records
-  pub settled : IsSettled of.tree of.abi of.records of.layers of.notes
+pub record IsCase (case : CaseValue) : Type 0 where
+  pub numbered : IsNumbered case.records
+  pub settled : IsSettled case.tree case.abi case.records case.layers case.notes
 
 -- what is kept of a process agrees with a state, under the tree and the layers of a case
-abbrev pub AgreesIn : Matter → OwnState → State → Type 0
-AgreesIn of own s = Agrees of.tree of.layers own s
+abbrev pub AgreesIn : CaseValue → OwnState → State → Type 0
+AgreesIn case own s = Agrees case.tree case.layers own s
 
 -- what a process has by itself is its state in the world after the record that starts it
-abbrev pub BeginsAs : Matter → ℕ → OwnState → Type 0
-BeginsAs of process own = (k : ℕ) → started_at of.records k ≡ Some process → AgreesIn of own (state_left of.tree of.abi of.records k process)
+abbrev pub BeginsAs : CaseValue → ℕ → OwnState → Type 0
+BeginsAs case process own = (k : ℕ) → started_at case.records k ≡ Some process → AgreesIn case own (state_left case.tree case.abi case.records k process)
 
 -- the answers to a process's own records, with their places
-abbrev pub answers_in : Matter → ℕ → List (ℕ × Answer)
-answers_in of process = answers_of of.tree of.abi of.records process
+abbrev pub own_answers : CaseValue → ℕ → List (ℕ × Answer)
+own_answers case process = answers_of case.tree case.abi case.records process

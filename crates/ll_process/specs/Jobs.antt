@@ -3,7 +3,7 @@
 use Rattle.std.specs.Prelude.{◌≡◌, ℕ, ◌+◌, ◌<◌, ◌∷◌, ◌++◌, List, map, sum_by, All, ◌-◌, ◌^◌}
 use Rattle.ll_trace.specs.declared.record.Record.{Record}
 use Rattle.ll_process.specs.declared.job.Job.{Job}
-use Rattle.ll_process.specs.Cases.{Matter}
+use Rattle.ll_process.specs.Cases.{CaseValue}
 use Rattle.ll_trace.specs.Processes.{kids, process_count, times}
 
 -- the processes of jobs
@@ -11,8 +11,8 @@ abbrev pub processes_of : List Job → List ℕ
 processes_of jobs = map (λ job. job.process.0) jobs
 
 -- each job is of this case
-abbrev pub AllOf : Matter → List Job → Type 0
-AllOf of jobs = All (λ job. job.case.now ≡ of) jobs
+abbrev pub AreJobsOf : CaseValue → List Job → Type 0
+AreJobsOf case jobs = All (λ job. job.case.now ≡ case) jobs
 
 -- Children were handed out: each was kept or is still to do. While a process is judged "each as often" is said by
 -- weights: whatever number is given to each process, both sides add up to the same.

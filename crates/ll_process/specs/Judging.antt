@@ -7,7 +7,7 @@ use Rattle.ll_trace.specs.declared.record.Record.{Record}
 use Rattle.ll_semantics.specs.declared.answer.Answer.{Answer}
 use Rattle.ll_semantics.specs.declared.answer.Answer.TheVariants.{Moot}
 use Rattle.ll_semantics.specs.States.{State}
-use Rattle.ll_semantics.specs.Situations.{world_at}
+use Rattle.ll_semantics.specs.CallContexts.{world_at}
 use Rattle.ll_semantics.specs.Worlds.{judged}
 use Rattle.ll_trace.specs.Processes.{is_start, own_records}
 

@@ -30,33 +30,33 @@ pub struct Case {
 }
 
 impl Model for Case {
-    ghost use Rattle.ll_process.specs.Cases.{Matter, IsCase};
+    ghost use Rattle.ll_process.specs.Cases.{CaseValue, IsCase};
 
-    ghost Value = { Matter };
+    ghost Value = { CaseValue };
 
-    ghost view = { λ of. record {
-      tree = of.tree;
-      records = of.trace;
-      abi = of.abi;
-      layers = of.layers.items;
-      notes = of.notes.items;
+    ghost view = { λ case. record {
+      tree = case.tree;
+      records = case.trace;
+      abi = case.abi;
+      layers = case.layers.items;
+      notes = case.notes.items;
     } };
 
-    ghost invariant = { λ of. IsCase (record {
-      tree = of.tree;
-      records = of.trace;
-      abi = of.abi;
-      layers = of.layers.items;
-      notes = of.notes.items;
+    ghost invariant = { λ case. IsCase (record {
+      tree = case.tree;
+      records = case.trace;
+      abi = case.abi;
+      layers = case.layers.items;
+      notes = case.notes.items;
     }) };
 }
 
 impl Case {
     /// Makes the rulebook: one pass over the records in the order of the trace.
     pub fn new(alloc: Global, tree: Tree, trace: Trace, abi: Abi) -> Result<Case, NoMemory>
-        ensures tree { IfOk result (λ of. of.tree ≡ tree) }
-        ensures records { IfOk result (λ of. of.records ≡ trace) }
-        ensures abi { IfOk result (λ of. of.abi ≡ abi) }
+        ensures tree { IfOk result (λ case. case.tree ≡ tree) }
+        ensures records { IfOk result (λ case. case.records ≡ trace) }
+        ensures abi { IfOk result (λ case. case.abi ≡ abi) }
         ensures rulebook { IfOk result IsCase }
     {
         let places = Vec::new(alloc);
@@ -73,9 +73,9 @@ impl Case {
 
     /// Makes the rulebook as [`Case::new`] does, where the places of the records' first paths are known.
     pub fn of_located(alloc: Global, located: Located, abi: Abi) -> Result<Case, NoMemory>
-        ensures tree { IfOk result (λ of. of.tree ≡ located.tree) }
-        ensures records { IfOk result (λ of. of.records ≡ located.trace) }
-        ensures abi { IfOk result (λ of. of.abi ≡ abi) }
+        ensures tree { IfOk result (λ case. case.tree ≡ located.tree) }
+        ensures records { IfOk result (λ case. case.records ≡ located.trace) }
+        ensures abi { IfOk result (λ case. case.abi ≡ abi) }
         ensures rulebook { IfOk result IsCase }
     {
         let Located {

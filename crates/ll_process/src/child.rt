@@ -4,7 +4,7 @@ ghost use Rattle.std.specs.Prelude.{◌≡◌, IfOk, IfSome, OnOk, option_to_lis
 ghost use Rattle.std.specs.Option.{option_map};
 ghost use Rattle.ll_trace.specs.Processes.{forked_at};
 ghost use Rattle.ll_process.specs.Own.{IsOwn, Leaves};
-ghost use Rattle.ll_process.specs.Jobs.{AllOf, HandedOut, KeepsMore, processes_of};
+ghost use Rattle.ll_process.specs.Jobs.{AreJobsOf, HandedOut, KeepsMore, processes_of};
 
 use crate::case::Case;
 use crate::hand::Hand;
@@ -46,13 +46,13 @@ pub(crate) fn offer<'c, H: Hand<'c>>(
     todo: &mut Vec<Job<'c>>,
 ) -> Result<(), NoMemory>
     requires its { IfSome child (λ job. job.case.now ≡ case.now) }
-    requires of_case { AllOf case.now todo.old.items }
+    requires of_case { AreJobsOf case.now todo.old.items }
     requires suits { H.suits hand.old case.now }
     ensures handed { OnOk result
         (HandedOut (option_to_list (option_map (λ job. job.process.0) child.entry))
         (H.kept hand.old) (H.kept hand.new) (processes_of todo.old.items)
         (processes_of todo.new.items)) }
-    ensures of_case { OnOk result (AllOf case.now todo.new.items) }
+    ensures of_case { OnOk result (AreJobsOf case.now todo.new.items) }
     ensures keeps { KeepsMore case.now.records (H.kept hand.old) (H.kept hand.new) }
     ensures suits { H.suits hand.new case.now }
     ensures stays { (before : H) → H.stays before hand.old → H.stays before hand.new }

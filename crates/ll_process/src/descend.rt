@@ -2,8 +2,8 @@
 
 ghost use Rattle.std.specs.Prelude.{◌≡◌, ◌<◌, ◌+◌, ◌++◌, ◌∷◌, [], Some, OnOk, IfOk, slice_get};
 ghost use Rattle.ll_trace.specs.Processes.{process_count, numbers, children};
-ghost use Rattle.ll_process.specs.Cases.{answers_in};
-ghost use Rattle.ll_process.specs.Jobs.{processes_of, AllOf, HandedOut, KeepsMore, SharesOut, weight, weight_of};
+ghost use Rattle.ll_process.specs.Cases.{own_answers};
+ghost use Rattle.ll_process.specs.Jobs.{processes_of, AreJobsOf, HandedOut, KeepsMore, SharesOut, weight, weight_of};
 
 use crate::adding::append;
 use crate::case::Case;
@@ -27,10 +27,10 @@ fn judge_own<'c, H: Hand<'c>>(
     answers: &mut Vec<(u32, Answer)>,
 ) -> Result<(), NoMemory>
     requires its { job.case.now ≡ case.now }
-    requires of_case { AllOf case.now todo.old.items }
+    requires of_case { AreJobsOf case.now todo.old.items }
     requires suits { H.suits hand.old case.now }
     ensures answered { OnOk result
-        (answers.new.items ≡ answers.old.items ++ answers_in case.now job.entry.process.0) }
+        (answers.new.items ≡ answers.old.items ++ own_answers case.now job.entry.process.0) }
     ensures handed { OnOk result
         (HandedOut (children case.now.records job.entry.process.0)
         (H.kept hand.old) (H.kept hand.new) (processes_of todo.old.items)
@@ -39,7 +39,7 @@ fn judge_own<'c, H: Hand<'c>>(
         (weight_of (process_count case.now.records) (processes_of todo.new.items)
         < weight_of (process_count case.now.records) (processes_of todo.old.items)
         + weight (process_count case.now.records) job.entry.process.0) }
-    ensures of_case { OnOk result (AllOf case.now todo.new.items) }
+    ensures of_case { OnOk result (AreJobsOf case.now todo.new.items) }
     ensures keeps { KeepsMore case.now.records (H.kept hand.old) (H.kept hand.new) }
     ensures suits { H.suits hand.new case.now }
     ensures stays { (before : H) → H.stays before hand.old → H.stays before hand.new }

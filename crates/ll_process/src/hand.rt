@@ -10,11 +10,11 @@ use crate::job::Job;
 /// the same in both.
 pub trait Hand<'c> {
     ghost use Rattle.std.specs.Prelude.{◌≡◌, List, ℕ, [], ◌∷◌, ◌++◌, IfSome, IfNone};
-    ghost use Rattle.ll_process.specs.Cases.{Matter};
+    ghost use Rattle.ll_process.specs.Cases.{CaseValue};
 
     ghost kept: { Self → List ℕ };
 
-    ghost suits: { Self → Matter → Type 0 };
+    ghost suits: { Self → CaseValue → Type 0 };
 
     ghost stays: { Self → Self → Type 0 };
 

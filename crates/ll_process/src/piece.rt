@@ -4,7 +4,7 @@ ghost use Rattle.std.specs.Prelude.{◌≡◌, ◌<◌, ℕ, Some, slice_get};
 ghost use Rattle.std.specs.List.{flat_map};
 ghost use Rattle.ll_trace.specs.declared.record.ProcessId.{ProcessId as Process};
 ghost use Rattle.ll_trace.specs.Processes.{process_count, numbers};
-ghost use Rattle.ll_process.specs.Cases.{answers_in};
+ghost use Rattle.ll_process.specs.Cases.{own_answers};
 
 use crate::case::Case;
 use ll_semantics::Answer;
@@ -20,7 +20,7 @@ pub struct Piece<'c> {
     pub ghost there: { (k : ℕ) (process : Process) → slice_get processes.items k ≡ Some process
         → process.0 < process_count case.now.records },
     pub ghost answered: { answers.items
-        ≡ flat_map (answers_in case.now) (numbers processes.items) },
+        ≡ flat_map (own_answers case.now) (numbers processes.items) },
 }
 
 impl<'c> Piece<'c> {

@@ -3,7 +3,7 @@
 ghost use Rattle.std.specs.Prelude.{◌≡◌, ◌<◌, IfOk, IfSome, length, slice_get};
 ghost use Rattle.std.specs.Option.{option_map};
 ghost use Rattle.ll_trace.specs.Processes.{root_at, roots, IsNumbered};
-ghost use Rattle.ll_process.specs.Jobs.{processes_of, AllOf};
+ghost use Rattle.ll_process.specs.Jobs.{processes_of, AreJobsOf};
 
 use crate::adding::append;
 use crate::case::Case;
@@ -34,7 +34,7 @@ impl Case {
     /// One job for each `start` record, in the order of the trace, whose processes are numbered.
     pub fn roots(&self, alloc: Global) -> Result<Vec<Job<'_>>, NoMemory>
         ensures roots { IfOk result (λ jobs. processes_of jobs.items ≡ roots self.now.records) }
-        ensures of_case { IfOk result (λ jobs. AllOf self.now jobs.items) }
+        ensures of_case { IfOk result (λ jobs. AreJobsOf self.now jobs.items) }
         ensures numbered { IfOk result (λ jobs. IsNumbered self.now.records) }
     {
         let mut jobs = Vec::new(alloc);

@@ -3,7 +3,7 @@
 ghost use Rattle.std.specs.Prelude.{◌≡◌, Some, IfOk, OnOk, slice_get};
 ghost use Rattle.ll_trace.specs.declared.record.Record.{Record as OneRecord};
 ghost use Rattle.ll_semantics.specs.declared.note.Note.{Note as OneNote};
-ghost use Rattle.ll_semantics.specs.Situations.{Situation, answered, left};
+ghost use Rattle.ll_semantics.specs.CallContexts.{CallContext, answer_to, state_then};
 ghost use Rattle.ll_state.specs.Agreement.{IsMet, Agrees};
 ghost use Rattle.ll_semantics.specs.Notes.{NoteFits};
 ghost use Rattle.ll_process.specs.Judging.{answer_at};
@@ -22,23 +22,23 @@ fn judge_met(
     index: u32,
     own: &mut OwnState,
 ) -> Result<Answer, NoMemory>
-    ghost at: { Situation }
+    ghost ctx: { CallContext }
     requires own { IsOwn case.now index process.0 }
-    requires met { IsMet at case.now.tree case.now.layers }
-    requires agrees { Agrees at.tree at.layers own.old at.state }
+    requires met { IsMet ctx case.now.tree case.now.layers }
+    requires agrees { Agrees ctx.tree ctx.layers own.old ctx.state }
     requires fits { (r : OneRecord) (note : OneNote) →
         slice_get case.now.records index ≡ Some r → slice_get case.now.notes index ≡ Some note →
-        NoteFits at r.op note }
+        NoteFits ctx r.op note }
     ensures answer { IfOk result (λ given. (r : OneRecord) →
-        slice_get case.now.records index ≡ Some r → given ≡ answered at r.op) }
+        slice_get case.now.records index ≡ Some r → given ≡ answer_to ctx r.op) }
     ensures agrees { OnOk result ((r : OneRecord) →
         slice_get case.now.records index ≡ Some r
-        → Agrees at.tree at.layers own.new (left at r.op)) }
+        → Agrees ctx.tree ctx.layers own.new (state_then ctx r.op)) }
 {
     let op = &case.record(index as usize).op;
     let note = case.note(index as usize);
     let known = case.known_place(index as usize);
-    own.judge(case.tree(), case.layers(), op, note, known)
+    own.meet(case.tree(), case.layers(), op, note, known)
 }
 
 /// What one of a process's own records is answered. A start was done when its process began.

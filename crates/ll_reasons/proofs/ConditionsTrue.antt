@@ -1,11 +1,13 @@
 -- What the condition of an error without layers says is so.
 use Rattle.std.proofs.Common.{◌≡◌, ℕ, Bool, true, false, not, ◌&&◌, List, [], length, Option, Some, None, refl, sym, subst, nat_le, nat_lt, if◌then◌else◌}
+use Rattle.ll_rights.specs.declared.net.TheConstants.{LARGEST_PORT}
 use Rattle.ll_rights.specs.declared.abi.Abi.{Abi}
 use Rattle.ll_rights.specs.declared.fs.Fs.{Fs}
 use Rattle.ll_rights.specs.declared.net.Net.{Net}
 use Rattle.ll_rights.specs.Abis.{knows_fs}
 use Rattle.ll_rights.specs.Rights as files
 use Rattle.ll_rights.specs.NetRights as network
+use Rattle.ll_rules.specs.declared.domain.TheConstants.{MOST_LAYERS}
 use Rattle.ll_rules.specs.declared.errno.Errno.{Errno}
 use Rattle.ll_rules.specs.declared.errno.Errno.TheVariants.{Perm, Acces, BadFd, TooBig, Inval, NoMsg}
 use Rattle.ll_rules.specs.Rulesets.{has_ports, knows_all, are_file_rights, RuleRefusal, with_error, place_refusal}
@@ -20,7 +22,7 @@ use Rattle.ll_semantics.specs.States.{State, Layer}
 use Rattle.ll_semantics.specs.Answers as answers
 use Rattle.ll_semantics.specs.Requests.{request, wanted}
 use Rattle.ll_semantics.specs.Worlds.{World, answer_in}
-use Rattle.ll_semantics.specs.Situations.{world_at}
+use Rattle.ll_semantics.specs.CallContexts.{world_at}
 use Rattle.ll_reasons.specs.Explanations.{origins_at}
 use Rattle.ll_reasons.proofs.RulesetsMade.{ruleset_handles}
 use Rattle.ll_reasons.specs.Origins.{Origins}
@@ -69,8 +71,8 @@ by_rule P true b rest error is no_msg inval last = by_error P NoMsg error is (no
 by_rule P false true rest error is no_msg inval last = by_error P Inval error is (inval refl)
 by_rule P false false rest error is no_msg inval last = last refl is
 
-by_place : (P : Errno → Type 0) (tree : List Entry) (at : Place) (fs : Fs) (error : Errno)
-    → answers.of_rule_refusal (place_refusal tree at fs) ≡ Refused error [] → (are_file_rights fs ≡ false → P Inval) → P error
+by_place : (P : Errno → Type 0) (tree : List Entry) (spot : Place) (fs : Fs) (error : Errno)
+    → answers.of_rule_refusal (place_refusal tree spot fs) ≡ Refused error [] → (are_file_rights fs ≡ false → P Inval) → P error
 by_place P tree (Gap node) fs error is inval = absurd (cc)
 by_place P tree Nowhere fs error is inval = absurd (cc)
 by_place P tree (Node node) fs error is inval = by_test (is_dir (kind_at tree node)) (are_file_rights fs) is inval
@@ -152,7 +154,7 @@ module _ (abi : Abi) (rulesets : List Layer) (s : State) (rs port : ℕ) (net : 
         beyond,
       )
 
-  invalid_number : (whole : Net) → not (has_ports abi) ≡ false → network.is_within net whole ≡ true → nat_lt 65535 port ≡ true
+  invalid_number : (whole : Net) → not (has_ports abi) ≡ false → network.is_within net whole ≡ true → nat_lt LARGEST_PORT port ≡ true
       → IsCondition abi rulesets s (calls.AddPort rs port net) (invalid_on_port abi port net whole)
   unfolding IsCondition
   invalid_number whole newer within outside = rw (newer, within) outside
@@ -167,7 +169,7 @@ module _ (abi : Abi) (rulesets : List Layer) (s : State) (rs port : ℕ) (net : 
   port_condition whole (Some layer) error is handles asked =
       subst (λ (w : Net). IsCondition abi rulesets s (calls.AddPort rs port net) (of_add_port abi rs port net w error)) (sym (handles layer refl))
       (by_port (λ (e : Errno). IsCondition abi rulesets s (calls.AddPort rs port net) (of_add_port abi rs port net layer.handled_network e))
-      (not (has_ports abi)) (network.is_empty net) (not (network.is_within net layer.handled_network)) (nat_lt 65535 port) error asked
+      (not (has_ports abi)) (network.is_empty net) (not (network.is_within net layer.handled_network)) (nat_lt LARGEST_PORT port) error asked
       (λ older. invalid_version layer.handled_network older)
       (λ none. and_from (files.is_empty files.no_right) _ no_files none)
       (λ newer beyond. invalid_beyond_ports layer is newer (not_true (network.is_within net layer.handled_network) beyond))
@@ -193,7 +195,7 @@ restrict_condition abi rulesets s rs None error is asked =
     by_no_ruleset (λ (e : Errno). IsCondition abi rulesets s (calls.Restrict rs) (of_restrict rs e)) (answers.may_restrict s) error asked (λ may. may) is
 restrict_condition abi rulesets s rs (Some rules) error is asked =
     by_restrict (λ (e : Errno). IsCondition abi rulesets s (calls.Restrict rs) (of_restrict rs e)) (answers.may_restrict s)
-    (nat_le 16 (length s.domain)) error asked (λ may. may) (λ many. many)
+    (nat_le MOST_LAYERS (length s.domain)) error asked (λ may. may) (λ many. many)
 
 -- ---- every call
 

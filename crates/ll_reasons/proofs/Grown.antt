@@ -11,7 +11,7 @@ use Rattle.ll_semantics.specs.States.{State, Layer, fresh}
 use Rattle.ll_semantics.specs.Effects.{effect}
 use Rattle.ll_semantics.specs.Answers.{named}
 use Rattle.ll_semantics.specs.Worlds.{World}
-use Rattle.ll_semantics.specs.Situations.{change, state_by, world_at}
+use Rattle.ll_semantics.specs.CallContexts.{change, state_by, world_at}
 use Rattle.ll_reasons.specs.Origins.{Origins, no_origins, traced}
 use Rattle.ll_reasons.specs.Made.{domain_by, domain_there, BeganAs}
 use Rattle.ll_reasons.specs.Explanations.{domain_at, origins_at}
@@ -22,7 +22,7 @@ Began : List Entry → Abi → List Record → List Layer → Option ℕ → Typ
 Began tree abi records domain opening = IfSome opening (λ k. BeganAs domain (domain_there tree abi records k))
 
 AllBegan : List Entry → Abi → List Record → ℕ → State → Origins → Type 0
-AllBegan tree abi records at s o = (fd : ℕ) → Began tree abi records s.domain (o.openings fd)
+AllBegan tree abi records eq s o = (fd : ℕ) → Began tree abi records s.domain (o.openings fd)
 
 module _ (tree : List Entry) (abi : Abi) (records : List Record) where
   longer : (domain more : List Layer) (opening : Option ℕ) → Began tree abi records domain opening → Began tree abi records (domain ++ more) opening
@@ -63,10 +63,10 @@ module _ (tree : List Entry) (abi : Abi) (records : List Record) where
   keeps = record {
     begins = λ k nnp admin fd. tt;
     stays = λ k s o all. all;
-    changes = λ k r o at allowed judged all.
+    changes = λ k r o eq allowed judged all.
         (let w : World = world_at tree abi records k in
         let s : State = w.processes r.process.0 in
-        changed k r.op w.rulesets s o (ap (λ (x : Option Record). domain_by w x) at) all);
+        changed k r.op w.rulesets s o (ap (λ (x : Option Record). domain_by w x) eq) all);
   }
 
   pub grown : (place process fd : ℕ) → IfSome ((origins_at tree abi records place process).openings fd)

@@ -17,7 +17,7 @@ use Rattle.ll_semantics.specs.Answers.{answer, named, restrict_answer, may_restr
 use Rattle.ll_semantics.specs.Effects.{effect}
 use Rattle.ll_semantics.specs.Notes.{enforced}
 use Rattle.ll_semantics.specs.Worlds.{World, answer_in, judged}
-use Rattle.ll_semantics.specs.Situations.{change, state_by, world_at}
+use Rattle.ll_semantics.specs.CallContexts.{change, state_by, world_at}
 use Rattle.ll_semantics.proofs.Steps.{judged-at}
 use Rattle.ll_reasons.specs.Origins.{Origins, no_origins, traced}
 use Rattle.ll_reasons.specs.Made.{enforced_by, enforced_at, is_restrict, IsAllowed, IsEarlier}
@@ -52,10 +52,10 @@ origins_changed : (tree : List Entry) (abi : Abi) (records : List Record) (k : �
     → slice_get records k ≡ Some r → slice_get (judged tree abi records) k ≡ Some Allowed
     → All (IsEarlier is_restrict tree abi records k) o.layers → All (IsEarlier is_restrict tree abi records (suc k)) (traced k op o).layers
 unfolding traced is_restrict
-origins_changed tree abi records k r (Restrict rs) o is at allowed all =
+origins_changed tree abi records k r (Restrict rs) o is eq allowed all =
     All-push (IsEarlier is_restrict tree abi records (suc k)) o.layers k (earlier tree abi records k o.layers all)
-    (omega arith, record { of = r; at = at; such = ap (λ (op : Op). is_restrict op) is; allowed = allowed })
-origins_changed tree abi records k r op o is at allowed all = earlier tree abi records k o.layers all
+    (omega arith, record { of = r; at = eq; such = ap (λ (op : Op). is_restrict op) is; allowed = allowed })
+origins_changed tree abi records k r op o is eq allowed all = earlier tree abi records k o.layers all
 
 -- ---- of every process at every place
 
@@ -68,13 +68,13 @@ unfolding fresh no_origins enforced_at enforced_by
 keeps tree abi records = record {
   begins = λ k nnp admin. record { layers = refl; restricts = All-nil (IsEarlier is_restrict tree abi records k) };
   stays = λ k s o made. record { layers = made.layers; restricts = earlier tree abi records k o.layers made.restricts };
-  changes = λ k r o at allowed judged made.
+  changes = λ k r o eq allowed judged made.
       (let w : World = world_at tree abi records k in
       let s : State = w.processes r.process.0 in
-      let makes : enforced_at tree abi records k ≡ enforced w.rulesets r.op s = ap (λ (x : Option Record). enforced_by w x) at in
+      let makes : enforced_at tree abi records k ≡ enforced w.rulesets r.op s = ap (λ (x : Option Record). enforced_by w x) eq in
       record {
         layers = domain_changed tree w.rulesets r.op s k o (enforced_at tree abi records) makes made.layers;
-        restricts = origins_changed tree abi records k r r.op o refl at judged made.restricts;
+        restricts = origins_changed tree abi records k r r.op o refl eq judged made.restricts;
       });
 }
 

@@ -13,7 +13,7 @@ use Rattle.ll_semantics.specs.States.{State, fresh}
 use Rattle.ll_semantics.specs.Answers.{answer}
 use Rattle.ll_semantics.specs.Effects.{effect}
 use Rattle.ll_semantics.specs.Worlds.{World, if_allowed, with_state, answer_in, step, judged, empty_world}
-use Rattle.ll_semantics.specs.Situations.{change, state_after, world_after, world_at}
+use Rattle.ll_semantics.specs.CallContexts.{change, state_after, world_after, world_at}
 use Rattle.ll_trace.specs.Processes.{is_starting}
 use Rattle.ll_semantics.proofs.Steps.{with_state-same, step-unbegun, started-none, count-step, judged-at, world_after-more}
 use Rattle.ll_reasons.specs.Origins.{Origins, no_origins, traced, Sources, no_sources, with_origins, sources_by, sources_after, sources_at}
@@ -25,12 +25,12 @@ pub sources_after-more : (i : ℕ) (s : Sources) (rs : List Record) (answers : L
     → slice_get answers k ≡ Some a
     → sources_after i s (take (suc k) rs) answers ≡ sources_by (i + k) r.op r.process.0 a (sources_after i s (take k rs) answers)
 unfolding sources_after
-sources_after-more i s [] answers k r a at asked = absurd (none-some r at)
-sources_after-more i s (x ∷ rs) [] k r a at asked = absurd (none-some a asked)
-sources_after-more i s (x ∷ rs) (y ∷ answers) zero r a at asked =
-    rw (sym (same_Some x r at), sym (same_Some y a asked), (let none : i + 0 ≡ i = omega arith in none)) refl
-sources_after-more i s (x ∷ rs) (y ∷ answers) (suc k) r a at asked =
-    sources_after-more (i + 1) (sources_by i x.op x.process.0 y s) rs answers k r a at asked
+sources_after-more i s [] answers k r a eq asked = absurd (none-some r eq)
+sources_after-more i s (x ∷ rs) [] k r a eq asked = absurd (none-some a asked)
+sources_after-more i s (x ∷ rs) (y ∷ answers) zero r a eq asked =
+    rw (sym (same_Some x r eq), sym (same_Some y a asked), (let none : i + 0 ≡ i = omega arith in none)) refl
+sources_after-more i s (x ∷ rs) (y ∷ answers) (suc k) r a eq asked =
+    sources_after-more (i + 1) (sources_by i x.op x.process.0 y s) rs answers k r a eq asked
     ∙ ap (λ (n : ℕ). sources_by n r.op r.process.0 a (sources_after (i + 1) (sources_by i x.op x.process.0 y s) (take k rs) answers))
     (let more : i + 1 + k ≡ i + suc k = omega arith in more)
 
@@ -38,16 +38,16 @@ pub sources_at-more : (tree : List Entry) (abi : Abi) (records : List Record) (k
     → sources_at tree abi records (suc k)
     ≡ sources_by k r.op r.process.0 (answer_in tree abi (world_at tree abi records k) r.process.0 r.op) (sources_at tree abi records k)
 unfolding sources_at
-sources_at-more tree abi records k r at =
+sources_at-more tree abi records k r eq =
     sources_after-more 0 no_sources records (judged tree abi records) k r (answer_in tree abi (world_at tree abi records k) r.process.0 r.op)
-    at (judged-at tree abi records k r at)
+    eq (judged-at tree abi records k r eq)
     ∙ ap (λ (n : ℕ). sources_by n r.op r.process.0 (answer_in tree abi (world_at tree abi records k) r.process.0 r.op)
     (sources_after 0 no_sources (take k records) (judged tree abi records))) (let same : 0 + k ≡ k = omega arith in same)
 
 pub world_at-more : (tree : List Entry) (abi : Abi) (records : List Record) (k : ℕ) (r : Record) → slice_get records k ≡ Some r
     → world_at tree abi records (suc k) ≡ step tree abi (world_at tree abi records k) r.process.0 r.op
 unfolding world_at
-world_at-more tree abi records k r at = world_after-more tree abi empty_world records k r at
+world_at-more tree abi records k r eq = world_after-more tree abi empty_world records k r eq
 
 -- ---- past the end
 
@@ -139,14 +139,14 @@ module _ (tree : List Entry) (abi : Abi) (records : List Record) (Fits : ℕ →
   next k None past before =
       rw (world_at-past tree abi records k past, sources_at-past tree abi records k past)
       (before.0, λ q. keeps.stays k ((world_at tree abi records k).processes q) ((sources_at tree abi records k).processes q) (before.1 q))
-  next k (Some r) at before =
+  next k (Some r) eq before =
       let w : World = world_at tree abi records k in
       let sources : Sources = sources_at tree abi records k in
-      rw (world_at-more tree abi records k r at, sources_at-more tree abi records k r at) (
+      rw (world_at-more tree abi records k r eq, sources_at-more tree abi records k r eq) (
         count-step tree abi w r.process.0 r.op ∙ ap (λ (n : ℕ). n + cond (is_starting r.op) 1 0) before.0
             ∙ sym (count-sources_by k r.op r.process.0 (answer_in tree abi w r.process.0 r.op) sources),
         λ q. by_record k r.op r.process.0 q w sources before.0 before.1 (λ allowed.
-            keeps.changes k r (sources.processes r.process.0) at allowed (judged-at tree abi records k r at ∙ ap Some allowed) (before.1 r.process.0)),
+            keeps.changes k r (sources.processes r.process.0) eq allowed (judged-at tree abi records k r eq ∙ ap Some allowed) (before.1 r.process.0)),
       )
 
   all_fit : (k : ℕ) → AllFit k

@@ -24,7 +24,7 @@ use Rattle.ll_rules.specs.declared.moves.Verdict.TheVariants as verdicts
 use Rattle.ll_rules.specs.Layers.{handles, granted, granted_on_port}
 use Rattle.ll_rules.specs.Checks.{numbers_from, numbers_where, lacks, refusing, lacks_on_port, refusing_port, refusing_mount}
 use Rattle.ll_rules.specs.Moves.{source_of, destination_of, kind_there, asked_of_source, asked_of_destination, lacks_one_of, denies, gains, other_gains}
-use Rattle.ll_rules.specs.Moves.{holds_back, move_verdict, refused_by}
+use Rattle.ll_rules.specs.Moves.{holds_back, move_verdict, refused_or}
 use Rattle.ll_rules.proofs.Booleans.{or_assoc, or_and, list_any-agree, list_any-or}
 use Rattle.ll_semantics.specs.declared.answer.Answer.{Answer}
 use Rattle.ll_semantics.specs.declared.answer.Answer.TheVariants.{Allowed, Refused}
@@ -39,7 +39,7 @@ use Rattle.ll_rights.specs.declared.abi.Abi.{Abi}
 use Rattle.ll_reasons.specs.Origins.{Origins}
 use Rattle.ll_trace.specs.declared.record.Record.{Record}
 use Rattle.ll_semantics.specs.Worlds.{World, answer_in, judged}
-use Rattle.ll_semantics.specs.Situations.{world_at}
+use Rattle.ll_semantics.specs.CallContexts.{world_at}
 use Rattle.ll_semantics.proofs.Steps.{judged-at}
 use Rattle.std.specs.Prelude.{slice_get}
 use Rattle.std.proofs.lemmas.Option.{same_Some}
@@ -212,7 +212,7 @@ verdict_is (verdicts.Refused e found) error number numbers is = cc
 
 crossing_numbers : (tree : List Entry) (domain : List Layer) (move : Move) (one : Bool) (found : List ℕ) (error : Errno) (number : ℕ) (numbers : List ℕ)
     → found ≡ numbers_where (holds_back tree move) domain
-    → (if one then verdicts.Passed else refused_by XDev found verdicts.Passed) ≡ verdicts.Refused error (number ∷ numbers)
+    → (if one then verdicts.Passed else refused_or XDev found verdicts.Passed) ≡ verdicts.Refused error (number ∷ numbers)
     → map (λ said. said.0) (objecting (on_move tree move error) domain) ≡ number ∷ numbers
 crossing_numbers tree domain move true found error number numbers from is = cc
 crossing_numbers tree domain move false [] error number numbers from is = cc
@@ -224,8 +224,8 @@ crossing_numbers tree domain move false (x ∷ found) error number numbers from 
 
 denied_numbers : (tree : List Entry) (domain : List Layer) (move : Move) (found : List ℕ) (error : Errno) (number : ℕ) (numbers : List ℕ)
     → found ≡ numbers_where (denies tree move) domain
-    → refused_by Acces found (if path_eq (source_of tree move) (destination_of tree move.target) then verdicts.Passed
-    else refused_by XDev (numbers_where (holds_back tree move) domain) verdicts.Passed) ≡ verdicts.Refused error (number ∷ numbers)
+    → refused_or Acces found (if path_eq (source_of tree move) (destination_of tree move.target) then verdicts.Passed
+    else refused_or XDev (numbers_where (holds_back tree move) domain) verdicts.Passed) ≡ verdicts.Refused error (number ∷ numbers)
     → map (λ said. said.0) (objecting (on_move tree move error) domain) ≡ number ∷ numbers
 denied_numbers tree domain move [] error number numbers from is =
     crossing_numbers tree domain move (path_eq (source_of tree move) (destination_of tree move.target))
@@ -346,9 +346,9 @@ pub record_numbers : (tree : List Entry) (abi : Abi) (records : List Record) (pl
     → (said : List (ℕ × List Objection)) × (explained_at tree abi records place r (Refused error (number ∷ numbers)) ≡ objections said)
     × (map (λ one. one.0) said ≡ number ∷ numbers)
 unfolding explained_at explained
-record_numbers tree abi records place r error number numbers at is =
+record_numbers tree abi records place r error number numbers eq is =
     let answered : answer_in tree abi (world_at tree abi records place) r.process.0 r.op ≡ Refused error (number ∷ numbers) =
-    same_Some _ _ (sym (judged-at tree abi records place r at) ∙ is) in (
+    same_Some _ _ (sym (judged-at tree abi records place r eq) ∙ is) in (
       objections_to tree (domain_at tree abi records place r.process.0) (origins_at tree abi records place r.process.0) r.op error (number ∷ numbers),
       refl,
       numbers_at tree abi records place r.process.0 r.op error number numbers answered,

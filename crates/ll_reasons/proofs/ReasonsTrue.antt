@@ -31,7 +31,7 @@ use Rattle.ll_semantics.specs.States.{State, Layer}
 use Rattle.ll_semantics.specs.Answers as answers
 use Rattle.ll_trace.specs.declared.record.Record.{Record}
 use Rattle.ll_semantics.specs.Worlds.{World, answer_in}
-use Rattle.ll_semantics.specs.Situations.{world_at}
+use Rattle.ll_semantics.specs.CallContexts.{world_at}
 use Rattle.ll_reasons.specs.Origins.{Origins}
 use Rattle.ll_reasons.specs.Explanations.{origins_at}
 use Rattle.ll_reasons.proofs.DescriptorsMade.{descriptor_open}
@@ -75,8 +75,8 @@ node_path tree path node is = by_position (position_of path tree) refl is
   where
     by_position : (o : Option ℕ) → position_of path tree ≡ o → ◌≡◌ {A = Option NodeId} (option_map (λ place. record { 0 = place }) o) (Some node)
         → path_at tree node ≡ path
-    by_position None at is = absurd (none-some node is)
-    by_position (Some place) at is = subst (λ (n : NodeId). path_at tree n ≡ path) (same_Some (record { 0 = place }) node is) (at_position path tree place at).1
+    by_position None eq is = absurd (none-some node is)
+    by_position (Some place) eq is = subst (λ (n : NodeId). path_at tree n ≡ path) (same_Some (record { 0 = place }) node is) (at_position path tree place eq).1
 
 shorter : (path : Path) (n : ℕ) → length path ≤ suc n → length (front path) ≤ n
 unfolding front
@@ -114,7 +114,7 @@ module _ (tree : List Entry) (s : State) (op : Op) (there : is_some (node_at tre
   unfolding Placed Holds
   gap_holds path directory is = (is.0, (directory, is.1, is.2))
 
-  no_object_holds : (path : Path) (at : Place) → Placed tree path at → Holds tree s op (no_object tree path at)
+  no_object_holds : (path : Path) (spot : Place) → Placed tree path spot → Holds tree s op (no_object tree path spot)
   unfolding Placed Holds no_object
   no_object_holds path (Node node) is = (node, is, refl)
   no_object_holds path (Gap directory) is = gap_holds path directory is
@@ -136,8 +136,8 @@ module _ (tree : List Entry) (s : State) (op : Op) (there : is_some (node_at tre
   unsuited_holds path node Rmdir is of_root = by_root (is_root node) (of_kind path (kind_at tree node)) of_root (kind_holds path node is)
   unsuited_holds path node want is of_root = kind_holds path node is
 
-  unmet_holds : (path : Path) (at : Place) (want : Wanted) → Placed tree path at → (is_at_root at ≡ true → Holds tree s op root)
-      → Holds tree s op (unmet tree path at want)
+  unmet_holds : (path : Path) (spot : Place) (want : Wanted) → Placed tree path spot → (is_at_root spot ≡ true → Holds tree s op root)
+      → Holds tree s op (unmet tree path spot want)
   unfolding Placed unmet
   unmet_holds path (Node node) want is of_root = unsuited_holds path node want is of_root
   unmet_holds path (Gap directory) want is of_root = gap_holds path directory is
@@ -162,15 +162,15 @@ module _ (tree : List Entry) (s : State) (op : Op) (there : is_some (node_at tre
   above_paths : (from to : Path) (a b : NodeId) → path_at tree a ≡ from → path_at tree b ≡ to → is_above tree a b ≡ true → is_prefix from to ≡ true
   above_paths from to a b is_a is_b above = subst₂ (λ (x y : Path). is_prefix x y ≡ true) is_a is_b above
 
-  onto_holds : (from to : Path) (moved at : NodeId) (exchange : Bool) → node_at tree from ≡ Some moved
-      → node_at tree to ≡ Some at → (is_root at ≡ true → Holds tree s op root) → ((moved.0 == at.0) ≡ true → Holds tree s op (unmoved from))
-      → rename_onto tree moved at exchange ≡ None → Holds tree s op (onto tree from moved to at)
+  onto_holds : (from to : Path) (moved old : NodeId) (exchange : Bool) → node_at tree from ≡ Some moved
+      → node_at tree to ≡ Some old → (is_root old ≡ true → Holds tree s op root) → ((moved.0 == old.0) ≡ true → Holds tree s op (unmoved from))
+      → rename_onto tree moved old exchange ≡ None → Holds tree s op (onto tree from moved to old)
   unfolding onto rename_onto Holds
-  onto_holds from to moved at exchange is_from is_to of_root of_one moot =
-      by_onto from to (is_root at) (moved.0 == at.0) (is_above tree moved at) (is_above tree at moved) exchange (is_mixed tree moved at) _ _ of_root of_one
-      (λ above. above_paths from to moved at (node_path tree from moved is_from) (node_path tree to at is_to) above)
-      (λ above. above_paths to from at moved (node_path tree to at is_to) (node_path tree from moved is_from) above)
-      (λ both. (moved, at, is_from, is_to, both)) moot
+  onto_holds from to moved old exchange is_from is_to of_root of_one moot =
+      by_onto from to (is_root old) (moved.0 == old.0) (is_above tree moved old) (is_above tree old moved) exchange (is_mixed tree moved old) _ _ of_root of_one
+      (λ above. above_paths from to moved old (node_path tree from moved is_from) (node_path tree to old is_to) above)
+      (λ above. above_paths to from old moved (node_path tree to old is_to) (node_path tree from moved is_from) above)
+      (λ both. (moved, old, is_from, is_to, both)) moot
 
   by_gap : (from to : Path) (x a : Bool) (one : Move) → Holds tree s op (absent to) → (a ≡ true → Holds tree s op (beneath_itself from to))
       → (if x then None else (if a then None else Some one)) ≡ None → Holds tree s op (if x then absent to else beneath_itself from to)
@@ -186,9 +186,9 @@ module _ (tree : List Entry) (s : State) (op : Op) (there : is_some (node_at tre
       (λ above. prefix-trans from (front to) to (above_paths from (front to) moved directory (node_path tree from moved is_from)
       (node_path tree (front to) directory is_to.1) above) (prefix-front to)) moot
 
-  moved_to_holds : (from to : Path) (moved : NodeId) (at : Place) (exchange : Bool) → node_at tree from ≡ Some moved
-      → Placed tree to at → (is_at_root at ≡ true → Holds tree s op root) → (is_at_one (Node moved) at ≡ true → Holds tree s op (unmoved from))
-      → rename_to tree moved at exchange ≡ None → Holds tree s op (moved_to tree from moved to at exchange)
+  moved_to_holds : (from to : Path) (moved : NodeId) (spot : Place) (exchange : Bool) → node_at tree from ≡ Some moved
+      → Placed tree to spot → (is_at_root spot ≡ true → Holds tree s op root) → (is_at_one (Node moved) spot ≡ true → Holds tree s op (unmoved from))
+      → rename_to tree moved spot exchange ≡ None → Holds tree s op (moved_to tree from moved to spot exchange)
   unfolding rename_to moved_to Placed
   moved_to_holds from to moved (Node there) exchange is_from is_to of_root of_one moot =
       onto_holds from to moved there exchange is_from is_to of_root of_one moot
@@ -211,8 +211,8 @@ module _ (tree : List Entry) (s : State) (op : Op) (there : is_some (node_at tre
   unrenamed_holds from to (Gap directory) at_to exchange is_from is_to root_from root_to of_one moot = gap_holds from directory is_from
   unrenamed_holds from to Nowhere at_to exchange is_from is_to root_from root_to of_one moot = nowhere_holds from is_from
 
-  linked_to_holds : (from to : Path) (moved : NodeId) (at : Place) → node_at tree from ≡ Some moved
-      → Placed tree to at → Holds tree s op (linked_to tree from moved to at)
+  linked_to_holds : (from to : Path) (moved : NodeId) (spot : Place) → node_at tree from ≡ Some moved
+      → Placed tree to spot → Holds tree s op (linked_to tree from moved to spot)
   unfolding linked_to Placed Holds
   linked_to_holds from to moved (Node there) is_from is_to = ap (λ (o : Option NodeId). is_some o) is_to
   linked_to_holds from to moved (Gap directory) is_from is_to = (moved, is_from, refl)

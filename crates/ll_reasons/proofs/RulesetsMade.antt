@@ -22,7 +22,7 @@ use Rattle.ll_semantics.specs.States.{State, Layer, fresh}
 use Rattle.ll_semantics.specs.Answers.{answer, named}
 use Rattle.ll_semantics.specs.Effects.{effect, changed_at}
 use Rattle.ll_semantics.specs.Worlds.{World, if_allowed, answer_in, judged}
-use Rattle.ll_semantics.specs.Situations.{change, state_by, rules, rulesets_by, rulesets_after, world_at}
+use Rattle.ll_semantics.specs.CallContexts.{change, state_by, rules, rulesets_by, rulesets_after, world_at}
 use Rattle.ll_semantics.proofs.Steps.{step-rulesets}
 use Rattle.ll_reasons.specs.Origins.{Origins, no_origins, traced}
 use Rattle.ll_reasons.specs.Made.{is_create, IsAllowed, IsEarlier}
@@ -54,13 +54,13 @@ set_kept : (fs : Fs) (net : Net) (rulesets : List Layer) (p j : ℕ) (old new : 
     → new.handled_network ≡ old.handled_network
     → HandlesJust fs net (slice_get rulesets j) → HandlesJust fs net (slice_get (slice_set rulesets p new) j)
 unfolding HandlesJust
-set_kept fs net [] p j old new at same_fs same_net just = absurd just
-set_kept fs net (x ∷ rulesets) zero zero old new at same_fs same_net just =
-    let here : x ≡ old = same_Some x old at in
+set_kept fs net [] p j old new eq same_fs same_net just = absurd just
+set_kept fs net (x ∷ rulesets) zero zero old new eq same_fs same_net just =
+    let here : x ≡ old = same_Some x old eq in
     (same_fs ∙ ap (λ (y : Layer). y.handled_files) (sym here) ∙ just.0, same_net ∙ ap (λ (y : Layer). y.handled_network) (sym here) ∙ just.1)
-set_kept fs net (x ∷ rulesets) zero (suc j) old new at same_fs same_net just = just
-set_kept fs net (x ∷ rulesets) (suc p) zero old new at same_fs same_net just = just
-set_kept fs net (x ∷ rulesets) (suc p) (suc j) old new at same_fs same_net just = set_kept fs net rulesets p j old new at same_fs same_net just
+set_kept fs net (x ∷ rulesets) zero (suc j) old new eq same_fs same_net just = just
+set_kept fs net (x ∷ rulesets) (suc p) zero old new eq same_fs same_net just = just
+set_kept fs net (x ∷ rulesets) (suc p) (suc j) old new eq same_fs same_net just = set_kept fs net rulesets p j old new eq same_fs same_net just
 
 changed_kept : (fs : Fs) (net : Net) (rulesets : List Layer) (h : Option ℕ) (f : Layer → Layer) (j : ℕ)
     → ((old : Layer) → (f old).handled_files ≡ old.handled_files) → ((old : Layer) → (f old).handled_network ≡ old.handled_network)
@@ -70,15 +70,15 @@ changed_kept fs net rulesets (Some p) f j same_fs same_net just = by_get (slice_
   where
     by_get : (o : Option Layer) → slice_get rulesets p ≡ o
         → HandlesJust fs net (slice_get (unwrap_or (option_map (λ (old : Layer). slice_set rulesets p (f old)) o) rulesets) j)
-    by_get None at = just
-    by_get (Some old) at = set_kept fs net rulesets p j old (f old) at (same_fs old) (same_net old) just
+    by_get None eq = just
+    by_get (Some old) eq = set_kept fs net rulesets p j old (f old) eq (same_fs old) (same_net old) just
 
-with_rule-files : (tree : List Entry) (at : Place) (fs : Fs) (old : Layer) → (with_rule_at tree old at fs).handled_files ≡ old.handled_files
+with_rule-files : (tree : List Entry) (spot : Place) (fs : Fs) (old : Layer) → (with_rule_at tree old spot fs).handled_files ≡ old.handled_files
 with_rule-files tree (Node node) fs old = refl
 with_rule-files tree (Gap node) fs old = refl
 with_rule-files tree Nowhere fs old = refl
 
-with_rule-ports : (tree : List Entry) (at : Place) (fs : Fs) (old : Layer) → (with_rule_at tree old at fs).handled_network ≡ old.handled_network
+with_rule-ports : (tree : List Entry) (spot : Place) (fs : Fs) (old : Layer) → (with_rule_at tree old spot fs).handled_network ≡ old.handled_network
 with_rule-ports tree (Node node) fs old = refl
 with_rule-ports tree (Gap node) fs old = refl
 with_rule-ports tree Nowhere fs old = refl
@@ -111,8 +111,8 @@ in_step tree abi rulesets s op fs net j just =
 next_rulesets : (tree : List Entry) (abi : Abi) (records : List Record) (k : ℕ) (r : Record) → slice_get records k ≡ Some r
     → (world_at tree abi records (suc k)).rulesets
     ≡ rulesets_after tree abi (world_at tree abi records k).rulesets r.op ((world_at tree abi records k).processes r.process.0)
-next_rulesets tree abi records k r at =
-    ap (λ (v : World). v.rulesets) (world_at-more tree abi records k r at) ∙ step-rulesets tree abi (world_at tree abi records k) r.process.0 r.op
+next_rulesets tree abi records k r eq =
+    ap (λ (v : World). v.rulesets) (world_at-more tree abi records k r eq) ∙ step-rulesets tree abi (world_at tree abi records k) r.process.0 r.op
 
 by_record : (tree : List Entry) (abi : Abi) (records : List Record) (k : ℕ) (fs : Fs) (net : Net) (j : ℕ)
     → HandlesJust fs net (slice_get (world_at tree abi records k).rulesets j) → HandlesJust fs net (slice_get (world_at tree abi records (suc k)).rulesets j)
@@ -120,9 +120,9 @@ by_record tree abi records k fs net j just = by_get (slice_get records k) refl
   where
     by_get : (x : Option Record) → slice_get records k ≡ x → HandlesJust fs net (slice_get (world_at tree abi records (suc k)).rulesets j)
     by_get None past = rw (world_at-past tree abi records k past) just
-    by_get (Some r) at =
+    by_get (Some r) eq =
         let w : World = world_at tree abi records k in
-        subst (λ (rulesets : List Layer). HandlesJust fs net (slice_get rulesets j)) (sym (next_rulesets tree abi records k r at))
+        subst (λ (rulesets : List Layer). HandlesJust fs net (slice_get rulesets j)) (sym (next_rulesets tree abi records k r eq))
         (in_step tree abi w.rulesets (w.processes r.process.0) r.op fs net j just)
 
 -- what is created is the last
@@ -143,14 +143,14 @@ created_last tree abi rulesets s op allowed creates =
 -- ---- what a number names
 
 -- a ruleset of the world handles what the record at an earlier place named when it created one
-record Holds (tree : List Entry) (abi : Abi) (records : List Record) (at j k : ℕ) : Type 0 where
-  before : k < at
+record Holds (tree : List Entry) (abi : Abi) (records : List Record) (ix j k : ℕ) : Type 0 where
+  before : k < ix
   created : IsAllowed is_create tree abi records k
-  just : HandlesJust (handled_by created.of.op) (handled_on_ports_by created.of.op) (slice_get (world_at tree abi records at).rulesets j)
+  just : HandlesJust (handled_by created.of.op) (handled_on_ports_by created.of.op) (slice_get (world_at tree abi records ix).rulesets j)
 
 -- so do all that are held
 abbrev AllHeld : List Entry → Abi → List Record → ℕ → State → Origins → Type 0
-AllHeld tree abi records at s o = (rs : ℕ) → Alike (Holds tree abi records at) (s.held rs) (o.rulesets rs)
+AllHeld tree abi records ix s o = (rs : ℕ) → Alike (Holds tree abi records ix) (s.held rs) (o.rulesets rs)
 
 later : (tree : List Entry) (abi : Abi) (records : List Record) (k : ℕ) (x y : Option ℕ) → Alike (Holds tree abi records k) x y
     → Alike (Holds tree abi records (suc k)) x y
@@ -166,8 +166,8 @@ later tree abi records k x y fits =
 created_here : (tree : List Entry) (abi : Abi) (records : List Record) (k j : ℕ) (r : Record) → slice_get records k ≡ Some r
     → slice_get (judged tree abi records) k ≡ Some Allowed → is_create r.op ≡ true
     → HandlesJust (handled_by r.op) (handled_on_ports_by r.op) (slice_get (world_at tree abi records (suc k)).rulesets j) → Holds tree abi records (suc k) j k
-created_here tree abi records k j r at allowed creates just =
-    record { before = omega arith; created = record { of = r; at = at; such = creates; allowed = allowed }; just = just }
+created_here tree abi records k j r eq allowed creates just =
+    record { before = omega arith; created = record { of = r; at = eq; such = creates; allowed = allowed }; just = just }
 
 changed : (tree : List Entry) (abi : Abi) (records : List Record) (k : ℕ) (op : Op) (rulesets : List Layer) (s : State) (o : Origins)
     → (is_create op ≡ true → Holds tree abi records (suc k) (length rulesets) k) → AllHeld tree abi records k s o
@@ -189,18 +189,18 @@ unfolding fresh no_origins answer_in Alike
 keeps tree abi records = record {
   begins = λ k nnp admin rs. tt;
   stays = λ k s o all rs. later tree abi records k (s.held rs) (o.rulesets rs) (all rs);
-  changes = λ k r o at allowed judged all.
+  changes = λ k r o eq allowed judged all.
       (let w : World = world_at tree abi records k in
       changed tree abi records k r.op w.rulesets (w.processes r.process.0) o
-      (λ creates. created_here tree abi records k (length w.rulesets) r at judged creates
+      (λ creates. created_here tree abi records k (length w.rulesets) r eq judged creates
       (subst (λ (rulesets : List Layer). HandlesJust (handled_by r.op) (handled_on_ports_by r.op) (slice_get rulesets (length w.rulesets)))
-      (sym (next_rulesets tree abi records k r at)) (created_last tree abi w.rulesets (w.processes r.process.0) r.op allowed creates)))
+      (sym (next_rulesets tree abi records k r eq)) (created_last tree abi w.rulesets (w.processes r.process.0) r.op allowed creates)))
       all);
 }
 
-all_held : (tree : List Entry) (abi : Abi) (records : List Record) (at process : ℕ)
-    → AllHeld tree abi records at ((world_at tree abi records at).processes process) (origins_at tree abi records at process)
-all_held tree abi records at process = holds_at tree abi records (AllHeld tree abi records) (keeps tree abi records) at process
+all_held : (tree : List Entry) (abi : Abi) (records : List Record) (ix process : ℕ)
+    → AllHeld tree abi records ix ((world_at tree abi records ix).processes process) (origins_at tree abi records ix process)
+all_held tree abi records ix process = holds_at tree abi records (AllHeld tree abi records) (keeps tree abi records) ix process
 
 -- ---- the law
 
@@ -209,14 +209,14 @@ unfolding HandlesJust
 some_just fs net None just = absurd just
 some_just fs net (Some rules) just = refl
 
-is_named : (tree : List Entry) (abi : Abi) (records : List Record) (at : ℕ) (x y : Option ℕ) → Alike (Holds tree abi records at) x y
-    → is_some (named (world_at tree abi records at).rulesets x) ≡ is_some x
+is_named : (tree : List Entry) (abi : Abi) (records : List Record) (ix : ℕ) (x y : Option ℕ) → Alike (Holds tree abi records ix) x y
+    → is_some (named (world_at tree abi records ix).rulesets x) ≡ is_some x
 unfolding Alike
-is_named tree abi records at None None fits = refl
-is_named tree abi records at (Some j) (Some k) fits =
-    some_just (handled_by fits.created.of.op) (handled_on_ports_by fits.created.of.op) (slice_get (world_at tree abi records at).rulesets j) fits.just
-is_named tree abi records at None (Some k) fits = absurd fits
-is_named tree abi records at (Some j) None fits = absurd fits
+is_named tree abi records ix None None fits = refl
+is_named tree abi records ix (Some j) (Some k) fits =
+    some_just (handled_by fits.created.of.op) (handled_on_ports_by fits.created.of.op) (slice_get (world_at tree abi records ix).rulesets j) fits.just
+is_named tree abi records ix None (Some k) fits = absurd fits
+is_named tree abi records ix (Some j) None fits = absurd fits
 
 handles_named : (fs : Fs) (net : Net) (o : Option Layer) (rules : Layer) → o ≡ Some rules → HandlesJust fs net o
     → (fs ≡ rules.handled_files) × (net ≡ rules.handled_network)
@@ -233,49 +233,49 @@ handled_there records k = handled_by (call_of (option_and_then (slice_get record
 handled_on_ports_there : List Record → Option ℕ → Net
 handled_on_ports_there records k = handled_on_ports_by (call_of (option_and_then (slice_get records) k))
 
-as_created : (tree : List Entry) (abi : Abi) (records : List Record) (at : ℕ) (x y : Option ℕ) (rules : Layer) → Alike (Holds tree abi records at) x y
-    → named (world_at tree abi records at).rulesets x ≡ Some rules
+as_created : (tree : List Entry) (abi : Abi) (records : List Record) (ix : ℕ) (x y : Option ℕ) (rules : Layer) → Alike (Holds tree abi records ix) x y
+    → named (world_at tree abi records ix).rulesets x ≡ Some rules
     → (handled_there records y ≡ rules.handled_files) × (handled_on_ports_there records y ≡ rules.handled_network)
 unfolding Alike handled_there handled_on_ports_there
-as_created tree abi records at None None rules fits is = absurd (none-some rules is)
-as_created tree abi records at (Some j) (Some k) rules fits is =
+as_created tree abi records ix None None rules fits is = absurd (none-some rules is)
+as_created tree abi records ix (Some j) (Some k) rules fits is =
     let created = fits.created in
     let same =
-    handles_named (handled_by created.of.op) (handled_on_ports_by created.of.op) (slice_get (world_at tree abi records at).rulesets j) rules is fits.just in
+    handles_named (handled_by created.of.op) (handled_on_ports_by created.of.op) (slice_get (world_at tree abi records ix).rulesets j) rules is fits.just in
     rw created.at same
-as_created tree abi records at None (Some k) rules fits is = absurd fits
-as_created tree abi records at (Some j) None rules fits is = absurd fits
+as_created tree abi records ix None (Some k) rules fits is = absurd fits
+as_created tree abi records ix (Some j) None rules fits is = absurd fits
 
-earlier : (tree : List Entry) (abi : Abi) (records : List Record) (at : ℕ) (x y : Option ℕ) → Alike (Holds tree abi records at) x y
-    → IfSome y (IsEarlier is_create tree abi records at)
+earlier : (tree : List Entry) (abi : Abi) (records : List Record) (ix : ℕ) (x y : Option ℕ) → Alike (Holds tree abi records ix) x y
+    → IfSome y (IsEarlier is_create tree abi records ix)
 unfolding Alike
-earlier tree abi records at None None fits = tt
-earlier tree abi records at (Some j) (Some k) fits = (fits.before, fits.created)
-earlier tree abi records at None (Some k) fits = absurd fits
-earlier tree abi records at (Some j) None fits = tt
+earlier tree abi records ix None None fits = tt
+earlier tree abi records ix (Some j) (Some k) fits = (fits.before, fits.created)
+earlier tree abi records ix None (Some k) fits = absurd fits
+earlier tree abi records ix (Some j) None fits = tt
 
-module _ (tree : List Entry) (abi : Abi) (records : List Record) (at process rs : ℕ) where
-  pub ruleset_held : is_some ((origins_at tree abi records at process).rulesets rs) ≡ is_some (((world_at tree abi records at).processes process).held rs)
+module _ (tree : List Entry) (abi : Abi) (records : List Record) (ix process rs : ℕ) where
+  pub ruleset_held : is_some ((origins_at tree abi records ix process).rulesets rs) ≡ is_some (((world_at tree abi records ix).processes process).held rs)
   ruleset_held =
-      alike-some (Holds tree abi records at) (((world_at tree abi records at).processes process).held rs) ((origins_at tree abi records at process).rulesets rs)
-      (all_held tree abi records at process rs)
+      alike-some (Holds tree abi records ix) (((world_at tree abi records ix).processes process).held rs) ((origins_at tree abi records ix process).rulesets rs)
+      (all_held tree abi records ix process rs)
 
-  pub ruleset_named : is_some (named (world_at tree abi records at).rulesets (((world_at tree abi records at).processes process).held rs))
-      ≡ is_some (((world_at tree abi records at).processes process).held rs)
+  pub ruleset_named : is_some (named (world_at tree abi records ix).rulesets (((world_at tree abi records ix).processes process).held rs))
+      ≡ is_some (((world_at tree abi records ix).processes process).held rs)
   ruleset_named =
-      is_named tree abi records at (((world_at tree abi records at).processes process).held rs) ((origins_at tree abi records at process).rulesets rs)
-      (all_held tree abi records at process rs)
+      is_named tree abi records ix (((world_at tree abi records ix).processes process).held rs) ((origins_at tree abi records ix process).rulesets rs)
+      (all_held tree abi records ix process rs)
 
   pub ruleset_handles : (rules : Layer)
-      → named (world_at tree abi records at).rulesets (((world_at tree abi records at).processes process).held rs) ≡ Some rules
-      → (handled records (origins_at tree abi records at process) rs ≡ rules.handled_files)
-      × (handled_on_ports records (origins_at tree abi records at process) rs ≡ rules.handled_network)
+      → named (world_at tree abi records ix).rulesets (((world_at tree abi records ix).processes process).held rs) ≡ Some rules
+      → (handled records (origins_at tree abi records ix process) rs ≡ rules.handled_files)
+      × (handled_on_ports records (origins_at tree abi records ix process) rs ≡ rules.handled_network)
   unfolding handled handled_on_ports handled_there handled_on_ports_there
   ruleset_handles rules is =
-      as_created tree abi records at (((world_at tree abi records at).processes process).held rs) ((origins_at tree abi records at process).rulesets rs) rules
-      (all_held tree abi records at process rs) is
+      as_created tree abi records ix (((world_at tree abi records ix).processes process).held rs) ((origins_at tree abi records ix process).rulesets rs) rules
+      (all_held tree abi records ix process rs) is
 
-  pub ruleset_earlier : IfSome ((origins_at tree abi records at process).rulesets rs) (IsEarlier is_create tree abi records at)
+  pub ruleset_earlier : IfSome ((origins_at tree abi records ix process).rulesets rs) (IsEarlier is_create tree abi records ix)
   ruleset_earlier =
-      earlier tree abi records at (((world_at tree abi records at).processes process).held rs) ((origins_at tree abi records at process).rulesets rs)
-      (all_held tree abi records at process rs)
+      earlier tree abi records ix (((world_at tree abi records ix).processes process).held rs) ((origins_at tree abi records ix process).rulesets rs)
+      (all_held tree abi records ix process rs)

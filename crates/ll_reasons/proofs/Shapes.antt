@@ -1,16 +1,18 @@
 -- Which of four shapes the answers to a call can have: allowed, moot, refused by no layer, refused by layers.
 use Rattle.std.proofs.Common.{◌≡◌, ℕ, Bool, true, false, not, List, [], ◌∷◌, length, Option, Some, None, refl, sym, ap, ◌∙◌, nat_le, nat_lt, if◌then◌else◌}
+use Rattle.ll_rights.specs.declared.net.TheConstants.{LARGEST_PORT}
 use Rattle.ll_rights.specs.declared.abi.Abi.{Abi}
 use Rattle.ll_rights.specs.declared.fs.Fs.{Fs}
 use Rattle.ll_rights.specs.declared.net.Net.{Net}
 use Rattle.ll_rights.specs.NetRights as network
+use Rattle.ll_rules.specs.declared.domain.TheConstants.{MOST_LAYERS}
 use Rattle.ll_rules.specs.declared.errno.Errno.{Errno}
 use Rattle.ll_rules.specs.declared.errno.Errno.TheVariants.{Acces, Inval, NoMsg, TooBig, XDev}
 use Rattle.ll_rules.specs.declared.moves.Move.{Move}
 use Rattle.ll_rules.specs.declared.moves.Verdict.{Verdict}
 use Rattle.ll_rules.specs.declared.moves.Verdict.TheVariants as verdicts
 use Rattle.ll_rules.specs.Checks.{numbers_where}
-use Rattle.ll_rules.specs.Moves.{move_verdict, refused_by, denies, holds_back, source_of, destination_of}
+use Rattle.ll_rules.specs.Moves.{move_verdict, refused_or, denies, holds_back, source_of, destination_of}
 use Rattle.ll_rules.specs.Rulesets.{RuleRefusal, with_error, without_object, has_ports}
 use Rattle.ll_lines.specs.Paths.{path_eq}
 use Rattle.ll_tree.specs.Trees.{Entry}
@@ -81,7 +83,7 @@ can_verdict (verdicts.Refused error []) = refl
 can_verdict (verdicts.Refused error (number ∷ numbers)) = refl
 
 refused_verdict : (e : Errno) (numbers : List ℕ) (next : Verdict) → among true true false true (answers.of_verdict next) ≡ true
-    → among true true false true (answers.of_verdict (refused_by e numbers next)) ≡ true
+    → among true true false true (answers.of_verdict (refused_or e numbers next)) ≡ true
 unfolding among
 refused_verdict e [] next can = can
 refused_verdict e (number ∷ numbers) next can = refl
@@ -166,9 +168,9 @@ pub can_add_port : (abi : Abi) (port : ℕ) (net : Net) (rules : Option Layer) �
 unfolding answers.add_port_answer among
 can_add_port abi port net None = refl
 can_add_port abi port net (Some rules) =
-    tests (not (has_ports abi)) (network.is_empty net) (not (network.is_within net rules.handled_network)) (nat_lt 65535 port)
+    tests (not (has_ports abi)) (network.is_empty net) (not (network.is_within net rules.handled_network)) (nat_lt LARGEST_PORT port)
 
 pub can_restrict : (s : State) (rules : Option Layer) → among true false true false (answers.restrict_answer s rules) ≡ true
 unfolding answers.restrict_answer among
 can_restrict s None = either (answers.may_restrict s) _ _ refl refl
-can_restrict s (Some rules) = either (answers.may_restrict s) _ _ (either (nat_le 16 (length s.domain)) (answers.fails TooBig) Allowed refl refl) refl
+can_restrict s (Some rules) = either (answers.may_restrict s) _ _ (either (nat_le MOST_LAYERS (length s.domain)) (answers.fails TooBig) Allowed refl refl) refl

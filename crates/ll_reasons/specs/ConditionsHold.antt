@@ -2,12 +2,14 @@
 -- Source: landlock_create_ruleset(2), landlock_add_rule(2), landlock_restrict_self(2), "ERRORS".
 use Rattle.std.specs.Prelude.{◌≡◌, Bool, true, false, not, ◌&&◌, List, length, Option, Some, None, nat_le, nat_lt}
 use Rattle.std.specs.List.{list_any}
+use Rattle.ll_rights.specs.declared.net.TheConstants.{LARGEST_PORT}
 use Rattle.ll_rights.specs.declared.abi.Abi.{Abi}
 use Rattle.ll_rights.specs.declared.fs.Fs.{Fs}
 use Rattle.ll_rights.specs.declared.net.Net.{Net}
 use Rattle.ll_rights.specs.Abis.{knows_fs}
 use Rattle.ll_rights.specs.Rights as files
 use Rattle.ll_rights.specs.NetRights as network
+use Rattle.ll_rules.specs.declared.domain.TheConstants.{MOST_LAYERS}
 use Rattle.ll_rules.specs.Rulesets.{has_ports, knows_all, are_file_rights}
 use Rattle.ll_trace.specs.declared.op.Op.{Op}
 use Rattle.ll_trace.specs.declared.op.Op.TheVariants as calls
@@ -51,7 +53,7 @@ IsCondition abi rulesets s op (unhandled_on_ports rights) =
     (rules : Layer) × (ruleset_of rulesets op s ≡ Some rules) × AreJustOnPorts rights (λ right. network.has (ports_of op) right && not (network.has rules.handled_network right)) × (network.is_within (ports_of op) rules.handled_network ≡ false)
 IsCondition abi rulesets s op (only_for_directories rights path) =
     AreJust rights (λ right. files.has (files_of op) right && not (files.is_file_right right)) × (are_file_rights (files_of op) ≡ false)
-IsCondition abi rulesets s op (no_port port) = nat_lt 65535 port ≡ true
+IsCondition abi rulesets s op (no_port port) = nat_lt LARGEST_PORT port ≡ true
 IsCondition abi rulesets s op unprivileged = may_restrict s ≡ false
-IsCondition abi rulesets s op full = nat_le 16 (length s.domain) ≡ true
+IsCondition abi rulesets s op full = nat_le MOST_LAYERS (length s.domain) ≡ true
 IsCondition abi rulesets s op other = ⊥

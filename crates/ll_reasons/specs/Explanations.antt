@@ -16,7 +16,7 @@ use Rattle.ll_semantics.specs.Moves.{rename_move, link_move}
 use Rattle.ll_semantics.specs.States.{State, Layer}
 use Rattle.ll_semantics.specs.Answers.{named}
 use Rattle.ll_semantics.specs.Worlds.{answer_in}
-use Rattle.ll_semantics.specs.Situations.{world_at}
+use Rattle.ll_semantics.specs.CallContexts.{world_at}
 use Rattle.ll_reasons.specs.Objections.{Objection, kept, on_port, on_mount, objecting, to_request, to_move}
 use Rattle.ll_reasons.specs.Origins.{Origins, sources_at}
 use Rattle.ll_reasons.specs.Conditions.{Condition, condition}

@@ -12,7 +12,7 @@ use Rattle.ll_semantics.specs.States.{State, Layer}
 use Rattle.ll_semantics.specs.Effects.{descriptor, opened}
 use Rattle.ll_semantics.specs.Notes.{enforced}
 use Rattle.ll_semantics.specs.Worlds.{World, judged}
-use Rattle.ll_semantics.specs.Situations.{world_at}
+use Rattle.ll_semantics.specs.CallContexts.{world_at}
 
 -- ---- layers
 

@@ -91,7 +91,7 @@ execute_on_the_second = objections ((2, missing (execute ∷ []) a_f ∷ []) ∷
 -- All that unfolds when records of worked traces are explained.
 unfoldable pub explaining : Unit {0}
 unfolding
-    Rattle.ll_semantics.specs.WorkedWords.judging Rattle.ll_semantics.specs.Situations.world_at Rattle.ll_semantics.specs.Situations.world_after
+    Rattle.ll_semantics.specs.WorkedWords.judging Rattle.ll_semantics.specs.CallContexts.world_at Rattle.ll_semantics.specs.CallContexts.world_after
     explained_there Rattle.ll_reasons.specs.Explanations.explained_at Rattle.ll_reasons.specs.Explanations.explained
     Rattle.ll_reasons.specs.Explanations.domain_at Rattle.ll_reasons.specs.Explanations.origins_at Rattle.ll_reasons.specs.Explanations.objections_to
     Rattle.ll_reasons.specs.Origins.no_origins Rattle.ll_reasons.specs.Origins.traced Rattle.ll_reasons.specs.Origins.sources_by

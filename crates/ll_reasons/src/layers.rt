@@ -22,12 +22,12 @@ pub fn refusing_layers_are_explained()
         (origins_at tree abi records place process) op error (number ∷ numbers))
         ≡ number ∷ numbers }
     ensures records { (tree : List Entry) (abi : Abi) (records : List Record)
-        (place : ℕ) (of : Record)
+        (place : ℕ) (r : Record)
         (error : Errno) (number : ℕ) (numbers : List ℕ)
-        → slice_get records place ≡ Some of
+        → slice_get records place ≡ Some r
         → slice_get (judged tree abi records) place ≡ Some (Refused error (number ∷ numbers))
         → (said : List (ℕ × List Objection))
-        × (explained_at tree abi records place of (Refused error (number ∷ numbers))
+        × (explained_at tree abi records place r (Refused error (number ∷ numbers))
         ≡ objections said)
         × (map (λ one. one.0) said ≡ number ∷ numbers) }
 {}

@@ -22,16 +22,16 @@ blocks_from-nil shown explained k = refl
 
 module _ (shown : Shown) (explained : ℕ → List ℕ) (records : List Record) (answers : List Answer) where
   -- one more record is shown
-  pub one_more : (k : ℕ) (of : Record) (answer : Answer) (before after whole : List ℕ) → k < length records → length answers ≡ length records
-      → of ≡ get_or records k of → answer ≡ get_or answers k answer
+  pub one_more : (k : ℕ) (one : Record) (answer : Answer) (before after whole : List ℕ) → k < length records → length answers ≡ length records
+      → one ≡ get_or records k one → answer ≡ get_or answers k answer
       → before ++ blocks_from shown explained k (lines_of (drop k records) (drop k answers)) ≡ whole
-      → after ≡ before ++ block_text shown (line_of of answer) (explained k)
+      → after ≡ before ++ block_text shown (line_of one answer) (explained k)
       → after ++ blocks_from shown explained (k + 1) (lines_of (drop (k + 1) records) (drop (k + 1) answers)) ≡ whole
-  one_more k of answer before after whole below lengths is_of is_answer so_far is =
+  one_more k one answer before after whole below lengths is_of is_answer so_far is =
       let others : List ReportLine = lines_of (drop (k + 1) records) (drop (k + 1) answers) in
-      let this : ReportLine = line_of of answer in
+      let this : ReportLine = line_of one answer in
       let next : lines_of (drop k records) (drop k answers) ≡ this ∷ others =
-      lines_of-next records answers k of answer below (omega (arith, below, lengths)) ∙ ap₂ (λ r a. line_of r a ∷ others) (sym is_of) (sym is_answer) in
+      lines_of-next records answers k one answer below (omega (arith, below, lengths)) ∙ ap₂ (λ r a. line_of r a ∷ others) (sym is_of) (sym is_answer) in
       let block : List ℕ = block_text shown this (explained k) in
       ap (λ text. text ++ blocks_from shown explained (k + 1) others) is
       ∙ (append_assoc before block (blocks_from shown explained (k + 1) others)

@@ -4,6 +4,7 @@ use Rattle.std.proofs.Common.{arith}
 use Rattle.std.specs.List.{flat_map}
 use Rattle.std.proofs.lemmas.List.{append-nil}
 use Rattle.std.proofs.lemmas.Bool.{ne_eqb, true≢false}
+use Rattle.ll_rules.specs.declared.domain.TheConstants.{MOST_LAYERS}
 use Rattle.ll_rules.specs.LayerNumbers.{is_among, numbers_passing, passing_upto}
 use Rattle.ll_report.specs.Report.{layers_text, listed_layers, next_layer_text}
 
@@ -23,7 +24,7 @@ layers_upto-next layers number pos =
     let back : suc (number - 1) ≡ number = omega arith in
     rw this (ap (λ n. passing_upto (λ m. is_among m layers) (number - 1) ++ cond (is_among n layers) (n ∷ []) []) back)
 
-pub layers_upto-all : (layers : List ℕ) → numbers_passing (λ number. is_among number layers) ≡ layers → layers_upto layers 16 ≡ layers
+pub layers_upto-all : (layers : List ℕ) → numbers_passing (λ number. is_among number layers) ≡ layers → layers_upto layers MOST_LAYERS ≡ layers
 unfolding layers_upto
 layers_upto-all layers rising = rising
 

@@ -10,12 +10,12 @@ use Rattle.ll_report.specs.Report.{ReportLine, Verdict, count_of, is_allowed, is
 use Rattle.ll_report.specs.Shown.{blocks_from, shown_text}
 use Rattle.ll_report.specs.Lines.{line_of, lines_of, refused_among, verdict_of}
 
-pub lines_of-next : (records : List Record) (answers : List Answer) (k : ℕ) (of : Record) (answer : Answer) → k < length records → k < length answers
+pub lines_of-next : (records : List Record) (answers : List Answer) (k : ℕ) (r : Record) (answer : Answer) → k < length records → k < length answers
     → lines_of (drop k records) (drop k answers)
-    ≡ line_of (get_or records k of) (get_or answers k answer) ∷ lines_of (drop (k + 1) records) (drop (k + 1) answers)
+    ≡ line_of (get_or records k r) (get_or answers k answer) ∷ lines_of (drop (k + 1) records) (drop (k + 1) answers)
 unfolding lines_of
-lines_of-next records answers k of answer below below_answers =
-    rw (drop-cons records k of below, drop-cons answers k answer below_answers, add-one k) refl
+lines_of-next records answers k r answer below below_answers =
+    rw (drop-cons records k r below, drop-cons answers k answer below_answers, add-one k) refl
 
 pub lines_of-nil : (answers : List Answer) → lines_of [] answers ≡ []
 unfolding lines_of
@@ -26,8 +26,8 @@ pub lines_of-length : (records : List Record) (answers : List Answer) → length
 unfolding lines_of
 lines_of-length [] [] same = refl
 lines_of-length [] (answer ∷ answers) same = absurd (omega (arith, same))
-lines_of-length (of ∷ others) [] same = absurd (omega (arith, same))
-lines_of-length (of ∷ others) (answer ∷ answers) same = ap suc (lines_of-length others answers (omega (arith, same)))
+lines_of-length (r ∷ others) [] same = absurd (omega (arith, same))
+lines_of-length (r ∷ others) (answer ∷ answers) same = ap suc (lines_of-length others answers (omega (arith, same)))
 
 -- the verdicts of the lines are counted by the answers
 pub count_of-answers : (test : Verdict → Bool) (records : List Record) (answers : List Answer) → length answers ≡ length records
@@ -35,14 +35,14 @@ pub count_of-answers : (test : Verdict → Bool) (records : List Record) (answer
 unfolding lines_of
 count_of-answers test [] [] same = refl
 count_of-answers test [] (answer ∷ answers) same = absurd (omega (arith, same))
-count_of-answers test (of ∷ others) [] same = absurd (omega (arith, same))
-count_of-answers test (of ∷ others) (answer ∷ answers) same =
+count_of-answers test (r ∷ others) [] same = absurd (omega (arith, same))
+count_of-answers test (r ∷ others) (answer ∷ answers) same =
     let rest : count_of test (lines_of others answers) ≡ count_by (λ a. test (verdict_of a)) answers =
     count_of-answers test others answers (omega (arith, same)) in
     omega (
       arith,
       rest,
-      sum_by-cons (λ (said : ReportLine). cond (test said.verdict) 1 0) (line_of of answer) (lines_of others answers),
+      sum_by-cons (λ (said : ReportLine). cond (test said.verdict) 1 0) (line_of r answer) (lines_of others answers),
       sum_by-cons (λ (a : Answer). cond (test (verdict_of a)) 1 0) answer answers,
     )
 

@@ -27,10 +27,10 @@ module _ {A B C : Type 0} (seen : B → C) (made : A → C) (xs : List A) (k : �
       ∙ ap (λ (ys : List A). map seen done ++ map made ys) (sym (drop_of_length-le xs past))
       ∙ so_far
 
-rows_from-next : (shown : Shown) (oldest : ℕ) (founds : List Found) (place : ℕ) (of : Record) (others : List Record)
-    → rows_from shown oldest founds place (of ∷ others) ≡ row_text shown oldest founds place (told_of of) ++ rows_from shown oldest founds (place + 1) others
+rows_from-next : (shown : Shown) (oldest : ℕ) (founds : List Found) (place : ℕ) (r : Record) (others : List Record)
+    → rows_from shown oldest founds place (r ∷ others) ≡ row_text shown oldest founds place (told_of r) ++ rows_from shown oldest founds (place + 1) others
 unfolding rows_from
-rows_from-next shown oldest founds place of others = refl
+rows_from-next shown oldest founds place r others = refl
 
 rows_from-nil : (shown : Shown) (oldest : ℕ) (founds : List Found) (place : ℕ) → rows_from shown oldest founds place [] ≡ []
 unfolding rows_from
@@ -38,16 +38,16 @@ rows_from-nil shown oldest founds place = refl
 
 module _ (shown : Shown) (oldest : ℕ) (founds : List Found) (records : List Record) (place : ℕ) (before whole : List ℕ)
     (so_far : before ++ rows_from shown oldest founds place (drop place records) ≡ whole) where
-  pub one_row : (of : Record) (after : List ℕ) → place < length records → of ≡ get_or records place of
-      → after ≡ before ++ row_text shown oldest founds place (told_of of)
+  pub one_row : (r : Record) (after : List ℕ) → place < length records → r ≡ get_or records place r
+      → after ≡ before ++ row_text shown oldest founds place (told_of r)
       → after ++ rows_from shown oldest founds (place + 1) (drop (place + 1) records) ≡ whole
-  one_row of after below is written =
+  one_row r after below is written =
       let rest : List ℕ = rows_from shown oldest founds (place + 1) (drop (place + 1) records) in
       ap (λ (text : List ℕ). text ++ rest) written
-      ∙ append_assoc before (row_text shown oldest founds place (told_of of)) rest
+      ∙ append_assoc before (row_text shown oldest founds place (told_of r)) rest
       ∙ ap (λ (text : List ℕ). before ++ text)
-      (sym (ap (rows_from shown oldest founds place) (next_of records place of below is)
-      ∙ rows_from-next shown oldest founds place of (drop (place + 1) records)))
+      (sym (ap (rows_from shown oldest founds place) (next_of records place r below is)
+      ∙ rows_from-next shown oldest founds place r (drop (place + 1) records)))
       ∙ so_far
 
   pub all_rows : length records ≤ place → before ≡ whole
@@ -89,8 +89,8 @@ pub same_rows : (shown : Shown) (oldest : ℕ) (founds : List Found) (place : �
 unfolding rows_from
 same_rows shown oldest founds place [] [] same = refl
 same_rows shown oldest founds place [] (other ∷ others) same = absurd (omega (arith, ap length same))
-same_rows shown oldest founds place (of ∷ records) [] same = absurd (omega (arith, ap length same))
-same_rows shown oldest founds place (of ∷ records) (other ∷ others) same =
-    let first : told_of of ≡ told_of other = cc in
+same_rows shown oldest founds place (r ∷ records) [] same = absurd (omega (arith, ap length same))
+same_rows shown oldest founds place (r ∷ records) (other ∷ others) same =
+    let first : told_of r ≡ told_of other = cc in
     let later : map told_of records ≡ map told_of others = cc in
     ap₂ (λ (told rest : List ℕ). row_text shown oldest founds place told ++ rest) first (same_rows shown oldest founds (place + 1) records others later)

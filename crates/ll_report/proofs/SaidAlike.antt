@@ -71,7 +71,7 @@ joined before told blank verdict end behind =
     ∙ ap (λ (text : List ℕ). before ++ (text ++ end ++ behind)) (append_assoc told blank verdict)
 
 -- the row of a record that all versions answer alike
-module _ (shown : Shown) (oldest : ℕ) (founds : List Found) (place : ℕ) (of : Record) (answer : Answer)
+module _ (shown : Shown) (oldest : ℕ) (founds : List Found) (place : ℕ) (r : Record) (answer : Answer)
     (are : IsSaid (λ (found : Found). answer_at found place) answer founds) where
   left_out_alike : is_row_left_out shown founds place ≡ is_left_out shown (verdict_of answer)
   left_out_alike = rw (
@@ -81,14 +81,14 @@ module _ (shown : Shown) (oldest : ℕ) (founds : List Found) (place : ℕ) (of 
     and-true shown.differing_alone,
   ) refl
 
-  pub row_left_out : is_left_out shown (verdict_of answer) ≡ true → row_text shown oldest founds place (told_of of) ≡ []
+  pub row_left_out : is_left_out shown (verdict_of answer) ≡ true → row_text shown oldest founds place (told_of r) ≡ []
   row_left_out out = rw (left_out_alike ∙ out) refl
 
   pub row_written : (before : List ℕ) → is_left_out shown (verdict_of answer) ≡ false
-      → (before ++ line_text (line_of of answer)) ++ behind_line shown.explanations (versions_text Explanations oldest (explanations_said founds place))
-      ≡ before ++ row_text shown oldest founds place (told_of of)
+      → (before ++ line_text (line_of r answer)) ++ behind_line shown.explanations (versions_text Explanations oldest (explanations_said founds place))
+      ≡ before ++ row_text shown oldest founds place (told_of r)
   row_written before shows =
-      joined before (told_of of) (codes " ") (verdict_text (verdict_of answer)) (codes "\n")
+      joined before (told_of r) (codes " ") (verdict_text (verdict_of answer)) (codes "\n")
       (behind_line shown.explanations (versions_text Explanations oldest (explanations_said founds place)))
       ∙ rw (
         left_out_alike ∙ shows,

@@ -16,16 +16,16 @@ verdict_of (Refused error layers) = refused (error_name error) layers
 
 -- what the report says of a record and its answer
 abbrev pub line_of : Record → Answer → ReportLine
-line_of of answer = record {
-  line = of.line;
-  pid = of.pid;
-  op = op_name of.op;
+line_of r answer = record {
+  line = r.line;
+  pid = r.pid;
+  op = op_name r.op;
   verdict = verdict_of answer;
 }
 
 -- what the report says of records, each with its answer
 unfoldable pub lines_of : List Record → List Answer → List ReportLine
-lines_of (of ∷ others) (answer ∷ answers) = line_of of answer ∷ lines_of others answers
+lines_of (r ∷ others) (answer ∷ answers) = line_of r answer ∷ lines_of others answers
 lines_of records answers = []
 
 -- how many records are refused

@@ -15,7 +15,7 @@ use Rattle.ll_report.specs.Spans.{agree, versions_text}
 
 -- how the report tells of the record of a line
 abbrev pub told_of : Record → List ℕ
-told_of of = record_text of.line of.pid (op_name of.op)
+told_of r = record_text r.line r.pid (op_name r.op)
 
 -- what is answered to the record at a place, and how it is explained, under each version
 abbrev pub answers_said : List Found → ℕ → List (List ℕ)
@@ -51,8 +51,8 @@ row_text shown oldest founds place told =
 -- what is shown of records, the first of which is at a place of the trace
 unfoldable pub rows_from : Shown → ℕ → List Found → ℕ → List Record → List ℕ
 rows_from shown oldest founds place [] = []
-rows_from shown oldest founds place (of ∷ others) =
-    row_text shown oldest founds place (told_of of) ++ rows_from shown oldest founds (place + 1) others
+rows_from shown oldest founds place (r ∷ others) =
+    row_text shown oldest founds place (told_of r) ++ rows_from shown oldest founds (place + 1) others
 
 -- how many answers a test of their verdicts holds for
 abbrev pub count_under : (Verdict → Bool) → Found → ℕ

@@ -13,7 +13,7 @@ use crate::names::error_name;
 use itoa::Buffer;
 use ll_options::Shown;
 use ll_process::{Answer, Case};
-use ll_rules::{Errno, LayerSet, NoMemory};
+use ll_rules::{Errno, LayerSet, MOST_LAYERS, NoMemory};
 use ll_trace::Record;
 use std::alloc::{AllocError, Global};
 
@@ -97,7 +97,7 @@ fn push_layers(text: &mut Vec<u8>, layers: LayerSet) -> Result<(), AllocError>
         return Ok(());
     }
     let mut is_first = true;
-    for number in 1..17 {
+    for number in 1..MOST_LAYERS as u32 + 1 {
         if layers.has(number) {
             push_layer(text, number, is_first)?;
             is_first = false;

@@ -111,8 +111,8 @@ has_place-lacking named wanted handled granted place narrow fits known = elim (c
 pub any_false : (f : ℕ → Bool) (n place : ℕ) → list_any f (range_with_len 0 n) ≡ false → place < n → f place ≡ false
 any_false f n place none lt = elim (cases_Bool (f place)) [
   | inl holds ↦
-      let at : get_or (range_with_len 0 n) place place ≡ place = get_or-range_with_len 0 n place place lt ∙ omega arith in
-      let some = list_any-from_Any f (range_with_len 0 n) (place, place, omega (arith, length-range_with_len 0 n), at, holds) in
+      let eq : get_or (range_with_len 0 n) place place ≡ place = get_or-range_with_len 0 n place place lt ∙ omega arith in
+      let some = list_any-from_Any f (range_with_len 0 n) (place, place, omega (arith, length-range_with_len 0 n), eq, holds) in
       absurd (false≢true (sym none ∙ some))
   | inr fails ↦ fails
 ]
@@ -125,8 +125,8 @@ all_true f (x ∷ xs) (suc k) e lt = all_true f xs k (and_parts (f x) (list_all 
 -- a test that all places pass, place by place
 pub all_at : (f : ℕ → Bool) (n place : ℕ) → list_all f (range_with_len 0 n) ≡ true → place < n → f place ≡ true
 all_at f n place e lt =
-    let at : get_or (range_with_len 0 n) place 0 ≡ place = get_or-range_with_len 0 n place 0 lt ∙ omega arith in
-    subst (λ (k : ℕ). f k ≡ true) at (all_true f (range_with_len 0 n) place e (omega (arith, length-range_with_len 0 n)))
+    let eq : get_or (range_with_len 0 n) place 0 ≡ place = get_or-range_with_len 0 n place 0 lt ∙ omega arith in
+    subst (λ (k : ℕ). f k ≡ true) eq (all_true f (range_with_len 0 n) place e (omega (arith, length-range_with_len 0 n)))
 
 pub all_each : {X : Type 0} (test : X → Bool) → ((x : X) → test x ≡ true) → (xs : List X) → list_all test xs ≡ true
 all_each test each [] = refl

@@ -13,4 +13,4 @@ pub use abi::Abi;
 pub use fs::{Fs, FsRight, fs_of_name};
 pub use kind::Kind;
 pub use laws::{file_rights, numbered_versions, sets_by_rights, supported_sets};
-pub use net::{Net, NetRight, net_of_name};
+pub use net::{LARGEST_PORT, Net, NetRight, net_of_name};

@@ -9,6 +9,9 @@ use crate::abi::Abi;
 use crate::bits::{has_place, without};
 use bitflags::{Flag, Flags, bitflag_items};
 
+/// The largest TCP port: a port has 16 bits.
+pub const LARGEST_PORT: u64 = 65_535;
+
 /// An access right for TCP ports (the kernel's userspace document on Landlock, "Network flags").
 #[derive(Clone, Copy, Debug, PartialEq, Eq)]
 pub enum NetRight {

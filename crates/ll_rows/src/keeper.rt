@@ -43,11 +43,11 @@ pub struct Keeper<'c> {
 }
 
 impl<'c> Hand<'c> for Keeper<'c> {
-    ghost use Rattle.ll_process.specs.Jobs.{processes_of, AllOf};
+    ghost use Rattle.ll_process.specs.Jobs.{processes_of, AreJobsOf};
 
     ghost kept = { λ keeper. processes_of keeper.jobs.items };
 
-    ghost suits = { λ keeper of. AllOf of keeper.jobs.items };
+    ghost suits = { λ keeper case. AreJobsOf case keeper.jobs.items };
 
     ghost stays = { λ before after. after.wanted ≡ before.wanted };
 

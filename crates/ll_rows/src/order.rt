@@ -2,7 +2,7 @@
 
 ghost use Rattle.std.specs.Prelude.{◌≡◌, ◌<◌, ◌+◌, ℕ, IfOk, sum_by};
 ghost use Rattle.ll_trace.specs.Processes.{process_count, times};
-ghost use Rattle.ll_pool.specs.Gathered.{AllOf, processes_in};
+ghost use Rattle.ll_pool.specs.Gathered.{ArePiecesOf, processes_in};
 
 use crate::keeper::{Keeper, Wanted};
 use ll_process::{Case, Piece, judge};
@@ -16,7 +16,7 @@ pub fn judge_greatest_first(
     case: &Case,
     wanted: Wanted,
 ) -> Result<Vec<Piece<'_>>, NoMemory>
-    ensures of_case { IfOk result (λ pieces. AllOf case.now pieces.items) }
+    ensures of_case { IfOk result (λ pieces. ArePiecesOf case.now pieces.items) }
     ensures each_once { IfOk result (λ pieces. (process : ℕ)
         → process < process_count case.now.records
         → times process (processes_in pieces.items) ≡ 1) }

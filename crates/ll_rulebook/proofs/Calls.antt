@@ -52,19 +52,19 @@ module _ (tree : List Entry) (abi : Abi) (rs : ℕ) where
     adds = λ rulesets s. refl;
   }
 
-same_with_rule_at : (tree : List Entry) (a b : RulesOn Path) (at : Place) (rights : Fs) → SameRules a b
-    → SameRules (with_rule_at tree a at rights) (with_rule_at tree b at rights)
+same_with_rule_at : (tree : List Entry) (a b : RulesOn Path) (spot : Place) (rights : Fs) → SameRules a b
+    → SameRules (with_rule_at tree a spot rights) (with_rule_at tree b spot rights)
 same_with_rule_at tree a b (Node node) rights same = SameRules-with_file_rule a b (path_at tree node) rights same
 same_with_rule_at tree a b (Gap node) rights same = same
 same_with_rule_at tree a b Nowhere rights same = same
 
 module _ (tree : List Entry) (one next : RulesOn ℕ) where
-  pub path_stays : (at : Place) (fs : Fs) → IsPathAdded tree at fs one next
-      → AreInTree tree next × ((other : Layer) → IsSame tree one other → IsSame tree next (with_rule_at tree other at fs))
-  path_stays at fs added = (
+  pub path_stays : (spot : Place) (fs : Fs) → IsPathAdded tree spot fs one next
+      → AreInTree tree next × ((other : Layer) → IsSame tree one other → IsSame tree next (with_rule_at tree other spot fs))
+  path_stays spot fs added = (
     added.1,
-    λ other same. SameRules-trans (in_tree tree next) (with_rule_at tree (in_tree tree one) at fs) (with_rule_at tree other at fs) added.0
-        (same_with_rule_at tree (in_tree tree one) other at fs same),
+    λ other same. SameRules-trans (in_tree tree next) (with_rule_at tree (in_tree tree one) spot fs) (with_rule_at tree other spot fs) added.0
+        (same_with_rule_at tree (in_tree tree one) other spot fs same),
   )
 
   pub port_stays : (port : ℕ) (net : Net) → GrantsOnPort one next port net → AreInTree tree one

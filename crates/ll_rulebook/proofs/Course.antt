@@ -16,12 +16,11 @@ use Rattle.ll_trace.specs.declared.op.Op.{Op}
 use Rattle.ll_trace.specs.Entries.{is_start}
 use Rattle.ll_trace.specs.RecordFacts.{AreRecords}
 use Rattle.ll_semantics.specs.declared.note.Note.{Note}
-use Rattle.ll_semantics.specs.declared.note.Note.TheVariants.{Answered, Frozen, Open}
+use Rattle.ll_semantics.specs.declared.note.Note.TheVariants.{Answered, Frozen, ByState}
 use Rattle.ll_semantics.specs.States.{Layer, fresh}
-use Rattle.ll_semantics.specs.Situations.{answered}
+use Rattle.ll_semantics.specs.CallContexts.{answer_to, world_after, world_at}
 use Rattle.ll_semantics.specs.Notes.{NoteFits, IsFrozen, enforced}
 use Rattle.ll_semantics.specs.Worlds.{World, step}
-use Rattle.ll_semantics.specs.Situations.{world_after, world_at}
 use Rattle.ll_rulebook.specs.declared.pass.Pass.{Pass}
 use Rattle.ll_rulebook.specs.Stores.{held_by, Extends}
 use Rattle.ll_rulebook.specs.Settled.{met_by}
@@ -37,14 +36,14 @@ settled_none tree abi records pass of_tree of_abi rulesets layers tables = recor
   of_tree = of_tree;
   of_abi = of_abi;
   sound = record {
-    places = λ p q at is. absurd (let none : held_by pass.tables.held.items p q ≡ None = rw tables refl in cc);
+    places = λ p q eq is. absurd (let none : held_by pass.tables.held.items p q ≡ None = rw tables refl in cc);
     rulesets = rw rulesets (λ k default within. absurd (omega arith));
     layers = rw layers (λ k default within. absurd (omega arith));
   };
   agrees = record { rulesets = rw rulesets tt; count = rw tables refl; held = λ p q. rw tables refl };
   few = rw layers (omega arith);
   counted = refl;
-  fits = λ k r note at noted. absurd (cc);
+  fits = λ k r note eq noted. absurd (cc);
 }
 
 frozen_stays : (tree : List Entry) (abi : Abi) (old new : List (RulesOn ℕ)) (world : World) (process : ℕ) (id : LayerId) (rules : Option Layer)
@@ -62,18 +61,18 @@ frozen_stays tree abi old new world process id (Some rules) extends frozen =
 -- a note still fits when layers were appended
 note_stays : (tree : List Entry) (abi : Abi) (old new : List (RulesOn ℕ)) (world : World) (process : ℕ) (op : Op) (note : Note) → Extends old new →
     NoteFits (met_by tree abi old world process) op note → NoteFits (met_by tree abi new world process) op note
-unfolding NoteFits answered
+unfolding NoteFits answer_to
 note_stays tree abi old new world process op (Answered a) extends fits = fits
 note_stays tree abi old new world process op (Frozen id) extends fits =
     frozen_stays tree abi old new world process id (enforced world.rulesets op (world.processes process)) extends fits
-note_stays tree abi old new world process op Open extends fits = fits
+note_stays tree abi old new world process op ByState extends fits = fits
 
 -- after one record more
 pub settled_next : (tree : List Entry) (abi : Abi) (records : List Record) (k : ℕ) (r : Record) (old new : Pass) (notes : List Note) (note : Note) →
     slice_get records k ≡ Some r → HasSettled tree abi records k old notes → Settles r.process.0 r.op old new note →
     HasSettled tree abi records (k + 1) new (notes ++ note ∷ [])
-settled_next tree abi records k r old new notes note at so_far settles =
-    let next : world_at tree abi records (k + 1) ≡ step tree abi (world_at tree abi records k) r.process.0 r.op = world_at-more tree abi records k r at in
+settled_next tree abi records k r old new notes note eq so_far settles =
+    let next : world_at tree abi records (k + 1) ≡ step tree abi (world_at tree abi records k) r.process.0 r.op = world_at-more tree abi records k r eq in
     let agrees = rw (so_far.of_tree, so_far.of_abi) at (settles.agrees (world_at tree abi records k) so_far.agrees) in
     let fits = rw (so_far.of_tree, so_far.of_abi) at (settles.fits (world_at tree abi records k) so_far.agrees) in
     record {
@@ -90,7 +89,7 @@ settled_next tree abi records k r old new notes note at so_far settles =
             let here : slice_get (notes ++ note ∷ []) j ≡ Some note = rw (slice_get-push notes j note, eq-eqb j (length notes) last) refl in
             let it : note ≡ other = cc in
             let place : j ≡ k = last ∙ so_far.counted in
-            let own : slice_get records j ≡ Some r = rw place at in
+            let own : slice_get records j ≡ Some r = rw place eq in
             let same : r ≡ s = cc in
             rw (← it, ← same, place) fits
         | inr earlier ↦
@@ -103,5 +102,5 @@ settled_next tree abi records k r old new notes note at so_far settles =
 -- a record that is no start is of a process that has a table
 pub has_table : (tree : List Entry) (abi : Abi) (records : List Record) (k : ℕ) (r : Record) (pass : Pass) (notes : List Note) → AreRecords records →
     slice_get records k ≡ Some r → HasSettled tree abi records k pass notes → is_start r.op ≡ false → r.process.0 < length pass.tables.held.items
-has_table tree abi records k r pass notes are at so_far other =
-    omega (arith, so_far.agrees.count, count-world_at tree abi records k, are.numbered.goes_on k r at other)
+has_table tree abi records k r pass notes are eq so_far other =
+    omega (arith, so_far.agrees.count, count-world_at tree abi records k, are.numbered.goes_on k r eq other)

@@ -32,7 +32,7 @@ slice_get-set (first ∷ xs) (suc i) (suc j) x within = rw eqb-suc-suc (slice_ge
 
 -- what holds of all holds of what is at a place
 pub all_there : {X : Type 0} (P : X → Type 0) (xs : List X) (i : ℕ) (x : X) → All P xs → slice_get xs i ≡ Some x → P x
-all_there P xs i x all at = subst P (get_or_from_slice_get xs i x x at) (all i x (slice_get_within xs i x at))
+all_there P xs i x all eq = subst P (get_or_from_slice_get xs i x x eq) (all i x (slice_get_within xs i x eq))
 
 module _ {A B : Type 0} (R : A → B → Type 0) where
   pub zip_push : (xs : List A) (ys : List B) (x : A) (y : B) → AllZip R xs ys → R x y → AllZip R (xs ++ x ∷ []) (ys ++ y ∷ [])
@@ -50,10 +50,10 @@ module _ {A B : Type 0} (R : A → B → Type 0) where
 
   -- what is at a place of the one has its other at this place
   pub zip_at : (xs : List A) (ys : List B) (i : ℕ) (x : A) → AllZip R xs ys → slice_get xs i ≡ Some x → (y : B) × (slice_get ys i ≡ Some y) × R x y
-  zip_at [] ys i x all at = cc
-  zip_at (a ∷ xs) [] i x all at = absurd all
-  zip_at (a ∷ xs) (b ∷ ys) zero x all at = (b, refl, subst (λ (c : A). R c b) (same_Some a x at) all.0)
-  zip_at (a ∷ xs) (b ∷ ys) (suc i) x all at = zip_at xs ys i x all.1 at
+  zip_at [] ys i x all eq = cc
+  zip_at (a ∷ xs) [] i x all eq = absurd all
+  zip_at (a ∷ xs) (b ∷ ys) zero x all eq = (b, refl, subst (λ (c : A). R c b) (same_Some a x eq) all.0)
+  zip_at (a ∷ xs) (b ∷ ys) (suc i) x all eq = zip_at xs ys i x all.1 eq
 
 -- ---- what the processes hold
 
@@ -144,9 +144,9 @@ module _ (stored : List Stored) (layers : List (RulesOn ℕ)) (stock : Stock) (v
       All-set (IsFrozenTo (layers ++ one.«ruleset» ∷ [])) stored place next
       (λ id named. rw (slice_get-push layers id.0 one.«ruleset», eq-eqb id.0 (length layers) (last id named), same) refl)
       (All-weaker (IsFrozenTo layers) (IsFrozenTo (layers ++ one.«ruleset» ∷ [])) (λ other frozen id named.
-      let at = frozen id named in
-      let within : id.0 < length layers = slice_get_within layers id.0 other.«ruleset» at in
-      rw (slice_get-push layers id.0 one.«ruleset», ne_eqb id.0 (length layers) (λ same. omega arith)) at) stored are)
+      let eq = frozen id named in
+      let within : id.0 < length layers = slice_get_within layers id.0 other.«ruleset» eq in
+      rw (slice_get-push layers id.0 one.«ruleset», ne_eqb id.0 (length layers) (λ same. omega arith)) eq) stored are)
 
   pub adds_rule : (fault : RulesOn ℕ → Option RuleFault) (IsAdded : RulesOn ℕ → RulesOn ℕ → Type 0) (result : Result (Unit {0}) RuleFault) (next : Stored) →
       MatchOption (fault one.«ruleset») (IsOkUnless result faults.Memory) (λ f. result ≡ Result.Err f) → OnOk result (IsAdded one.«ruleset» next.«ruleset»)

@@ -33,15 +33,15 @@ use Rattle.ll_semantics.specs.declared.note.Note.TheVariants.{Answered, Frozen}
 use Rattle.ll_semantics.specs.States.{State, Layer}
 use Rattle.ll_semantics.specs.Answers.{answer, named, fails, of_rule_refusal}
 use Rattle.ll_semantics.specs.Effects.{Effect, nothing, leaves, leaves_rulesets, begins, effect, changed_at}
-use Rattle.ll_semantics.specs.Situations.{answered}
+use Rattle.ll_semantics.specs.CallContexts.{answer_to}
 use Rattle.ll_semantics.specs.Notes.{NoteFits, IsFrozen, is_on_rulesets, enforced}
 use Rattle.ll_semantics.specs.Worlds.{World, with_state, affected, answer_in, step, if_allowed}
 use Rattle.ll_semantics.proofs.Steps.{world_kept}
 use Rattle.ll_rulebook.specs.declared.pass.Pass.{Pass}
 use Rattle.ll_rulebook.specs.declared.tables.Tables.{Tables}
-use Rattle.ll_rulebook.specs.Stores.{held_by, NowHolds, Holds, Stock, with_created, with_changed, Becomes, AddsRule, Extends, Freezes, IsAnswerTo}
+use Rattle.ll_rulebook.specs.Stores.{held_by, NowHolds, HoldsUnder, Stock, with_created, with_changed, Becomes, AddsRule, Extends, Freezes, IsAnswerTo}
 use Rattle.ll_rulebook.specs.Settled.{met_by}
-use Rattle.ll_rulebook.specs.Passes.{IsSame, IsSound, Agrees, Creates, Settles}
+use Rattle.ll_rulebook.specs.Passes.{IsSame, IsSound, HasRulesetsOf, Creates, Settles}
 use Rattle.ll_rulebook.proofs.Frozen.{extends_same, holds_same, zip_push, zip_set, zip_at}
 
 -- a call that adds a rule to a ruleset that its process holds under a number, if nothing refuses it
@@ -98,13 +98,13 @@ module _ (process : ℕ) (op : Op) (old : Pass) (sound : IsSound old) where
   after s t = record old { store = s; tables = t }
 
   abbrev fit : Pass → Note → Type 0
-  fit new note = (w : World) → Agrees old w → NoteFits (met_by old.tree.now old.abi new.store.layers w process) op note
+  fit new note = (w : World) → HasRulesetsOf old w → NoteFits (met_by old.tree.now old.abi new.store.layers w process) op note
 
-  sound_after : (s : Stock) (t : Tables) (count at : ℕ) (held : ℕ → Option ℕ) → NowHolds old.tables.held.items t.held.items count at held →
+  sound_after : (s : Stock) (t : Tables) (count ix : ℕ) (held : ℕ → Option ℕ) → NowHolds old.tables.held.items t.held.items count ix held →
       ((q place : ℕ) → held q ≡ Some place → place < length s.rulesets) → length old.store.rulesets ≤ length s.rulesets →
       All (AreInTree old.tree.now) s.rulesets → All (AreInTree old.tree.now) s.layers → IsSound (after s t)
-  sound_after s t count at held holds there more rulesets layers = record {
-    places = λ p q place is. elim (cases_cond (eqb p at) (held q) (held_by old.tables.held.items p q) (Some place) (sym is ∙ holds.holds p q)) [
+  sound_after s t count ix held holds there more rulesets layers = record {
+    places = λ p q place is. elim (cases_cond (eqb p ix) (held q) (held_by old.tables.held.items p q) (Some place) (sym is ∙ holds.holds p q)) [
       | inl now ↦ there q place (sym now)
       | inr before ↦ let earlier : place < length old.store.rulesets = sound.places p q place (sym before) in omega arith
     ];
@@ -112,11 +112,12 @@ module _ (process : ℕ) (op : Op) (old : Pass) (sound : IsSound old) where
     layers = layers;
   }
 
-  agrees_after : (s : Stock) (t : Tables) (w : World) (rulesets : List Layer) (count total at number : ℕ) (held : ℕ → Option ℕ) (state : State) → Agrees old w →
-      AllZip (IsSame old.tree.now) s.rulesets rulesets → NowHolds old.tables.held.items t.held.items count at held → count ≡ total → at ≡ number
+  agrees_after : (s : Stock) (t : Tables) (w : World) (rulesets : List Layer) (count total ix number : ℕ) (held : ℕ → Option ℕ) (state : State) →
+      HasRulesetsOf old w →
+      AllZip (IsSame old.tree.now) s.rulesets rulesets → NowHolds old.tables.held.items t.held.items count ix held → count ≡ total → ix ≡ number
       → ((q : ℕ) → held q ≡ state.held q) →
-      Agrees (after s t) (record { rulesets = rulesets; count = total; processes = with_state w.processes number state })
-  agrees_after s t w rulesets count total at number held state agrees same holds all own held_is = record {
+      HasRulesetsOf (after s t) (record { rulesets = rulesets; count = total; processes = with_state w.processes number state })
+  agrees_after s t w rulesets count total ix number held state agrees same holds all own held_is = record {
     rulesets = same;
     count = holds.counted ∙ all;
     held = λ p q. holds.holds p q
@@ -134,9 +135,9 @@ module _ (process : ℕ) (op : Op) (old : Pass) (sound : IsSound old) where
 
   -- it isn't allowed
   pub settles_refused : (a : Answer) → is_on_rulesets op ≡ true → (a ≡ Allowed → ⊥)
-      → ((w : World) → Agrees old w → a ≡ answer old.tree.now old.abi w.rulesets op (w.processes process)) →
+      → ((w : World) → HasRulesetsOf old w → a ≡ answer old.tree.now old.abi w.rulesets op (w.processes process)) →
       Settles process op old old (Answered a)
-  unfolding NoteFits answered answer_in
+  unfolding NoteFits answer_to answer_in
   settles_refused a on refused is = record {
     same_tree = refl;
     same_abi = refl;
@@ -147,8 +148,8 @@ module _ (process : ℕ) (op : Op) (old : Pass) (sound : IsSound old) where
   }
 
   -- it leaves the rulesets, and which of them are held
-  agrees_quiet : (layers : List (RulesOn ℕ)) (w : World) (a : Answer) (e : Effect) → Agrees old w → IsQuiet (w.processes process) e →
-      Agrees (after (record old.store { layers = layers }) old.tables) (if_allowed a (affected w process e) w)
+  agrees_quiet : (layers : List (RulesOn ℕ)) (w : World) (a : Answer) (e : Effect) → HasRulesetsOf old w → IsQuiet (w.processes process) e →
+      HasRulesetsOf (after (record old.store { layers = layers }) old.tables) (if_allowed a (affected w process e) w)
   agrees_quiet layers w Allowed (leaves next) agrees quiet =
       agrees_after (record old.store { layers = layers }) old.tables w w.rulesets _ w.count process process _ next agrees agrees.rulesets
       (holds_same old.tables.held.items process) agrees.count refl
@@ -173,36 +174,36 @@ module _ (process : ℕ) (op : Op) (old : Pass) (sound : IsSound old) where
     fits = fits;
   }
 
-  pub settles_frozen : (s : Stock) (at : ℕ) (id : LayerId) → ((rulesets : List Layer) (s : State) → IsQuiet s (effect old.tree.now rulesets op s))
-      → at < length old.store.rulesets → Freezes old.store s at id →
-      ((w : World) → Agrees old w → enforced w.rulesets op (w.processes process) ≡ slice_get w.rulesets at)
+  pub settles_frozen : (s : Stock) (ix : ℕ) (id : LayerId) → ((rulesets : List Layer) (s : State) → IsQuiet s (effect old.tree.now rulesets op s))
+      → ix < length old.store.rulesets → Freezes old.store s ix id →
+      ((w : World) → HasRulesetsOf old w → enforced w.rulesets op (w.processes process) ≡ slice_get w.rulesets ix)
       → Settles process op old (after s old.tables) (Frozen id)
   unfolding NoteFits IsFrozen
-  settles_frozen s at id quiet within freezes enforces =
+  settles_frozen s ix id quiet within freezes enforces =
       let none : RulesOn ℕ = without_rules files.no_right network.no_right in
-      let stands = slice_get-get_or old.store.rulesets at none within in
-      let frozen : slice_get s.layers id.0 ≡ Some (get_or old.store.rulesets at none) = freezes.layer ∙ stands in
+      let stands = slice_get-get_or old.store.rulesets ix none within in
+      let frozen : slice_get s.layers id.0 ≡ Some (get_or old.store.rulesets ix none) = freezes.layer ∙ stands in
       subst (λ (rulesets : List (RulesOn ℕ)). Settles process op old (after (record s { rulesets = rulesets }) old.tables) (Frozen id)) (sym freezes.rulesets)
       (settles_quiet s.layers (Frozen id) quiet freezes.layers (freezes.inside old.tree.now sound.rulesets sound.layers) (λ w agrees.
-      let (other, there, same) = zip_at (IsSame old.tree.now) old.store.rulesets w.rulesets at (get_or old.store.rulesets at none) agrees.rulesets stands in
+      let (other, there, same) = zip_at (IsSame old.tree.now) old.store.rulesets w.rulesets ix (get_or old.store.rulesets ix none) agrees.rulesets stands in
       rw (enforces w agrees, there) (slice_get_within s.layers id.0 _ frozen, rw (get_or_from_slice_get s.layers id.0 _ none frozen) same)))
 
   -- ---- a ruleset is created, and held under a free number
 
-  pub settles_created : (t : Tables) (rs : ℕ) (fs : Fs) (net : Net) (at : ℕ) → Creates old.tree.now old.abi rs fs net op
+  pub settles_created : (t : Tables) (rs : ℕ) (fs : Fs) (net : Net) (ix : ℕ) → Creates old.tree.now old.abi rs fs net op
       → held_by old.tables.held.items process rs ≡ None →
-      at ≡ length old.store.rulesets → Holds old.tables.held.items t.held.items process rs (Some at) →
+      ix ≡ length old.store.rulesets → HoldsUnder old.tables.held.items t.held.items process rs (Some ix) →
       Settles process op old (after (with_created old.store (without_rules fs net)) t) (Answered Allowed)
-  unfolding NoteFits answered
-  settles_created t rs fs net at creates free last holds =
+  unfolding NoteFits answer_to
+  settles_created t rs fs net ix creates free last holds =
       let one : RulesOn ℕ = without_rules fs net in
       let longer : length (old.store.rulesets ++ one ∷ []) ≡ length old.store.rulesets + 1 = simp length-append in
-      let allowed = λ (w : World) (agrees : Agrees old w). creates.allowed w.rulesets (w.processes process) (sym (agrees.held process rs) ∙ free) in
+      let allowed = λ (w : World) (agrees : HasRulesetsOf old w). creates.allowed w.rulesets (w.processes process) (sym (agrees.held process rs) ∙ free) in
       record {
         same_tree = refl;
         same_abi = refl;
         sound = sound_after (with_created old.store one) t _ process _ holds
-            (λ q place is. held_there rs _ q place (Some at) (held_by old.tables.held.items process) is (λ same. let it : at ≡ place = cc in omega arith)
+            (λ q place is. held_there rs _ q place (Some ix) (held_by old.tables.held.items process) is (λ same. let it : ix ≡ place = cc in omega arith)
             (λ held. let earlier : place < length old.store.rulesets = sound.places process q place held in omega arith))
             (omega arith) (All-push (AreInTree old.tree.now) old.store.rulesets one sound.rulesets (λ k default within. absurd (omega arith))) sound.layers;
         layers = extends_same old.store.layers;
@@ -217,22 +218,22 @@ module _ (process : ℕ) (op : Op) (old : Pass) (sound : IsSound old) where
 
   -- ---- a number is closed, or a process begins
 
-  pub settles_tables : (t : Tables) (count at : ℕ) (held : ℕ → Option ℕ) (note : Note) → NowHolds old.tables.held.items t.held.items count at held →
+  pub settles_tables : (t : Tables) (count ix : ℕ) (held : ℕ → Option ℕ) (note : Note) → NowHolds old.tables.held.items t.held.items count ix held →
       ((q place : ℕ) → held q ≡ Some place → place < length old.store.rulesets) → fit (after old.store t) note →
-      ((w : World) → Agrees old w → answer old.tree.now old.abi w.rulesets op (w.processes process) ≡ Allowed) →
-      ((w : World) → Agrees old w → (state : State) × (total number : ℕ) × (count ≡ total) × (at ≡ number) × ((q : ℕ) → held q ≡ state.held q)
+      ((w : World) → HasRulesetsOf old w → answer old.tree.now old.abi w.rulesets op (w.processes process) ≡ Allowed) →
+      ((w : World) → HasRulesetsOf old w → (state : State) × (total number : ℕ) × (count ≡ total) × (ix ≡ number) × ((q : ℕ) → held q ≡ state.held q)
       × (affected w process (effect old.tree.now w.rulesets op (w.processes process))
       ≡ record { rulesets = w.rulesets; count = total; processes = with_state w.processes number state })) →
       Settles process op old (after old.store t) note
-  settles_tables t count at held note holds there fits allowed does = record {
+  settles_tables t count ix held note holds there fits allowed does = record {
     same_tree = refl;
     same_abi = refl;
-    sound = sound_after old.store t count at held holds there (omega arith) sound.rulesets sound.layers;
+    sound = sound_after old.store t count ix held holds there (omega arith) sound.rulesets sound.layers;
     layers = extends_same old.store.layers;
     agrees = λ w agrees.
         let (state, total, number, all, own, held_is, next) = does w agrees in
         rw (step_is w _ (allowed w agrees) refl, next)
-        (agrees_after old.store t w w.rulesets count total at number held state agrees agrees.rulesets holds all own held_is);
+        (agrees_after old.store t w w.rulesets count total ix number held state agrees agrees.rulesets holds all own held_is);
     fits = fits;
   }
 
@@ -243,45 +244,45 @@ module _ (process : ℕ) (op : Op) (old : Pass) (sound : IsSound old) where
     settles_unheld none = settles_refused (fails BadFd) call.on_rulesets (λ is. cc)
         (λ w agrees. sym (call.unheld w.rulesets (w.processes process) (sym (agrees.held process rs) ∙ none)))
 
-    module _ (at : ℕ) (held : held_by old.tables.held.items process rs ≡ Some at) where
+    module _ (ix : ℕ) (held : held_by old.tables.held.items process rs ≡ Some ix) where
       -- what the ruleset is in the world
-      met : (one : RulesOn ℕ) → slice_get old.store.rulesets at ≡ Some one → (w : World) → Agrees old w →
-          (other : Layer) × (slice_get w.rulesets at ≡ Some other) × IsSame old.tree.now one other × ((w.processes process).held rs ≡ Some at)
-      met one was w agrees = let (other, stands, same) = zip_at (IsSame old.tree.now) old.store.rulesets w.rulesets at one agrees.rulesets was in
+      met : (one : RulesOn ℕ) → slice_get old.store.rulesets ix ≡ Some one → (w : World) → HasRulesetsOf old w →
+          (other : Layer) × (slice_get w.rulesets ix ≡ Some other) × IsSame old.tree.now one other × ((w.processes process).held rs ≡ Some ix)
+      met one was w agrees = let (other, stands, same) = zip_at (IsSame old.tree.now) old.store.rulesets w.rulesets ix one agrees.rulesets was in
           (other, stands, same, sym (agrees.held process rs) ∙ held)
 
-      answer_is : (one : RulesOn ℕ) → slice_get old.store.rulesets at ≡ Some one → (w : World) → Agrees old w
+      answer_is : (one : RulesOn ℕ) → slice_get old.store.rulesets ix ≡ Some one → (w : World) → HasRulesetsOf old w
           → of_rule_refusal (refusal one) ≡ answer old.tree.now old.abi w.rulesets op (w.processes process)
       answer_is one was w agrees = let (other, stands, same, it) = met one was w agrees in
           sym (call.answers w.rulesets (w.processes process) one other (rw it stands) same)
 
-      settles_added : (s : Stock) (one : RulesOn ℕ) (IsNow : RulesOn ℕ → Type 0) → slice_get old.store.rulesets at ≡ Some one
-          → of_rule_refusal (refusal one) ≡ Allowed → Becomes old.store s at IsNow →
+      settles_added : (s : Stock) (one : RulesOn ℕ) (IsNow : RulesOn ℕ → Type 0) → slice_get old.store.rulesets ix ≡ Some one
+          → of_rule_refusal (refusal one) ≡ Allowed → Becomes old.store s ix IsNow →
           ((next : RulesOn ℕ) → IsNow next → AreInTree old.tree.now next
           × ((other : Layer) → IsSame old.tree.now one other → IsSame old.tree.now next (f other))) →
           Settles process op old (after s old.tables) (Answered Allowed)
-      unfolding NoteFits answered
+      unfolding NoteFits answer_to
       settles_added s one IsNow was none now stays = rw now.changed record {
         same_tree = refl;
         same_abi = refl;
         sound = record {
           places = λ p q place is. rw length-set (sound.places p q place is);
-          rulesets = All-set (AreInTree old.tree.now) old.store.rulesets at now.after (stays now.after now.is_now).0 sound.rulesets;
+          rulesets = All-set (AreInTree old.tree.now) old.store.rulesets ix now.after (stays now.after now.is_now).0 sound.rulesets;
           layers = sound.layers;
         };
         layers = extends_same old.store.layers;
         agrees = λ w agrees.
             let (other, stands, same, it) = met one was w agrees in
             rw (step_is w _ (sym (answer_is one was w agrees) ∙ none) (call.adds w.rulesets (w.processes process)), it, stands)
-            (agrees_after (with_changed old.store at now.after) old.tables w _ _ w.count process process _ _ agrees
-            (zip_set (IsSame old.tree.now) old.store.rulesets w.rulesets at now.after (f other) agrees.rulesets ((stays now.after now.is_now).1 other same))
+            (agrees_after (with_changed old.store ix now.after) old.tables w _ _ w.count process process _ _ agrees
+            (zip_set (IsSame old.tree.now) old.store.rulesets w.rulesets ix now.after (f other) agrees.rulesets ((stays now.after now.is_now).1 other same))
             (holds_same old.tables.held.items process) agrees.count refl (agrees.held process));
         fits = λ w agrees. (call.on_rulesets, sym none ∙ answer_is one was w agrees);
       }
 
       pub settles_rule : (s : Stock) (IsAdded : RulesOn ℕ → RulesOn ℕ → Type 0) (outcome : Result (Unit {0}) RuleFault) (note : Note) →
-          AddsRule (λ one. option_map fault_of (refusal one)) IsAdded outcome at old.store s → IsAnswerTo outcome note →
-          ((one next : RulesOn ℕ) → slice_get old.store.rulesets at ≡ Some one → IsAdded one next
+          AddsRule (λ one. option_map fault_of (refusal one)) IsAdded outcome ix old.store s → IsAnswerTo outcome note →
+          ((one next : RulesOn ℕ) → slice_get old.store.rulesets ix ≡ Some one → IsAdded one next
           → AreInTree old.tree.now next × ((other : Layer) → IsSame old.tree.now one other → IsSame old.tree.now next (f other))) →
           Settles process op old (after s old.tables) note
       settles_rule s IsAdded (Ok done) note adds is stays =

@@ -18,7 +18,7 @@ use Rattle.ll_semantics.specs.Answers.{answer}
 use Rattle.ll_semantics.specs.Effects.{with_held, effect, leaves_rulesets}
 use Rattle.ll_semantics.specs.Notes.{NoteFits, is_on_rulesets}
 use Rattle.ll_semantics.specs.Worlds.{World, step}
-use Rattle.ll_semantics.specs.Situations.{world_at}
+use Rattle.ll_semantics.specs.CallContexts.{world_at}
 use Rattle.ll_rulebook.specs.declared.pass.Pass.{Pass}
 use Rattle.ll_rulebook.specs.Stores.{held_by, Extends}
 use Rattle.ll_rulebook.specs.Settled.{met_by, FitUpTo}
@@ -34,7 +34,7 @@ pub record IsSound (pass : Pass) : Type 0 where
   pub layers : All (AreInTree pass.tree.now) pass.store.layers
 
 -- the rulesets are one by one those of the world, and each process of the world holds the same of them
-pub record Agrees (pass : Pass) (world : World) : Type 0 where
+pub record HasRulesetsOf (pass : Pass) (world : World) : Type 0 where
   pub rulesets : AllZip (IsSame pass.tree.now) pass.store.rulesets world.rulesets
   pub count : length pass.tables.held.items ≡ world.count
   pub held : (process number : ℕ) → held_by pass.tables.held.items process number ≡ (world.processes process).held number
@@ -51,21 +51,21 @@ pub record Settles (process : ℕ) (op : Op) (old new : Pass) (note : Note) : Ty
   pub same_abi : new.abi ≡ old.abi
   pub sound : IsSound new
   pub layers : Extends old.store.layers new.store.layers
-  pub agrees : (world : World) → Agrees old world → Agrees new (step old.tree.now old.abi world process op)
-  pub fits : (world : World) → Agrees old world → NoteFits (met_by old.tree.now old.abi new.store.layers world process) op note
+  pub agrees : (world : World) → HasRulesetsOf old world → HasRulesetsOf new (step old.tree.now old.abi world process op)
+  pub fits : (world : World) → HasRulesetsOf old world → NoteFits (met_by old.tree.now old.abi new.store.layers world process) op note
 
 -- the first records are settled on a tree and by a version: the pass agrees with the world before the next one
 pub record HasSettled (tree : List Entry) (abi : Abi) (records : List Record) (count : ℕ) (pass : Pass) (notes : List Note) : Type 0 where
   pub of_tree : pass.tree.now ≡ tree
   pub of_abi : pass.abi ≡ abi
   pub sound : IsSound pass
-  pub agrees : Agrees pass (world_at tree abi records count)
+  pub agrees : HasRulesetsOf pass (world_at tree abi records count)
   pub few : length pass.store.layers ≤ count
   pub counted : length notes ≡ count
   pub fits : FitUpTo tree abi records pass.store.layers notes
 
 -- one note more, of which something holds
-pub record Adds (old new : List Note) (Holds : Note → Type 0) : Type 0 where
+pub record AddsNote (old new : List Note) (Fact : Note → Type 0) : Type 0 where
   pub note : Note
   pub added : new ≡ old ++ note ∷ []
-  pub holds : Holds note
+  pub holds : Fact note

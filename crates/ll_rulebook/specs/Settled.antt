@@ -7,13 +7,12 @@ use Rattle.ll_rules.specs.Layers.{RulesOn}
 use Rattle.ll_rules.specs.InTree.{AreInTree}
 use Rattle.ll_trace.specs.declared.record.Record.{Record}
 use Rattle.ll_semantics.specs.declared.note.Note.{Note}
-use Rattle.ll_semantics.specs.Situations.{Situation}
+use Rattle.ll_semantics.specs.CallContexts.{CallContext, world_at}
 use Rattle.ll_semantics.specs.Notes.{NoteFits}
 use Rattle.ll_semantics.specs.Worlds.{World}
-use Rattle.ll_semantics.specs.Situations.{world_at}
 
 -- what a call of a process meets in a world
-abbrev pub met_by : List Entry → Abi → List (RulesOn ℕ) → World → ℕ → Situation
+abbrev pub met_by : List Entry → Abi → List (RulesOn ℕ) → World → ℕ → CallContext
 met_by tree abi layers world process = record { tree = tree; layers = layers; abi = abi; rulesets = world.rulesets; state = world.processes process }
 
 -- each note up to a place fits what its record meets in the world before it

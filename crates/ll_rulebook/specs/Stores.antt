@@ -51,10 +51,10 @@ pub record AddsRule (fault : RulesOn ℕ → Option RuleFault) (IsAdded : RulesO
 
 -- a rule for files, on nodes of a tree
 abbrev pub IsPathAdded : List Entry → Place → Fs → RulesOn ℕ → RulesOn ℕ → Type 0
-IsPathAdded tree at files before after = SameRules (in_tree tree after) (with_rule_at tree (in_tree tree before) at files) × AreInTree tree after
+IsPathAdded tree spot files before after = SameRules (in_tree tree after) (with_rule_at tree (in_tree tree before) spot files) × AreInTree tree after
 
 abbrev pub AddsPathRule : List Entry → Place → Fs → Result (Unit {0}) RuleFault → ℕ → Stock → Stock → Type 0
-AddsPathRule tree at files = AddsRule (λ before. add_path_fault tree before at files) (IsPathAdded tree at files)
+AddsPathRule tree spot files = AddsRule (λ before. add_path_fault tree before spot files) (IsPathAdded tree spot files)
 
 -- a rule for a port
 abbrev pub AddsPortRule : Abi → ℕ → Net → Result (Unit {0}) RuleFault → ℕ → Stock → Stock → Type 0
@@ -94,9 +94,9 @@ pub record NowHolds (old new : List (FinMap nat_cmp ℕ)) (count process : ℕ) 
   pub holds : (p q : ℕ) → held_by new p q ≡ (if p == process then held q else held_by old p q)
 
 -- under one number a process now holds what is there, or nothing
-abbrev pub Holds : List (FinMap nat_cmp ℕ) → List (FinMap nat_cmp ℕ) → ℕ → ℕ → Option ℕ → Type 0
-Holds old new process number place = NowHolds old new (length old) process (update nat_eq (held_by old process) number place)
+abbrev pub HoldsUnder : List (FinMap nat_cmp ℕ) → List (FinMap nat_cmp ℕ) → ℕ → ℕ → Option ℕ → Type 0
+HoldsUnder old new process number place = NowHolds old new (length old) process (update nat_eq (held_by old process) number place)
 
 -- one process more, which holds these
-abbrev pub Begins : List (FinMap nat_cmp ℕ) → List (FinMap nat_cmp ℕ) → (ℕ → Option ℕ) → Type 0
-Begins old new held = NowHolds old new (length old + 1) (length old) held
+abbrev pub BeginsHolding : List (FinMap nat_cmp ℕ) → List (FinMap nat_cmp ℕ) → (ℕ → Option ℕ) → Type 0
+BeginsHolding old new held = NowHolds old new (length old + 1) (length old) held

@@ -46,7 +46,7 @@ fn added(outcome: Result<(), RuleFault>) -> Result<Note, NoMemory>
 }
 
 impl<'t> Pass<'t> {
-    ghost use Rattle.ll_rulebook.specs.Passes.{IsSound, Creates, Settles, HasSettled, Adds};
+    ghost use Rattle.ll_rulebook.specs.Passes.{IsSound, Creates, Settles, HasSettled, AddsNote};
 
     /// No record yet.
     pub(crate) fn new(alloc: Global, tree: &'t Tree, abi: Abi) -> Pass<'t>
@@ -136,8 +136,8 @@ impl<'t> Pass<'t> {
         let Some(place) = self.tables.place(process, rs) else {
             return Ok(failed(Errno::BadFd));
         };
-        let at = self.tree.place_of(path.as_str());
-        added(self.store.add_path(place, self.tree, at, fs))
+        let spot = self.tree.place_of(path.as_str());
+        added(self.store.add_path(place, self.tree, spot, fs))
     }
 
     /// A rule for a port is added to a ruleset that the process holds.
@@ -173,7 +173,7 @@ impl<'t> Pass<'t> {
         ensures { IfOk result (Settles process (Op.Restrict rs) self.old self.new) }
     {
         match self.tables.place(process, rs) {
-            None => Ok(Note::Open),
+            None => Ok(Note::ByState),
             Some(place) => Ok(Note::Frozen(self.store.freeze(alloc, place)?)),
         }
     }
@@ -185,7 +185,7 @@ impl<'t> Pass<'t> {
             → Settles process (Op.Start nnp admin) self.old self.new note) }
     {
         self.tables.start(alloc)?;
-        Ok(Note::Open)
+        Ok(Note::ByState)
     }
 
     /// A process forks a child, which holds what its parent holds.
@@ -196,7 +196,7 @@ impl<'t> Pass<'t> {
             → Settles process (Op.Fork child) self.old self.new note) }
     {
         self.tables.fork(process)?;
-        Ok(Note::Open)
+        Ok(Note::ByState)
     }
 
     /// Settles one record: what it answers, if it is one that creates, changes or closes a ruleset, or the
@@ -224,7 +224,7 @@ impl<'t> Pass<'t> {
             | Op::OpenFile { .. }
             | Op::Adopt { .. }
             | Op::Dup { .. }
-            | Op::Close { .. } => Ok(Note::Open),
+            | Op::Close { .. } => Ok(Note::ByState),
         }
     }
 
@@ -240,14 +240,14 @@ impl<'t> Pass<'t> {
             → «record».now.process.0 < length self.old.tables.held.items }
         requires sound { IsSound self.old }
         requires room { length self.old.store.layers < 2 ^ 32 }
-        ensures { OnOk result (Adds notes.old.items notes.new.items
+        ensures { OnOk result (AddsNote notes.old.items notes.new.items
             (Settles «record».now.process.0 «record».now.op self.old self.new)) }
     {
         notes.reserve(1)?;
         match self.settle(alloc, record)? {
             Note::Answered(answer) => notes.push_reserved(Note::Answered(answer)),
             Note::Frozen(layer) => notes.push_reserved(Note::Frozen(layer)),
-            Note::Open => notes.push_reserved(Note::Open),
+            Note::ByState => notes.push_reserved(Note::ByState),
         }
         Ok(())
     }

@@ -23,17 +23,18 @@ pub(crate) struct Stored {
 
 impl Stored {
     /// Adds a rule for files; the ruleset then is no longer what it was frozen to.
-    fn add_path(&mut self, tree: &Tree, at: Place, files: Fs) -> Result<(), RuleFault>
-        requires place { IsOfTree tree.now at }
+    fn add_path(&mut self, tree: &Tree, spot: Place, files: Fs) -> Result<(), RuleFault>
+        requires place { IsOfTree tree.now spot }
         requires within { AreInTree tree.now self.old.ruleset }
-        ensures fault { MatchOption (add_path_fault tree.now self.old.ruleset at files)
+        ensures fault { MatchOption (add_path_fault tree.now self.old.ruleset spot files)
             (IsOkUnless result RuleFault.Memory) (λ fault. result ≡ Err fault) }
-        ensures ok { OnOk result (IsPathAdded tree.now at files self.old.ruleset self.new.ruleset) }
+        ensures ok { OnOk result
+            (IsPathAdded tree.now spot files self.old.ruleset self.new.ruleset) }
         ensures frozen { (layers : List (RulesOn ℕ)) → IsFrozenTo layers self.old
             → IsFrozenTo layers self.new }
         ensures err { OnErr result (self.new ≡ self.old) }
     {
-        self.ruleset.add_path(tree, at, files)?;
+        self.ruleset.add_path(tree, spot, files)?;
         self.frozen = None; // that layer lacks the rule for files
         Ok(())
     }
@@ -109,15 +110,15 @@ impl Store {
         &mut self,
         place: usize,
         tree: &Tree,
-        at: Place,
+        spot: Place,
         files: Fs,
     ) -> Result<(), RuleFault>
-        requires place { IsOfTree tree.now at }
+        requires place { IsOfTree tree.now spot }
         requires there { place < length self.old.rulesets }
         requires within { All (AreInTree tree.now) self.old.rulesets }
-        ensures { AddsPathRule tree.now at files result place self.old self.new }
+        ensures { AddsPathRule tree.now spot files result place self.old self.new }
     {
-        self.rulesets[place].add_path(tree, at, files)
+        self.rulesets[place].add_path(tree, spot, files)
     }
 
     /// Adds a rule for a port to the ruleset at a place.

@@ -1,7 +1,7 @@
 //! The rulesets that each process holds.
 
 ghost use Rattle.std.specs.Prelude.{◌≡◌, ◌<◌, ◌+◌, [], Some, None, length, OnOk};
-ghost use Rattle.ll_rulebook.specs.Stores.{held_by, Holds, Begins};
+ghost use Rattle.ll_rulebook.specs.Stores.{held_by, HoldsUnder, BeginsHolding};
 
 use ll_shared::SharedMap;
 use std::alloc::{AllocError, Global};
@@ -39,7 +39,7 @@ impl Tables {
     ) -> Result<(), AllocError>
         requires { process < length self.old.held.items }
         ensures { OnOk result
-            (Holds self.old.held.items self.new.held.items process number (Some place)) }
+            (HoldsUnder self.old.held.items self.new.held.items process number (Some place)) }
     {
         self.held[process].insert(number, place)?;
         Ok(())
@@ -48,7 +48,8 @@ impl Tables {
     /// Closes what a process holds under a number.
     pub(crate) fn close(&mut self, process: usize, number: u64) -> Result<(), AllocError>
         requires { process < length self.old.held.items }
-        ensures { OnOk result (Holds self.old.held.items self.new.held.items process number None) }
+        ensures { OnOk result
+            (HoldsUnder self.old.held.items self.new.held.items process number None) }
     {
         self.held[process].remove(number)?;
         Ok(())
@@ -56,7 +57,7 @@ impl Tables {
 
     /// One process more, which holds nothing.
     pub(crate) fn start(&mut self, alloc: Global) -> Result<(), AllocError>
-        ensures { OnOk result (Begins self.old.held.items self.new.held.items (λ _. None)) }
+        ensures { OnOk result (BeginsHolding self.old.held.items self.new.held.items (λ _. None)) }
     {
         self.held.push(SharedMap::new(alloc))?;
         Ok(())
@@ -66,7 +67,8 @@ impl Tables {
     pub(crate) fn fork(&mut self, parent: usize) -> Result<(), AllocError>
         requires { parent < length self.old.held.items }
         ensures { OnOk result
-            (Begins self.old.held.items self.new.held.items (held_by self.old.held.items parent)) }
+            (BeginsHolding self.old.held.items self.new.held.items
+            (held_by self.old.held.items parent)) }
     {
         let held = self.held[parent].clone()?;
         self.held.push(held)?;

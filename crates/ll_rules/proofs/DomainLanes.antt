@@ -20,6 +20,7 @@ use Rattle.ll_tree.specs.declared.place.NodeId.{NodeId}
 use Rattle.ll_lines.specs.Paths.{Path, front}
 use Rattle.ll_tree.specs.Trees.{Entry, IsNode, path_at, parent_at, parent_of}
 use Rattle.ll_tree.specs.TreeFacts.{IsTree, StandsIn, depth_at}
+use Rattle.ll_rules.specs.declared.domain.TheConstants.{MOST_LAYERS}
 use Rattle.ll_rules.specs.declared.domain.LayerId.{LayerId}
 use Rattle.ll_rules.specs.Layers.{RulesOn, without_rules, handles, granted}
 use Rattle.ll_rules.specs.KeptLayers.{granted_on_node, layer_at, domain_of}
@@ -35,6 +36,8 @@ use Rattle.ll_rules.proofs.Domains.{numbers_from-map}
 use Rattle.ll_rules.proofs.LaneSets.{nothing_in}
 use Rattle.ll_rules.proofs.Climbs.{climbed}
 use Rattle.ll_rules.proofs.Marks.{neither_bit}
+use Rattle.ll_rules.specs.Stacks.{stacked}
+use Rattle.ll_rules.specs.declared.stack.Stack.{Stack}
 
 -- ---- a row, place by place
 
@@ -192,15 +195,15 @@ count_goes_on tree here up layers before after bound found below more so_far =
     omega arith
 
 -- a climb takes few look-ups, since a depth has 32 bits
-pub few_look_ups : (layers depth : ℕ) → layers ≤ 16 → depth < 2 ^ 32 → layers * (depth + 1) ≤ 2 ^ 37
+pub few_look_ups : (layers depth : ℕ) → layers ≤ MOST_LAYERS → depth < 2 ^ 32 → layers * (depth + 1) ≤ 2 ^ 37
 few_look_ups layers depth few low =
-    let most : (depth + 1) * layers ≤ (depth + 1) * 16 = mul-le-mul_left (depth + 1) few in
+    let most : (depth + 1) * layers ≤ (depth + 1) * MOST_LAYERS = mul-le-mul_left (depth + 1) few in
     let turned : layers * (depth + 1) ≡ (depth + 1) * layers = mul_comm layers (depth + 1) in
     omega arith
 
 -- what is left of a lane that has this and lacks what is granted from a node up
 abbrev pub left_above : List Entry → RulesOn ℕ → Option NodeId → FsRight → Bool → Bool
-left_above tree rules at right has_it = has_it && not (granted_above tree rules at right)
+left_above tree rules pos right has_it = has_it && not (granted_above tree rules pos right)
 
 pub left_begins : (tree : List Entry) (rules : RulesOn ℕ) (here : NodeId) (right : FsRight) (has_it : Bool)
     → left_above tree rules (Some here) right has_it ≡ (has_it && not (granted (in_tree tree rules) (path_at tree here) right))
@@ -225,10 +228,10 @@ left_goes_on tree rules here up right before after total listed inside within to
     ∙ so_far
 
 -- what is left stays where nothing that is granted was passed
-pub left_passed : (tree : List Entry) (rules : RulesOn ℕ) (at up : Option NodeId) (right : FsRight) (has_it total : Bool)
-    → granted_above tree rules up right ≡ granted_above tree rules at right
-    → left_above tree rules at right has_it ≡ total → left_above tree rules up right has_it ≡ total
-left_passed tree rules at up right has_it total is so_far = ap (λ (b : Bool). has_it && not b) is ∙ so_far
+pub left_passed : (tree : List Entry) (rules : RulesOn ℕ) (pos up : Option NodeId) (right : FsRight) (has_it total : Bool)
+    → granted_above tree rules up right ≡ granted_above tree rules pos right
+    → left_above tree rules pos right has_it ≡ total → left_above tree rules up right has_it ≡ total
+left_passed tree rules pos up right has_it total is so_far = ap (λ (b : Bool). has_it && not b) is ∙ so_far
 
 pub and_comm : (a b : Bool) → (a && b) ≡ (b && a)
 and_comm true true = refl
@@ -242,21 +245,21 @@ unfolding granted_above
 left_ends tree rules right has_it total so_far = sym (and_true has_it) ∙ so_far
 
 -- of nothing nothing is left
-pub left_nothing : (tree : List Entry) (rules : RulesOn ℕ) (at : Option NodeId) (right : FsRight) (has_it total : Bool) → has_it ≡ false
-    → left_above tree rules at right has_it ≡ total → has_it ≡ total
-left_nothing tree rules at right has_it total none so_far = none ∙ sym (ap (λ (b : Bool). b && not (granted_above tree rules at right)) none) ∙ so_far
+pub left_nothing : (tree : List Entry) (rules : RulesOn ℕ) (pos : Option NodeId) (right : FsRight) (has_it total : Bool) → has_it ≡ false
+    → left_above tree rules pos right has_it ≡ total → has_it ≡ total
+left_nothing tree rules pos right has_it total none so_far = none ∙ sym (ap (λ (b : Bool). b && not (granted_above tree rules pos right)) none) ∙ so_far
 
 -- without rules nothing is granted
-nothing_above : (tree : List Entry) (rules : RulesOn ℕ) (at : Option NodeId) (right : FsRight) → rules ≡ without_rules files.no_right network.no_right
-    → granted_above tree rules at right ≡ false
+nothing_above : (tree : List Entry) (rules : RulesOn ℕ) (pos : Option NodeId) (right : FsRight) → rules ≡ without_rules files.no_right network.no_right
+    → granted_above tree rules pos right ≡ false
 unfolding granted_above granted
 nothing_above tree rules None right is = refl
 nothing_above tree rules (Some up) right is = rw is refl
 
-pub left_unasked : (tree : List Entry) (rules : RulesOn ℕ) (at : Option NodeId) (right : FsRight) (has_it total : Bool)
-    → rules ≡ without_rules files.no_right network.no_right → left_above tree rules at right has_it ≡ total → has_it ≡ total
-left_unasked tree rules at right has_it total is so_far =
-    sym (and_true has_it) ∙ sym (ap (λ (b : Bool). has_it && not b) (nothing_above tree rules at right is)) ∙ so_far
+pub left_unasked : (tree : List Entry) (rules : RulesOn ℕ) (pos : Option NodeId) (right : FsRight) (has_it total : Bool)
+    → rules ≡ without_rules files.no_right network.no_right → left_above tree rules pos right has_it ≡ total → has_it ≡ total
+left_unasked tree rules pos right has_it total is so_far =
+    sym (and_true has_it) ∙ sym (ap (λ (b : Bool). has_it && not b) (nothing_above tree rules pos right is)) ∙ so_far
 
 -- the layers of a domain have their rules in the tree
 pub all_in : (tree : List Entry) (layers : List (RulesOn ℕ)) (id : LayerId) → All (AreInTree tree) layers → AreInTree tree (layer_at layers id)
@@ -287,9 +290,9 @@ numbers_from-snoc test number (y ∷ ys) x =
     let same : number + 1 + length ys ≡ number + suc (length ys) = omega arith in
     rw (numbers_from-snoc test (number + 1) ys x, append_assoc, same) refl
 
-module _ {L : Type 0} (test : L → Bool) (passes : ℕ → Bool) (domain : List L) (d : L) (nowhere : test d ≡ false) (agree : (place : ℕ) → place < 16
+module _ {L : Type 0} (test : L → Bool) (passes : ℕ → Bool) (domain : List L) (d : L) (nowhere : test d ≡ false) (agree : (place : ℕ) → place < MOST_LAYERS
     → passes (suc place) ≡ test (get_or domain place d)) where
-  passing_first : (count : ℕ) → count ≤ 16 → passing_upto passes count ≡ numbers_from test 1 (take count domain)
+  passing_first : (count : ℕ) → count ≤ MOST_LAYERS → passing_upto passes count ≡ numbers_from test 1 (take count domain)
   unfolding passing_upto numbers_from
   passing_first zero few = refl
   passing_first (suc count) few =
@@ -305,15 +308,15 @@ module _ {L : Type 0} (test : L → Bool) (passes : ℕ → Bool) (domain : List
             rw (before, here, get_or_past domain count d past, nowhere, all) (append-nil (numbers_from test 1 (take count domain)))
       ]
 
-  pub passing_all : length domain ≤ 16 → numbers_passing passes ≡ numbers_from test 1 domain
-  passing_all few = passing_first 16 (omega arith) ∙ ap (numbers_from test 1) (take_all 16 domain few)
+  pub passing_all : length domain ≤ MOST_LAYERS → numbers_passing passes ≡ numbers_from test 1 domain
+  passing_all few = passing_first MOST_LAYERS (omega arith) ∙ ap (numbers_from test 1) (take_all MOST_LAYERS domain few)
 
 not_not : (b : Bool) → not (not b) ≡ b
 not_not true = refl
 not_not false = refl
 
 -- the layers of a domain whose lanes hold what a test finds
-pub filled_numbers : (lanes : List ℕ) (layers : List (RulesOn ℕ)) (ids : List LayerId) (test : RulesOn ℕ → Bool) → length ids ≤ 16
+pub filled_numbers : (lanes : List ℕ) (layers : List (RulesOn ℕ)) (ids : List LayerId) (test : RulesOn ℕ → Bool) → length ids ≤ MOST_LAYERS
     → test (without_rules files.no_right network.no_right) ≡ false
     → ((place : ℕ) → some_right (has (lane lanes place)) ≡ test (layer_in (domain_of layers ids) place))
     → numbers_passing (is_filled lanes) ≡ numbers_from test 1 (domain_of layers ids)
@@ -323,8 +326,8 @@ filled_numbers lanes layers ids test few nowhere same =
     (λ place inside. not_not (some_right (has (lane lanes place))) ∙ same place) (omega (arith, length-map ids (layer_at layers)))
 
 -- a domain's layers that pass a test, with their rules on paths
-pub filled_in_tree : (tree : List Entry) (lanes : List ℕ) (layers : List (RulesOn ℕ)) (ids : List LayerId) (test : RulesOn Path → Bool) → length ids ≤ 16
-    → test (in_tree tree (without_rules files.no_right network.no_right)) ≡ false
+pub filled_in_tree : (tree : List Entry) (lanes : List ℕ) (layers : List (RulesOn ℕ)) (ids : List LayerId) (test : RulesOn Path → Bool)
+    → length ids ≤ MOST_LAYERS → test (in_tree tree (without_rules files.no_right network.no_right)) ≡ false
     → ((place : ℕ) → some_right (has (lane lanes place)) ≡ test (in_tree tree (layer_in (domain_of layers ids) place)))
     → numbers_passing (is_filled lanes) ≡ numbers_from test 1 (all_in_tree tree (domain_of layers ids))
 filled_in_tree tree lanes layers ids test few nowhere same =
@@ -339,8 +342,8 @@ none_lacking wanted granted =
     (λ right. ap (λ (b : Bool). wanted right && b && not (granted right)) (nothing_handled Path right)
     ∙ ap (λ (b : Bool). b && not (granted right)) (and_none (wanted right)))
 
-pub refusing_lanes : (tree : List Entry) (layers : List (RulesOn ℕ)) (ids : List LayerId) (path : Path) (wanted : Fs) (lanes : List ℕ) → length ids ≤ 16
-    → ((place : ℕ) (right : FsRight) → has (lane lanes place) right
+pub refusing_lanes : (tree : List Entry) (layers : List (RulesOn ℕ)) (ids : List LayerId) (path : Path) (wanted : Fs) (lanes : List ℕ)
+    → length ids ≤ MOST_LAYERS → ((place : ℕ) (right : FsRight) → has (lane lanes place) right
     ≡ ((handles (layer_in (domain_of layers ids) place) right && has wanted right)
     && not (granted (in_tree tree (layer_in (domain_of layers ids) place)) path right)))
     → numbers_passing (is_filled lanes) ≡ refusing (all_in_tree tree (domain_of layers ids)) path wanted
@@ -362,3 +365,9 @@ refusing_alone tree layer path wanted left same =
     ∙ some_agree (has (set_of left)) (λ right. has wanted right && handles layer right && not (granted (in_tree tree layer) path right))
     (λ right. same right ∙ ap (λ (b : Bool). b && not (granted (in_tree tree layer) path right)) (and_comm (handles layer right) (has wanted right))) in
     rw lacking (sym (append-nil _))
+
+-- ---- the layers of a stack
+
+-- the rules of each layer are on nodes of the tree
+pub stacked-within : (stack : Stack) (place : ℕ) → AreInTree stack.tree.now (stacked stack place)
+stacked-within stack place = layer_in-within stack.tree.now stack.layers.now stack.ids.now place stack.rules

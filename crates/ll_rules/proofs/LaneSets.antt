@@ -14,6 +14,7 @@ use Rattle.ll_rights.specs.Bits.{has_place}
 use Rattle.ll_rights.specs.Rights.{FsRight, has, other, is_empty, bit_of}
 use Rattle.ll_rights.proofs.Places.{has_place-named, has_place-other, has_place-or, has_place-and, has_place-lacking}
 use Rattle.ll_rights.proofs.Sets.{fs_table, fs_is_empty}
+use Rattle.ll_rules.specs.declared.domain.TheConstants.{MOST_LAYERS}
 use Rattle.ll_rules.proofs.RightSets.{has_nothing}
 use Rattle.ll_rules.proofs.LayerNumbers.{passing_upto-agree}
 use Rattle.ll_rules.specs.LayerNumbers.{is_at_place, numbers_passing}
@@ -21,7 +22,7 @@ use Rattle.ll_rules.specs.Lanes.{named_bits, set_of, lane, is_filled}
 
 -- sixteen lanes of 32 bits
 abbrev pub AreLanes : List ℕ → Type 0
-AreLanes lanes = (length lanes ≡ 16) × Each1 (Fits w32) lanes
+AreLanes lanes = (length lanes ≡ MOST_LAYERS) × Each1 (Fits w32) lanes
 
 each_fits : (xs : List ℕ) (place : ℕ) → Each1 (Fits w32) xs → get_or xs place 0 < 2 ^ 32
 each_fits [] place h = lit< tt
@@ -146,16 +147,16 @@ known_bits set w right same known = elim (cases_lt (bit_of right) (bit_of other)
 -- ---- all lanes
 
 -- a row that is made lane by lane of two others
-module _ (f : ℕ → ℕ → ℕ) (xs ys : List ℕ) (whole : length xs ≡ 16) (also : length ys ≡ 16) (place : ℕ) (right : FsRight) (is : Bool) where
-  by_lane : (place < 16 → has (set_of (f (get_or xs place 0) (get_or ys place 0))) right ≡ is) → (16 ≤ place → is ≡ false)
+module _ (f : ℕ → ℕ → ℕ) (xs ys : List ℕ) (whole : length xs ≡ MOST_LAYERS) (also : length ys ≡ MOST_LAYERS) (place : ℕ) (right : FsRight) (is : Bool) where
+  by_lane : (place < MOST_LAYERS → has (set_of (f (get_or xs place 0) (get_or ys place 0))) right ≡ is) → (MOST_LAYERS ≤ place → is ≡ false)
       → has (lane (zip2 f xs ys) place) right ≡ is
-  by_lane inside past = elim (cases_lt place 16) [
+  by_lane inside past = elim (cases_lt place MOST_LAYERS) [
     | inl lt ↦ ap (λ (bits : ℕ). has (set_of bits) right) (get_or-zip2 f xs ys place 0 0 0 (omega arith) (omega arith)) ∙ inside lt
     | inr le ↦ nothing_in (get_or (zip2 f xs ys) place 0) right (get_or_past (zip2 f xs ys) place 0 (omega (arith, length-zip2 f xs ys (whole ∙ sym also))))
         ∙ sym (past le)
   ]
 
-nothing_past : (xs : List ℕ) (place : ℕ) (right : FsRight) → length xs ≡ 16 → 16 ≤ place → has (lane xs place) right ≡ false
+nothing_past : (xs : List ℕ) (place : ℕ) (right : FsRight) → length xs ≡ MOST_LAYERS → MOST_LAYERS ≤ place → has (lane xs place) right ≡ false
 nothing_past xs place right whole past = nothing_in (get_or xs place 0) right (get_or_past xs place 0 (omega arith))
 
 pub lanes_either : (xs ys : List ℕ) → AreLanes xs → AreLanes ys → (place : ℕ) (right : FsRight)
@@ -177,18 +178,18 @@ lanes_without xs gs whole also place right =
 
 pub lanes_within : (xs : List ℕ) (w : ℕ) (set : Fs) → AreLanes xs → w < 2 ^ 32
     → ((one : FsRight) → bit_of one < bit_of other → has (set_of w) one ≡ has set one)
-    → (place : ℕ) (right : FsRight) → has (lane (zip2 bit_and xs (replicate 16 w)) place) right ≡ (has (lane xs place) right && has set right)
+    → (place : ℕ) (right : FsRight) → has (lane (zip2 bit_and xs (replicate MOST_LAYERS w)) place) right ≡ (has (lane xs place) right && has set right)
 lanes_within xs w set whole fits same place right =
-    by_lane bit_and xs (replicate 16 w) whole.0 (length-replicate 16 w) place right (has (lane xs place) right && has set right)
+    by_lane bit_and xs (replicate MOST_LAYERS w) whole.0 (length-replicate MOST_LAYERS w) place right (has (lane xs place) right && has set right)
     (λ inside.
-    rw (get_or-replicate 16 place w 0 inside)
+    rw (get_or-replicate MOST_LAYERS place w 0 inside)
     (both_bits (get_or xs place 0) w right fits ∙ alike_in_lane (get_or xs place 0) w set right (λ b. b) same))
     (λ past. rw (nothing_past xs place right whole.0 past) refl)
 
-pub nothing_anywhere : (place : ℕ) (right : FsRight) → has (lane (replicate 16 0) place) right ≡ false
-nothing_anywhere place right = elim (cases_lt place 16) [
-  | inl inside ↦ nothing_in (get_or (replicate 16 0) place 0) right (get_or-replicate 16 place 0 0 inside)
-  | inr past ↦ nothing_past (replicate 16 0) place right (length-replicate {A = ℕ} 16 0) past
+pub nothing_anywhere : (place : ℕ) (right : FsRight) → has (lane (replicate MOST_LAYERS 0) place) right ≡ false
+nothing_anywhere place right = elim (cases_lt place MOST_LAYERS) [
+  | inl inside ↦ nothing_in (get_or (replicate MOST_LAYERS 0) place 0) right (get_or-replicate MOST_LAYERS place 0 0 inside)
+  | inr past ↦ nothing_past (replicate MOST_LAYERS 0) place right (length-replicate {A = ℕ} MOST_LAYERS 0) past
 ]
 
 -- ---- which lanes are filled
@@ -203,29 +204,32 @@ is_named bits = not (eqb (bit_and bits named_bits) 0)
 
 -- the mask that code makes of the lanes that have such a bit
 abbrev pub mask_made : List ℕ → ℕ → ℕ
-mask_made xs named = mask_l (map (top 31) (zip2 (λ a b. cond (not (eqb a b)) (2 ^ 32 - 1) 0) (zip2 bit_and xs (replicate 16 named)) (replicate 16 0))) % 2 ^ 64
+mask_made xs named =
+    mask_l (map (top 31) (zip2 (λ a b. cond (not (eqb a b)) (2 ^ 32 - 1) 0) (zip2 bit_and xs (replicate MOST_LAYERS named)) (replicate MOST_LAYERS 0)))
+    % 2 ^ 64
 
-pub mask_is : (xs : List ℕ) (named : ℕ) → length xs ≡ 16 → named ≡ named_bits → mask_made xs named ≡ mask_l (map is_named xs)
+pub mask_is : (xs : List ℕ) (named : ℕ) → length xs ≡ MOST_LAYERS → named ≡ named_bits → mask_made xs named ≡ mask_l (map is_named xs)
 mask_is xs named whole same =
     let kept : ℕ → ℕ = λ bits. bit_and bits named in
-    let long : length (map kept xs) ≡ 16 = length-map xs kept ∙ whole in
-    rw (zip2_splat bit_and xs 16 named whole) (bitmask_splat w32 (λ a b. not (eqb a b)) (map kept xs) 16 0 long (lit≤ tt)
+    let long : length (map kept xs) ≡ MOST_LAYERS = length-map xs kept ∙ whole in
+    rw (zip2_splat bit_and xs MOST_LAYERS named whole) (bitmask_splat w32 (λ a b. not (eqb a b)) (map kept xs) MOST_LAYERS 0 long (lit≤ tt)
     ∙ ap mask_l (map-map (λ x. not (eqb x 0)) kept xs) ∙ rw same refl)
 
-pub mask_small : (xs : List ℕ) → length xs ≡ 16 → mask_l (map is_named xs) < 2 ^ 16
+pub mask_small : (xs : List ℕ) → length xs ≡ MOST_LAYERS → mask_l (map is_named xs) < 2 ^ 16
 mask_small xs whole = subst (λ (n : ℕ). mask_l (map is_named xs) < 2 ^ n) (length-map xs is_named ∙ whole) (mask_l-lt (map is_named xs))
 
-pub mask_places : (xs : List ℕ) (place : ℕ) → length xs ≡ 16 → place < 16 → eqb (bit_at (mask_l (map is_named xs)) place) 1 ≡ not (is_empty (lane xs place))
+pub mask_places : (xs : List ℕ) (place : ℕ) → length xs ≡ MOST_LAYERS → place < MOST_LAYERS
+    → eqb (bit_at (mask_l (map is_named xs)) place) 1 ≡ not (is_empty (lane xs place))
 mask_places xs place whole inside =
     ap (λ (bit : ℕ). eqb bit 1) (bit_mask_l (map is_named xs) place)
     ∙ one_of (get_or (map is_named xs) place false)
     ∙ get_or-map is_named xs place 0 false (omega arith)
     ∙ ap not (fs_is_empty (lane xs place))
 
-pub filled_places : (xs : List ℕ) (places : ℕ) → ((place : ℕ) → place < 16 → eqb (bit_at places place) 1 ≡ not (is_empty (lane xs place)))
+pub filled_places : (xs : List ℕ) (places : ℕ) → ((place : ℕ) → place < MOST_LAYERS → eqb (bit_at places place) 1 ≡ not (is_empty (lane xs place)))
     → numbers_passing (is_at_place places) ≡ numbers_passing (is_filled xs)
 unfolding is_filled is_at_place
-filled_places xs places same = passing_upto-agree (is_at_place places) (is_filled xs) 16 each where
-  each : (number : ℕ) → 0 < number → number ≤ 16 → is_at_place places number ≡ is_filled xs number
+filled_places xs places same = passing_upto-agree (is_at_place places) (is_filled xs) MOST_LAYERS each where
+  each : (number : ℕ) → 0 < number → number ≤ MOST_LAYERS → is_at_place places number ≡ is_filled xs number
   each zero pos le = absurd (omega arith)
   each (suc place) pos le = same place (omega arith)

@@ -10,6 +10,7 @@ use Rattle.std.proofs.lemmas.List.Elements.{All-head, All-tail}
 use Rattle.std.proofs.Math.Nat.{mod-eq_of_lt}
 use Rattle.std.proofs.lemmas.Nat.{one_shl}
 use Rattle.ll_rights.proofs.Places.{has_place-named, has_place-or}
+use Rattle.ll_rules.specs.declared.domain.TheConstants.{MOST_LAYERS}
 use Rattle.ll_rules.proofs.Booleans.{or_false, and_none, and_true}
 use Rattle.ll_rules.specs.declared.layer_set.LayerSet.TheInside.{Inside}
 use Rattle.ll_rules.specs.LayerNumbers.{is_among, passing_upto, numbers_passing, united_numbers, is_at_place, numbers_of, places_of, places_of-passing_upto}
@@ -85,27 +86,28 @@ passing_upto-one_more t u (suc bound) one pos le below here none none_above = el
 
 -- ---- sets kept as bits
 
-pub has_kept : (set : Inside) (number : ℕ) → 0 < number → number ≤ 16 → is_among number (numbers_of set) ≡ eqb (bit_at set.places (number - 1)) 1
+pub has_kept : (set : Inside) (number : ℕ) → 0 < number → number ≤ MOST_LAYERS → is_among number (numbers_of set) ≡ eqb (bit_at set.places (number - 1)) 1
 unfolding is_at_place
 has_kept set zero pos le = absurd (omega arith)
 has_kept set (suc place) pos le =
     let same : suc place - 1 ≡ place = omega arith in
-    rw same (is_among-passing_upto (is_at_place set.places) 16 (suc place) pos le)
+    rw same (is_among-passing_upto (is_at_place set.places) MOST_LAYERS (suc place) pos le)
 
 -- the test that code makes of one bit
-pub has_by_shift : (set : Inside) (number : ℕ) → 0 < number → number ≤ 16 → eqb (bit_and (set.places / 2 ^ (number - 1)) 1) 1 ≡ is_among number (numbers_of set)
+pub has_by_shift : (set : Inside) (number : ℕ) → 0 < number → number ≤ MOST_LAYERS
+    → eqb (bit_and (set.places / 2 ^ (number - 1)) 1) 1 ≡ is_among number (numbers_of set)
 has_by_shift set number pos le =
     ap (λ (bit : ℕ). eqb bit 1) (shr_and_one set.places (number - 1)) ∙ sym (has_kept set number pos le)
 
-pub has_outside : (set : Inside) (number : ℕ) → (number ≡ 0) ⊎ (16 < number) → false ≡ is_among number (numbers_of set)
-has_outside set number (inl none) = rw none (sym (is_among-zero (is_at_place set.places) 16))
-has_outside set number (inr above) = sym (is_among-above (is_at_place set.places) 16 number above)
+pub has_outside : (set : Inside) (number : ℕ) → (number ≡ 0) ⊎ (MOST_LAYERS < number) → false ≡ is_among number (numbers_of set)
+has_outside set number (inl none) = rw none (sym (is_among-zero (is_at_place set.places) MOST_LAYERS))
+has_outside set number (inr above) = sym (is_among-above (is_at_place set.places) MOST_LAYERS number above)
 
 -- no bit, no number
 pub empty_kept : (set : Inside) → set.places < 2 ^ 16 → eqb set.places 0 ≡ eqb (length (numbers_of set)) 0
 unfolding places_of passing_upto is_at_place
 empty_kept set fits =
-    let again : places_of (numbers_of set) ≡ set.places = places_of-passing_upto set.places 16 ∙ mod-eq_of_lt fits in
+    let again : places_of (numbers_of set) ≡ set.places = places_of-passing_upto set.places MOST_LAYERS ∙ mod-eq_of_lt fits in
     elim (cases_eq set.places 0) [
       | inl zero_is ↦ rw zero_is refl
       | inr some ↦ rw (ne_eqb set.places 0 some) (no_numbers (numbers_of set) set.places again some)
@@ -126,9 +128,9 @@ is_at_place-or a b (suc place) =
 -- the bits of two sets together
 pub union_kept : (a b : Inside) → numbers_passing (is_at_place (bit_or a.places b.places)) ≡ united_numbers (numbers_of a) (numbers_of b)
 union_kept a b =
-    passing_upto-agree (is_at_place (bit_or a.places b.places)) (λ number. is_among number (numbers_of a) || is_among number (numbers_of b)) 16
+    passing_upto-agree (is_at_place (bit_or a.places b.places)) (λ number. is_among number (numbers_of a) || is_among number (numbers_of b)) MOST_LAYERS
     (λ number pos le.
-    rw (is_among-passing_upto (is_at_place a.places) 16 number pos le, is_among-passing_upto (is_at_place b.places) 16 number pos le)
+    rw (is_among-passing_upto (is_at_place a.places) MOST_LAYERS number pos le, is_among-passing_upto (is_at_place b.places) MOST_LAYERS number pos le)
     (is_at_place-or a.places b.places number))
 
 is_at_place-power_same : (place : ℕ) → is_at_place (2 ^ place) (suc place) ≡ true
@@ -150,15 +152,16 @@ below_from_among (x ∷ xs) number bound among all = elim (or_cases (eqb x numbe
 ]
 
 -- one bit more, above the others
-pub noted_kept : (set : Inside) (place : ℕ) → suc place ≤ 16 → All (λ other. other < suc place) (numbers_of set)
+pub noted_kept : (set : Inside) (place : ℕ) → suc place ≤ MOST_LAYERS → All (λ other. other < suc place) (numbers_of set)
     → numbers_passing (is_at_place (bit_or set.places (2 ^ place))) ≡ numbers_of set ++ suc place ∷ []
 noted_kept set place le above =
     let t : ℕ → Bool = is_at_place set.places in
-    let none : (number : ℕ) → suc place ≤ number → number ≤ 16 → t number ≡ false = λ number p q.
+    let none : (number : ℕ) → suc place ≤ number → number ≤ MOST_LAYERS → t number ≡ false = λ number p q.
     false_from_ne_true (t number) (λ there.
-    let below : number < suc place = below_from_among (numbers_of set) number (suc place) (is_among-passing_upto t 16 number (omega arith) q ∙ there) above in
+    let below : number < suc place =
+    below_from_among (numbers_of set) number (suc place) (is_among-passing_upto t MOST_LAYERS number (omega arith) q ∙ there) above in
     omega arith) in
-    passing_upto-one_more t (is_at_place (bit_or set.places (2 ^ place))) 16 (suc place) (omega arith) le
+    passing_upto-one_more t (is_at_place (bit_or set.places (2 ^ place))) MOST_LAYERS (suc place) (omega arith) le
     (λ number p q. rw (is_at_place-or set.places (2 ^ place) number, is_at_place-power_other place number (λ same. omega arith)) (or_false (t number)))
     (rw (is_at_place-or set.places (2 ^ place) (suc place), is_at_place-power_same place) (or_right (t (suc place)) true refl))
     none
@@ -172,18 +175,18 @@ noted_kept set place le above =
 
 pub numbers_again : (set : Inside) → numbers_of set ≡ numbers_passing (λ number. is_among number (numbers_of set))
 numbers_again set =
-    passing_upto-agree (is_at_place set.places) (λ number. is_among number (numbers_of set)) 16
-    (λ number pos le. sym (is_among-passing_upto (is_at_place set.places) 16 number pos le))
+    passing_upto-agree (is_at_place set.places) (λ number. is_among number (numbers_of set)) MOST_LAYERS
+    (λ number pos le. sym (is_among-passing_upto (is_at_place set.places) MOST_LAYERS number pos le))
 
 pub places_kept : (set : Inside) (numbers : List ℕ) → numbers_of set ≡ numbers → set.places < 2 ^ 16 → set.places ≡ places_of numbers
-places_kept set numbers same fits = sym (ap places_of (sym same) ∙ places_of-passing_upto set.places 16 ∙ mod-eq_of_lt fits)
+places_kept set numbers same fits = sym (ap places_of (sym same) ∙ places_of-passing_upto set.places MOST_LAYERS ∙ mod-eq_of_lt fits)
 
 -- one bit more, as code sets it
-pub noted_by_shift : (set : Inside) (number : ℕ) → 0 < number → number ≤ 16 → All (λ other. other < number) (numbers_of set)
+pub noted_by_shift : (set : Inside) (number : ℕ) → 0 < number → number ≤ MOST_LAYERS → All (λ other. other < number) (numbers_of set)
     → numbers_passing (is_at_place (bit_or set.places (1 * 2 ^ (number - 1) % 65536))) ≡ numbers_of set ++ number ∷ []
 noted_by_shift set zero pos le above = absurd (omega arith)
 noted_by_shift set (suc place) pos le above =
     let same : suc place - 1 ≡ place = omega arith in
-    let small : place < 16 = omega arith in
-    let power : 1 * 2 ^ place % 2 ^ 16 ≡ 2 ^ place = one_shl place 16 small in
+    let small : place < MOST_LAYERS = omega arith in
+    let power : 1 * 2 ^ place % 2 ^ 16 ≡ 2 ^ place = one_shl place MOST_LAYERS small in
     rw (same, power) (noted_kept set place le above)

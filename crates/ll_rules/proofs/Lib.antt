@@ -12,6 +12,5 @@ pub mod SameLayers
 pub mod Marks
 pub mod LaneSets
 pub mod DomainLanes
-pub mod StackedLayers
 pub mod MoveLanes
 pub mod Crossing

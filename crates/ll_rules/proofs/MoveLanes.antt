@@ -9,6 +9,7 @@ use Rattle.ll_tree.specs.declared.place.NodeId.{NodeId}
 use Rattle.ll_lines.specs.Paths.{Path, front}
 use Rattle.ll_tree.specs.Trees.{Entry, IsNode, path_at, kind_at, is_dir}
 use Rattle.ll_tree.specs.TreeFacts.{IsTree, depth_at}
+use Rattle.ll_rules.specs.declared.domain.TheConstants.{MOST_LAYERS}
 use Rattle.ll_rules.specs.declared.moves.Move.{Move}
 use Rattle.ll_rules.specs.declared.moves.Target.{Target}
 use Rattle.ll_rules.specs.declared.moves.Target.TheVariants.{New, Over}
@@ -195,7 +196,7 @@ none_holds_back tree move = none_of_four (none_lacking _ _) (none_lacking _ _) (
   none_of_four : {a b c d : Bool} → a ≡ false → b ≡ false → c ≡ false → d ≡ false → ((a || b) || (c || d)) ≡ false
   none_of_four p q r s = rw (p, q, r, s) refl
 
-module _ (tree : List Entry) (move : Move) (layers : List (RulesOn ℕ)) (ids : List LayerId) (few : length ids ≤ 16) (lanes : List ℕ) where
+module _ (tree : List Entry) (move : Move) (layers : List (RulesOn ℕ)) (ids : List LayerId) (few : length ids ≤ MOST_LAYERS) (lanes : List ℕ) where
   pub denied_numbers : (source destination : Path) (at_source at_destination : List ℕ) (from to : Fs) → source ≡ source_of tree move
       → destination ≡ destination_of tree move.target
       → AreLacking tree (domain_of layers ids) source at_source → AreLacking tree (domain_of layers ids) destination at_destination

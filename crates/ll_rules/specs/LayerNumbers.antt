@@ -9,6 +9,7 @@ use Rattle.std.proofs.lemmas.Nat.{mod-pow-add}
 use Rattle.std.proofs.lemmas.Nat.Bits.{bit_at-lt}
 use Rattle.std.proofs.lemmas.List.Sums.{sum_by-append}
 use Rattle.std.proofs.Math.Nat.{mod-eq_of_lt}
+use Rattle.ll_rules.specs.declared.domain.TheConstants.{MOST_LAYERS}
 use Rattle.ll_rules.specs.declared.layer_set.LayerSet.TheInside.{Inside}
 
 -- whether a number is in a list
@@ -22,7 +23,7 @@ passing_upto test (suc bound) = passing_upto test bound ++ (if test (suc bound) 
 
 -- the numbers from 1 to 16 that pass a test
 abbrev pub numbers_passing : (ℕ → Bool) → List ℕ
-numbers_passing test = passing_upto test 16
+numbers_passing test = passing_upto test MOST_LAYERS
 
 -- the numbers of either set
 abbrev pub united_numbers : List ℕ → List ℕ → List ℕ
@@ -72,4 +73,4 @@ places_of-passing_upto places (suc bound) =
 
 -- the bits of the numbers that bits stand for are those bits
 pub kept_again : (set : Inside) → set.places < 2 ^ 16 → record { places = places_of (numbers_of set) } ≡ set
-kept_again set fits = ap (λ (n : ℕ). let kept : Inside = record { places = n } in kept) (places_of-passing_upto set.places 16 ∙ mod-eq_of_lt fits)
+kept_again set fits = ap (λ (n : ℕ). let kept : Inside = record { places = n } in kept) (places_of-passing_upto set.places MOST_LAYERS ∙ mod-eq_of_lt fits)

@@ -83,12 +83,12 @@ holds_back tree move layer =
 -- ---- the answer
 
 -- refused where some layers refuse, else as what comes next says
-abbrev pub refused_by : Errno → List ℕ → Verdict → Verdict
-refused_by error [] next = next
-refused_by error (layer ∷ layers) next = Refused error (layer ∷ layers)
+abbrev pub refused_or : Errno → List ℕ → Verdict → Verdict
+refused_or error [] next = next
+refused_or error (layer ∷ layers) next = Refused error (layer ∷ layers)
 
 -- what a domain answers a move
 unfoldable pub move_verdict : List Entry → List (RulesOn Path) → Move → Verdict
 move_verdict tree domain move =
-    refused_by Acces (numbers_where (denies tree move) domain)
-    (if path_eq (source_of tree move) (destination_of tree move.target) then Passed else refused_by XDev (numbers_where (holds_back tree move) domain) Passed)
+    refused_or Acces (numbers_where (denies tree move) domain)
+    (if path_eq (source_of tree move) (destination_of tree move.target) then Passed else refused_or XDev (numbers_where (holds_back tree move) domain) Passed)

@@ -1,6 +1,7 @@
 -- What creating a ruleset and adding rules to it answers.
 -- Source: landlock_create_ruleset(2), landlock_add_rule(2), "ERRORS"; where two errors meet, docs/DECISIONS.md says which comes first.
 use Rattle.std.specs.Prelude.{ℕ, Bool, not, ◌&&◌, ◌||◌, nat_le, nat_lt, List, Option, Some, None, if◌then◌else◌}
+use Rattle.ll_rights.specs.declared.net.TheConstants.{LARGEST_PORT}
 use Rattle.ll_rights.specs.declared.abi.Abi.{Abi}
 use Rattle.ll_rights.specs.declared.fs.Fs.{Fs}
 use Rattle.ll_rights.specs.declared.net.Net.{Net}
@@ -70,4 +71,4 @@ add_port_refusal abi rules port wanted =
     if not (has_ports abi) then Some (with_error Inval)
     else (if network.is_empty wanted then Some (with_error NoMsg)
     else (if not (network.is_within wanted rules.handled_network) then Some (with_error Inval)
-    else (if nat_lt 65535 port then Some (with_error Inval) else None)))
+    else (if nat_lt LARGEST_PORT port then Some (with_error Inval) else None)))

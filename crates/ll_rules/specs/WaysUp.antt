@@ -9,7 +9,7 @@ use Rattle.ll_rules.specs.InTree.{in_tree}
 
 -- how many nodes there are from a node up, it and the root included
 unfoldable pub nodes_up : List Entry → Option NodeId → ℕ
-nodes_up tree at = option_map_or (λ node. length (path_at tree node) + 1) at 0
+nodes_up tree from = option_map_or (λ node. length (path_at tree node) + 1) from 0
 
 -- what is granted from a node up, if there is one
 unfoldable pub granted_above : List Entry → RulesOn ℕ → Option NodeId → FsRight → Bool

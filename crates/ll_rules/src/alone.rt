@@ -39,13 +39,13 @@ impl<'a> Alone<'a> {
         ensures count { look_ups.new + nodes_up self.now.tree.now result
             ≤ look_ups.old + nodes_up self.now.tree.now from }
     {
-        let mut at = from;
-        while let Some(here) = at {
+        let mut cursor = from;
+        while let Some(here) = cursor {
             if self.layer.may_have_rule(here) {
-                return at;
+                return cursor;
             }
             *look_ups += 1;
-            at = self.tree.parent(here);
+            cursor = self.tree.parent(here);
         }
         None
     }
@@ -68,9 +68,9 @@ impl<'a> Alone<'a> {
             return (0, look_ups);
         }
         let mut left = lane;
-        let mut at = Some(node);
-        while let Some(here) = self.next_marked(at, &mut look_ups) {
-            at = self.tree.parent(here);
+        let mut cursor = Some(node);
+        while let Some(here) = self.next_marked(cursor, &mut look_ups) {
+            cursor = self.tree.parent(here);
             left = left_of(self.layer, here, left, &mut look_ups);
             if left == 0 {
                 return (0, look_ups);

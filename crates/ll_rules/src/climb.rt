@@ -140,21 +140,21 @@ impl<'a> Stack<'a> {
             ≤ look_ups.old + length self.now.ids.now * nodes_up self.now.tree.now from }
     {
         let asked = self.count_filled(lanes);
-        let mut at = from;
-        while let Some(here) = at {
+        let mut cursor = from;
+        while let Some(here) = cursor {
             let Some(up) = self.tree.parent(here) else {
-                return at;
+                return cursor;
             };
             let (here_is, up_is) = self.marked_of(here, up);
             if here_is {
-                return at;
+                return cursor;
             }
             *look_ups += asked;
             if up_is {
                 return Some(up);
             }
             *look_ups += asked;
-            at = self.tree.parent(up);
+            cursor = self.tree.parent(up);
         }
         None
     }
@@ -205,9 +205,9 @@ impl<'a> Stack<'a> {
         if !self.is_any_filled(lanes) {
             return look_ups;
         }
-        let mut at = Some(node);
-        while let Some(here) = self.next_marked(at, lanes, &mut look_ups) {
-            at = self.tree.parent(here);
+        let mut cursor = Some(node);
+        while let Some(here) = self.next_marked(cursor, lanes, &mut look_ups) {
+            cursor = self.tree.parent(here);
             let (is_any_left, asked) = self.ask_on(here, lanes);
             look_ups += asked;
             if !is_any_left {

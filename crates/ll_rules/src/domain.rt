@@ -1,13 +1,14 @@
 //! Domains: the layers that a process has stacked.
 
 ghost use Rattle.std.specs.Prelude.{◌≡◌, ◌≤◌, [], ◌∷◌, ◌++◌, ◌↔◌, length, IsErr, OnOk, OnErr};
+ghost use Rattle.ll_rules.specs.declared.domain.TheConstants.{MOST_LAYERS};
 
 use crate::Full;
 use arrayvec::ArrayVec;
 use std::marker::Model;
 
 /// The most layers that a domain stacks (landlock_restrict_self(2), "ERRORS").
-pub(crate) const MOST_LAYERS: usize = 16;
+pub const MOST_LAYERS: usize = 16;
 
 /// A layer by its place in a slice of layers.
 #[derive(Clone, Copy, Debug, Default, PartialEq, Eq)]
@@ -42,14 +43,14 @@ impl Domain {
     /// The layers, the oldest first.
     pub fn layers(&self) -> &[LayerId]
         ensures value { result.now ≡ self.now }
-        ensures at_most_sixteen { length self.now ≤ 16 }
+        ensures at_most_sixteen { length self.now ≤ MOST_LAYERS }
     {
         self.ids.as_slice()
     }
 
     /// Stacks one more layer.
     pub fn push(&mut self, layer: LayerId) -> Result<(), Full>
-        ensures full { IsErr result ↔ (length self.old ≡ 16) }
+        ensures full { IsErr result ↔ (length self.old ≡ MOST_LAYERS) }
         ensures ok { OnOk result (self.new ≡ self.old ++ layer ∷ []) }
         ensures err { OnErr result (self.new ≡ self.old) }
     {

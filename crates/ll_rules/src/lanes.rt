@@ -3,6 +3,7 @@
 ghost use Rattle.std.specs.Prelude.{◌≡◌, ℕ, ◌<◌, ◌==◌, ◌&&◌, ◌||◌, not, false, true};
 ghost use Rattle.std.specs.Int.{bit_at};
 ghost use Rattle.ll_rights.specs.Rights.{FsRight, has, is_empty, other, bit_of};
+ghost use Rattle.ll_rules.specs.declared.domain.TheConstants.{MOST_LAYERS};
 ghost use Rattle.ll_rules.specs.LayerNumbers.{numbers_passing};
 ghost use Rattle.ll_rules.specs.Lanes.{named_bits as named, set_of, lane, is_filled};
 
@@ -66,7 +67,7 @@ pub(crate) fn within(lanes: u32x16, rights: Fs) -> u32x16
 
 /// The places of the lanes that hold a right, as bits.
 fn places(lanes: u32x16) -> u16
-    ensures { (place : ℕ) → place < 16
+    ensures { (place : ℕ) → place < MOST_LAYERS
         → (bit_at result place == 1) ≡ not (is_empty (lane lanes place)) }
 {
     let named = lanes & u32x16::splat(named_bits());

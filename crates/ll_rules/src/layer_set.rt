@@ -1,8 +1,10 @@
 //! Sets of the layers of a domain.
 
 ghost use Rattle.std.specs.Prelude.{◌≡◌, ◌++◌, ◌∷◌, [], ◌≤◌, ◌<◌, ◌==◌, length, All, if◌then◌else◌};
+ghost use Rattle.ll_rules.specs.declared.domain.TheConstants.{MOST_LAYERS};
 ghost use Rattle.ll_rules.specs.LayerNumbers.{is_among, is_at_place, numbers_passing, united_numbers};
 
+use crate::domain::MOST_LAYERS;
 use std::marker::Model;
 
 /// A set of layers of one domain, by their numbers from 1, the oldest, to 16.
@@ -50,7 +52,7 @@ impl LayerSet {
         ensures { result ≡ is_among number self }
     {
         let places = self.places;
-        if number == 0 || number > 16 {
+        if number == 0 || number > MOST_LAYERS as u32 {
             return false;
         }
         places >> (number - 1) & 1 == 1
@@ -74,7 +76,7 @@ impl LayerSet {
 
     /// The set with the layer of a number above all others, where that layer `refuses`.
     pub(crate) fn noted(self, number: u32, refuses: bool) -> LayerSet
-        requires within { number ≤ 16 }
+        requires within { number ≤ MOST_LAYERS }
         requires positive { 0 < number }
         requires above { All (λ other. other < number) self }
         ensures { result ≡ self ++ (if refuses then number ∷ [] else []) }

@@ -18,7 +18,7 @@ mod sameness;
 mod stack;
 
 pub use check::{check_mount, check_path, check_path_counted, check_port};
-pub use domain::{Domain, LayerId};
+pub use domain::{Domain, LayerId, MOST_LAYERS};
 pub use errno::{Errno, Full, NoMemory, RuleFault};
 pub use laws::{
     worked_creations, worked_moves, worked_moves_without_refer, worked_paths,

@@ -9,7 +9,7 @@ ghost use Rattle.ll_tree.specs.TreeFacts.{IsTree};
 ghost use Rattle.ll_rules.specs.InTree.{AreInTree, all_in_tree, IsTargetIn};
 ghost use Rattle.ll_rules.specs.KeptLayers.{domain_of, IsDomainOf};
 ghost use Rattle.ll_rules.specs.declared.errno.Errno.TheVariants.{Acces, XDev};
-ghost use Rattle.ll_rules.specs.Moves.{source_of, destination_of as destination_path, kind_there, asked_of_source as asked_there, asked_of_destination as asked_here, refused_by, move_verdict};
+ghost use Rattle.ll_rules.specs.Moves.{source_of, destination_of as destination_path, kind_there, asked_of_source as asked_there, asked_of_destination as asked_here, refused_or, move_verdict};
 
 use crate::lanes::filled;
 use crate::passage::Passage;
@@ -167,7 +167,7 @@ pub fn entering(tree: &Tree, attempt: &Move) -> Asked
 
 /// What is answered to a move that some layers deny and some hold back.
 fn verdict_of(denied: LayerSet, held_back: LayerSet) -> Verdict
-    ensures { result ≡ refused_by Acces denied (refused_by XDev held_back Verdict.Passed) }
+    ensures { result ≡ refused_or Acces denied (refused_or XDev held_back Verdict.Passed) }
 {
     if !denied.is_empty() {
         return Verdict::Refused(Errno::Acces, denied);

@@ -14,7 +14,7 @@ ghost use Rattle.ll_rules.specs.RuleFaults.{add_path_fault, add_port_fault};
 use crate::filter::Marks;
 use crate::{Errno, NoMemory, RuleFault};
 use bitflags::Flags;
-use ll_rights::{Abi, Fs, Kind, Net};
+use ll_rights::{Abi, Fs, Kind, LARGEST_PORT, Net};
 use ll_shared::SharedMap;
 use ll_tree::{NodeId, Place, Tree};
 use std::alloc::{AllocError, Global};
@@ -335,7 +335,7 @@ impl Ruleset {
         if network.is_empty() {
             return Err(RuleFault::Errno(Errno::NoMsg));
         }
-        if !self.layer.handles_all_network(network) || port > u16::MAX as u64 {
+        if !self.layer.handles_all_network(network) || port > LARGEST_PORT {
             return Err(RuleFault::Errno(Errno::Inval));
         }
         Ok(port as u16)

@@ -2,6 +2,7 @@
 
 ghost use Rattle.std.specs.Prelude.{◌≤◌, length, All};
 ghost use Rattle.std.proofs.Props.{props};
+ghost use Rattle.ll_rules.specs.declared.domain.TheConstants.{MOST_LAYERS};
 ghost use Rattle.ll_rules.specs.InTree.{AreInTree};
 ghost use Rattle.ll_rules.specs.KeptLayers.{IsDomainOf};
 
@@ -15,6 +16,6 @@ pub(crate) struct Stack<'a> {
     pub(crate) layers: &'a [Layer],
     pub(crate) ids: &'a [LayerId],
     ghost domain: { IsDomainOf layers.now ids.now } by { Prim.hlevel props },
-    ghost few: { length ids.now ≤ 16 },
+    ghost few: { length ids.now ≤ MOST_LAYERS },
     ghost rules: { All (AreInTree tree.now) layers.now } by { Prim.hlevel props },
 }

@@ -12,7 +12,7 @@ use Rattle.ll_semantics.specs.declared.answer.Answer.TheVariants.{Allowed, Moot,
 use Rattle.ll_semantics.specs.States.{State, Layer}
 use Rattle.ll_semantics.specs.Answers.{answer}
 use Rattle.ll_semantics.specs.Effects.{Effect, nothing, leaves, leaves_rulesets, begins, effect}
-use Rattle.ll_semantics.specs.Situations.{state_by, rulesets_by, begun_by, change, rules, started, state_after, rulesets_after, world_after, world_at}
+use Rattle.ll_semantics.specs.CallContexts.{state_by, rulesets_by, begun_by, change, rules, started, state_after, rulesets_after, world_after, world_at}
 use Rattle.ll_semantics.specs.Worlds.{World, if_allowed, with_state, affected, answer_in, step, empty_world, judged_from, judged}
 use Rattle.ll_trace.specs.Processes.{is_start, is_fork, is_starting, process_count}
 use Rattle.ll_trace.proofs.Numbers.{process_count-cons}
@@ -227,27 +227,27 @@ module _ (tree : List Entry) (abi : Abi) where
   pub judged_from-at : (w : World) (rs : List Record) (k : ℕ) (r : Record) → slice_get rs k ≡ Some r
       → slice_get (judged_from tree abi w rs) k ≡ Some (answer_in tree abi (world_after tree abi w (take k rs)) r.process.0 r.op)
   unfolding judged_from world_after
-  judged_from-at w [] k r at = cc
-  judged_from-at w (x ∷ rs) zero r at = cc
-  judged_from-at w (x ∷ rs) (suc k) r at = judged_from-at (step tree abi w x.process.0 x.op) rs k r at
+  judged_from-at w [] k r eq = cc
+  judged_from-at w (x ∷ rs) zero r eq = cc
+  judged_from-at w (x ∷ rs) (suc k) r eq = judged_from-at (step tree abi w x.process.0 x.op) rs k r eq
 
   pub world_after-more : (w : World) (rs : List Record) (k : ℕ) (r : Record) → slice_get rs k ≡ Some r
       → world_after tree abi w (take (suc k) rs) ≡ step tree abi (world_after tree abi w (take k rs)) r.process.0 r.op
   unfolding world_after
-  world_after-more w [] k r at = cc
-  world_after-more w (x ∷ rs) zero r at = cc
-  world_after-more w (x ∷ rs) (suc k) r at = world_after-more (step tree abi w x.process.0 x.op) rs k r at
+  world_after-more w [] k r eq = cc
+  world_after-more w (x ∷ rs) zero r eq = cc
+  world_after-more w (x ∷ rs) (suc k) r eq = world_after-more (step tree abi w x.process.0 x.op) rs k r eq
 
   pub world_at-more : (records : List Record) (k : ℕ) (r : Record) → slice_get records k ≡ Some r
       → world_at tree abi records (k + 1) ≡ step tree abi (world_at tree abi records k) r.process.0 r.op
   unfolding world_at
-  world_at-more records k r at = rw add-one (world_after-more empty_world records k r at)
+  world_at-more records k r eq = rw add-one (world_after-more empty_world records k r eq)
 
   -- each answer of a trace is that of the world before its record
   pub judged-at : (records : List Record) (k : ℕ) (r : Record) → slice_get records k ≡ Some r
       → slice_get (judged tree abi records) k ≡ Some (answer_in tree abi (world_at tree abi records k) r.process.0 r.op)
   unfolding judged world_at
-  judged-at records k r at = judged_from-at empty_world records k r at
+  judged-at records k r eq = judged_from-at empty_world records k r eq
 
   pub length-judged : (records : List Record) → length (judged tree abi records) ≡ length records
   unfolding judged

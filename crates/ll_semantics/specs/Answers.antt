@@ -6,6 +6,7 @@ use Rattle.ll_rights.specs.declared.fs.Fs.{Fs}
 use Rattle.ll_rights.specs.declared.net.Net.{Net}
 use Rattle.ll_rights.specs.NetRights as network
 use Rattle.ll_tree.specs.Trees.{Entry, path_at, place}
+use Rattle.ll_rules.specs.declared.domain.TheConstants.{MOST_LAYERS}
 use Rattle.ll_rules.specs.declared.errno.Errno.{Errno}
 use Rattle.ll_rules.specs.declared.errno.Errno.TheVariants.{Perm, BadFd, Acces, TooBig}
 use Rattle.ll_rules.specs.declared.moves.Move.{Move}
@@ -94,7 +95,7 @@ may_restrict s = s.no_new_privs || s.admin
 -- by a ruleset that it holds, up to sixteen layers
 unfoldable pub restrict_answer : State → Option Layer → Answer
 restrict_answer s None = if may_restrict s then fails BadFd else fails Perm
-restrict_answer s (Some rules) = if may_restrict s then (if nat_le 16 (length s.domain) then fails TooBig else Allowed) else fails Perm
+restrict_answer s (Some rules) = if may_restrict s then (if nat_le MOST_LAYERS (length s.domain) then fails TooBig else Allowed) else fails Perm
 
 -- ---- descriptors
 

@@ -5,7 +5,7 @@ pub mod States
 pub mod Answers
 pub mod Effects
 pub mod Worlds
-pub mod Situations
+pub mod CallContexts
 pub mod Notes
 pub mod WorkedWords
 pub mod WorkedLayers

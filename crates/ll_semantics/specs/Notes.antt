@@ -7,10 +7,10 @@ use Rattle.ll_rules.specs.InTree.{in_tree}
 use Rattle.ll_trace.specs.declared.op.Op.{Op}
 use Rattle.ll_trace.specs.declared.op.Op.TheVariants as calls
 use Rattle.ll_semantics.specs.declared.note.Note.{Note}
-use Rattle.ll_semantics.specs.declared.note.Note.TheVariants.{Answered, Frozen, Open}
+use Rattle.ll_semantics.specs.declared.note.Note.TheVariants.{Answered, Frozen, ByState}
 use Rattle.ll_semantics.specs.States.{State, Layer}
 use Rattle.ll_semantics.specs.Answers.{named}
-use Rattle.ll_semantics.specs.Situations.{Situation, answered}
+use Rattle.ll_semantics.specs.CallContexts.{CallContext, answer_to}
 
 -- the call is one that creates, changes or closes a ruleset
 unfoldable pub is_on_rulesets : Op → Bool
@@ -27,15 +27,15 @@ enforced rulesets (calls.Restrict rs) s = named rulesets (s.held rs)
 enforced rulesets op s = None
 
 -- a layer is what a ruleset was frozen to; there is none without a ruleset
-unfoldable pub IsFrozen : Situation → Option LayerId → Option Layer → Type 0
-IsFrozen at (Some id) (Some rules) = (id.0 < length at.layers) × SameRules (in_tree at.tree (layer_at at.layers id)) rules
-IsFrozen at (Some id) None = ⊥
-IsFrozen at None (Some rules) = ⊥
-IsFrozen at None None = Unit {0}
+unfoldable pub IsFrozen : CallContext → Option LayerId → Option Layer → Type 0
+IsFrozen ctx (Some id) (Some rules) = (id.0 < length ctx.layers) × SameRules (in_tree ctx.tree (layer_at ctx.layers id)) rules
+IsFrozen ctx (Some id) None = ⊥
+IsFrozen ctx None (Some rules) = ⊥
+IsFrozen ctx None None = Unit {0}
 
 -- A note says of a call what the rulesets say: the answer to one that is on rulesets, the layer that its ruleset was
 -- frozen to for one that restricts by a ruleset, and nothing of any other.
-unfoldable pub NoteFits : Situation → Op → Note → Type 0
-NoteFits at op (Answered answer) = (is_on_rulesets op ≡ true) × (answer ≡ answered at op)
-NoteFits at op (Frozen id) = IsFrozen at (Some id) (enforced at.rulesets op at.state)
-NoteFits at op Open = (is_on_rulesets op ≡ false) × (enforced at.rulesets op at.state ≡ None)
+unfoldable pub NoteFits : CallContext → Op → Note → Type 0
+NoteFits ctx op (Answered answer) = (is_on_rulesets op ≡ true) × (answer ≡ answer_to ctx op)
+NoteFits ctx op (Frozen id) = IsFrozen ctx (Some id) (enforced ctx.rulesets op ctx.state)
+NoteFits ctx op ByState = (is_on_rulesets op ≡ false) × (enforced ctx.rulesets op ctx.state ≡ None)

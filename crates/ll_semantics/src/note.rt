@@ -11,5 +11,5 @@ pub enum Note {
     /// The record restricts its process by a ruleset that it holds, which was frozen to this layer.
     Frozen(LayerId),
     /// The record's answer rests on the state of its process alone.
-    Open,
+    ByState,
 }

@@ -18,13 +18,13 @@ use Rattle.std.proofs.lemmas.Bool.{false≢true}
 use Rattle.ll_rules.specs.declared.domain.LayerId.{LayerId}
 use Rattle.ll_semantics.specs.declared.answer.Answer.{Answer}
 use Rattle.ll_semantics.specs.declared.answer.Answer.TheVariants.{Allowed, Moot, Refused}
-use Rattle.ll_semantics.specs.declared.note.Note.TheVariants.{Open}
+use Rattle.ll_semantics.specs.declared.note.Note.TheVariants.{ByState}
 use Rattle.ll_state.specs.declared.own_state.OwnState.{OwnState}
 use Rattle.ll_semantics.specs.States.{State, Layer}
 use Rattle.ll_semantics.specs.Answers.{answer, named}
 use Rattle.ll_semantics.specs.Effects.{effect, with_held, with_layer}
 use Rattle.ll_semantics.specs.Worlds.{if_allowed}
-use Rattle.ll_semantics.specs.Situations.{Situation, answered, left, change, state_by, state_after}
+use Rattle.ll_semantics.specs.CallContexts.{CallContext, answer_to, state_then, change, state_by, state_after}
 use Rattle.ll_semantics.proofs.Steps.{if_allowed-same}
 use Rattle.ll_state.specs.Agreement.{Agrees, Restricts, is_still}
 use Rattle.ll_semantics.specs.Notes.{NoteFits, IsFrozen, is_on_rulesets, enforced}
@@ -67,80 +67,80 @@ place_wanted tree op path want (Some one) is first = first ∙ first_wanted tree
 
 -- ---- calls that change nothing of their process's state
 
-left-still : (at : Situation) (op : Op) → is_still op ≡ true → left at op ≡ at.state
-unfolding left state_after change state_by effect is_still is_on_rulesets
-left-still at calls.Nnp still = absurd (false≢true still)
-left-still at (calls.Create rs fs net) still = absurd (false≢true still)
-left-still at (calls.AddPath rs path fs) still = absurd (false≢true still)
-left-still at (calls.AddPort rs port net) still = absurd (false≢true still)
-left-still at (calls.CloseRs rs) still = absurd (false≢true still)
-left-still at (calls.Restrict rs) still = absurd (false≢true still)
-left-still at (calls.CreateEmpty rs) still = absurd (false≢true still)
-left-still at (calls.OpenFile path fd mode create trunc) still = absurd (false≢true still)
-left-still at (calls.Adopt fd kind) still = absurd (false≢true still)
-left-still at (calls.Dup fd to) still = absurd (false≢true still)
-left-still at (calls.Close fd) still = absurd (false≢true still)
-left-still at op still = if_allowed-same (answer at.tree at.abi at.rulesets op at.state) at.state
+left-still : (ctx : CallContext) (op : Op) → is_still op ≡ true → state_then ctx op ≡ ctx.state
+unfolding state_then state_after change state_by effect is_still is_on_rulesets
+left-still ctx calls.Nnp still = absurd (false≢true still)
+left-still ctx (calls.Create rs fs net) still = absurd (false≢true still)
+left-still ctx (calls.AddPath rs path fs) still = absurd (false≢true still)
+left-still ctx (calls.AddPort rs port net) still = absurd (false≢true still)
+left-still ctx (calls.CloseRs rs) still = absurd (false≢true still)
+left-still ctx (calls.Restrict rs) still = absurd (false≢true still)
+left-still ctx (calls.CreateEmpty rs) still = absurd (false≢true still)
+left-still ctx (calls.OpenFile path fd mode create trunc) still = absurd (false≢true still)
+left-still ctx (calls.Adopt fd kind) still = absurd (false≢true still)
+left-still ctx (calls.Dup fd to) still = absurd (false≢true still)
+left-still ctx (calls.Close fd) still = absurd (false≢true still)
+left-still ctx op still = if_allowed-same (answer ctx.tree ctx.abi ctx.rulesets op ctx.state) ctx.state
 
-pub Agrees-still : (at : Situation) (own : OwnState) (op : Op) → Agrees at.tree at.layers own at.state → is_still op ≡ true
-    → Agrees at.tree at.layers own (left at op)
-Agrees-still at own op agrees still = subst (λ (s : State). Agrees at.tree at.layers own s) (sym (left-still at op still)) agrees
+pub Agrees-still : (ctx : CallContext) (own : OwnState) (op : Op) → Agrees ctx.tree ctx.layers own ctx.state → is_still op ≡ true
+    → Agrees ctx.tree ctx.layers own (state_then ctx op)
+Agrees-still ctx own op agrees still = subst (λ (s : State). Agrees ctx.tree ctx.layers own s) (sym (left-still ctx op still)) agrees
 
 -- ---- calls on rulesets, which change the rulesets that their process holds and nothing else of its state
 
-Agrees-if_allowed : (at : Situation) (own : OwnState) (a : Answer) (after before : State) → Agrees at.tree at.layers own after
-    → Agrees at.tree at.layers own before → Agrees at.tree at.layers own (if_allowed a after before)
-Agrees-if_allowed at own Allowed after before first second = first
-Agrees-if_allowed at own Moot after before first second = second
-Agrees-if_allowed at own (Refused error numbers) after before first second = second
+Agrees-if_allowed : (ctx : CallContext) (own : OwnState) (a : Answer) (after before : State) → Agrees ctx.tree ctx.layers own after
+    → Agrees ctx.tree ctx.layers own before → Agrees ctx.tree ctx.layers own (if_allowed a after before)
+Agrees-if_allowed ctx own Allowed after before first second = first
+Agrees-if_allowed ctx own Moot after before first second = second
+Agrees-if_allowed ctx own (Refused error numbers) after before first second = second
 
-Agrees-with_held : (at : Situation) (own : OwnState) (s : State) (rs : ℕ) (held : Option ℕ) → Agrees at.tree at.layers own s
-    → Agrees at.tree at.layers own (with_held s rs held)
-Agrees-with_held at own s rs held agrees =
+Agrees-with_held : (ctx : CallContext) (own : OwnState) (s : State) (rs : ℕ) (held : Option ℕ) → Agrees ctx.tree ctx.layers own s
+    → Agrees ctx.tree ctx.layers own (with_held s rs held)
+Agrees-with_held ctx own s rs held agrees =
     record { no_new_privs = agrees.no_new_privs; admin = agrees.admin; places = agrees.places; domain = agrees.domain; descriptors = agrees.descriptors }
 
-Agrees-changed : (at : Situation) (own : OwnState) (op : Op) → Agrees at.tree at.layers own at.state → is_on_rulesets op ≡ true
-    → Agrees at.tree at.layers own (change at.tree at.rulesets op at.state)
+Agrees-changed : (ctx : CallContext) (own : OwnState) (op : Op) → Agrees ctx.tree ctx.layers own ctx.state → is_on_rulesets op ≡ true
+    → Agrees ctx.tree ctx.layers own (change ctx.tree ctx.rulesets op ctx.state)
 unfolding change state_by effect is_on_rulesets
-Agrees-changed at own (calls.Create rs fs net) agrees on = Agrees-with_held at own at.state rs _ agrees
-Agrees-changed at own (calls.AddPath rs path fs) agrees on = agrees
-Agrees-changed at own (calls.AddPort rs port net) agrees on = agrees
-Agrees-changed at own (calls.CloseRs rs) agrees on = Agrees-with_held at own at.state rs None agrees
-Agrees-changed at own (calls.CreateEmpty rs) agrees on = Agrees-with_held at own at.state rs _ agrees
-Agrees-changed at own op agrees on = absurd (false≢true on)
+Agrees-changed ctx own (calls.Create rs fs net) agrees on = Agrees-with_held ctx own ctx.state rs _ agrees
+Agrees-changed ctx own (calls.AddPath rs path fs) agrees on = agrees
+Agrees-changed ctx own (calls.AddPort rs port net) agrees on = agrees
+Agrees-changed ctx own (calls.CloseRs rs) agrees on = Agrees-with_held ctx own ctx.state rs None agrees
+Agrees-changed ctx own (calls.CreateEmpty rs) agrees on = Agrees-with_held ctx own ctx.state rs _ agrees
+Agrees-changed ctx own op agrees on = absurd (false≢true on)
 
-pub Agrees-on_rulesets : (at : Situation) (own : OwnState) (op : Op) → Agrees at.tree at.layers own at.state → is_on_rulesets op ≡ true
-    → Agrees at.tree at.layers own (left at op)
-unfolding left state_after
-Agrees-on_rulesets at own op agrees on =
-    Agrees-if_allowed at own (answer at.tree at.abi at.rulesets op at.state) (change at.tree at.rulesets op at.state) at.state
-    (Agrees-changed at own op agrees on) agrees
+pub Agrees-on_rulesets : (ctx : CallContext) (own : OwnState) (op : Op) → Agrees ctx.tree ctx.layers own ctx.state → is_on_rulesets op ≡ true
+    → Agrees ctx.tree ctx.layers own (state_then ctx op)
+unfolding state_then state_after
+Agrees-on_rulesets ctx own op agrees on =
+    Agrees-if_allowed ctx own (answer ctx.tree ctx.abi ctx.rulesets op ctx.state) (change ctx.tree ctx.rulesets op ctx.state) ctx.state
+    (Agrees-changed ctx own op agrees on) agrees
 
 -- ---- a process that restricts itself
 
-module _ (at : Situation) (before after : OwnState) (a : Answer) (agrees : Agrees at.tree at.layers before at.state) where
-  restrict_judged : (rs : ℕ) (layer : Option LayerId) → Restricts layer before after a → IsFrozen at layer (named at.rulesets (at.state.held rs))
-      → (a ≡ answered at (calls.Restrict rs)) × Agrees at.tree at.layers after (left at (calls.Restrict rs))
-  unfolding answered left state_after answer change state_by effect
+module _ (ctx : CallContext) (before after : OwnState) (a : Answer) (agrees : Agrees ctx.tree ctx.layers before ctx.state) where
+  restrict_judged : (rs : ℕ) (layer : Option LayerId) → Restricts layer before after a → IsFrozen ctx layer (named ctx.rulesets (ctx.state.held rs))
+      → (a ≡ answer_to ctx (calls.Restrict rs)) × Agrees ctx.tree ctx.layers after (state_then ctx (calls.Restrict rs))
+  unfolding answer_to state_then state_after answer change state_by effect
   restrict_judged rs layer restricts frozen =
-      let rules = named at.rulesets (at.state.held rs) in
-      let both = restricts at agrees rules frozen in
-      (both.0, subst (λ (b : Answer). Agrees at.tree at.layers after (if_allowed b (with_layer at.state rules) at.state)) both.0 both.1)
+      let rules = named ctx.rulesets (ctx.state.held rs) in
+      let both = restricts ctx agrees rules frozen in
+      (both.0, subst (λ (b : Answer). Agrees ctx.tree ctx.layers after (if_allowed b (with_layer ctx.state rules) ctx.state)) both.0 both.1)
 
   -- by a ruleset that it holds
-  pub frozen_judged : (op : Op) (id : LayerId) → Restricts (Some id) before after a → IsFrozen at (Some id) (enforced at.rulesets op at.state)
-      → (a ≡ answered at op) × Agrees at.tree at.layers after (left at op)
+  pub frozen_judged : (op : Op) (id : LayerId) → Restricts (Some id) before after a → IsFrozen ctx (Some id) (enforced ctx.rulesets op ctx.state)
+      → (a ≡ answer_to ctx op) × Agrees ctx.tree ctx.layers after (state_then ctx op)
   unfolding enforced IsFrozen
   frozen_judged (calls.Restrict rs) id restricts frozen = restrict_judged rs (Some id) restricts frozen
   frozen_judged op id restricts frozen = absurd frozen
 
-  unheld : (rs : ℕ) → NoteFits at (calls.Restrict rs) Open → IsFrozen at None (named at.rulesets (at.state.held rs))
+  unheld : (rs : ℕ) → NoteFits ctx (calls.Restrict rs) ByState → IsFrozen ctx None (named ctx.rulesets (ctx.state.held rs))
   unfolding NoteFits enforced IsFrozen
-  unheld rs fits = subst (λ (rules : Option Layer). IsFrozen at None rules) (sym fits.1) tt
+  unheld rs fits = subst (λ (rules : Option Layer). IsFrozen ctx None rules) (sym fits.1) tt
 
   -- by none
-  pub unheld_judged : (op : Op) (rs : ℕ) → Restricts None before after a → op ≡ calls.Restrict rs → NoteFits at op Open
-      → (a ≡ answered at op) × Agrees at.tree at.layers after (left at op)
+  pub unheld_judged : (op : Op) (rs : ℕ) → Restricts None before after a → op ≡ calls.Restrict rs → NoteFits ctx op ByState
+      → (a ≡ answer_to ctx op) × Agrees ctx.tree ctx.layers after (state_then ctx op)
   unheld_judged op rs restricts is fits =
-      subst (λ (o : Op). (a ≡ answered at o) × Agrees at.tree at.layers after (left at o)) (sym is)
-      (restrict_judged rs None restricts (unheld rs (subst (λ (o : Op). NoteFits at o Open) is fits)))
+      subst (λ (o : Op). (a ≡ answer_to ctx o) × Agrees ctx.tree ctx.layers after (state_then ctx o)) (sym is)
+      (restrict_judged rs None restricts (unheld rs (subst (λ (o : Op). NoteFits ctx o ByState) is fits)))

@@ -12,6 +12,7 @@ use Rattle.ll_tree.specs.declared.place.Place.{Place}
 use Rattle.ll_tree.specs.declared.place.Place.TheVariants.{Node, Gap, Nowhere}
 use Rattle.ll_lines.specs.Paths.{Path}
 use Rattle.ll_tree.specs.Trees.{Entry, path_at, kind_at}
+use Rattle.ll_rules.specs.declared.domain.TheConstants.{MOST_LAYERS}
 use Rattle.ll_rules.specs.declared.errno.Errno.TheVariants.{Acces, Perm, BadFd, TooBig}
 use Rattle.ll_rules.specs.declared.moves.Move.{Move}
 use Rattle.ll_rules.specs.Layers.{RulesOn}
@@ -31,7 +32,7 @@ use Rattle.std.proofs.lemmas.List.Elements.{All-push, AllZip-push, length_all_zi
 use Rattle.ll_rules.specs.declared.domain.LayerId.{LayerId}
 use Rattle.ll_semantics.specs.declared.answer.Answer.TheVariants.{Allowed}
 use Rattle.ll_state.specs.declared.own_state.OwnState.{OwnState}
-use Rattle.ll_semantics.specs.Situations.{Situation}
+use Rattle.ll_semantics.specs.CallContexts.{CallContext}
 use Rattle.ll_state.specs.Agreement.{Agrees}
 use Rattle.ll_semantics.specs.Notes.{IsFrozen}
 
@@ -80,8 +81,8 @@ opened_same tree a b Nowhere mode same = refl
 -- ---- restricting
 
 -- a process may restrict itself where its state says so
-pub kept_may : (at : Situation) (own : OwnState) (s : State) → Agrees at.tree at.layers own s → may_restrict s ≡ (own.no_new_privs || own.admin)
-kept_may at own s agrees = rw (agrees.no_new_privs, agrees.admin) refl
+pub kept_may : (ctx : CallContext) (own : OwnState) (s : State) → Agrees ctx.tree ctx.layers own s → may_restrict s ≡ (own.no_new_privs || own.admin)
+kept_may ctx own s agrees = rw (agrees.no_new_privs, agrees.admin) refl
 
 -- a process that may not
 pub restrict_denied : (s : State) (rules : Option Layer) → may_restrict s ≡ false → fails Perm ≡ restrict_answer s rules
@@ -90,52 +91,52 @@ restrict_denied s None denied = rw denied refl
 restrict_denied s (Some rules) denied = rw denied refl
 
 -- one that may, and holds no ruleset
-pub restrict_unheld : (at : Situation) (s : State) (rules : Option Layer) → may_restrict s ≡ true → IsFrozen at None rules
+pub restrict_unheld : (ctx : CallContext) (s : State) (rules : Option Layer) → may_restrict s ≡ true → IsFrozen ctx None rules
     → fails BadFd ≡ restrict_answer s rules
 unfolding restrict_answer IsFrozen
-restrict_unheld at s None may frozen = rw may refl
-restrict_unheld at s (Some rules) may frozen = absurd frozen
+restrict_unheld ctx s None may frozen = rw may refl
+restrict_unheld ctx s (Some rules) may frozen = absurd frozen
 
 -- one that may, and has sixteen layers or more
-pub restrict_full : (at : Situation) (id : LayerId) (s : State) (rules : Option Layer) → may_restrict s ≡ true → 16 ≤ length s.domain
-    → IsFrozen at (Some id) rules → fails TooBig ≡ restrict_answer s rules
+pub restrict_full : (ctx : CallContext) (id : LayerId) (s : State) (rules : Option Layer) → may_restrict s ≡ true → MOST_LAYERS ≤ length s.domain
+    → IsFrozen ctx (Some id) rules → fails TooBig ≡ restrict_answer s rules
 unfolding restrict_answer IsFrozen
-restrict_full at id s None may full frozen = absurd frozen
-restrict_full at id s (Some rules) may full frozen = rw (may, le-leb 16 (length s.domain) full) refl
+restrict_full ctx id s None may full frozen = absurd frozen
+restrict_full ctx id s (Some rules) may full frozen = rw (may, le-leb MOST_LAYERS (length s.domain) full) refl
 
-has_room : (layers : ℕ) → layers ≤ 16 → layers ≢ 16 → leb 16 layers ≡ false
+has_room : (layers : ℕ) → layers ≤ MOST_LAYERS → layers ≢ MOST_LAYERS → leb MOST_LAYERS layers ≡ false
 has_room layers most other =
-    elim (leb_tells 16 layers) [ inl full ↦ absurd (other (let more : 16 ≤ layers = full.1 in omega (arith, most, more))) | inr room ↦ room.0 ]
+    elim (leb_tells MOST_LAYERS layers) [ inl full ↦ absurd (other (omega (arith, most, full.1))) | inr room ↦ room.0 ]
 
 -- one that may, and has fewer
-pub restrict_allowed : (at : Situation) (id : LayerId) (s : State) (rules : Option Layer) → may_restrict s ≡ true → length s.domain ≤ 16 → length s.domain ≢ 16
-    → IsFrozen at (Some id) rules → Allowed ≡ restrict_answer s rules
+pub restrict_allowed : (ctx : CallContext) (id : LayerId) (s : State) (rules : Option Layer) → may_restrict s ≡ true → length s.domain ≤ MOST_LAYERS
+    → length s.domain ≢ MOST_LAYERS → IsFrozen ctx (Some id) rules → Allowed ≡ restrict_answer s rules
 unfolding restrict_answer IsFrozen
-restrict_allowed at id s None may most other frozen = absurd frozen
-restrict_allowed at id s (Some rules) may most other frozen = rw (may, has_room (length s.domain) most other) refl
+restrict_allowed ctx id s None may most other frozen = absurd frozen
+restrict_allowed ctx id s (Some rules) may most other frozen = rw (may, has_room (length s.domain) most other) refl
 
 -- a state has as many layers as what is kept of its process
-pub length-domain : (at : Situation) (own : OwnState) (s : State) → Agrees at.tree at.layers own s → length own.domain ≡ length s.domain
-length-domain at own s agrees =
-    sym (length-map (domain_of at.layers own.domain) (in_tree at.tree) ∙ length-map own.domain (layer_at at.layers))
-    ∙ length_all_zip SameRules (all_in_tree at.tree (domain_of at.layers own.domain)) s.domain agrees.domain
+pub length-domain : (ctx : CallContext) (own : OwnState) (s : State) → Agrees ctx.tree ctx.layers own s → length own.domain ≡ length s.domain
+length-domain ctx own s agrees =
+    sym (length-map (domain_of ctx.layers own.domain) (in_tree ctx.tree) ∙ length-map own.domain (layer_at ctx.layers))
+    ∙ length_all_zip SameRules (all_in_tree ctx.tree (domain_of ctx.layers own.domain)) s.domain agrees.domain
 
 -- one layer more, which is the ruleset as it is now
-pub Agrees-with_layer : (at : Situation) (own : OwnState) (s : State) (id : LayerId) (rules : Option Layer) (domain : List LayerId)
-    → Agrees at.tree at.layers own s → IsFrozen at (Some id) rules → domain ≡ own.domain ++ id ∷ []
-    → Agrees at.tree at.layers (record own { domain = domain }) (with_layer s rules)
+pub Agrees-with_layer : (ctx : CallContext) (own : OwnState) (s : State) (id : LayerId) (rules : Option Layer) (domain : List LayerId)
+    → Agrees ctx.tree ctx.layers own s → IsFrozen ctx (Some id) rules → domain ≡ own.domain ++ id ∷ []
+    → Agrees ctx.tree ctx.layers (record own { domain = domain }) (with_layer s rules)
 unfolding IsFrozen
-Agrees-with_layer at own s id None domain agrees frozen more = absurd frozen
-Agrees-with_layer at own s id (Some rules) domain agrees frozen more = record {
+Agrees-with_layer ctx own s id None domain agrees frozen more = absurd frozen
+Agrees-with_layer ctx own s id (Some rules) domain agrees frozen more = record {
   no_new_privs = agrees.no_new_privs;
   admin = agrees.admin;
-  places = rw more (All-push (λ (other : LayerId). other.0 < length at.layers) own.domain id agrees.places frozen.0);
+  places = rw more (All-push (λ (other : LayerId). other.0 < length ctx.layers) own.domain id agrees.places frozen.0);
   domain = rw (
     more,
-    map-append (layer_at at.layers) own.domain (id ∷ []),
-    map-append (in_tree at.tree) (domain_of at.layers own.domain) (layer_at at.layers id ∷ []),
+    map-append (layer_at ctx.layers) own.domain (id ∷ []),
+    map-append (in_tree ctx.tree) (domain_of ctx.layers own.domain) (layer_at ctx.layers id ∷ []),
   )
-      (AllZip-push SameRules (all_in_tree at.tree (domain_of at.layers own.domain)) s.domain
-      (in_tree at.tree (layer_at at.layers id)) rules agrees.domain frozen.1);
+      (AllZip-push SameRules (all_in_tree ctx.tree (domain_of ctx.layers own.domain)) s.domain
+      (in_tree ctx.tree (layer_at ctx.layers id)) rules agrees.domain frozen.1);
   descriptors = agrees.descriptors;
 }

@@ -18,12 +18,12 @@ use Rattle.ll_semantics.specs.Effects.{with_layer}
 use Rattle.ll_semantics.specs.Worlds.{if_allowed}
 use Rattle.ll_semantics.specs.declared.answer.Answer.{Answer}
 use Rattle.ll_semantics.specs.Notes.{IsFrozen, is_on_rulesets}
-use Rattle.ll_semantics.specs.Situations.{Situation, answered, left}
+use Rattle.ll_semantics.specs.CallContexts.{CallContext, answer_to, state_then}
 
 -- a tree and layers are those that a call meets, and the layers' rules are on nodes of the tree
-pub record IsMet (at : Situation) (tree : List Entry) (layers : List (RulesOn ℕ)) : Type 0 where
-  pub same_tree : at.tree ≡ tree
-  pub same_layers : at.layers ≡ layers
+pub record IsMet (ctx : CallContext) (tree : List Entry) (layers : List (RulesOn ℕ)) : Type 0 where
+  pub same_tree : ctx.tree ≡ tree
+  pub same_layers : ctx.layers ≡ layers
   pub inside : All (AreInTree tree) layers
 
 -- What is kept of a process agrees with a state: the flags are equal, its domain stacks the same layers one by one,
@@ -36,17 +36,17 @@ pub record Agrees (tree : List Entry) (layers : List (RulesOn ℕ)) (own : OwnSt
   pub descriptors : (fd : ℕ) → get own.descriptors fd ≡ state.descriptors fd
 
 -- a call was judged: its answer, and what is kept of its process then; without memory that is as before
-abbrev pub IsJudged : Situation → Op → OwnState → Result Answer NoMemory → Type 0
-IsJudged at op own result =
-    IfOk result (λ answer. answer ≡ answered at op)
-    × OnOk result (Agrees at.tree at.layers own (left at op))
-    × OnErr result (Agrees at.tree at.layers own at.state)
+abbrev pub IsJudged : CallContext → Op → OwnState → Result Answer NoMemory → Type 0
+IsJudged ctx op own result =
+    IfOk result (λ answer. answer ≡ answer_to ctx op)
+    × OnOk result (Agrees ctx.tree ctx.layers own (state_then ctx op))
+    × OnErr result (Agrees ctx.tree ctx.layers own ctx.state)
 
 -- a process restricted itself by the layer that a ruleset was frozen to, or held none: its answer, and what is kept of it then
 abbrev pub Restricts : Option LayerId → OwnState → OwnState → Answer → Type 0
 Restricts layer before after answer =
-    (at : Situation) → Agrees at.tree at.layers before at.state → (rules : Option Layer) → IsFrozen at layer rules
-    → (answer ≡ restrict_answer at.state rules) × Agrees at.tree at.layers after (if_allowed answer (with_layer at.state rules) at.state)
+    (ctx : CallContext) → Agrees ctx.tree ctx.layers before ctx.state → (rules : Option Layer) → IsFrozen ctx layer rules
+    → (answer ≡ restrict_answer ctx.state rules) × Agrees ctx.tree ctx.layers after (if_allowed answer (with_layer ctx.state rules) ctx.state)
 
 -- a call that leaves the state of its process and the rulesets as they are
 unfoldable pub is_still : Op → Bool

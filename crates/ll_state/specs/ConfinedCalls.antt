@@ -4,7 +4,7 @@ use Rattle.std.specs.Prelude.{List}
 use Rattle.ll_rules.specs.KeptLayers.{domain_of}
 use Rattle.ll_rules.specs.InTree.{all_in_tree}
 use Rattle.ll_semantics.specs.States.{Layer}
-use Rattle.ll_state.specs.declared.confined_call.ConfinedCall.{ConfinedCall}
+use Rattle.ll_state.specs.declared.call.ConfinedCall.{ConfinedCall}
 
 -- the layers of the domain, the oldest first, with rules on paths of the tree
 abbrev pub confining : ConfinedCall → List Layer

@@ -1,11 +1,12 @@
-//! A call that is to be judged.
+//! A call that is to be judged, and what it is held against.
 
 ghost use Rattle.std.specs.Prelude.{◌≡◌, All, IfSome};
 ghost use Rattle.std.proofs.Props.{props};
 ghost use Rattle.ll_rules.specs.InTree.{AreInTree};
+ghost use Rattle.ll_rules.specs.KeptLayers.{IsDomainOf};
 ghost use Rattle.ll_trace.specs.FirstPlaces.{first_place};
 
-use ll_rules::Layer;
+use ll_rules::{Domain, Layer};
 use ll_trace::Op;
 use ll_tree::{Place, Tree};
 
@@ -19,4 +20,12 @@ pub(crate) struct Call<'a> {
     pub(crate) layers: &'a [Layer],
     ghost first: { IfSome known (λ one. one ≡ first_place tree.now op.now) } by { Prim.hlevel props },
     ghost rules: { All (AreInTree tree.now) layers.now } by { Prim.hlevel props },
+}
+
+/// A call, and the domain of its process: which of the layers it stacks.
+#[derive(Clone, Copy)]
+pub(crate) struct ConfinedCall<'a> {
+    pub(crate) call: Call<'a>,
+    pub(crate) domain: &'a Domain,
+    ghost places: { IsDomainOf call.layers.now domain.now } by { Prim.hlevel props },
 }

@@ -10,7 +10,7 @@ ghost use Rattle.ll_semantics.specs.Effects.{opened_file, opened_kind, opened};
 ghost use Rattle.ll_semantics.specs.Fits.{IsFit, IsFitMove};
 ghost use Rattle.ll_state.specs.ConfinedCalls.{confining};
 
-use crate::confined_call::ConfinedCall;
+use crate::call::ConfinedCall;
 use crate::descriptors::{refused_by, unrestricted};
 use ll_rights::{Fs, Kind, Net};
 use ll_rules::{Errno, LayerSet, Move, Verdict, check_mount, check_move, check_path, check_port};

@@ -3,7 +3,6 @@
 
 mod call;
 mod checks;
-mod confined_call;
 mod descriptors;
 mod moves;
 mod own_state;

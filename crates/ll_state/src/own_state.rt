@@ -8,12 +8,11 @@ ghost use Rattle.ll_tree.specs.Trees.{Entry};
 ghost use Rattle.ll_rules.specs.Layers.{RulesOn};
 ghost use Rattle.ll_trace.specs.FirstPlaces.{first_place};
 ghost use Rattle.ll_semantics.specs.States.{State, fresh};
-ghost use Rattle.ll_semantics.specs.Situations.{Situation, answered, left};
+ghost use Rattle.ll_semantics.specs.CallContexts.{CallContext, answer_to, state_then};
 ghost use Rattle.ll_state.specs.Agreement.{IsMet, Agrees, IsJudged, is_still};
 ghost use Rattle.ll_semantics.specs.Notes.{NoteFits};
 
-use crate::call::Call;
-use crate::confined_call::ConfinedCall;
+use crate::call::{Call, ConfinedCall};
 use crate::descriptors::{ftruncate, ioctl};
 use crate::moves::{link_move, rename_move};
 use crate::requests::place_of;
@@ -77,10 +76,10 @@ impl OwnState {
         })
     }
 
-    /// Judges one call of the process, and changes its state where the call is allowed. The note says what
+    /// Answers one call that the process meets, and changes its state where the call is allowed. The note says what
     /// follows from the rulesets, which the processes share; a place, where it is known, is that of the call's
     /// first path, which is then not looked for.
-    pub fn judge(
+    pub fn meet(
         &mut self,
         tree: &Tree,
         layers: &[Layer],
@@ -88,19 +87,19 @@ impl OwnState {
         note: &Note,
         known: Option<Place>,
     ) -> Result<Answer, NoMemory>
-        ghost at: { Situation }
-        requires met { IsMet at tree.now layers.now }
-        requires agrees { Agrees at.tree at.layers self.old at.state }
-        requires fits { NoteFits at op.now note.now }
+        ghost ctx: { CallContext }
+        requires met { IsMet ctx tree.now layers.now }
+        requires agrees { Agrees ctx.tree ctx.layers self.old ctx.state }
+        requires fits { NoteFits ctx op.now note.now }
         requires known { IfSome known (λ one. one ≡ first_place tree.now op.now) }
-        ensures answer { IfOk result (λ answer. answer ≡ answered at op.now) }
-        ensures ok { OnOk result (Agrees at.tree at.layers self.new (left at op.now)) }
-        ensures err { OnErr result (Agrees at.tree at.layers self.new at.state) }
+        ensures answer { IfOk result (λ answer. answer ≡ answer_to ctx op.now) }
+        ensures ok { OnOk result (Agrees ctx.tree ctx.layers self.new (state_then ctx op.now)) }
+        ensures err { OnErr result (Agrees ctx.tree ctx.layers self.new ctx.state) }
     {
         match note {
             Note::Answered(answer) => Ok(*answer),
             Note::Frozen(layer) => Ok(self.restrict(Some(*layer))),
-            Note::Open => self.judge_alone(&Call {
+            Note::ByState => self.meet_by_state(&Call {
                 known,
                 op,
                 tree,
@@ -109,14 +108,14 @@ impl OwnState {
         }
     }
 
-    /// Judges a call whose answer rests on the state of its process alone.
-    #[tactic(auto, unfolding(crate::specs::Agreement::is_still, ll_semantics::specs::Situations::answered, ll_semantics::specs::Situations::left, ll_semantics::specs::Situations::state_after, ll_semantics::specs::Answers::answer, ll_semantics::specs::Situations::change, ll_semantics::specs::Situations::state_by, ll_semantics::specs::Effects::effect, ll_semantics::specs::Notes::NoteFits, ll_semantics::specs::Notes::is_on_rulesets, ll_trace::specs::FirstPlaces::first_place, ll_trace::specs::Operations::paths_of))]
-    fn judge_alone(&mut self, call: &Call<'_>) -> Result<Answer, NoMemory>
-        ghost at: { Situation }
-        requires met { IsMet at call.now.tree.now call.now.layers.now }
-        requires agrees { Agrees at.tree at.layers self.old at.state }
-        requires fits { NoteFits at call.now.op.now Note.Open }
-        ensures { IsJudged at call.now.op.now self.new result }
+    /// Answers a call whose answer rests on the state of its process alone.
+    #[tactic(auto, unfolding(crate::specs::Agreement::is_still, ll_semantics::specs::CallContexts::answer_to, ll_semantics::specs::CallContexts::state_then, ll_semantics::specs::CallContexts::state_after, ll_semantics::specs::Answers::answer, ll_semantics::specs::CallContexts::change, ll_semantics::specs::CallContexts::state_by, ll_semantics::specs::Effects::effect, ll_semantics::specs::Notes::NoteFits, ll_semantics::specs::Notes::is_on_rulesets, ll_trace::specs::FirstPlaces::first_place, ll_trace::specs::Operations::paths_of))]
+    fn meet_by_state(&mut self, call: &Call<'_>) -> Result<Answer, NoMemory>
+        ghost ctx: { CallContext }
+        requires met { IsMet ctx call.now.tree.now call.now.layers.now }
+        requires agrees { Agrees ctx.tree ctx.layers self.old ctx.state }
+        requires fits { NoteFits ctx call.now.op.now Note.ByState }
+        ensures { IsJudged ctx call.now.op.now self.new result }
     {
         match call.op {
             Op::Nnp => {
@@ -144,13 +143,13 @@ impl OwnState {
     }
 
     /// The answer to a call that changes nothing of its process's state.
-    #[tactic(auto, using(crate::proofs::SameLayers::request_same, crate::proofs::SameLayers::move_same, crate::proofs::SameLayers::port_same, crate::proofs::SameLayers::mount_same), unfolding(crate::specs::Agreement::is_still, ll_semantics::specs::Notes::is_on_rulesets, ll_trace::specs::FirstPlaces::first_place, ll_trace::specs::Operations::paths_of, ll_semantics::specs::Situations::answered, ll_semantics::specs::Answers::answer, ll_rights::specs::Rights::only, ll_rights::specs::NetRights::has, ll_rights::specs::NetRights::only))]
+    #[tactic(auto, using(crate::proofs::SameLayers::request_same, crate::proofs::SameLayers::move_same, crate::proofs::SameLayers::port_same, crate::proofs::SameLayers::mount_same), unfolding(crate::specs::Agreement::is_still, ll_semantics::specs::Notes::is_on_rulesets, ll_trace::specs::FirstPlaces::first_place, ll_trace::specs::Operations::paths_of, ll_semantics::specs::CallContexts::answer_to, ll_semantics::specs::Answers::answer, ll_rights::specs::Rights::only, ll_rights::specs::NetRights::has, ll_rights::specs::NetRights::only))]
     fn answer(&self, call: &Call<'_>) -> Answer
-        ghost at: { Situation }
-        requires met { IsMet at call.now.tree.now call.now.layers.now }
-        requires agrees { Agrees at.tree at.layers self.now at.state }
+        ghost ctx: { CallContext }
+        requires met { IsMet ctx call.now.tree.now call.now.layers.now }
+        requires agrees { Agrees ctx.tree ctx.layers self.now ctx.state }
         requires still { is_still call.now.op.now ≡ true }
-        ensures { result ≡ answered at call.now.op.now }
+        ensures { result ≡ answer_to ctx call.now.op.now }
     {
         let tree = call.tree;
         let confined = ConfinedCall {

@@ -65,15 +65,15 @@ module _ (abi : Abi) where
 
   is_start-kept : (op : Op) → is_start (at_best_effort abi op) ≡ is_start op
   unfolding role
-  is_start-kept op = ap (λ of. of.start) (role-kept op)
+  is_start-kept op = ap (λ does. does.start) (role-kept op)
 
   pid_started-kept : (op : Op) (pid : ℕ) → pid_started (at_best_effort abi op) pid ≡ pid_started op pid
   unfolding role
-  pid_started-kept op pid = ap (λ of. of.started pid) (role-kept op)
+  pid_started-kept op pid = ap (λ does. does.started pid) (role-kept op)
 
   is_starting-kept : (op : Op) → is_starting (at_best_effort abi op) ≡ is_starting op
   unfolding role
-  is_starting-kept op = ap (λ of. of.starting) (role-kept op)
+  is_starting-kept op = ap (λ does. does.starting) (role-kept op)
 
   -- ---- entries
 
@@ -83,7 +83,7 @@ module _ (abi : Abi) where
   is_live-kept : (past : List Entry) (pid : ℕ) → is_live (map entry_kept past) pid ≡ is_live past pid
   unfolding entry_kept role
   is_live-kept [] pid = refl
-  is_live-kept (entry ∷ past) pid = rw (pid_started-kept entry.op entry.pid, ap (λ of. of.exit) (role-kept entry.op), is_live-kept past pid) refl
+  is_live-kept (entry ∷ past) pid = rw (pid_started-kept entry.op entry.pid, ap (λ does. does.exit) (role-kept entry.op), is_live-kept past pid) refl
 
   count-kept : (past : List Entry) → entries.process_count (map entry_kept past) ≡ entries.process_count past
   unfolding entry_kept
@@ -139,7 +139,7 @@ module _ (abi : Abi) where
   first_places-kept tree [] places are k one r at_place at_record = absurd (none-some r at_record)
   first_places-kept tree (first ∷ rest) [] are k one r at_place at_record = absurd (none-some one at_place)
   first_places-kept tree (first ∷ rest) (p ∷ ps) are zero one r at_place at_record =
-      are 0 one first at_place refl ∙ sym (ap (λ of. of.place tree) (role-kept first.op)) ∙ ap (λ (s : Record). first_place tree s.op) (same_Some _ _ at_record)
+      are 0 one first at_place refl ∙ sym (ap (λ o. o.place tree) (role-kept first.op)) ∙ ap (λ (s : Record). first_place tree s.op) (same_Some _ _ at_record)
   first_places-kept tree (first ∷ rest) (p ∷ ps) are (suc k) one r at_place at_record =
       first_places-kept tree rest ps (λ j other s here there. are (suc j) other s here there) k one r at_place at_record
 
@@ -161,7 +161,7 @@ module _ (abi : Abi) where
   parents-kept : (records : List Record) → parents (records_at_best_effort abi records) ≡ parents records
   unfolding parents role
   parents-kept [] = refl
-  parents-kept (r ∷ rs) = rw (is_starting-kept r.op, ap (λ of. of.forked r.process) (role-kept r.op), parents-kept rs) refl
+  parents-kept (r ∷ rs) = rw (is_starting-kept r.op, ap (λ does. does.forked r.process) (role-kept r.op), parents-kept rs) refl
 
   starting-kept : (records : List Record) → process_count (records_at_best_effort abi records) ≡ process_count records
   starting-kept [] = refl

@@ -105,7 +105,7 @@ module _ (gives : ℕ → Record → Option ℕ) (p : ℕ) where
     arith,
     times-option p (gives b r) (among gives (b + 1) rs),
     not_given p (gives b r) (λ is. none 0 r refl (sym (here b r) ∙ is)),
-    none_among (b + 1) rs (λ j x at is. none (suc j) x at (next b j x is)),
+    none_among (b + 1) rs (λ j x eq is. none (suc j) x eq (next b j x is)),
   )
 
   -- where one place alone gives the process
@@ -113,18 +113,18 @@ module _ (gives : ℕ → Record → Option ℕ) (p : ℕ) where
       → ((j : ℕ) (x : Record) → slice_get rs j ≡ Some x → gives (b + j) x ≡ Some p → j ≡ k)
       → times p (among gives b rs) ≡ given p (gives (b + k) r)
   unfolding among
-  once_among b [] k r at alone = absurd (none-some r at)
-  once_among b (x ∷ rs) zero r at alone = omega (
+  once_among b [] k r eq alone = absurd (none-some r eq)
+  once_among b (x ∷ rs) zero r eq alone = omega (
     arith,
     times-option p (gives b x) (among gives (b + 1) rs),
     none_among (b + 1) rs (λ j y there is. (let no : suc j ≡ 0 = alone (suc j) y there (next b j y is) in omega (arith, no))),
-    ap (given p) (here b x ∙ ap (gives (b + 0)) (same_Some x r at)),
+    ap (given p) (here b x ∙ ap (gives (b + 0)) (same_Some x r eq)),
   )
-  once_among b (x ∷ rs) (suc k) r at alone = omega (
+  once_among b (x ∷ rs) (suc k) r eq alone = omega (
     arith,
     times-option p (gives b x) (among gives (b + 1) rs),
     not_given p (gives b x) (λ is. (let no : 0 ≡ suc k = alone 0 x refl (sym (here b x) ∙ is) in omega (arith, no))),
-    once_among (b + 1) rs k r at (λ j y there is. (let same : suc j ≡ suc k = alone (suc j) y there (next b j y is) in omega (arith, same))),
+    once_among (b + 1) rs k r eq (λ j y there is. (let same : suc j ≡ suc k = alone (suc j) y there (next b j y is) in omega (arith, same))),
     ap (λ n. given p (gives n r)) (let same : b + 1 + k ≡ b + suc k = omega arith in same),
   )
 
@@ -163,19 +163,17 @@ module _ (records : List Record) (p k : ℕ) (numbered : IsNumbered records) (on
   -- the record that starts a process is the only one that gives it
   roots-count : times p (roots records) ≡ given p (root_of (Some one.of))
   unfolding root_of
-  roots-count =
-      ap (times p) (roots_among 0 records)
+  roots-count = ap (times p) (roots_among 0 records)
       ∙ once_among (λ i r. root_of (Some r)) p 0 records k one.of one.at
-      (λ i r at is.
+      (λ i r eq is.
       let begun = cond_some (is_start r.op) r.process.0 p is in
-      started_once records i k p (record { of = r; at = at; kind = start-starts r.op begun.0; number = sym begun.1 ∙ numbered.begins i r at begun.0 }) one)
+      started_once records i k p (record { of = r; at = eq; kind = start-starts r.op begun.0; number = sym begun.1 ∙ numbered.begins i r eq begun.0 }) one)
 
   children-count : (q : ℕ) → times p (children records q) ≡ given p (cond (eqb one.of.process.0 q) (forked_at records k) None)
   unfolding children own_records child_of
-  children-count q =
-      ap (times p) (children_among records q 0 records)
+  children-count q = ap (times p) (children_among records q 0 records)
       ∙ once_among (child_of records q) p 0 records k one.of one.at
-      (λ i r at is.
+      (λ i r eq is.
       let forked =
       forked_at-is records i p ((let same : i ≡ 0 + i = omega arith in ap (forked_at records) same)
       ∙ some_of (eqb r.process.0 q) (forked_at records (0 + i)) p is) in

@@ -6,6 +6,7 @@ use Rattle.std.proofs.lemmas.Bool.{cases_Bool, leb-false}
 use Rattle.std.proofs.lemmas.Option.{none-some, same_Some}
 use Rattle.ll_lines.specs.declared.fault.Cause.{Cause}
 use Rattle.ll_lines.specs.declared.fault.Cause.TheVariants.{UnknownProcess, Twice, TooMany}
+use Rattle.ll_trace.specs.declared.reader.TheConstants.{MOST_PROCESSES, MOST_RECORDS}
 use Rattle.ll_trace.specs.declared.record.Record.{Record}
 use Rattle.ll_trace.specs.Entries as entries
 use Rattle.ll_trace.specs.Entries.{Entry, started_pid, is_pid, is_start_of, is_end_of, is_live, process_named, misplacement, is_unknown, is_twice, is_too_many}
@@ -97,22 +98,22 @@ count-record past x rs = omega (arith, count-cons (entry_of x) past, process_cou
 
 numbered_start : (past : List Entry) (rs : List Record) (k : ℕ) (r : Record) → rs ≡ records_after past (map entry_of rs) → slice_get rs k ≡ Some r
     → is_start r.op ≡ true → r.process.0 ≡ entries.process_count past + process_count (take k rs)
-numbered_start past [] k r same at starts = absurd (none-some r at)
-numbered_start past (x ∷ xs) zero r same at starts =
-    let here : x ≡ r = same_Some x r at in
+numbered_start past [] k r same eq starts = absurd (none-some r eq)
+numbered_start past (x ∷ xs) zero r same eq starts =
+    let here : x ≡ r = same_Some x r eq in
     let own : x ≡ record_of past (entry_of x) = same_head x (record_of past (entry_of x)) xs (records_after (entry_of x ∷ past) (map entry_of xs)) same in
     let start : is_start x.op ≡ true = ap (λ (y : Record). is_start y.op) here ∙ starts in
     omega (arith, no_count (x ∷ xs), ap (λ (y : Record). y.process.0) (sym here), ap (λ (y : Record). y.process.0) own, own_process past (entry_of x) start)
-numbered_start past (x ∷ xs) (suc k) r same at starts =
+numbered_start past (x ∷ xs) (suc k) r same eq starts =
     numbered_start (entry_of x ∷ past) xs k r
-    (same_tail x (record_of past (entry_of x)) xs (records_after (entry_of x ∷ past) (map entry_of xs)) same) at starts
+    (same_tail x (record_of past (entry_of x)) xs (records_after (entry_of x ∷ past) (map entry_of xs)) same) eq starts
     ∙ count-record past x (take k xs)
 
 numbered_other : (past : List Entry) (rs : List Record) (k : ℕ) (r : Record) → rs ≡ records_after past (map entry_of rs) → ArePlaced past (map entry_of rs)
     → slice_get rs k ≡ Some r → is_start r.op ≡ false → r.process.0 < entries.process_count past + process_count (take k rs)
-numbered_other past [] k r same placed at goes = absurd (none-some r at)
-numbered_other past (x ∷ xs) zero r same placed at goes =
-    let here : x ≡ r = same_Some x r at in
+numbered_other past [] k r same placed eq goes = absurd (none-some r eq)
+numbered_other past (x ∷ xs) zero r same placed eq goes =
+    let here : x ≡ r = same_Some x r eq in
     let own : x ≡ record_of past (entry_of x) = same_head x (record_of past (entry_of x)) xs (records_after (entry_of x ∷ past) (map entry_of xs)) same in
     let other : is_start x.op ≡ false = ap (λ (y : Record). is_start y.op) here ∙ goes in
     omega (
@@ -122,17 +123,17 @@ numbered_other past (x ∷ xs) zero r same placed at goes =
       ap (λ (y : Record). y.process.0) own,
       named_process past (entry_of x) placed.0 other,
     )
-numbered_other past (x ∷ xs) (suc k) r same placed at goes = omega (
+numbered_other past (x ∷ xs) (suc k) r same placed eq goes = omega (
   arith,
   count-record past x (take k xs),
   numbered_other (entry_of x ∷ past) xs k r (same_tail x (record_of past (entry_of x)) xs (records_after (entry_of x ∷ past) (map entry_of xs)) same)
-      placed.1 at goes,
+      placed.1 eq goes,
 )
 
 pub are_numbered : (records : List Record) → ArePlaced [] (map entry_of records) → records ≡ records_after [] (map entry_of records) → IsNumbered records
 are_numbered records placed same = record {
-  begins = λ k r at starts. omega (arith, numbered_start [] records k r same at starts);
-  goes_on = λ k r at goes. omega (arith, numbered_other [] records k r same placed at goes);
+  begins = λ k r eq starts. omega (arith, numbered_start [] records k r same eq starts);
+  goes_on = λ k r eq goes. omega (arith, numbered_other [] records k r same placed eq goes);
 }
 
 -- ---- no more records and processes than a trace may have
@@ -150,34 +151,34 @@ room false true c e = (refl, λ _. e)
 room false false c e = (refl, λ no. absurd (cc))
 
 has_room : (past : List Entry) (entry : Entry) → misplacement past entry ≡ None
-    → (nat_le 1000000 (length past) ≡ false) × (is_some (started_pid entry) ≡ true → nat_le 65536 (entries.process_count past) ≡ false)
-has_room past entry none = room (nat_le 1000000 (length past)) (is_some (started_pid entry)) (nat_le 65536 (entries.process_count past))
+    → (nat_le MOST_RECORDS (length past) ≡ false) × (is_some (started_pid entry) ≡ true → nat_le MOST_PROCESSES (entries.process_count past) ≡ false)
+has_room past entry none = room (nat_le MOST_RECORDS (length past)) (is_some (started_pid entry)) (nat_le MOST_PROCESSES (entries.process_count past))
     (fits (is_unknown past entry) (is_twice past entry) (is_too_many past entry) none)
 
-few : (past es : List Entry) → ArePlaced past es → length past ≤ 1000000 → length past + length es ≤ 1000000
+few : (past es : List Entry) → ArePlaced past es → length past ≤ MOST_RECORDS → length past + length es ≤ MOST_RECORDS
 few past [] placed le = omega arith
 few past (entry ∷ es) placed le =
-    let below : length past < 1000000 = leb-false 1000000 (length past) (has_room past entry placed.0).0 in
+    let below : length past < MOST_RECORDS = leb-false MOST_RECORDS (length past) (has_room past entry placed.0).0 in
     omega (arith, few (entry ∷ past) es placed.1 below)
 
-pub few_records : (records : List Record) → AreRecords records → length records ≤ 1000000
+pub few_records : (records : List Record) → AreRecords records → length records ≤ MOST_RECORDS
 few_records records are = omega (arith, few [] (map entry_of records) are.placed (lit≤ tt), length-map records entry_of)
 
-count_next : (b : Bool) (count : ℕ) → count ≤ 65536 → (b ≡ true → count < 65536) → cond b 1 0 + count ≤ 65536
-count_next true count le lt = let below : count < 65536 = lt refl in omega arith
+count_next : (b : Bool) (count : ℕ) → count ≤ MOST_PROCESSES → (b ≡ true → count < MOST_PROCESSES) → cond b 1 0 + count ≤ MOST_PROCESSES
+count_next true count le lt = let below : count < MOST_PROCESSES = lt refl in omega arith
 count_next false count le lt = omega arith
 
-few_started : (past es : List Entry) → ArePlaced past es → entries.process_count past ≤ 65536
-    → entries.process_count past + process_count (records_after past es) ≤ 65536
+few_started : (past es : List Entry) → ArePlaced past es → entries.process_count past ≤ MOST_PROCESSES
+    → entries.process_count past + process_count (records_after past es) ≤ MOST_PROCESSES
 few_started past [] placed le = omega (arith, no_count [])
 few_started past (entry ∷ es) placed le =
-    let here : cond (is_some (started_pid entry)) 1 0 + entries.process_count past ≤ 65536 =
+    let here : cond (is_some (started_pid entry)) 1 0 + entries.process_count past ≤ MOST_PROCESSES =
     count_next (is_some (started_pid entry)) (entries.process_count past) le
-    (λ starts. leb-false 65536 (entries.process_count past) ((has_room past entry placed.0).1 starts)) in
-    let more : entries.process_count (entry ∷ past) ≤ 65536 = omega (arith, here, count-cons entry past) in
+    (λ starts. leb-false MOST_PROCESSES (entries.process_count past) ((has_room past entry placed.0).1 starts)) in
+    let more : entries.process_count (entry ∷ past) ≤ MOST_PROCESSES = omega (arith, here, count-cons entry past) in
     omega (arith, few_started (entry ∷ past) es placed.1 more, count-record past (record_of past entry) (records_after (entry ∷ past) es))
 
-pub few_processes : (records : List Record) → AreRecords records → process_count records ≤ 65536
+pub few_processes : (records : List Record) → AreRecords records → process_count records ≤ MOST_PROCESSES
 few_processes records are =
-    let all : 0 + process_count (records_after [] (map entry_of records)) ≤ 65536 = few_started [] (map entry_of records) are.placed (lit≤ tt) in
+    let all : 0 + process_count (records_after [] (map entry_of records)) ≤ MOST_PROCESSES = few_started [] (map entry_of records) are.placed (lit≤ tt) in
     rw are.processes (omega (arith, all))

@@ -75,11 +75,11 @@ process_count-push rs r = sum_by_push (λ (x : Record). cond (is_starting x.op) 
 
 pub count-more : (rs : List Record) (k : ℕ) (r : Record) → slice_get rs k ≡ Some r
     → process_count (take (suc k) rs) ≡ process_count (take k rs) + cond (is_starting r.op) 1 0
-count-more [] k r at = cc
-count-more (x ∷ rs) zero r at =
-    let same : x ≡ r = same_Some x r at in
+count-more [] k r eq = cc
+count-more (x ∷ rs) zero r eq =
+    let same : x ≡ r = same_Some x r eq in
     subst (λ (y : Record). process_count (x ∷ []) ≡ process_count [] + cond (is_starting y.op) 1 0) same (omega (arith, process_count-cons x []))
-count-more (x ∷ rs) (suc k) r at = omega (arith, count-more rs k r at, process_count-cons x (take (suc k) rs), process_count-cons x (take k rs))
+count-more (x ∷ rs) (suc k) r eq = omega (arith, count-more rs k r eq, process_count-cons x (take (suc k) rs), process_count-cons x (take k rs))
 
 counts_one : (b : Bool) → b ≡ true → (let one : ℕ = cond b 1 0 in one ≡ 1)
 counts_one true holds = refl
@@ -88,7 +88,7 @@ counts_one false holds = cc
 -- one process more
 pub count-started : (rs : List Record) (k : ℕ) (r : Record) → slice_get rs k ≡ Some r → is_starting r.op ≡ true
     → process_count (take (suc k) rs) ≡ process_count (take k rs) + 1
-count-started rs k r at starts = omega (arith, count-more rs k r at, counts_one (is_starting r.op) starts)
+count-started rs k r eq starts = omega (arith, count-more rs k r eq, counts_one (is_starting r.op) starts)
 
 nil_count : (m : ℕ) → process_count (take m []) ≡ 0
 unfolding process_count
@@ -129,10 +129,10 @@ ForkedAt = KindAt is_fork
 kind_at : (is_kind : Op → Bool) (rs : List Record) (k p : ℕ) (o : Option Record) → slice_get rs k ≡ o
     → number_if is_kind rs k o ≡ Some p → KindAt is_kind rs k p
 unfolding number_if
-kind_at is_kind rs k p None at is = absurd (none-some p is)
-kind_at is_kind rs k p (Some r) at is =
+kind_at is_kind rs k p None eq is = absurd (none-some p is)
+kind_at is_kind rs k p (Some r) eq is =
     let parts = cond_some (is_kind r.op) (process_count (take k rs)) p is in
-    record { of = r; at = at; kind = parts.0; number = sym parts.1 }
+    record { of = r; at = eq; kind = parts.0; number = sym parts.1 }
 
 pub started_at-is : (rs : List Record) (k p : ℕ) → started_at rs k ≡ Some p → StartedAt rs k p
 unfolding started_at
@@ -145,15 +145,15 @@ forked_at-is rs k p is = kind_at is_fork rs k p (slice_get rs k) refl is
 pub started_at-from : (rs : List Record) (k : ℕ) (r : Record) → slice_get rs k ≡ Some r → is_starting r.op ≡ true
     → started_at rs k ≡ Some (process_count (take k rs))
 unfolding started_at number_if
-started_at-from rs k r at starts = rw (at, starts) refl
+started_at-from rs k r eq starts = rw (eq, starts) refl
 
 pub forked_at-from : (rs : List Record) (k : ℕ) (r : Record) → slice_get rs k ≡ Some r → is_fork r.op ≡ true → forked_at rs k ≡ Some (process_count (take k rs))
 unfolding forked_at number_if
-forked_at-from rs k r at forks = rw (at, forks) refl
+forked_at-from rs k r eq forks = rw (eq, forks) refl
 
 pub forked_at-none : (rs : List Record) (k : ℕ) (r : Record) → slice_get rs k ≡ Some r → is_fork r.op ≡ false → forked_at rs k ≡ None
 unfolding forked_at number_if
-forked_at-none rs k r at forks = rw (at, forks) refl
+forked_at-none rs k r eq forks = rw (eq, forks) refl
 
 -- a process is started by one record
 pub started_once : (rs : List Record) (j k p : ℕ) → StartedAt rs j p → StartedAt rs k p → j ≡ k
@@ -167,16 +167,16 @@ started_once rs j k p one two = elim (cases_lt j k) [
 
 -- a record's process is there after it
 pub numbered_below : (rs : List Record) (k : ℕ) (r : Record) → IsNumbered rs → slice_get rs k ≡ Some r → r.process.0 < process_count (take (suc k) rs)
-numbered_below rs k r numbered at = by_start (is_start r.op) refl
+numbered_below rs k r numbered eq = by_start (is_start r.op) refl
   where
     by_start : (b : Bool) → is_start r.op ≡ b → r.process.0 < process_count (take (suc k) rs)
-    by_start true starts = omega (arith, numbered.begins k r at starts, count-started rs k r at (start-starts r.op starts))
-    by_start false goes = omega (arith, numbered.goes_on k r at goes, count-more rs k r at)
+    by_start true starts = omega (arith, numbered.begins k r eq starts, count-started rs k r eq (start-starts r.op starts))
+    by_start false goes = omega (arith, numbered.goes_on k r eq goes, count-more rs k r eq)
 
 -- before the record that starts a process, no record is its own; a fork record isn't the child's own
 pub not_own_before : (rs : List Record) (j k p : ℕ) (r : Record) → IsNumbered rs → StartedAt rs k p → j < k → slice_get rs j ≡ Some r → r.process.0 ≢ p
-not_own_before rs j k p r numbered one less at same =
-    omega (arith, numbered_below rs j r numbered at, count-le rs (suc j) k (omega arith), one.number)
+not_own_before rs j k p r numbered one less eq same =
+    omega (arith, numbered_below rs j r numbered eq, count-le rs (suc j) k (omega arith), one.number)
 
 -- each number below the count is that of a process which some record starts
 later_start : (r : Record) (rs : List Record) (n p : ℕ) → n ≡ cond (is_starting r.op) 1 0 → (k : ℕ) × StartedAt rs k p → (k : ℕ) × StartedAt (r ∷ rs) k (n + p)
@@ -223,9 +223,9 @@ started_at-push rs r k = elim (cases_eq k (length rs)) [
 ]
   where
     kept : (o : Option Record) → slice_get rs k ≡ o → number_if is_starting (rs ++ r ∷ []) k o ≡ number_if is_starting rs k o
-    kept None at = refl
-    kept (Some x) at = ap (λ (taken : List Record). cond (is_starting x.op) (Some (process_count taken)) None)
-        (take-append-le k rs (r ∷ []) (let within : k < length rs = slice_get_within rs k x at in omega arith))
+    kept None eq = refl
+    kept (Some x) eq = ap (λ (taken : List Record). cond (is_starting x.op) (Some (process_count taken)) None)
+        (take-append-le k rs (r ∷ []) (let within : k < length rs = slice_get_within rs k x eq in omega arith))
 
 -- ---- parents
 
@@ -259,11 +259,11 @@ parent_at rs k p one = ap (λ n. slice_get (parents rs) n) one.number ∙ told r
   where
     told : (rs : List Record) (k : ℕ) (r : Record) → slice_get rs k ≡ Some r → is_starting r.op ≡ true
         → slice_get (parents rs) (process_count (take k rs)) ≡ Some (forked_by r.op r.process)
-    told [] k r at starts = cc
-    told (first ∷ rs) zero r at starts = let same : first ≡ r = same_Some first r at in rw (no_count (first ∷ rs), same, starts) refl
-    told (first ∷ rs) (suc k) r at starts =
+    told [] k r eq starts = cc
+    told (first ∷ rs) zero r eq starts = let same : first ≡ r = same_Some first r eq in rw (no_count (first ∷ rs), same, starts) refl
+    told (first ∷ rs) (suc k) r eq starts =
         rw (process_count-cons first (take k rs))
-        (later_parent (is_starting first.op) (forked_by first.op first.process) (parents rs) (process_count (take k rs)) ∙ told rs k r at starts)
+        (later_parent (is_starting first.op) (forked_by first.op first.process) (parents rs) (process_count (take k rs)) ∙ told rs k r eq starts)
 
 forked_from : (op : Op) (own parent : ProcessId) → forked_by op own ≡ Some parent → (own ≡ parent) × (is_start op ≡ false)
 unfolding forked_by is_start

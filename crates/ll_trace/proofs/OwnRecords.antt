@@ -26,7 +26,7 @@ own_from-nil p b = refl
 
 not_in_none : (p b j i : ℕ) → slice_get (own_from p b []) j ≡ Some i → ⊥
 unfolding own_from
-not_in_none p b j i at = none-some i at
+not_in_none p b j i eq = none-some i eq
 
 -- a place among the own records is that of an own record
 pub record OwnAt (p b : ℕ) (rs : List Record) (i : ℕ) : Type 0 where
@@ -40,39 +40,39 @@ later : (p b : ℕ) (r : Record) (rs : List Record) (i : ℕ) → OwnAt p (b + 1
 later p b r rs i one = record { ahead = suc one.ahead; place = omega (arith, one.place); of = one.of; at = one.at; own = one.own }
 
 pub own_at : (p b : ℕ) (rs : List Record) (j i : ℕ) → slice_get (own_from p b rs) j ≡ Some i → OwnAt p b rs i
-own_at p b [] j i at = absurd (not_in_none p b j i at)
-own_at p b (r ∷ rs) zero i at = elim (cases_eq r.process.0 p) [
-  | inl own ↦ record { ahead = 0; place = omega (arith, same_Some b i (rw (own_from-yes p b r rs own) at at)); of = r; at = refl; own = own }
-  | inr other ↦ later p b r rs i (own_at p (b + 1) rs zero i (rw (own_from-no p b r rs other) at at))
+own_at p b [] j i eq = absurd (not_in_none p b j i eq)
+own_at p b (r ∷ rs) zero i eq = elim (cases_eq r.process.0 p) [
+  | inl own ↦ record { ahead = 0; place = omega (arith, same_Some b i (rw (own_from-yes p b r rs own) at eq)); of = r; at = refl; own = own }
+  | inr other ↦ later p b r rs i (own_at p (b + 1) rs zero i (rw (own_from-no p b r rs other) at eq))
 ]
-own_at p b (r ∷ rs) (suc j) i at = elim (cases_eq r.process.0 p) [
-  | inl own ↦ later p b r rs i (own_at p (b + 1) rs j i (rw (own_from-yes p b r rs own) at at))
-  | inr other ↦ later p b r rs i (own_at p (b + 1) rs (suc j) i (rw (own_from-no p b r rs other) at at))
+own_at p b (r ∷ rs) (suc j) i eq = elim (cases_eq r.process.0 p) [
+  | inl own ↦ later p b r rs i (own_at p (b + 1) rs j i (rw (own_from-yes p b r rs own) at eq))
+  | inr other ↦ later p b r rs i (own_at p (b + 1) rs (suc j) i (rw (own_from-no p b r rs other) at eq))
 ]
 
 -- the places rise
 rising : (p b : ℕ) (rs : List Record) (j l i k : ℕ) → slice_get (own_from p b rs) j ≡ Some i → slice_get (own_from p b rs) l ≡ Some k → j < l → i < k
-rising p b [] j l i k at there less = absurd (not_in_none p b j i at)
-rising p b rs j zero i k at there less = absurd (omega arith)
-rising p b (r ∷ rs) zero (suc l) i k at there less = elim (cases_eq r.process.0 p) [
-  | inl own ↦ omega (arith, same_Some b i (rw (own_from-yes p b r rs own) at at), (own_at p (b + 1) rs l k (rw (own_from-yes p b r rs own) at there)).place)
-  | inr other ↦ rising p (b + 1) rs zero (suc l) i k (rw (own_from-no p b r rs other) at at) (rw (own_from-no p b r rs other) at there) less
+rising p b [] j l i k eq there less = absurd (not_in_none p b j i eq)
+rising p b rs j zero i k eq there less = absurd (omega arith)
+rising p b (r ∷ rs) zero (suc l) i k eq there less = elim (cases_eq r.process.0 p) [
+  | inl own ↦ omega (arith, same_Some b i (rw (own_from-yes p b r rs own) at eq), (own_at p (b + 1) rs l k (rw (own_from-yes p b r rs own) at there)).place)
+  | inr other ↦ rising p (b + 1) rs zero (suc l) i k (rw (own_from-no p b r rs other) at eq) (rw (own_from-no p b r rs other) at there) less
 ]
-rising p b (r ∷ rs) (suc j) (suc l) i k at there less = elim (cases_eq r.process.0 p) [
-  | inl own ↦ rising p (b + 1) rs j l i k (rw (own_from-yes p b r rs own) at at) (rw (own_from-yes p b r rs own) at there) (omega arith)
-  | inr other ↦ rising p (b + 1) rs (suc j) (suc l) i k (rw (own_from-no p b r rs other) at at) (rw (own_from-no p b r rs other) at there) less
+rising p b (r ∷ rs) (suc j) (suc l) i k eq there less = elim (cases_eq r.process.0 p) [
+  | inl own ↦ rising p (b + 1) rs j l i k (rw (own_from-yes p b r rs own) at eq) (rw (own_from-yes p b r rs own) at there) (omega arith)
+  | inr other ↦ rising p (b + 1) rs (suc j) (suc l) i k (rw (own_from-no p b r rs other) at eq) (rw (own_from-no p b r rs other) at there) less
 ]
 
 -- each own record has its place
 has_place : (p b : ℕ) (rs : List Record) (m : ℕ) (r : Record) → slice_get rs m ≡ Some r → r.process.0 ≡ p
     → (j : ℕ) × (slice_get (own_from p b rs) j ≡ Some (b + m))
-has_place p b [] m r at own = absurd (none-some r at)
-has_place p b (x ∷ rs) zero r at own =
-    let here : x.process.0 ≡ p = ap (λ (y : Record). y.process.0) (same_Some x r at) ∙ own in
+has_place p b [] m r eq own = absurd (none-some r eq)
+has_place p b (x ∷ rs) zero r eq own =
+    let here : x.process.0 ≡ p = ap (λ (y : Record). y.process.0) (same_Some x r eq) ∙ own in
     let same : b ≡ b + 0 = omega arith in
     (0, rw (own_from-yes p b x rs here) (ap (λ (n : ℕ). Some n) same))
-has_place p b (x ∷ rs) (suc m) r at own =
-    let (j, there) = has_place p (b + 1) rs m r at own in
+has_place p b (x ∷ rs) (suc m) r eq own =
+    let (j, there) = has_place p (b + 1) rs m r eq own in
     let same : b + 1 + m ≡ b + suc m = omega arith in
     elim (cases_eq x.process.0 p) [
       | inl here ↦ (suc j, rw (own_from-yes p b x rs here) (there ∙ ap (λ (n : ℕ). Some n) same))
@@ -83,23 +83,23 @@ module _ (records : List Record) (p : ℕ) where
   -- the record at a place among a process's own records
   pub own_record : (j i : ℕ) → slice_get (own_records records p) j ≡ Some i → (r : Record) × (slice_get records i ≡ Some r) × (r.process.0 ≡ p)
   unfolding own_records
-  own_record j i at =
-      let one : OwnAt p 0 records i = own_at p 0 records j i at in
+  own_record j i eq =
+      let one : OwnAt p 0 records i = own_at p 0 records j i eq in
       (one.of, ap (λ n. slice_get records n) (let here : i ≡ one.ahead = omega (arith, one.place) in here) ∙ one.at, one.own)
 
   pub own_place : (m : ℕ) (r : Record) → slice_get records m ≡ Some r → r.process.0 ≡ p → (j : ℕ) × (slice_get (own_records records p) j ≡ Some m)
   unfolding own_records
-  own_place m r at own =
-      let (j, there) = has_place p 0 records m r at own in
+  own_place m r eq own =
+      let (j, there) = has_place p 0 records m r eq own in
       (j, there ∙ (let same : 0 + m ≡ m = omega arith in ap (λ (n : ℕ). Some n) same))
 
   pub own_rising : (j l i k : ℕ) → slice_get (own_records records p) j ≡ Some i → slice_get (own_records records p) l ≡ Some k → j < l → i < k
   unfolding own_records
-  own_rising j l i k at there less = rising p 0 records j l i k at there less
+  own_rising j l i k eq there less = rising p 0 records j l i k eq there less
 
   -- no own record is before the first place, and none between one place and the next
   pub first_own : (i m : ℕ) (r : Record) → slice_get (own_records records p) 0 ≡ Some i → slice_get records m ≡ Some r → r.process.0 ≡ p → i ≤ m
-  first_own i m r first at own = by_place (own_place m r at own)
+  first_own i m r first eq own = by_place (own_place m r eq own)
     where
       by_place : (j : ℕ) × (slice_get (own_records records p) j ≡ Some m) → i ≤ m
       by_place (zero, there) = omega (arith, same_Some i m (sym first ∙ there))
@@ -107,8 +107,8 @@ module _ (records : List Record) (p : ℕ) where
 
   pub next_own : (j i k m : ℕ) (r : Record) → slice_get (own_records records p) j ≡ Some i → slice_get (own_records records p) (suc j) ≡ Some k
       → slice_get records m ≡ Some r → r.process.0 ≡ p → i < m → k ≤ m
-  next_own j i k m r here next at own past =
-      let (l, there) = own_place m r at own in
+  next_own j i k m r here next eq own past =
+      let (l, there) = own_place m r eq own in
       elim (cases_lt l (suc j)) [
         | inl before ↦ elim (cases_lt l j) [
           | inl less ↦ absurd (omega (arith, own_rising l j m i there here less))

@@ -23,35 +23,35 @@ use Rattle.ll_trace.specs.declared.tables.Tables.{Tables}
 
 -- ---- the places of the records that start the processes, of one record more
 
-still_started : (records : List Record) (of : Record) (k p : ℕ) → started_at records k ≡ Some p → started_at (records ++ of ∷ []) k ≡ Some p
-still_started records of k p is =
+still_started : (records : List Record) (it : Record) (k p : ℕ) → started_at records k ≡ Some p → started_at (records ++ it ∷ []) k ≡ Some p
+still_started records it k p is =
     let one : StartedAt records k p = started_at-is records k p is in
     let within : k < length records = slice_get_within records k one.of one.at in
-    started_at-push records of k ∙ rw (ne_eqb k (length records) (λ e. omega (arith, within, e))) is
+    started_at-push records it k ∙ rw (ne_eqb k (length records) (λ e. omega (arith, within, e))) is
 
-last_starts : (records : List Record) (of : Record) → is_starting of.op ≡ true → started_at (records ++ of ∷ []) (length records) ≡ Some (process_count records)
-last_starts records of kind = started_at-push records of (length records) ∙ rw (eq-eqb (length records) (length records) refl, kind) refl
+last_starts : (records : List Record) (it : Record) → is_starting it.op ≡ true → started_at (records ++ it ∷ []) (length records) ≡ Some (process_count records)
+last_starts records it kind = started_at-push records it (length records) ∙ rw (eq-eqb (length records) (length records) refl, kind) refl
 
 length-grown : {X : Type 0} (xs : List X) (b : Bool) (x : X) → length (xs ++ cond b (x ∷ []) []) ≡ length xs + cond b 1 0
 length-grown xs true x = length-append xs (x ∷ [])
 length-grown xs false x = length-append xs []
 
-pub starts-push : (starts : List ℕ) (records : List Record) (of : Record) → AreStarts starts records
-    → AreStarts (starts ++ cond (is_starting of.op) (length records ∷ []) []) (records ++ of ∷ [])
-starts-push starts records of are = record {
-  one_each = omega (arith, length-grown starts (is_starting of.op) (length records), are.one_each, process_count-push records of);
+pub starts-push : (starts : List ℕ) (records : List Record) (it : Record) → AreStarts starts records
+    → AreStarts (starts ++ cond (is_starting it.op) (length records ∷ []) []) (records ++ it ∷ [])
+starts-push starts records it are = record {
+  one_each = omega (arith, length-grown starts (is_starting it.op) (length records), are.one_each, process_count-push records it);
   start = λ p below. elim (cases_lt p (process_count records)) [
-    | inl old ↦ rw (get_or_append_left starts (cond (is_starting of.op) (length records ∷ []) []) 0 p (omega (arith, are.one_each)))
-        (still_started records of (get_or starts p 0) p (are.start p old))
-    | inr other ↦ last (is_starting of.op) refl p other (omega (arith, below, process_count-push records of))
+    | inl old ↦ rw (get_or_append_left starts (cond (is_starting it.op) (length records ∷ []) []) 0 p (omega (arith, are.one_each)))
+        (still_started records it (get_or starts p 0) p (are.start p old))
+    | inr other ↦ last (is_starting it.op) refl p other (omega (arith, below, process_count-push records it))
   ];
 }
   where
-    last : (b : Bool) → is_starting of.op ≡ b → (p : ℕ) → process_count records ≤ p → p < process_count records + cond b 1 0
-        → started_at (records ++ of ∷ []) (get_or (starts ++ cond b (length records ∷ []) []) p 0) ≡ Some p
+    last : (b : Bool) → is_starting it.op ≡ b → (p : ℕ) → process_count records ≤ p → p < process_count records + cond b 1 0
+        → started_at (records ++ it ∷ []) (get_or (starts ++ cond b (length records ∷ []) []) p 0) ≡ Some p
     last true kind p past below =
         let same : process_count records ≡ p = omega arith in
-        rw (get_or_at starts (length records) [] 0 p (omega (arith, are.one_each))) (last_starts records of kind ∙ ap (λ n. Some n) same)
+        rw (get_or_at starts (length records) [] 0 p (omega (arith, are.one_each))) (last_starts records it kind ∙ ap (λ n. Some n) same)
     last false kind p past below = absurd (omega arith)
 
 -- ---- which process a record starts
@@ -92,8 +92,8 @@ start_found starts records place found are search_is = told found (searched star
     told : (r : Result ℕ ℕ) → MatchResult r (λ p. (p < length starts) × (get_or starts p 0 ≡ place))
         (λ p. (p ≤ length starts) × ((k : ℕ) → k < p → get_or starts k 0 < place) × ((k : ℕ) → p ≤ k → k < length starts → place < get_or starts k 0))
         → MatchResult r (λ p. (p < process_count records) × (started_at records place ≡ Some p)) (λ p. started_at records place ≡ None)
-    told (Ok p) at = (omega (arith, at.0, are.one_each), ap (started_at records) (sym at.1) ∙ are.start p (omega (arith, at.0, are.one_each)))
-    told (Err p) at = other p at.1 at.2 (started_at records place) refl
+    told (Ok p) eq = (omega (arith, eq.0, are.one_each), ap (started_at records) (sym eq.1) ∙ are.start p (omega (arith, eq.0, are.one_each)))
+    told (Err p) eq = other p eq.1 eq.2 (started_at records place) refl
 
 -- ---- one record more in the tables
 
@@ -123,70 +123,70 @@ pushed vecs p q place old new false same lt is grows =
     let there : q ≢ p = λ e. eqb-false p q same (sym e) in
     rw map-set (get_or-set_other (lists vecs) p q new.items [] there ∙ sym (append-nil (get_or (lists vecs) q [])))
 
-pub adds : (old new : Tables) (of : Record) (place : ℕ) (between : List (Vec ℕ Global)) (before after : Vec ℕ Global)
-    → new.parents.items ≡ old.parents.items ++ cond (is_starting of.op) (forked_by of.op of.process ∷ []) []
-    → lists between ≡ lists old.own.items ++ cond (is_starting of.op) ([] ∷ []) []
-    → new.starts.items ≡ old.starts.items ++ cond (is_starting of.op) (place ∷ []) []
-    → new.own.items ≡ set between of.process.0 after → before ≡ get_or between of.process.0 before → after.items ≡ before.items ++ place ∷ []
-    → of.process.0 < length old.own.items + cond (is_starting of.op) 1 0 → Adds old new of place
-adds old new of place between before after parents_are begun starts_are own_is before_is grows known =
-    let count : length between ≡ length old.own.items + cond (is_starting of.op) 1 0 =
+pub adds : (old new : Tables) (it : Record) (place : ℕ) (between : List (Vec ℕ Global)) (before after : Vec ℕ Global)
+    → new.parents.items ≡ old.parents.items ++ cond (is_starting it.op) (forked_by it.op it.process ∷ []) []
+    → lists between ≡ lists old.own.items ++ cond (is_starting it.op) ([] ∷ []) []
+    → new.starts.items ≡ old.starts.items ++ cond (is_starting it.op) (place ∷ []) []
+    → new.own.items ≡ set between it.process.0 after → before ≡ get_or between it.process.0 before → after.items ≡ before.items ++ place ∷ []
+    → it.process.0 < length old.own.items + cond (is_starting it.op) 1 0 → Adds old new it place
+adds old new it place between before after parents_are begun starts_are own_is before_is grows known =
+    let count : length between ≡ length old.own.items + cond (is_starting it.op) 1 0 =
     sym (length-lists between) ∙ (ap length begun
-    ∙ (length-grown (lists old.own.items) (is_starting of.op) [] ∙ ap (λ n. n + cond (is_starting of.op) 1 0) (length-lists old.own.items))) in
-    let within : of.process.0 < length between = rw count known in
+    ∙ (length-grown (lists old.own.items) (is_starting it.op) [] ∙ ap (λ n. n + cond (is_starting it.op) 1 0) (length-lists old.own.items))) in
+    let within : it.process.0 < length between = rw count known in
     record {
       by_process = parents_are;
-      size = ap length own_is ∙ (length-set between of.process.0 after ∙ count);
+      size = ap length own_is ∙ (length-set between it.process.0 after ∙ count);
       places = λ q. ap (λ (vs : List (Vec ℕ Global)). get_or (lists vs) q []) own_is
-          ∙ (pushed between of.process.0 q place before after (eqb of.process.0 q) refl within before_is grows
-          ∙ ap (λ ns. ns ++ cond (eqb of.process.0 q) (place ∷ []) []) (ap (λ ls. get_or ls q []) begun ∙ grown (lists old.own.items) (is_starting of.op) q));
+          ∙ (pushed between it.process.0 q place before after (eqb it.process.0 q) refl within before_is grows
+          ∙ ap (λ ns. ns ++ cond (eqb it.process.0 q) (place ∷ []) []) (ap (λ ls. get_or ls q []) begun ∙ grown (lists old.own.items) (is_starting it.op) q));
       by_start = starts_are;
     }
 
 -- ---- one record more in the definitions
 
-own_from-push : (q k : ℕ) (rs : List Record) (of : Record)
-    → own_from q k (rs ++ of ∷ []) ≡ own_from q k rs ++ cond (eqb of.process.0 q) ((k + length rs) ∷ []) []
+own_from-push : (q k : ℕ) (rs : List Record) (it : Record)
+    → own_from q k (rs ++ it ∷ []) ≡ own_from q k rs ++ cond (eqb it.process.0 q) ((k + length rs) ∷ []) []
 unfolding own_from
-own_from-push q k [] of = rw add-zero refl
-own_from-push q k (r ∷ rs) of =
+own_from-push q k [] it = rw add-zero refl
+own_from-push q k (r ∷ rs) it =
     let shift : k + 1 + length rs ≡ k + suc (length rs) = omega arith in
     with_first (eqb r.process.0 q) k _ (own_from q (k + 1) rs) _
-    (own_from-push q (k + 1) rs of ∙ ap (λ n. own_from q (k + 1) rs ++ cond (eqb of.process.0 q) (n ∷ []) []) shift)
+    (own_from-push q (k + 1) rs it ∙ ap (λ n. own_from q (k + 1) rs ++ cond (eqb it.process.0 q) (n ∷ []) []) shift)
 
-indexes_next : (old new : Tables) (records : List Record) (of : Record) → Indexes old records → Adds old new of (length records)
-    → Indexes new (records ++ of ∷ [])
+indexes_next : (old new : Tables) (records : List Record) (it : Record) → Indexes old records → Adds old new it (length records)
+    → Indexes new (records ++ it ∷ [])
 unfolding own_records
-indexes_next old new records of indexes adds_one =
+indexes_next old new records it indexes adds_one =
     let here : 0 + length records ≡ length records = omega arith in
     record {
       by_process = adds_one.by_process
-          ∙ (ap (λ ps. ps ++ cond (is_starting of.op) (forked_by of.op of.process ∷ []) []) indexes.by_process ∙ sym (parents-push records of));
-      size = omega (arith, adds_one.size, indexes.size, process_count-push records of);
-      places = λ q. adds_one.places q ∙ ap (λ ns. ns ++ cond (eqb of.process.0 q) (length records ∷ []) []) (indexes.places q)
-          ∙ sym (own_from-push q 0 records of ∙ ap (λ k. own_from q 0 records ++ cond (eqb of.process.0 q) (k ∷ []) []) here);
-      by_start = rw adds_one.by_start (starts-push old.starts.items records of indexes.by_start);
+          ∙ (ap (λ ps. ps ++ cond (is_starting it.op) (forked_by it.op it.process ∷ []) []) indexes.by_process ∙ sym (parents-push records it));
+      size = omega (arith, adds_one.size, indexes.size, process_count-push records it);
+      places = λ q. adds_one.places q ∙ ap (λ ns. ns ++ cond (eqb it.process.0 q) (length records ∷ []) []) (indexes.places q)
+          ∙ sym (own_from-push q 0 records it ∙ ap (λ k. own_from q 0 records ++ cond (eqb it.process.0 q) (k ∷ []) []) here);
+      by_start = rw adds_one.by_start (starts-push old.starts.items records it indexes.by_start);
     }
 
 -- ---- the tables of the first records, record after record
 
-with_next : (records : List Record) (i : ℕ) (of : Record) → i < length records → of ≡ get_or records i of → take (suc i) records ≡ take i records ++ of ∷ []
-with_next records i of lt is = ap (λ n. take n records) (sym (add-one i)) ∙ (take_more records i of lt ∙ ap (λ (x : Record). take i records ++ x ∷ []) (sym is))
+with_next : (records : List Record) (i : ℕ) (it : Record) → i < length records → it ≡ get_or records i it → take (suc i) records ≡ take i records ++ it ∷ []
+with_next records i it lt is = ap (λ n. take n records) (sym (add-one i)) ∙ (take_more records i it lt ∙ ap (λ (x : Record). take i records ++ x ∷ []) (sym is))
 
-pub known_at : (tables : Tables) (records : List Record) (i : ℕ) (of : Record) → IsNumbered records → i < length records → of ≡ get_or records i of
+pub known_at : (tables : Tables) (records : List Record) (i : ℕ) (it : Record) → IsNumbered records → i < length records → it ≡ get_or records i it
     → Indexes tables (take i records)
-    → of.process.0 < length tables.own.items + cond (is_starting of.op) 1 0
-known_at tables records i of numbered lt is indexes =
-    let at : slice_get records i ≡ Some of = slice_get_read records (length records) i of refl lt is in
-    omega (arith, numbered_below records i of numbered at, count-more records i of at, indexes.size)
+    → it.process.0 < length tables.own.items + cond (is_starting it.op) 1 0
+known_at tables records i it numbered lt is indexes =
+    let eq : slice_get records i ≡ Some it = slice_get_read records (length records) i it refl lt is in
+    omega (arith, numbered_below records i it numbered eq, count-more records i it eq, indexes.size)
 
-pub indexes_one_more : (old new : Tables) (records : List Record) (i : ℕ) (of : Record) → i < length records → of ≡ get_or records i of
-    → Indexes old (take i records) → Adds old new of i → Indexes new (take (i + 1) records)
-indexes_one_more old new records i of lt is indexes adds_one =
+pub indexes_one_more : (old new : Tables) (records : List Record) (i : ℕ) (it : Record) → i < length records → it ≡ get_or records i it
+    → Indexes old (take i records) → Adds old new it i → Indexes new (take (i + 1) records)
+indexes_one_more old new records i it lt is indexes adds_one =
     let count : i ≡ length (take i records) = omega (arith, length-take i records) in
-    let next : Indexes new (take i records ++ of ∷ []) =
-    indexes_next old new (take i records) of indexes (let P : ℕ → Type 0 = λ n. Adds old new of n in subst P count adds_one) in
-    rw add-one (rw (with_next records i of lt is) next)
+    let next : Indexes new (take i records ++ it ∷ []) =
+    indexes_next old new (take i records) it indexes (let P : ℕ → Type 0 = λ n. Adds old new it n in subst P count adds_one) in
+    rw add-one (rw (with_next records i it lt is) next)
 
 -- ---- what is read from the tables
 

@@ -44,16 +44,16 @@ call-supported abi (calls.AddPort rs port net) is =
     ∙ second (network.is_empty net && not (network.is_empty net)) (calls.LeaveOut NetPort) (calls.AddPort rs port net) (never (network.is_empty net))
 call-supported abi op is = refl
 
-each-supported : (abi : Abi) (records : List Record) → AllByRecursion (λ (of : Record). IsSupported abi of.op) records
+each-supported : (abi : Abi) (records : List Record) → AllByRecursion (λ (one : Record). IsSupported abi one.op) records
     → records_at_best_effort abi records ≡ records
 each-supported abi [] all = refl
 each-supported abi (r ∷ rs) all =
     ap (λ (op : Op). record r { op = op } ∷ records_at_best_effort abi rs) (call-supported abi r.op all.0)
     ∙ ap (λ (others : List Record). r ∷ others) (each-supported abi rs all.1)
 
-pub records-supported : (abi : Abi) (records : List Record) → All (λ (of : Record). IsSupported abi of.op) records
+pub records-supported : (abi : Abi) (records : List Record) → All (λ (one : Record). IsSupported abi one.op) records
     → records_at_best_effort abi records ≡ records
-records-supported abi records all = each-supported abi records (recursion_from_All (λ (of : Record). IsSupported abi of.op) records all)
+records-supported abi records all = each-supported abi records (recursion_from_All (λ (one : Record). IsSupported abi one.op) records all)
 
 -- ---- a name that is no right's
 

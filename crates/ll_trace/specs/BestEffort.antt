@@ -38,7 +38,7 @@ at_best_effort abi op = op
 
 -- the same of a record, which keeps its line and its process
 abbrev pub record_at_best_effort : Abi → Record → Record
-record_at_best_effort abi of = record of { op = at_best_effort abi of.op }
+record_at_best_effort abi r = record r { op = at_best_effort abi r.op }
 
 -- the same of all records
 abbrev pub records_at_best_effort : Abi → List Record → List Record

@@ -7,6 +7,7 @@ use Rattle.ll_lines.specs.Fault.{◌>>=◌}
 use Rattle.ll_lines.specs.Lines.{Line}
 use Rattle.ll_lines.specs.Members.{value_at, number_at}
 use Rattle.ll_lines.specs.Reading.{Format}
+use Rattle.ll_trace.specs.declared.reader.TheConstants.{MOST_PROCESSES, MOST_RECORDS}
 use Rattle.ll_trace.specs.declared.op.Op.{Op}
 use Rattle.ll_trace.specs.declared.op.Op.TheVariants.{Start, Fork, Exit}
 use Rattle.ll_trace.specs.Operations.{operation_at}
@@ -85,7 +86,7 @@ is_twice past entry = is_live_pid past (started_pid entry)
 
 -- the 1,000,001st entry, or one that starts the 65,537th process
 abbrev pub is_too_many : List Entry → Entry → Bool
-is_too_many past entry = nat_le 1000000 (length past) || (is_some (started_pid entry) && nat_le 65536 (process_count past))
+is_too_many past entry = nat_le MOST_RECORDS (length past) || (is_some (started_pid entry) && nat_le MOST_PROCESSES (process_count past))
 
 -- the first cause by which an entry has no place after the past, where this tells of a pid that is used twice
 abbrev pub misplacement_by : (List Entry → Entry → Bool) → List Entry → Entry → Option Cause

@@ -26,8 +26,8 @@ pub record Indexes (tables : Tables) (records : List Record) : Type 0 where
   pub by_start : AreStarts tables.starts.items records
 
 -- one record more, at a place
-pub record Adds (old new : Tables) (of : Record) (place : ℕ) : Type 0 where
-  pub by_process : new.parents.items ≡ old.parents.items ++ (if is_starting of.op then forked_by of.op of.process ∷ [] else [])
-  pub size : length new.own.items ≡ length old.own.items + (if is_starting of.op then 1 else 0)
-  pub places : (process : ℕ) → places_noted new process ≡ places_noted old process ++ (if of.process.0 == process then place ∷ [] else [])
-  pub by_start : new.starts.items ≡ old.starts.items ++ (if is_starting of.op then place ∷ [] else [])
+pub record Adds (old new : Tables) (r : Record) (place : ℕ) : Type 0 where
+  pub by_process : new.parents.items ≡ old.parents.items ++ (if is_starting r.op then forked_by r.op r.process ∷ [] else [])
+  pub size : length new.own.items ≡ length old.own.items + (if is_starting r.op then 1 else 0)
+  pub places : (process : ℕ) → places_noted new process ≡ places_noted old process ++ (if r.process.0 == process then place ∷ [] else [])
+  pub by_start : new.starts.items ≡ old.starts.items ++ (if is_starting r.op then place ∷ [] else [])

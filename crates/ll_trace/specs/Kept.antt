@@ -17,7 +17,7 @@ runs (Some owner) = owner.running
 
 -- the number of that process
 abbrev pub number : Option Owner → Option ℕ
-number owner = option_map (λ (of : Owner). of.process.0) owner
+number owner = option_map (λ (one : Owner). one.process.0) owner
 
 abbrev pub stopped : Option Owner → Option Owner
 stopped None = None

@@ -1,7 +1,8 @@
 -- The members of a record's line: paths, sets of rights, modes, kinds and ports.
 -- Source: docs/FORMATS.md, "The trace file".
-use Rattle.std.specs.Prelude.{ℕ, List, [], ◌∷◌, is_some, nat_lt, codes, Result, Ok, Err, if◌then◌else◌}
+use Rattle.std.specs.Prelude.{ℕ, List, [], ◌∷◌, is_some, nat_le, codes, Result, Ok, Err, if◌then◌else◌}
 use Rattle.serde_json.specs.Data.{Data}
+use Rattle.ll_rights.specs.declared.net.TheConstants.{LARGEST_PORT}
 use Rattle.ll_rights.specs.declared.fs.Fs.{Fs}
 use Rattle.ll_rights.specs.declared.net.Net.{Net}
 use Rattle.ll_rights.specs.declared.kind.Kind.{Kind}
@@ -66,4 +67,4 @@ made_kind_at value = word_at (codes "kind") made_kinds value
 unfoldable pub port_at : Data → Result ℕ Cause
 port_at value = do
   port ← number_at (codes "port") value
-  if nat_lt port 65536 then Ok port else Err Field
+  if nat_le port LARGEST_PORT then Ok port else Err Field

@@ -19,7 +19,7 @@ records_after past (entry ∷ entries) = record_of past entry ∷ records_after 
 
 -- the entry that a record was read from
 abbrev pub entry_of : Record → Entry
-entry_of of = record { line = of.line; pid = of.pid; op = of.op }
+entry_of r = record { line = r.line; pid = r.pid; op = r.op }
 
 -- A trace file reads as these records.
 pub record IsTrace (bytes : List ℕ) (records : List Record) : Type 0 where

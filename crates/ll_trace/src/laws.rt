@@ -49,9 +49,9 @@ pub fn processes_are_numbered()
     ensures once { (records : List Record) (place other process : ℕ)
         → started_at records place ≡ Some process
         → started_at records other ≡ Some process → place ≡ other }
-    ensures forked { (records : List Record) (place process : ℕ) (of : Record)
-        → slice_get records place ≡ Some of → started_at records place ≡ Some process
-        → parent_of records process ≡ forked_by of.op of.process }
+    ensures forked { (records : List Record) (place process : ℕ) (r : Record)
+        → slice_get records place ≡ Some r → started_at records place ≡ Some process
+        → parent_of records process ≡ forked_by r.op r.process }
     ensures parent { (records : List Record) (process : ℕ) (parent : ProcessId) → IsNumbered records
         → process < process_count records
         → parent_of records process ≡ Some parent → parent.0 < process }
@@ -80,7 +80,7 @@ pub fn lines_say_operations_by_name()
 /// makes the same of what a newer one left as of the records themselves.
 pub fn best_effort_by_version()
     ensures supported { (abi : Abi) (records : List Record)
-        → All (λ of. IsSupported abi of.op) records
+        → All (λ r. IsSupported abi r.op) records
         → records_at_best_effort abi records ≡ records }
     ensures older { (older newer : Abi) (records : List Record) → number_of older ≤ number_of newer
         → records_at_best_effort older (records_at_best_effort newer records)

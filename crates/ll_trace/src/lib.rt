@@ -21,6 +21,7 @@ pub use laws::{
 pub use located::Located;
 pub use op::{Mode, Op, RuleType, Sort};
 pub use path_text::{PathText, SecondPath};
+pub use reader::{MOST_PROCESSES, MOST_RECORDS};
 pub use record::{ProcessId, Record};
 pub use rows::{calls_at_best_effort, faulty_traces, whole_traces};
 pub use trace::Trace;

@@ -5,6 +5,7 @@ ghost use Rattle.ll_lines.specs.declared.fault.Cause.TheVariants.{Memory};
 ghost use Rattle.ll_lines.specs.Readers.{Gives};
 ghost use Rattle.ll_lines.specs.LineView.{line_view};
 ghost use Rattle.ll_lines.specs.LineByLine.{with_entry, with_line, reading, GivesReading};
+ghost use Rattle.ll_trace.specs.declared.reader.TheConstants.{MOST_PROCESSES};
 ghost use Rattle.ll_trace.specs.Entries.{Entry as Seen, entry_at, is_live as is_live_in, is_unknown as is_unknown_in, is_twice as is_twice_in, is_too_many, is_end_of, misplacement, process_count, started_pid, trace_file};
 ghost use Rattle.ll_trace.specs.Records.{process_of};
 ghost use Rattle.ll_trace.specs.Kept.{IsKept, IsNoted, Begins, Stops, entries, entry_view, number, owner_of, past, runs};
@@ -20,10 +21,10 @@ use std::alloc::Global;
 use std::collections::BTreeMap;
 
 /// The most records of a trace.
-const MOST_RECORDS: usize = 1_000_000;
+pub const MOST_RECORDS: usize = 1_000_000;
 
 /// The most processes of a trace.
-const MOST_PROCESSES: u32 = 65_536;
+pub const MOST_PROCESSES: u32 = 65_536;
 
 /// What a line says.
 #[derive(Drop)]
@@ -216,7 +217,7 @@ impl Reader {
 
     /// A new process gets the pid.
     fn begin(&mut self, pid: u64) -> Result<(), Cause>
-        requires { self.old.processes < 65536 }
+        requires { self.old.processes < MOST_PROCESSES }
         ensures ok { OnOk result (Begins self.old self.new pid) }
         ensures err { IfErr result (λ cause. cause ≡ Memory) }
     {

@@ -3,6 +3,7 @@
 ghost use Rattle.std.specs.Prelude.{◌≡◌, ◌≢◌, ◌<◌, ◌≤◌, length, option_map, All, IfOk, IfErr, IfSome};
 ghost use Rattle.ll_lines.specs.declared.fault.Cause.TheVariants.{Memory};
 ghost use Rattle.ll_lines.specs.Reading.{IsBad};
+ghost use Rattle.ll_trace.specs.declared.reader.TheConstants.{MOST_PROCESSES, MOST_RECORDS};
 ghost use Rattle.ll_trace.specs.Entries.{trace_file};
 ghost use Rattle.ll_trace.specs.RecordFacts.{AreRecords};
 ghost use Rattle.ll_trace.specs.Records.{IsTrace};
@@ -106,7 +107,7 @@ impl Trace {
     /// The records, in the order of the file.
     pub fn records(&self) -> &[Record]
         ensures value { result.now ≡ self.now }
-        ensures few { length self.now ≤ 1000000 }
+        ensures few { length self.now ≤ MOST_RECORDS }
         ensures are_records { AreRecords self.now }
     {
         let records = &self.records;
@@ -116,7 +117,7 @@ impl Trace {
     /// How many processes the trace has.
     pub fn processes(&self) -> u32
         ensures count { result ≡ process_count self.now }
-        ensures few { result ≤ 65536 }
+        ensures few { result ≤ MOST_PROCESSES }
     {
         self.tables.own.len() as u32
     }

@@ -10,9 +10,9 @@ use Rattle.ll_trace.specs.Processes.{process_count, IsNumbered}
 use Rattle.ll_trace.proofs.Numbers.{count-more, no_count}
 use Rattle.ll_semantics.specs.declared.answer.Answer.{Answer}
 use Rattle.ll_semantics.specs.Worlds.{answer_in, judged}
-use Rattle.ll_semantics.specs.Situations.{world_at}
+use Rattle.ll_semantics.specs.CallContexts.{world_at}
 use Rattle.ll_semantics.proofs.Steps.{judged-at}
-use Rattle.ll_process.specs.Cases.{Matter}
+use Rattle.ll_process.specs.Cases.{CaseValue}
 use Rattle.ll_reasons.specs.Origins.{no_sources, sources_by, sources_at, sources_after}
 use Rattle.ll_reasons.proofs.Lockstep.{sources_at-more, count-sources_by}
 use Rattle.ll_trails.specs.declared.trail.Trails.{Trails}
@@ -32,16 +32,16 @@ module _ (tree : List Entry) (abi : Abi) (records : List Record) where
   -- the next record and its answer
   pub sources_at-next : (k : ℕ) (r : Record) (a : Answer) → slice_get records k ≡ Some r → slice_get (judged tree abi records) k ≡ Some a
       → sources_at tree abi records (k + 1) ≡ sources_by k r.op r.process.0 a (sources_at tree abi records k)
-  sources_at-next k r a at asked =
-      let told : answer_in tree abi (world_at tree abi records k) r.process.0 r.op ≡ a = same_Some _ a (sym (judged-at tree abi records k r at) ∙ asked) in
-      ap (λ (n : ℕ). sources_at tree abi records n) (let next : k + 1 ≡ suc k = omega arith in next) ∙ sources_at-more tree abi records k r at
+  sources_at-next k r a eq asked =
+      let told : answer_in tree abi (world_at tree abi records k) r.process.0 r.op ≡ a = same_Some _ a (sym (judged-at tree abi records k r eq) ∙ asked) in
+      ap (λ (n : ℕ). sources_at tree abi records n) (let next : k + 1 ≡ suc k = omega arith in next) ∙ sources_at-more tree abi records k r eq
       ∙ ap (λ (answer : Answer). sources_by k r.op r.process.0 answer (sources_at tree abi records k)) told
 
   one_more : (k : ℕ) (r : Record) → slice_get records k ≡ Some r → (sources_at tree abi records k).count ≡ process_count (take k records)
       → (sources_at tree abi records (suc k)).count ≡ process_count (take (suc k) records)
-  one_more k r at before =
+  one_more k r eq before =
       let counted = count-sources_by k r.op r.process.0 (answer_in tree abi (world_at tree abi records k) r.process.0 r.op) (sources_at tree abi records k) in
-      ap (λ sources. sources.count) (sources_at-more tree abi records k r at) ∙ omega (arith, counted, before, count-more records k r at)
+      ap (λ sources. sources.count) (sources_at-more tree abi records k r eq) ∙ omega (arith, counted, before, count-more records k r eq)
 
   -- as many processes as were started
   pub count-sources_at : (k : ℕ) → k ≤ length records → (sources_at tree abi records k).count ≡ process_count (take k records)
@@ -54,8 +54,8 @@ module _ (tree : List Entry) (abi : Abi) (records : List Record) where
   -- a record that starts no process is of one that was started before
   pub process_there : (k : ℕ) (r : Record) → IsNumbered records → k ≤ length records → slice_get records k ≡ Some r → is_start r.op ≡ false
       → r.process.0 < (sources_at tree abi records k).count
-  process_there k r numbered within at goes = rw (count-sources_at k within) (numbered.goes_on k r at goes)
+  process_there k r numbered within eq goes = rw (count-sources_at k within) (numbered.goes_on k r eq goes)
 
 -- what is kept of no process is what is kept before the first record
-pub begins_at : (of : Matter) (trails : Trails) → AreTrails trails.trails.items no_sources → AreTrailsAt of 0 trails
-begins_at of trails are = rw (sources_at-first of.tree of.abi of.records) are
+pub begins_at : (cv : CaseValue) (trails : Trails) → AreTrails trails.trails.items no_sources → AreTrailsAt cv 0 trails
+begins_at cv trails are = rw (sources_at-first cv.tree cv.abi cv.records) are

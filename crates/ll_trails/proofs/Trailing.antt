@@ -18,7 +18,7 @@ pub trails_begun : (trails : List Trail) (trail : Trail) (sources : Sources) (o 
     → AreTrails (trails ++ trail ∷ []) (with_next sources o)
 trails_begun trails trail sources o are follows = record {
   count = simp length-append (omega (arith, are.count));
-  each = λ process one at. elim (cases_eq process (length trails)) [
+  each = λ process one eq. elim (cases_eq process (length trails)) [
     | inl last ↦
         let here : slice_get (trails ++ trail ∷ []) process ≡ Some trail = rw (slice_get-push trails process trail, eq-eqb process (length trails) last) refl in
         let it : trail ≡ one = cc in
@@ -26,7 +26,7 @@ trails_begun trails trail sources o are follows = record {
     | inr earlier ↦
         let before : slice_get (trails ++ trail ∷ []) process ≡ slice_get trails process =
         rw (slice_get-push trails process trail, ne_eqb process (length trails) earlier) refl in
-        rw (ne_eqb process sources.count (λ same. earlier (same ∙ sym are.count))) (are.each process one (sym before ∙ at))
+        rw (ne_eqb process sources.count (λ same. earlier (same ∙ sym are.count))) (are.each process one (sym before ∙ eq))
   ];
 }
 
@@ -36,7 +36,7 @@ pub trails_changed : (trails : List Trail) (process : ℕ) (trail : Trail) (sour
     AreTrails (set trails process trail) (record sources { processes = with_origins sources.processes process o })
 trails_changed trails process trail sources o there are follows = record {
   count = length-set trails process trail ∙ are.count;
-  each = λ other one at. elim (cases_eq other process) [
+  each = λ other one eq. elim (cases_eq other process) [
     | inl same ↦
         let here : slice_get (set trails process trail) other ≡ Some trail =
         rw (slice_get-set trails process other trail there, eq-eqb other process same) refl in
@@ -45,7 +45,7 @@ trails_changed trails process trail sources o there are follows = record {
     | inr differs ↦
         let before : slice_get (set trails process trail) other ≡ slice_get trails other =
         rw (slice_get-set trails process other trail there, ne_eqb other process differs) refl in
-        rw (ne_eqb other process differs) (are.each other one (sym before ∙ at))
+        rw (ne_eqb other process differs) (are.each other one (sym before ∙ eq))
   ];
 }
 
@@ -54,7 +54,7 @@ pub trails_kept : (trails : List Trail) (process : ℕ) (trail : Trail) (sources
     → Follows trail (sources.processes process) → AreTrails (set trails process trail) sources
 trails_kept trails process trail sources there are follows =
     let changed = trails_changed trails process trail sources (sources.processes process) there are follows in
-    record { count = changed.count; each = λ other one at. subst (λ (o : Origins). Follows one o) (same other) (changed.each other one at) }
+    record { count = changed.count; each = λ other one eq. subst (λ (o : Origins). Follows one o) (same other) (changed.each other one eq) }
   where
     same : (other : ℕ) → with_origins sources.processes process (sources.processes process) other ≡ sources.processes other
     same other = elim (cases_eq other process) [ inl own ↦ rw (eq-eqb other process own, own) refl | inr differs ↦ rw (ne_eqb other process differs) refl ]

@@ -7,10 +7,10 @@ use Rattle.ll_rules.specs.KeptLayers.{SameRules, domain_of, IsDomainOf}
 use Rattle.ll_rules.specs.InTree.{all_in_tree}
 use Rattle.ll_semantics.specs.declared.answer.Answer.{Answer}
 use Rattle.ll_semantics.specs.Notes.{IsFrozen}
-use Rattle.ll_semantics.specs.Situations.{world_at}
+use Rattle.ll_semantics.specs.CallContexts.{world_at}
 use Rattle.ll_semantics.specs.Worlds.{judged}
 use Rattle.ll_rulebook.specs.Settled.{met_by}
-use Rattle.ll_process.specs.Cases.{Matter}
+use Rattle.ll_process.specs.Cases.{CaseValue}
 use Rattle.ll_reasons.specs.Explanations.{domain_at, origins_at}
 use Rattle.ll_reasons.specs.Made.{enforced_at}
 use Rattle.ll_reasons.specs.Origins.{sources_at, no_sources}
@@ -19,26 +19,26 @@ use Rattle.ll_trails.specs.declared.trail.Trails.{Trails}
 use Rattle.ll_trails.specs.Trails.{Follows, AreTrails}
 
 -- what is kept says where all that the processes of a case have before the record at a place comes from
-abbrev pub AreTrailsAt : Matter → ℕ → Trails → Type 0
-AreTrailsAt of place trails = AreTrails trails.trails.items (sources_at of.tree of.abi of.records place)
+abbrev pub AreTrailsAt : CaseValue → ℕ → Trails → Type 0
+AreTrailsAt case place trails = AreTrails trails.trails.items (sources_at case.tree case.abi case.records place)
 
 -- what is kept of no process is what is kept before the first record, whichever the case
 abbrev pub TrailsBegin : Type 0
-TrailsBegin = (of : Matter) (trails : Trails) → AreTrails trails.trails.items no_sources → AreTrailsAt of 0 trails
+TrailsBegin = (case : CaseValue) (trails : Trails) → AreTrails trails.trails.items no_sources → AreTrailsAt case 0 trails
 
 -- an answer is that to the record at a place
-abbrev pub IsAnswerAt : Matter → ℕ → Answer → Type 0
-IsAnswerAt of place answer = slice_get (judged of.tree of.abi of.records) place ≡ Some answer
+abbrev pub IsAnswerAt : CaseValue → ℕ → Answer → Type 0
+IsAnswerAt case place answer = slice_get (judged case.tree case.abi case.records) place ≡ Some answer
 
 -- layers of a case that are one by one the same as those of a process before the record at a place
-pub record IsDomainAt (of : Matter) (place process : ℕ) (ids : List LayerId) : Type 0 where
-  pub places : IsDomainOf of.layers ids
-  pub same : AllZip SameRules (all_in_tree of.tree (domain_of of.layers ids)) (domain_at of.tree of.abi of.records place process)
+pub record IsDomainAt (case : CaseValue) (place process : ℕ) (ids : List LayerId) : Type 0 where
+  pub places : IsDomainOf case.layers ids
+  pub same : AllZip SameRules (all_in_tree case.tree (domain_of case.layers ids)) (domain_at case.tree case.abi case.records place process)
 
 -- the layer of a case by which the record at a place restricts its process, whichever process meets it; none if it restricts none
-abbrev pub IsLayerBy : Matter → ℕ → Option LayerId → Type 0
-IsLayerBy of place id = (process : ℕ) → IsFrozen (met_by of.tree of.abi of.layers (world_at of.tree of.abi of.records place) process) id (enforced_at of.tree of.abi of.records place)
+abbrev pub IsLayerBy : CaseValue → ℕ → Option LayerId → Type 0
+IsLayerBy case place id = (process : ℕ) → IsFrozen (met_by case.tree case.abi case.layers (world_at case.tree case.abi case.records place) process) id (enforced_at case.tree case.abi case.records place)
 
 -- layers of a case that are those of each process which a trail follows
-abbrev pub AreLayersBy : Matter → Trail → List LayerId → Type 0
-AreLayersBy of trail ids = (place process : ℕ) → Follows trail (origins_at of.tree of.abi of.records place process) → IsDomainAt of place process ids
+abbrev pub AreLayersBy : CaseValue → Trail → List LayerId → Type 0
+AreLayersBy case trail ids = (place process : ℕ) → Follows trail (origins_at case.tree case.abi case.records place process) → IsDomainAt case place process ids

@@ -20,7 +20,7 @@ fn layer_by(case: &Case, place: u32) -> Option<LayerId>
     match case.note(place) {
         Note::Frozen(id) => Some(*id),
         Note::Answered(_) => None,
-        Note::Open => None,
+        Note::ByState => None,
     }
 }
 

@@ -3,6 +3,7 @@ use Rattle.std.proofs.Common.{◌≡◌, ℕ, ◌<◌, ◌∷◌, [], ◌++◌, 
 use Rattle.std.proofs.Common.{None, cond, leb, refl, inl, inr, ⊎_elim, take, Global}
 use Rattle.std.specs.String.{string_bytes, string_cmp}
 use Rattle.std.specs.declared.string.String.{String}
+use Rattle.ll_tree.specs.declared.tree.TheConstants.{MOST_NODES}
 use Rattle.ll_tree.specs.declared.tree.Object.{Object}
 use Rattle.ll_tree.specs.declared.place.NodeId.{NodeId}
 use Rattle.ll_tree.specs.TreeFacts.{spelt, named, IsTree, depth_at}
@@ -18,6 +19,7 @@ use Rattle.std.proofs.lemmas.Option.{none-some}
 use Rattle.ll_rights.specs.declared.kind.Kind.{Kind}
 use Rattle.ll_rights.specs.declared.kind.Kind.TheVariants.{Dir}
 use Rattle.ll_tree.specs.declared.place.Place.TheVariants as places
+use Rattle.ll_lines.specs.declared.path.TheConstants.{LONGEST_PATH}
 use Rattle.ll_lines.specs.Paths.{Path, is_name, path_of, front, path_eq, after_slash, names_in}
 use Rattle.ll_lines.specs.PathTexts.{is_path, text_of}
 use Rattle.ll_tree.proofs.Positions.{path_in, at_position, position_of-some, position_of-kept, is_dir_in-from_place, node, is_root, parent_of-root}
@@ -93,10 +95,10 @@ unfolding place_or_gap node_at
 gap_fits tree text kind up shape is = go (position_of (spelt text) tree) refl (place_is tree text shape ∙ is) where
   go : (found : Option ℕ) → position_of (spelt text) tree ≡ found → place_or_gap tree (spelt text) (option_map node found) ≡ places.Gap up
       → Fits tree (named text kind) up
-  go (Some number) at same = cc
-  go None at same =
+  go (Some number) eq same = cc
+  go None eq same =
       let dir = gap_dir tree (node_at tree (front (spelt text))) up same in
-      record { is_path = is_path-path_of text (spelt text) (spelt_is text shape); fresh = at; above = dir.0; is_dir = is_dir-Dir (kind_at tree up) dir.1 }
+      record { is_path = is_path-path_of text (spelt text) (spelt_is text shape); fresh = eq; above = dir.0; is_dir = is_dir-Dir (kind_at tree up) dir.1 }
 
 -- what holds of each item by its place, and of a new one at the end
 pub each_push : {X : Type 0} (P : ℕ → X → Type 0) (xs : List X) (x other : X) → ((n : ℕ) → n < length xs → P n (get_or xs n other)) → P (length xs) x → (n : ℕ)
@@ -206,11 +208,12 @@ length-join (name ∷ next ∷ names) =
     omega arith
 
 -- a path of at most 4,096 bytes has no more names
-pub depth_small : (tree : List Entry) (here : NodeId) → IsTree tree → IsNode tree here → depth_at tree here ≤ 4096
+pub depth_small : (tree : List Entry) (here : NodeId) → IsTree tree → IsNode tree here → depth_at tree here ≤ LONGEST_PATH
 unfolding depth_at Rattle.ll_lines.specs.PathTexts.is_path text_of
 depth_small tree here listed within =
     let path = path_at tree here in
-    let short = leb-true (length (text_of path)) 4096 (and_parts (list_all is_name path) (leb (length (text_of path)) 4096) (listed.paths here within)).1 in
+    let fits = (and_parts (list_all is_name path) (leb (length (text_of path)) LONGEST_PATH) (listed.paths here within)).1 in
+    let short = leb-true (length (text_of path)) LONGEST_PATH fits in
     let names = length-join path in
     omega arith
 
@@ -219,7 +222,7 @@ depth_small tree here listed within =
 module _ {A : Type 0} (objects : List Object) (value : List Entry) (view : entries_of objects ≡ value) (numbers later : BTreeMap (String A) ℕ) (key : String A)
     (object : Object) (up : NodeId) (number : ℕ)
     (sound : IsSound objects numbers.entries)
-    (room : length value < 65536)
+    (room : length value < MOST_NODES)
     (shape : is_some (path_of (string_bytes object.text)) ≡ true)
     (gap : place value (string_bytes object.text) ≡ places.Gap up)
     (same_text : string_bytes key ≡ string_bytes object.text)

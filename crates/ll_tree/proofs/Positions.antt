@@ -53,9 +53,9 @@ at_position path (entry ∷ entries) place is =
   where
     later : (rest : Option ℕ) → ((n : ℕ) → rest ≡ Some n → (n < length entries) × (path_in entries n ≡ path)) → option_map (λ n. suc n) rest ≡ Some place
         → (place < suc (length entries)) × (path_in (entry ∷ entries) place ≡ path)
-    later None at found = absurd (none-some place found)
-    later (Some before) at found =
-        let there = at before refl in
+    later None eq found = absurd (none-some place found)
+    later (Some before) eq found =
+        let there = eq before refl in
         subst (λ n. (n < suc (length entries)) × (path_in (entry ∷ entries) n ≡ path)) (same_Some (suc before) place found) (omega arith, there.1)
 
 -- a path that is in the list is found, there or earlier
@@ -163,8 +163,7 @@ pub parent_found : (tree : List Entry) (here : NodeId) → IsTree tree → IsNod
     → (up : NodeId) × (parent_at tree here ≡ Some up) × StandsIn tree here up
 unfolding parent_at node_at path_at kind_at
 parent_found tree here listed within other =
-    let later : 0 < here.0 =
-    ⊎_elim (λ (l : 0 < here.0). l) (λ (l : here.0 ≤ 0).
+    let later : 0 < here.0 = ⊎_elim (λ (l : 0 < here.0). l) (λ (l : here.0 ≤ 0).
     absurd (other (let first : here.0 ≡ 0 = omega arith in ap (λ n. path_in tree n) first ∙ is_root tree listed))) (cases_lt 0 here.0) in
     let path = path_at tree here in
     let dir = place_of_dir (front path) (take here.0 tree) (listed.above here within later) in

@@ -8,6 +8,7 @@ use Rattle.ll_rights.specs.declared.kind.Kind.{Kind}
 use Rattle.ll_lines.specs.declared.fault.Cause.{Cause}
 use Rattle.ll_lines.specs.declared.fault.Cause.TheVariants.{Twice, NoParent, TooMany, Memory}
 use Rattle.ll_lines.specs.declared.fault.ReadFault.{ReadFault}
+use Rattle.ll_tree.specs.declared.tree.TheConstants.{MOST_NODES}
 use Rattle.ll_tree.specs.declared.place.NodeId.{NodeId}
 use Rattle.ll_tree.specs.declared.place.Place.{Place}
 use Rattle.ll_tree.specs.declared.place.Place.TheVariants as places
@@ -58,29 +59,29 @@ is_dir_in-found tree path listed = elim (cases_Bool (is_dir_in tree path)) [
 ]
   where
     go : (found : Option ℕ) → position_of path tree ≡ found → is_dir_in tree path ≡ false → false ≡ dir_found tree (option_map node found)
-    go None at other = refl
-    go (Some place) at other = elim (cases_Bool (is_dir (get_or tree place root).kind)) [
-      | inl dir ↦ let there = at_position path tree place at in absurd (false≢true (sym other ∙ is_dir_in-from_place path tree place there.0 there.1 dir))
+    go None eq other = refl
+    go (Some place) eq other = elim (cases_Bool (is_dir (get_or tree place root).kind)) [
+      | inl dir ↦ let there = at_position path tree place eq in absurd (false≢true (sym other ∙ is_dir_in-from_place path tree place there.0 there.1 dir))
       | inr not ↦ sym not
     ]
 
 -- the fault of an object is told by the place that its path names
 unfoldable pub fault_at : List Entry → Place → Option Cause
 fault_at tree (places.Node here) = Some Twice
-fault_at tree (places.Gap up) = cond (ltb (length tree) 65536) None (Some TooMany)
+fault_at tree (places.Gap up) = cond (ltb (length tree) MOST_NODES) None (Some TooMany)
 fault_at tree places.Nowhere = Some NoParent
 
 gap_fault : (tree : List Entry) (up : Option NodeId)
-    → cond (not (dir_found tree up)) (Some NoParent) (cond (ltb (length tree) 65536) None (Some TooMany)) ≡ fault_at tree (gap_in tree up)
+    → cond (not (dir_found tree up)) (Some NoParent) (cond (ltb (length tree) MOST_NODES) None (Some TooMany)) ≡ fault_at tree (gap_in tree up)
 unfolding dir_found fault_at gap_in
 gap_fault tree None = refl
 gap_fault tree (Some up) =
-    elim (is_dir (kind_at tree up)) as (λ b. cond (not b) (Some NoParent) (cond (ltb (length tree) 65536) None (Some TooMany))
+    elim (is_dir (kind_at tree up)) as (λ b. cond (not b) (Some NoParent) (cond (ltb (length tree) MOST_NODES) None (Some TooMany))
     ≡ fault_at tree (cond b (places.Gap up) places.Nowhere)) [ true ↦ refl | false ↦ refl ]
 
 place_fault : (tree : List Entry) (path : Path) (found : Option ℕ) →
     cond (is_some found) (Some Twice) (cond (not (dir_found tree (node_at tree (front path)))) (Some NoParent)
-    (cond (ltb (length tree) 65536) None (Some TooMany))) ≡ fault_at tree (place_or_gap tree path (option_map node found))
+    (cond (ltb (length tree) MOST_NODES) None (Some TooMany))) ≡ fault_at tree (place_or_gap tree path (option_map node found))
 unfolding fault_at place_or_gap
 place_fault tree path (Some n) = refl
 place_fault tree path None = gap_fault tree (node_at tree (front path))
@@ -93,17 +94,17 @@ fault_in-place tree text kind listed shape =
     rw (spelt_is text shape, is_listed-position tree path, is_dir_in-found tree (front path) listed) (place_fault tree path (position_of path tree))
 
 -- what is listed after an object: the fault that its place tells, or the tree with it
-module _ (tree : List Entry) (text : List ℕ) (kind : Kind) (at : Place) (listed : IsTree tree) (shape : is_some (path_of text) ≡ true)
-    (is : at ≡ place tree text) where
-  with_entry-is : (told : Option Cause) → fault_at tree at ≡ told
+module _ (tree : List Entry) (text : List ℕ) (kind : Kind) (spot : Place) (listed : IsTree tree) (shape : is_some (path_of text) ≡ true)
+    (is : spot ≡ place tree text) where
+  with_entry-is : (told : Option Cause) → fault_at tree spot ≡ told
       → with_entry tree_format (below_root tree) (named text kind) ≡ add_unless (below_root tree) (named text kind) told
   with_entry-is told fault = ap (λ t. add_unless (below_root tree) (named text kind) (fault_in t (named text kind))) (rooted tree listed)
       ∙ rw (fault_in-place tree text kind listed shape, ← is, fault) refl
 
-  pub with_entry-fault : (cause : Cause) → fault_at tree at ≡ Some cause → with_entry tree_format (below_root tree) (named text kind) ≡ Err cause
+  pub with_entry-fault : (cause : Cause) → fault_at tree spot ≡ Some cause → with_entry tree_format (below_root tree) (named text kind) ≡ Err cause
   with_entry-fault cause fault = with_entry-is (Some cause) fault
 
-  pub with_entry-added : (later : List Entry) → fault_at tree at ≡ None → later ≡ tree ++ named text kind ∷ []
+  pub with_entry-added : (later : List Entry) → fault_at tree spot ≡ None → later ≡ tree ++ named text kind ∷ []
       → with_entry tree_format (below_root tree) (named text kind) ≡ Ok (below_root later)
   with_entry-added later fault added = with_entry-is None fault ∙ ap Ok (sym (ap below_root added ∙ below_root-push tree (named text kind) listed))
 

@@ -7,6 +7,7 @@ use Rattle.std.specs.Map.{lookup}
 use Rattle.std.specs.BTreeMap.{is_at}
 use Rattle.std.specs.Cmp.Lexicographic.{slice_cmp}
 use Rattle.std.specs.Ordering.{nat_cmp}
+use Rattle.ll_tree.specs.declared.tree.TheConstants.{MOST_NODES}
 use Rattle.ll_tree.specs.declared.tree.Object.{Object}
 use Rattle.ll_lines.specs.Paths.{Path}
 use Rattle.ll_lines.specs.PathTexts.{is_path, text_of}
@@ -38,7 +39,7 @@ pub record IsOf (entries : List Entry) (number : ℕ) (object : Object) : Type 0
 -- is that of its number.
 pub record IsSound {A : Type 0} (objects : List Object) (numbers : List (String A × ℕ)) : Type 0 where
   pub listed : IsTree (entries_of objects)
-  pub small : length objects ≤ 65536
+  pub small : length objects ≤ MOST_NODES
   pub found : (path : Path) → IsTrue (is_path path) → number_of numbers (text_of path) ≡ position_of path (entries_of objects)
   pub each : (number : ℕ) (other : Object) → number < length objects → IsOf (entries_of objects) number (slice_index_or objects number other)
 

@@ -12,6 +12,7 @@ use Rattle.ll_lines.specs.Fault.{◌>>=◌}
 use Rattle.ll_lines.specs.Members.{value_at, text_at}
 use Rattle.ll_lines.specs.Reading.{Format, IsGood}
 use Rattle.ll_lines.specs.Paths.{Path, path_of, path_eq, front}
+use Rattle.ll_tree.specs.declared.tree.TheConstants.{MOST_NODES}
 use Rattle.ll_tree.specs.Trees.{Entry, root, is_dir_in}
 
 -- the kind that a name stands for
@@ -49,7 +50,7 @@ unfoldable pub fault_in : List Entry → Entry → Option Cause
 fault_in tree entry =
     if is_listed tree entry.path then Some Twice
     else if not (is_dir_in tree (front entry.path)) then Some NoParent
-    else if nat_lt (length tree) 65536 then None
+    else if nat_lt (length tree) MOST_NODES then None
     else Some TooMany
 
 -- the tree file: the root is there before the first line

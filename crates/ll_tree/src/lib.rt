@@ -9,4 +9,4 @@ mod tree;
 
 pub use ll_lines::{Cause, ReadFault, front_text, path_ok, path_texts};
 pub use place::{NodeId, Place};
-pub use tree::Tree;
+pub use tree::{MOST_NODES, Tree};

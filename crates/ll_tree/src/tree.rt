@@ -7,6 +7,7 @@ ghost use Rattle.ll_lines.specs.Values.{value_data};
 ghost use Rattle.ll_lines.specs.LineView.{line_view};
 ghost use Rattle.ll_lines.specs.Reading.{IsBad};
 ghost use Rattle.ll_lines.specs.LineByLine.{GivesReading, reading, with_line, with_entry};
+ghost use Rattle.ll_tree.specs.declared.tree.TheConstants.{MOST_NODES};
 ghost use Rattle.ll_tree.specs.TreeReading.{IsTreeOf, tree_format};
 ghost use Rattle.ll_tree.specs.Kept.{IsRooted, below_root, with_value};
 ghost use Rattle.ll_lines.specs.Paths.{Path, path_of, is_prefix};
@@ -25,7 +26,7 @@ use std::collections::BTreeMap;
 use std::marker::Model;
 
 /// The most nodes that a tree has, the root counted.
-const NODES: u32 = 65_536;
+pub const MOST_NODES: u32 = 65_536;
 
 /// What is kept of an object.
 #[derive(Drop)]
@@ -132,7 +133,7 @@ impl Tree {
         match self.place_of(path) {
             Place::Node(_) => Err(Cause::Twice),
             Place::Nowhere => Err(Cause::NoParent),
-            Place::Gap(_) if self.nodes() >= NODES => Err(Cause::TooMany),
+            Place::Gap(_) if self.nodes() >= MOST_NODES => Err(Cause::TooMany),
             Place::Gap(parent) => {
                 self.add(alloc, path, kind, parent)?;
                 Ok(())
@@ -172,7 +173,7 @@ impl Tree {
     ) -> Result<(), AllocError>
         requires path { IsTrue (is_some (path_of text.now)) }
         requires gap { place self.old text.now ≡ Place.Gap parent }
-        requires room { length self.old < 65536 }
+        requires room { length self.old < MOST_NODES }
         ensures ok { OnOk result (self.new ≡ self.old ++ named text.now kind ∷ []) }
         ensures err { OnErr result (self.new ≡ self.old) }
     {
@@ -207,7 +208,7 @@ impl Tree {
     pub fn nodes(&self) -> u32
         ensures count { result ≡ length self.now }
         ensures tree { IsTree self.now }
-        ensures limit { length self.now ≤ 65536 }
+        ensures limit { length self.now ≤ MOST_NODES }
     {
         self.objects.len() as u32
     }

@@ -2,7 +2,7 @@
 //! threads are there.
 
 ghost use Rattle.std.specs.Prelude.{IfOk};
-ghost use Rattle.ll_pool.specs.Gathered.{AllOf};
+ghost use Rattle.ll_pool.specs.Gathered.{ArePiecesOf};
 
 use crate::tests::gates::{Meeting, Open};
 use crate::tests::worked::{FAMILY_ANSWERS, Forks, case_of, case_with, expect_answers};
@@ -23,7 +23,7 @@ fn made<'c, R: Threads + Wait + Sync>(
     workers: usize,
     cut: &[bool],
 ) -> Result<Vec<Piece<'c>>, Fail>
-    ensures { IfOk result (λ pieces. AllOf case.now pieces.items) }
+    ensures { IfOk result (λ pieces. ArePiecesOf case.now pieces.items) }
 {
     Ok(run(rt, alloc, case, workers.max(1).min(64), cut, &Open)?)
 }

@@ -3,8 +3,8 @@
 //! first was to do. A helper that meets the refusal tries again.
 
 ghost use Rattle.std.specs.Prelude.{IfOk};
-ghost use Rattle.ll_process.specs.Jobs.{AllOf};
-ghost use Rattle.ll_pool.specs.Gathered.{AllOf as AllPiecesOf};
+ghost use Rattle.ll_process.specs.Jobs.{AreJobsOf};
+ghost use Rattle.ll_pool.specs.Gathered.{ArePiecesOf};
 
 use crate::keeper::{Keeper, Wanted};
 use crate::order::judge_greatest_first;
@@ -67,7 +67,7 @@ fn case_again(alloc: Global) -> Result<Case, Fail> {
 }
 
 fn roots_again(alloc: Global, case: &Case) -> Result<Vec<Job<'_>>, Fail>
-    ensures { IfOk result (λ jobs. AllOf case.now jobs.items) }
+    ensures { IfOk result (λ jobs. AreJobsOf case.now jobs.items) }
 {
     match case.roots(alloc) {
         Ok(jobs) => Ok(jobs),
@@ -76,7 +76,7 @@ fn roots_again(alloc: Global, case: &Case) -> Result<Vec<Job<'_>>, Fail>
 }
 
 fn pieces_again(alloc: Global, case: &Case) -> Result<Vec<Piece<'_>>, Fail>
-    ensures { IfOk result (λ pieces. AllPiecesOf case.now pieces.items) }
+    ensures { IfOk result (λ pieces. ArePiecesOf case.now pieces.items) }
 {
     match judge_greatest_first(alloc, case, Wanted::Even) {
         Ok(pieces) => Ok(pieces),
@@ -125,7 +125,7 @@ fn roots_without_memory(rt: HostRuntime) -> Result<(), Fail> {
 
 /// The job of process 1, and a hand with even numbers that holds the job of process 0.
 fn job_again(alloc: Global, case: &Case) -> Result<(Job<'_>, Keeper<'_>), Fail>
-    ensures { IfOk result (λ both. AllOf both.0.case.now both.1.jobs.items) }
+    ensures { IfOk result (λ both. AreJobsOf both.0.case.now both.1.jobs.items) }
 {
     let mut jobs = roots_again(alloc, case)?;
     let Some(job) = jobs.pop() else {

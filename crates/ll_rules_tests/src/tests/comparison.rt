@@ -218,15 +218,15 @@ fn paths_agree(tree: &Tree, both: &Both, domain: &Domain, node: NodeId, wanted: 
 /// The same move as the product has it.
 fn move_of(tree: &Tree, attempt: &Attempt) -> Move
     requires moved { IsNode tree.now attempt.now.moved }
-    requires at { IsNode tree.now attempt.now.at }
+    requires onto { IsNode tree.now attempt.now.onto }
     ensures moved { IsNode tree.now result.moved }
     ensures target { IsTargetIn tree.now result.target }
 {
     let (target, how) = match attempt.call {
-        Call::RenameToMissing => (Target::New(attempt.at), How::Rename),
-        Call::RenameOnto => (Target::Over(attempt.at), How::Rename),
-        Call::Exchange => (Target::Over(attempt.at), How::Exchange),
-        Call::Link => (Target::New(attempt.at), How::Link),
+        Call::RenameToMissing => (Target::New(attempt.onto), How::Rename),
+        Call::RenameOnto => (Target::Over(attempt.onto), How::Rename),
+        Call::Exchange => (Target::Over(attempt.onto), How::Exchange),
+        Call::Link => (Target::New(attempt.onto), How::Link),
     };
     Move {
         moved: attempt.moved,
@@ -256,7 +256,7 @@ fn moves_agree(tree: &Tree, both: &Both, domain: &Domain, attempt: &Attempt) -> 
     requires rules { All (AreInTree tree.now) both.now.lanes.items }
     requires domain { IsDomainOf both.now.lanes.items domain.now }
     requires moved { IsNode tree.now attempt.now.moved }
-    requires at { IsNode tree.now attempt.now.at }
+    requires onto { IsNode tree.now attempt.now.onto }
 {
     let asked = move_of(tree, attempt);
     let verdict = check_move(tree, &both.lanes, domain, &asked);
@@ -285,13 +285,13 @@ fn calls_agree(
 {
     let object = picked(tree, paths, OBJECTS, numbers)?;
     let directory = picked(tree, paths, PARENTS, numbers)?;
-    for (call, at) in [
+    for (call, onto) in [
         (Call::RenameToMissing, directory),
         (Call::RenameOnto, object),
         (Call::Exchange, object),
         (Call::Link, directory),
     ] {
-        if !moves_agree(tree, both, domain, &Attempt { call, moved, at }) {
+        if !moves_agree(tree, both, domain, &Attempt { call, moved, onto }) {
             return Ok(false);
         }
     }

@@ -3,11 +3,10 @@
 ghost use Rattle.std.specs.Prelude.{◌≡◌};
 ghost use Rattle.std.specs.FinMap.{get};
 ghost use Rattle.ll_trace.specs.declared.op.Op.{Op};
-ghost use Rattle.ll_semantics.specs.Situations.{Situation};
+ghost use Rattle.ll_semantics.specs.CallContexts.{CallContext};
 ghost use Rattle.ll_state.specs.Agreement.{IsMet, Agrees, IsJudged};
 
-use crate::call::Call;
-use crate::confined_call::ConfinedCall;
+use crate::call::{Call, ConfinedCall};
 use crate::descriptors::unrestricted;
 use crate::own_state::OwnState;
 use crate::requests::{asks, place_of};
@@ -24,7 +23,7 @@ impl OwnState {
     }
 
     /// open(2), whose number must be free.
-    #[tactic(auto, using(crate::proofs::SameLayers::request_same, crate::proofs::SameLayers::opened_same), unfolding(ll_semantics::specs::Situations::answered, ll_semantics::specs::Situations::left, ll_semantics::specs::Situations::state_after, ll_semantics::specs::Situations::change, ll_semantics::specs::Situations::state_by, ll_semantics::specs::Effects::effect, ll_semantics::specs::Answers::answer, ll_semantics::specs::Requests::wanted, ll_trace::specs::FirstPlaces::first_place, ll_trace::specs::Operations::paths_of))]
+    #[tactic(auto, using(crate::proofs::SameLayers::request_same, crate::proofs::SameLayers::opened_same), unfolding(ll_semantics::specs::CallContexts::answer_to, ll_semantics::specs::CallContexts::state_then, ll_semantics::specs::CallContexts::state_after, ll_semantics::specs::CallContexts::change, ll_semantics::specs::CallContexts::state_by, ll_semantics::specs::Effects::effect, ll_semantics::specs::Answers::answer, ll_semantics::specs::Requests::wanted, ll_trace::specs::FirstPlaces::first_place, ll_trace::specs::Operations::paths_of))]
     pub(crate) fn open(
         &mut self,
         call: &Call<'_>,
@@ -34,11 +33,11 @@ impl OwnState {
         create: bool,
         trunc: bool,
     ) -> Result<Answer, NoMemory>
-        ghost at: { Situation }
-        requires met { IsMet at call.now.tree.now call.now.layers.now }
-        requires agrees { Agrees at.tree at.layers self.old at.state }
+        ghost ctx: { CallContext }
+        requires met { IsMet ctx call.now.tree.now call.now.layers.now }
+        requires agrees { Agrees ctx.tree ctx.layers self.old ctx.state }
         requires opens { call.now.op.now ≡ Op.OpenFile path.now fd mode create trunc }
-        ensures { IsJudged at (Op.OpenFile path.now fd mode create trunc) self.new result }
+        ensures { IsJudged ctx (Op.OpenFile path.now fd mode create trunc) self.new result }
     {
         if self.descriptor(fd).is_some() {
             return Ok(Answer::Moot);
@@ -62,11 +61,11 @@ impl OwnState {
     }
 
     /// A descriptor that was made without open(2) keeps no layers.
-    #[tactic(auto, unfolding(ll_semantics::specs::Situations::answered, ll_semantics::specs::Situations::left, ll_semantics::specs::Situations::state_after, ll_semantics::specs::Answers::answer, ll_semantics::specs::Situations::change, ll_semantics::specs::Situations::state_by, ll_semantics::specs::Effects::effect))]
+    #[tactic(auto, unfolding(ll_semantics::specs::CallContexts::answer_to, ll_semantics::specs::CallContexts::state_then, ll_semantics::specs::CallContexts::state_after, ll_semantics::specs::Answers::answer, ll_semantics::specs::CallContexts::change, ll_semantics::specs::CallContexts::state_by, ll_semantics::specs::Effects::effect))]
     pub(crate) fn adopt(&mut self, fd: u64, kind: Sort) -> Result<Answer, NoMemory>
-        ghost at: { Situation }
-        requires { Agrees at.tree at.layers self.old at.state }
-        ensures { IsJudged at (Op.Adopt fd kind) self.new result }
+        ghost ctx: { CallContext }
+        requires { Agrees ctx.tree ctx.layers self.old ctx.state }
+        ensures { IsJudged ctx (Op.Adopt fd kind) self.new result }
     {
         if self.descriptor(fd).is_some() {
             return Ok(Answer::Moot);
@@ -76,11 +75,11 @@ impl OwnState {
     }
 
     /// dup(2): the other number is open on the same, with the same layers kept.
-    #[tactic(auto, unfolding(ll_semantics::specs::Situations::answered, ll_semantics::specs::Situations::left, ll_semantics::specs::Situations::state_after, ll_semantics::specs::Answers::answer, ll_semantics::specs::Situations::change, ll_semantics::specs::Situations::state_by, ll_semantics::specs::Effects::effect))]
+    #[tactic(auto, unfolding(ll_semantics::specs::CallContexts::answer_to, ll_semantics::specs::CallContexts::state_then, ll_semantics::specs::CallContexts::state_after, ll_semantics::specs::Answers::answer, ll_semantics::specs::CallContexts::change, ll_semantics::specs::CallContexts::state_by, ll_semantics::specs::Effects::effect))]
     pub(crate) fn dup(&mut self, fd: u64, to: u64) -> Result<Answer, NoMemory>
-        ghost at: { Situation }
-        requires { Agrees at.tree at.layers self.old at.state }
-        ensures { IsJudged at (Op.Dup fd to) self.new result }
+        ghost ctx: { CallContext }
+        requires { Agrees ctx.tree ctx.layers self.old ctx.state }
+        ensures { IsJudged ctx (Op.Dup fd to) self.new result }
     {
         let Some(descriptor) = self.descriptor(fd) else {
             return Ok(Answer::Moot);
@@ -90,11 +89,11 @@ impl OwnState {
     }
 
     /// close(2).
-    #[tactic(auto, unfolding(ll_semantics::specs::Situations::answered, ll_semantics::specs::Situations::left, ll_semantics::specs::Situations::state_after, ll_semantics::specs::Answers::answer, ll_semantics::specs::Situations::change, ll_semantics::specs::Situations::state_by, ll_semantics::specs::Effects::effect))]
+    #[tactic(auto, unfolding(ll_semantics::specs::CallContexts::answer_to, ll_semantics::specs::CallContexts::state_then, ll_semantics::specs::CallContexts::state_after, ll_semantics::specs::Answers::answer, ll_semantics::specs::CallContexts::change, ll_semantics::specs::CallContexts::state_by, ll_semantics::specs::Effects::effect))]
     pub(crate) fn close(&mut self, fd: u64) -> Result<Answer, NoMemory>
-        ghost at: { Situation }
-        requires { Agrees at.tree at.layers self.old at.state }
-        ensures { IsJudged at (Op.Close fd) self.new result }
+        ghost ctx: { CallContext }
+        requires { Agrees ctx.tree ctx.layers self.old ctx.state }
+        ensures { IsJudged ctx (Op.Close fd) self.new result }
     {
         match self.descriptors.remove(fd)? {
             Some(_) => Ok(Answer::Allowed),

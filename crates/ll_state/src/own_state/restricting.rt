@@ -5,7 +5,7 @@ ghost use Rattle.ll_semantics.specs.Answers.{fails};
 ghost use Rattle.ll_state.specs.Agreement.{Restricts};
 
 use crate::own_state::OwnState;
-use ll_rules::{Errno, Full, LayerId, LayerSet};
+use ll_rules::{Errno, Full, LayerId, LayerSet, MOST_LAYERS};
 use ll_semantics::Answer;
 
 /// Refused with an error by no layer.
@@ -33,7 +33,7 @@ impl OwnState {
         let Some(layer) = layer else {
             return fails(Errno::BadFd);
         };
-        prove!(self.domain.layers().len() <= 16);
+        prove!(self.domain.layers().len() <= MOST_LAYERS);
         match self.domain.push(layer) {
             Ok(()) => Answer::Allowed,
             Err(Full) => fails(Errno::TooBig),

@@ -3,4 +3,4 @@ use Rattle.ll_trace.proofs.SaidByName.{line_says}
 use Rattle.ll_audit.proofs.laws.the_report_has_the_words_of_the_trace.Goals as goal
 
 pub returns : goal.returns
-returns c = λ line of answer reads. line_says line (entry_of of) reads
+returns c = λ line r answer reads. line_says line (entry_of r) reads

@@ -2,8 +2,7 @@ use Rattle.std.proofs.Common.{◌∙◌, ◌++◌, ap}
 use Rattle.ll_rights.specs.declared.fs.TheConstants.Fs.{FILE}
 use Rattle.ll_explain.specs.Words.{condition_text, rights_text}
 use Rattle.ll_explain.proofs.Appending.{appended_3}
-use Rattle.ll_explain.proofs.FileRights.{is_file}
-use Rattle.ll_explain.proofs.RightPlaces.{directory_beyond}
+use Rattle.ll_explain.proofs.RightPlaces.{is_file, directory_beyond}
 use Rattle.ll_explain.proofs.conditions.push_only_for_directories.Goals as goal
 
 pub returns : goal.returns

@@ -7,7 +7,7 @@ use Rattle.ll_rules.specs.InTree.{AreInTree, all_in_tree}
 use Rattle.ll_rules.specs.KeptLayers.{IsDomainOf, domain_of}
 use Rattle.std.specs.List.{flat_map}
 use Rattle.ll_trace.specs.declared.record.Record.{Record}
-use Rattle.ll_process.specs.Cases.{Matter}
+use Rattle.ll_process.specs.Cases.{CaseValue}
 use Rattle.ll_reasons.specs.Explanations.{domain_at, objections_to, origins_at}
 use Rattle.ll_reasons.specs.Objections.{Objection}
 use Rattle.ll_reasons.specs.Origins.{Origins}
@@ -18,23 +18,23 @@ use Rattle.ll_explain.proofs.Explaining.{text_refusing}
 use Rattle.ll_explain.proofs.Following.{objected}
 use Rattle.ll_explain.proofs.explanation.push_refusing.Goals as goal
 
-pub invariant_of-of-clause-inside : goal.invariant_of-of-clause-inside
-invariant_of-of-clause-inside c =
+pub invariant_of-ctx-clause-inside : goal.invariant_of-ctx-clause-inside
+invariant_of-ctx-clause-inside c =
     let is : IsDomainAt c.args.case.now c.args.place c.found_at.result.0.now.process.0 c.in_ok-domain.domain.items =
     c.in_ok-domain.ensures c.args.place c.found_at.result.0.now.process.0 c.found_at.ensures.trail in
     subst (λ (ids : List LayerId). IsDomainOf c.layers.result.now ids) (sym c.deref.ensures.value)
     (subst (λ layers. IsDomainOf layers c.in_ok-domain.domain.items) (sym c.layers.ensures) is.places)
 
-pub invariant_of-of-clause-rules : goal.invariant_of-of-clause-rules
-invariant_of-of-clause-rules c =
+pub invariant_of-ctx-clause-rules : goal.invariant_of-ctx-clause-rules
+invariant_of-ctx-clause-rules c =
     subst (λ (tree : List Entry). All (AreInTree tree) c.layers.result.now) (sym c.tree.ensures)
     (subst (λ (layers : List (RulesOn ℕ)). All (AreInTree c.args.case.now.tree) layers) (sym c.layers.ensures) c.trace.ensures.case.settled.inside)
 
 pub returns : goal.returns
 returns c =
-    let of : Matter = c.args.case.now in
+    let cv : CaseValue = c.args.case.now in
     let r : Record = c.found_at.result.0.now in
-    let o : Origins = origins_at of.tree of.abi of.records c.args.place r.process.0 in
+    let o : Origins = origins_at cv.tree cv.abi cv.records c.args.place r.process.0 in
     let ids : List LayerId = c.in_ok-domain.domain.items in
     let is : IsDomainAt c.args.case.now c.args.place r.process.0 ids = c.in_ok-domain.ensures c.args.place r.process.0 c.found_at.ensures.trail in
     let text : List Record → List (ℕ × List Objection) → List ℕ = λ records said. c.args.text.now.items ++ flat_map (layer_text records o.layers) said in
@@ -45,11 +45,11 @@ returns c =
     c.records.result.now r.op c.args.text.now.items _ c.in_ok-push_objections.ensures
     ∙ ap (λ (records : List Record). text records (said c.tree.result.now c.layers.result.now c.deref.result.now))
     (c.records.ensures.value ∙ c.trace.ensures.records)
-    ∙ ap (λ (tree : List Entry). text of.records (said tree c.layers.result.now c.deref.result.now)) c.tree.ensures
-    ∙ ap (λ (layers : List (RulesOn ℕ)). text of.records (said of.tree layers c.deref.result.now)) c.layers.ensures
-    ∙ ap (λ (domain : List LayerId). text of.records (said of.tree of.layers domain)) c.deref.ensures.value
-    ∙ ap (λ (said : List (ℕ × List Objection)). text of.records said)
-    (same_layers_object_to_the_same of.tree (all_in_tree of.tree (domain_of of.layers ids))
-    (domain_at of.tree of.abi of.records c.args.place r.process.0) is.same o r.op c.args.error c.args.numbers)
+    ∙ ap (λ (tree : List Entry). text cv.records (said tree c.layers.result.now c.deref.result.now)) c.tree.ensures
+    ∙ ap (λ (layers : List (RulesOn ℕ)). text cv.records (said cv.tree layers c.deref.result.now)) c.layers.ensures
+    ∙ ap (λ (domain : List LayerId). text cv.records (said cv.tree cv.layers domain)) c.deref.ensures.value
+    ∙ ap (λ (said : List (ℕ × List Objection)). text cv.records said)
+    (same_layers_object_to_the_same cv.tree (all_in_tree cv.tree (domain_of cv.layers ids))
+    (domain_at cv.tree cv.abi cv.records c.args.place r.process.0) is.same o r.op c.args.error c.args.numbers)
     ∙ ap (λ text. c.args.text.now.items ++ text)
-    (sym (text_refusing of.tree of.abi of.records c.args.place r c.args.error c.args.numbers c.found_at.ensures.read c.requires.answer c.requires.some))
+    (sym (text_refusing cv.tree cv.abi cv.records c.args.place r c.args.error c.args.numbers c.found_at.ensures.read c.requires.answer c.requires.some))

@@ -7,4 +7,4 @@ use Rattle.ll_explain.proofs.kept.push_kept_lines.Given as goal
 -- the lines of the numbers so far are written
 abbrev pub invariant-loop-index : goal.invariant-loop-index
 invariant-loop-index l =
-    l.text.items ≡ l.fn.text.items ++ lines_upto l.of.records.now l.of.trail.now.layers.items (fs_right l.right) l.place (among l.numbers) l.index
+    l.text.items ≡ l.fn.text.items ++ lines_upto l.ctx.records.now l.ctx.trail.now.layers.items (fs_right l.right) l.place (among l.numbers) l.index

@@ -6,4 +6,4 @@ use Rattle.ll_explain.proofs.layers.push_asked.Given as goal
 
 -- the lines of the layers before the next one are written
 abbrev pub invariant-loop-index : goal.invariant-loop-index
-invariant-loop-index l = l.text.items ≡ l.fn.text.items ++ lines l.of (objecting_from (objections l.of.tree.now l.question) 1 (take l.index (stacked l.of)))
+invariant-loop-index l = l.text.items ≡ l.fn.text.items ++ lines l.ctx (objecting_from (objections l.ctx.tree.now l.question) 1 (take l.index (stacked l.ctx)))

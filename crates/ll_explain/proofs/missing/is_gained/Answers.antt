@@ -9,7 +9,7 @@ use Rattle.ll_explain.proofs.missing.is_gained.Goals as goal
 
 pub returns : goal.returns
 returns c =
-    let tree = c.args.layer.now.of.tree.now in
+    let tree = c.args.layer.now.ctx.tree.now in
     let layer = rules_of c.args.layer.now in
     let object = path_at tree c.args.object in
     let directory = path_at tree c.args.directory in

@@ -11,13 +11,13 @@ use Rattle.ll_explain.proofs.missing.is_missing.Goals as goal
 pub returns-then-has : goal.returns-then-has
 returns-then-has c =
     let layer = rules_of c.args.layer.now in
-    let path = path_at c.args.layer.now.of.tree.now c.args.node in
+    let path = path_at c.args.layer.now.ctx.tree.now c.args.node in
     lacked-by layer path c.args.asked (fs_right c.args.right) true c.lacks.result (sym c.has.ensures ∙ c.if-has.true)
     (c.lacks.ensures ∙ ap (λ (set : Fs). lacks layer path set) c.set.ensures)
 
 pub returns-else-has : goal.returns-else-has
 returns-else-has c =
     let layer = rules_of c.args.layer.now in
-    let path = path_at c.args.layer.now.of.tree.now c.args.node in
+    let path = path_at c.args.layer.now.ctx.tree.now c.args.node in
     lacked-by layer path c.args.asked (fs_right c.args.right) false (lacks layer path (files.only (fs_right c.args.right)))
     (sym c.has.ensures ∙ c.if-has.false) refl

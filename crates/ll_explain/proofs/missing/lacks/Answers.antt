@@ -11,9 +11,9 @@ use Rattle.ll_explain.proofs.missing.lacks.Goals as goal
 
 pub returns : goal.returns
 returns c =
-    let of = c.args.layer.now.of in
-    let path = path_at of.tree.now c.args.node in
+    let ctx = c.args.layer.now.ctx in
+    let path = path_at ctx.tree.now c.args.node in
     ap not (c.is_empty.ensures.empty
     ∙ ap (λ numbers. length numbers == 0) (c.check_path.ensures
-    ∙ ap (λ ids. refusing (all_in_tree of.tree.now (domain_of of.layers.now ids)) path c.args.rights) c.alone-domain.ensures))
+    ∙ ap (λ ids. refusing (all_in_tree ctx.tree.now (domain_of ctx.layers.now ids)) path c.args.rights) c.alone-domain.ensures))
     ∙ numbers-alone (λ (layer : Layer). lacks layer path c.args.rights) (rules_of c.args.layer.now)

@@ -10,7 +10,7 @@ use Rattle.ll_explain.proofs.missing.passing.Goals as goal
 use Rattle.ll_explain.proofs.missing.passing.Goals.{then-does_pass, else-does_pass}
 
 pub loop-right-init : goal.loop-right-init
-loop-right-init c = none_before (passes c.args.layer.now.of.tree.now (rules_of c.args.layer.now) c.args.test) (record { 0 = 0 }) none
+loop-right-init c = none_before (passes c.args.layer.now.ctx.tree.now (rules_of c.args.layer.now) c.args.test) (record { 0 = 0 }) none
 
 pub loop-right-preserved : goal.loop-right-preserved
 loop-right-preserved c =
@@ -22,18 +22,18 @@ loop-right-preserved c =
     let is : one ≡ get_or files.all_rights place files.other
     = item_at fs_right items files.all_rights listed code.Execute files.other place c.loop-right-test.true in
     let there : place < length files.all_rights = omega (arith, c.loop-right-test.true, same_length fs_right items files.all_rights listed) in
-    let at : files.bit_of one ≡ place = ap files.bit_of is ∙ bit_of-at place there in
-    let test = passes c.args.layer.now.of.tree.now (rules_of c.args.layer.now) c.args.test in
+    let eq : files.bit_of one ≡ place = ap files.bit_of is ∙ bit_of-at place there in
+    let test = passes c.args.layer.now.ctx.tree.now (rules_of c.args.layer.now) c.args.test in
     elim c.if-does_pass.branch [
       | then-does_pass w ↦ rw (w.rights-is, w.union-rights.ensures, w.set.ensures)
-          (one_more test c.loop-right.rights place one at (sym c.does_pass.ensures ∙ w.if-does_pass.true) c.loop-right.invariant)
+          (one_more test c.loop-right.rights place one eq (sym c.does_pass.ensures ∙ w.if-does_pass.true) c.loop-right.invariant)
       | else-does_pass w ↦
-          rw w.rights-is (none_more test c.loop-right.rights place one at (sym c.does_pass.ensures ∙ w.if-does_pass.false) c.loop-right.invariant)
+          rw w.rights-is (none_more test c.loop-right.rights place one eq (sym c.does_pass.ensures ∙ w.if-does_pass.false) c.loop-right.invariant)
     ]
 
 pub returns : goal.returns
 returns c =
     let items = c.all-right-items.result.now in
     let listed = c.all-right-items.ensures in
-    all_before (passes c.args.layer.now.of.tree.now (rules_of c.args.layer.now) c.args.test) c.loop-right.rights c.loop-right.right-index
+    all_before (passes c.args.layer.now.ctx.tree.now (rules_of c.args.layer.now) c.args.test) c.loop-right.rights c.loop-right.right-index
     (omega (arith, c.loop-right-test.false, same_length fs_right items files.all_rights listed)) c.loop-right.invariant

@@ -5,4 +5,4 @@ use Rattle.ll_explain.proofs.missing.passing.Given as goal
 
 -- the rights before the place that pass are in the set
 abbrev pub invariant-loop-right : goal.invariant-loop-right
-invariant-loop-right l = AreBefore (passes l.layer.of.tree.now (rules_of l.layer) l.test) l.rights l.right-index
+invariant-loop-right l = AreBefore (passes l.layer.ctx.tree.now (rules_of l.layer) l.test) l.rights l.right-index

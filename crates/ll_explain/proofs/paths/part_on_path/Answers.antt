@@ -5,5 +5,5 @@ use Rattle.ll_explain.proofs.paths.part_on_path.Goals as goal
 
 pub returns-clause-said : goal.returns-clause-said
 returns-clause-said c =
-    said_on_path (rules_of c.args.layer.now) (path_at c.args.layer.now.of.tree.now c.args.named.node) c.args.asked c.passing.result c.args.named.path
+    said_on_path (rules_of c.args.layer.now) (path_at c.args.layer.now.ctx.tree.now c.args.named.node) c.args.asked c.passing.result c.args.named.path
     c.requires.path c.passing.ensures

@@ -9,7 +9,7 @@ use Rattle.ll_explain.proofs.ports.handles_files.Goals as goal
 
 pub returns : goal.returns
 returns c =
-    let layers = c.args.layer.now.of.layers.now in
+    let layers = c.args.layer.now.ctx.layers.now in
     ap not (c.is_empty.ensures.empty
     ∙ ap (λ numbers. length numbers == 0) (c.check_mount.ensures ∙ ap (λ ids. refusing_mount (domain_of layers ids)) c.alone.ensures))
     ∙ numbers-alone (λ (layer : RulesOn ℕ). not (files.is_empty layer.handled_files)) (layer_at layers c.args.layer.now.id)

@@ -8,7 +8,7 @@ use Rattle.ll_explain.proofs.route.push_denied.Goals as goal
 pub returns-then-eq : goal.returns-then-eq
 returns-then-eq c =
     let layer = c.args.layer.now in
-    let tree = layer.of.tree.now in
+    let tree = layer.ctx.tree.now in
     let route = c.args.route.now in
     let is = c.requires in
     let by_paths = path_eq-nodes tree route.source.node route.destination.node is.is_tree is.source.inside is.destination.inside in
@@ -20,7 +20,7 @@ returns-then-eq c =
 pub returns : goal.returns
 returns c =
     let layer = c.args.layer.now in
-    let tree = layer.of.tree.now in
+    let tree = layer.ctx.tree.now in
     let route = c.args.route.now in
     let is = c.requires in
     let by_paths = path_eq-nodes tree route.source.node route.destination.node is.is_tree is.source.inside is.destination.inside in

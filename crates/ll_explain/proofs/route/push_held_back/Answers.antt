@@ -11,7 +11,7 @@ use Rattle.ll_explain.proofs.route.push_held_back.Goals as goal
 pub returns : goal.returns
 unfolding only
 returns c =
-    let tree = c.args.layer.now.of.tree.now in
+    let tree = c.args.layer.now.ctx.tree.now in
     let layer = rules_of c.args.layer.now in
     let route = c.args.route.now in
     let gains =

@@ -4,7 +4,7 @@ use Rattle.ll_explain.proofs.wants.push_wanted.Goals as goal
 
 pub push_asked-requires : goal.push_asked-requires
 push_asked-requires c =
-    let tree = c.args.of.now.tree.now in record {
+    let tree = c.args.ctx.now.tree.now in record {
       inside = c.in-Some.ensures.fit;
       shape = c.text_for.ensures.shape;
       path = c.text_for.ensures.path

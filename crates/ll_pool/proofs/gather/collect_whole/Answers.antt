@@ -1,7 +1,7 @@
 use Rattle.std.proofs.Common.{◌≡◌}
 use Rattle.ll_pool.specs.declared.gather.CollectFault.TheVariants.{Missing, Double, Memory}
 use Rattle.ll_pool.specs.Gathered.{processes_in}
-use Rattle.ll_pool.proofs.FaultFree.{only_memory}
+use Rattle.ll_pool.proofs.Counts.{only_memory}
 use Rattle.ll_pool.proofs.gather.collect_whole.Goals as goal
 
 pub unreachable-requires : goal.unreachable-requires

@@ -1,6 +1,6 @@
 -- The walk begins, takes one record more, and ends at the process's last record.
 use Rattle.std.proofs.Common.{subst, refl}
-use Rattle.ll_process.specs.Cases.{Matter, BeginsAs}
+use Rattle.ll_process.specs.Cases.{CaseValue, BeginsAs}
 use Rattle.ll_process.proofs.Descents.{keeps_on, keeps_same}
 use Rattle.ll_process.proofs.Walked.{walked_none, walked_more, place_now, own_now, handed_all, less_to_do}
 use Rattle.ll_process.proofs.descend.judge_own.Goals as goal
@@ -9,7 +9,7 @@ pub loop-index-init : goal.loop-index-init
 loop-index-init g c = record {
   walked = walked_none c.args.case.now c.args.job.process.0 c.args.job.own c.args.answers.now.items
       (g.H.Hand.kept c.args.hand.now) c.args.todo.now.items c.own_records-index-items.ensures.case
-      (rw c.requires.its at c.args.job.there) (subst (λ (of : Matter). BeginsAs of c.args.job.process.0 c.args.job.own) c.requires.its c.args.job.begins)
+      (rw c.requires.its at c.args.job.there) (subst (λ (cv : CaseValue). BeginsAs cv c.args.job.process.0 c.args.job.own) c.requires.its c.args.job.begins)
       c.requires.of_case;
   keeps = keeps_same c.args.case.now.records (g.H.Hand.kept c.args.hand.now) (g.H.Hand.kept c.args.hand.now) refl;
   suits = c.requires.suits;

@@ -14,11 +14,11 @@ judge_met-requires c = (
     is_met c.args.case.now c.args.index c.args.process.0 c.record.ensures.case,
     (
       c.requires.meets,
-      λ r note at says.
-          note_fits c.args.case.now c.args.index c.args.process.0 r note c.record.ensures.case at says
-          (ap (λ (x : Record). is_start x.op) (same_Some r c.record.result.now (sym at ∙ c.record.ensures.at))
+      λ r note there says.
+          note_fits c.args.case.now c.args.index c.args.process.0 r note c.record.ensures.case there says
+          (ap (λ (x : Record). is_start x.op) (same_Some r c.record.result.now (sym there ∙ c.record.ensures.at))
           ∙ is_start-not c.record.result.now.op c.in_default.not-Start)
-          (own_process c.args.case.now c.args.index c.args.process.0 r c.requires.own at),
+          (own_process c.args.case.now c.args.index c.args.process.0 r c.requires.own there),
     ),
   ),
 )

@@ -1,5 +1,5 @@
-use Rattle.ll_process.specs.Own.{situation_at}
+use Rattle.ll_process.specs.Own.{context_at}
 use Rattle.ll_process.proofs.walk.answer_own.Given as goal
 
 abbrev pub ghost-judge_met : goal.ghost-judge_met
-ghost-judge_met a = situation_at a.case.now a.index a.process.0
+ghost-judge_met a = context_at a.case.now a.index a.process.0

@@ -1,4 +1,4 @@
 use Rattle.ll_process.proofs.walk.judge_met.Given as goal
 
-abbrev pub ghost-judge : goal.ghost-judge
-ghost-judge g a = g.at
+abbrev pub ghost-meet : goal.ghost-meet
+ghost-meet g a = g.ctx

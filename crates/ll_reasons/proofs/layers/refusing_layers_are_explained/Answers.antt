@@ -5,4 +5,4 @@ pub returns-clause-calls : goal.returns-clause-calls
 returns-clause-calls c = λ tree abi records place process op error number numbers is. numbers_at tree abi records place process op error number numbers is
 
 pub returns-clause-records : goal.returns-clause-records
-returns-clause-records c = λ tree abi records place of error number numbers at is. record_numbers tree abi records place of error number numbers at is
+returns-clause-records c = λ tree abi records place r error number numbers eq is. record_numbers tree abi records place r error number numbers eq is

@@ -29,9 +29,9 @@ follow-requires-clause-answer c =
 
 pub loop-place-preserved : goal.loop-place-preserved
 loop-place-preserved c =
-    let of = c.args.case.now in
+    let cv = c.args.case.now in
     let place = c.loop-place.place in
-    let explained = text_at of.tree of.abi of.records in (
+    let explained = text_at cv.tree cv.abi cv.records in (
       c.in_ok-push_explanation.ensures
           ∙ ap (λ (texts : List (List ℕ)). texts ++ explained place ∷ []) c.loop-place.invariant.0
           ∙ sym (map-range_with_len_more explained 0 place place (omega arith)),
@@ -40,7 +40,7 @@ loop-place-preserved c =
 
 pub returns : goal.returns
 returns c =
-    let of = c.args.case.now in
-    let counts : length c.args.answers.now ≡ length of.records = ap length c.requires ∙ length-judged of.tree of.abi of.records in
-    let all : c.loop-place.place ≡ length of.records = omega (arith, counts, c.loop-place-test.false, c.loop-place.auto.place-end) in
-    c.loop-place.invariant.0 ∙ ap (λ (n : ℕ). map (text_at of.tree of.abi of.records) (range_with_len 0 n)) all
+    let cv = c.args.case.now in
+    let counts : length c.args.answers.now ≡ length cv.records = ap length c.requires ∙ length-judged cv.tree cv.abi cv.records in
+    let all : c.loop-place.place ≡ length cv.records = omega (arith, counts, c.loop-place-test.false, c.loop-place.auto.place-end) in
+    c.loop-place.invariant.0 ∙ ap (λ (n : ℕ). map (text_at cv.tree cv.abi cv.records) (range_with_len 0 n)) all

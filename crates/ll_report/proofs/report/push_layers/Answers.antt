@@ -1,5 +1,6 @@
 use Rattle.std.proofs.Common.{◌≡◌, ◌-◌, ◌<◌, ◌∙◌, ◌++◌, ap, sym, refl, arith, false}
 use Rattle.std.proofs.lemmas.List.{append-nil}
+use Rattle.ll_rules.specs.declared.domain.TheConstants.{MOST_LAYERS}
 use Rattle.ll_report.specs.Report.{listed_layers}
 use Rattle.ll_report.proofs.LayerText.{is_none_yet, is_none_yet-length, layers_text-some, layers_upto, layers_upto-all, layers_upto-none, layers_upto-not_among}
 use Rattle.ll_report.proofs.LayerText.{written_among}
@@ -25,7 +26,7 @@ loop-number-preserved c =
 pub returns : goal.returns
 returns c =
     let layers = c.args.layers in
-    let last : c.loop-number.number - 1 ≡ 16 = omega arith in
+    let last : c.loop-number.number - 1 ≡ MOST_LAYERS = omega arith in
     let some : is_none_yet layers ≡ false = is_none_yet-length layers ∙ (sym c.is_empty.ensures.empty ∙ c.if-is_empty.false) in
     c.loop-number.invariant.0
     ∙ ap (λ text. c.args.text.now.items ++ text)

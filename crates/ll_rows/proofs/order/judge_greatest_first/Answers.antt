@@ -1,7 +1,7 @@
 -- The roots are held at first; a job is taken out and judged; at the end none is held.
 use Rattle.std.proofs.Common.{◌≡◌, ◌++◌, ◌∷◌, [], arith, sym, subst, refl}
 use Rattle.std.proofs.lemmas.Grind.{common_steps}
-use Rattle.ll_process.specs.Jobs.{AllOf}
+use Rattle.ll_process.specs.Jobs.{AreJobsOf}
 use Rattle.ll_pool.proofs.Sharing.{shared_first}
 use Rattle.ll_rows.proofs.Ordering.{judged_more, judged_all, taken_out, weighs_less}
 use Rattle.ll_rows.proofs.order.judge_greatest_first.Goals as goal
@@ -14,7 +14,7 @@ judge-requires c κs =
     let out =
     taken_out c.args.case.now c.loop-job.keeper.jobs.items c.take_greatest.new.self.jobs.items c.in-Some.job c.in-Some.ensures.taken
     c.loop-job.invariant.jobs_of in
-    ((refl, tt), subst (λ of. AllOf of c.take_greatest.new.self.jobs.items) (sym out.its_case) out.rest_of)
+    ((refl, tt), subst (λ cv. AreJobsOf cv c.take_greatest.new.self.jobs.items) (sym out.its_case) out.rest_of)
 
 pub loop-job-smaller : goal.loop-job-smaller
 loop-job-smaller c =

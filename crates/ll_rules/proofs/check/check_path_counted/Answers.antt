@@ -1,5 +1,6 @@
 use Rattle.std.proofs.Common.{◌∙◌, ◌&&◌, ap, Bool, List, not, length, ◌≤◌}
 use Rattle.ll_tree.specs.Trees.{path_at}
+use Rattle.ll_rules.specs.declared.domain.TheConstants.{MOST_LAYERS}
 use Rattle.ll_rules.specs.declared.domain.LayerId.{LayerId}
 use Rattle.ll_rules.specs.Layers.{granted}
 use Rattle.ll_rules.specs.InTree.{in_tree, all_in_tree}
@@ -11,7 +12,7 @@ use Rattle.ll_rules.proofs.check.check_path_counted.Goals as goal
 
 pub returns-clause-answer : goal.returns-clause-answer
 returns-clause-answer c =
-    let few : length c.layers-ids.result.now ≤ 16 = rw c.layers-ids.ensures.value c.layers-ids.ensures.at_most_sixteen in
+    let few : length c.layers-ids.result.now ≤ MOST_LAYERS = rw c.layers-ids.ensures.value c.layers-ids.ensures.at_most_sixteen in
     c.filled.ensures
     ∙ refusing_lanes c.args.tree.now c.args.layers.now c.layers-ids.result.now
     (path_at c.args.tree.now c.args.node) c.args.wanted c.climb-look_ups.new.lanes few

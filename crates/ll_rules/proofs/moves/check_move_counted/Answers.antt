@@ -1,6 +1,7 @@
 use Rattle.std.proofs.Common.{◌≡◌, ◌∙◌, ◌≤◌, ◌+◌, ◌*◌, ap, sym, arith, not, List, length}
 use Rattle.std.proofs.lemmas.Bool.{false≢true}
 use Rattle.ll_tree.proofs.Positions.{path_eq-nodes}
+use Rattle.ll_rules.specs.declared.domain.TheConstants.{MOST_LAYERS}
 use Rattle.ll_rules.specs.declared.domain.LayerId.{LayerId}
 use Rattle.ll_rules.specs.KeptLayers.{domain_of}
 use Rattle.ll_rules.specs.InTree.{all_in_tree}
@@ -14,7 +15,7 @@ use Rattle.ll_rules.proofs.moves.check_move_counted.Goals as goal
 pub returns-clause-answer : goal.returns-clause-answer
 returns-clause-answer c =
     let tree = c.args.tree.now in
-    let few : length c.layers.result.now ≤ 16 = rw c.layers.ensures.value c.layers.ensures.at_most_sixteen in
+    let few : length c.layers.result.now ≤ MOST_LAYERS = rw c.layers.ensures.value c.layers.ensures.at_most_sixteen in
     let denied_is =
     c.filled-denied.ensures ∙ denied_numbers tree c.args.attempt.now c.args.layers.now c.layers.result.now few c.denied.result _ _
     c.lacking_of-look_ups.result.0.source c.lacking_of-look_ups.result.0.destination c.leaving-from.result.rights c.entering-to.result.rights

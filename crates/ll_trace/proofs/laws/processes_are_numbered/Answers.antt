@@ -19,9 +19,9 @@ returns-clause-once c = λ records place other process one two.
     started_once records place other process (started_at-is records place process one) (started_at-is records other process two)
 
 pub returns-clause-forked : goal.returns-clause-forked
-returns-clause-forked c = λ records place process of at starts.
+returns-clause-forked c = λ records place process said eq starts.
     let one = started_at-is records place process starts in
-    ap only (parent_at records place process one) ∙ ap (λ (r : Record). forked_by r.op r.process) (same_Some one.of of (sym one.at ∙ at))
+    ap only (parent_at records place process one) ∙ ap (λ (r : Record). forked_by r.op r.process) (same_Some one.of said (sym one.at ∙ eq))
 
 pub returns-clause-parent : goal.returns-clause-parent
 returns-clause-parent c = parent_below

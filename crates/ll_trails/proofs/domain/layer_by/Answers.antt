@@ -1,5 +1,5 @@
 use Rattle.std.proofs.Common.{◌∙◌, Some, ap}
-use Rattle.ll_semantics.specs.declared.note.Note.TheVariants.{Answered, Frozen, Open}
+use Rattle.ll_semantics.specs.declared.note.Note.TheVariants.{Answered, Frozen, ByState}
 use Rattle.ll_trails.proofs.Frozen.{layer_in, noted_at, none_past}
 use Rattle.ll_trails.proofs.domain.layer_by.Goals as goal
 
@@ -21,7 +21,7 @@ returns-in-Answered c = λ process. noted_at c.args.case.now c.records.result.no
     (c.records.ensures.value ∙ c.trace.ensures.records) c.if-place-records.false (c.note.ensures ∙ ap Some c.in-Answered.is)
 
 -- src/domain.rt:19:1
-pub returns-in-Open : goal.returns-in-Open
+pub returns-in-ByState : goal.returns-in-ByState
 unfolding layer_in
-returns-in-Open c = λ process. noted_at c.args.case.now c.records.result.now c.args.place process Open c.trace.ensures.case
-    (c.records.ensures.value ∙ c.trace.ensures.records) c.if-place-records.false (c.note.ensures ∙ ap Some c.in-Open.is)
+returns-in-ByState c = λ process. noted_at c.args.case.now c.records.result.now c.args.place process ByState c.trace.ensures.case
+    (c.records.ensures.value ∙ c.trace.ensures.records) c.if-place-records.false (c.note.ensures ∙ ap Some c.in-ByState.is)

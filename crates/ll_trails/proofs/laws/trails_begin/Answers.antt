@@ -2,4 +2,4 @@ use Rattle.ll_trails.proofs.AtPlaces.{begins_at}
 use Rattle.ll_trails.proofs.laws.trails_begin.Goals as goal
 
 pub returns : goal.returns
-returns c = λ of trails are. begins_at of trails are
+returns c = λ cv trails are. begins_at cv trails are

@@ -4,8 +4,8 @@ use Rattle.std.specs.Option.{option_map_or}
 use Rattle.ll_tree.specs.Trees.{IsNode}
 use Rattle.ll_bench_checks.proofs.filtered.FilteredLayerRefuses.refuses.Given as goal
 
-abbrev pub invariant-loop-at : goal.invariant-loop-at
-invariant-loop-at l = IfSome l.at (IsNode l.tree)
+abbrev pub invariant-loop-cursor : goal.invariant-loop-cursor
+invariant-loop-cursor l = IfSome l.cursor (IsNode l.tree)
 
-abbrev pub decreases-loop-at : goal.decreases-loop-at
-decreases-loop-at l = option_map_or (λ here. here.0 + 1) l.at 0
+abbrev pub decreases-loop-cursor : goal.decreases-loop-cursor
+decreases-loop-cursor l = option_map_or (λ here. here.0 + 1) l.cursor 0

@@ -8,18 +8,18 @@ use Rattle.ll_report.proofs.report.Report.of.Goals as goal
 
 pub returns : goal.returns
 returns c =
-    let of = c.args.case.now in
-    let as_many = ap length c.requires ∙ length-judged of.tree of.abi of.records in
+    let cv = c.args.case.now in
+    let as_many = ap length c.requires ∙ length-judged cv.tree cv.abi cv.records in
     let totals = c.of-totals.result in
-    let explained = text_at of.tree of.abi of.records in
+    let explained = text_at cv.tree cv.abi cv.records in
     record {
-      text = whole_text c.args.shown explained of.records c.args.answers.now c.push_blocks.new.text.items c.push_to.new.text.items
+      text = whole_text c.args.shown explained cv.records c.args.answers.now c.push_blocks.new.text.items c.push_to.new.text.items
           totals.all totals.allowed totals.refused totals.moot as_many
           (c.in_ok-push_blocks.ensures
-          ∙ ap (λ text. text ++ blocks_from c.args.shown explained 0 (lines_of of.records c.args.answers.now)) c.new-bytes.ensures.items)
+          ∙ ap (λ text. text ++ blocks_from c.args.shown explained 0 (lines_of cv.records c.args.answers.now)) c.new-bytes.ensures.items)
           c.in_ok-push_to.ensures
           c.of-totals.ensures.all c.of-totals.ensures.allowed c.of-totals.ensures.refused c.of-totals.ensures.moot
-          ∙ ap (λ answers. shown_text c.args.shown explained (lines_of of.records answers)) c.requires;
-      refused = refused_count of.records c.args.answers.now totals.refused as_many c.of-totals.ensures.refused
-          ∙ ap (refused_among of.records) c.requires;
+          ∙ ap (λ answers. shown_text c.args.shown explained (lines_of cv.records answers)) c.requires;
+      refused = refused_count cv.records c.args.answers.now totals.refused as_many c.of-totals.ensures.refused
+          ∙ ap (refused_among cv.records) c.requires;
     }

@@ -1,4 +1,4 @@
-use Rattle.ll_rows.proofs.Popped.{left_of_case}
+use Rattle.ll_rows.proofs.Ordering.{left_of_case}
 use Rattle.ll_rows.proofs.tests.refusals.job_again.Goals as goal
 
 pub returns : goal.returns

@@ -1,7 +1,7 @@
 use Rattle.std.proofs.Common.{◌≡◌, List, false, None, rules}
 use Rattle.std.proofs.lemmas.Result.{IfOk-weaker}
 use Rattle.ll_trace.specs.Entries.{is_start}
-use Rattle.ll_semantics.specs.declared.note.Note.TheVariants.{Open}
+use Rattle.ll_semantics.specs.declared.note.Note.TheVariants.{ByState}
 use Rattle.ll_semantics.specs.States.{State, Layer}
 use Rattle.ll_semantics.specs.Effects.{effect}
 use Rattle.ll_semantics.specs.Notes.{NoteFits, is_on_rulesets, enforced}
@@ -24,5 +24,5 @@ returns-in-Exit c =
     let quiet : (rulesets : List Layer) (s : State) → IsQuiet s (effect c.args.self.now.tree.now rulesets op s) = search rules in
     let off : is_on_rulesets op ≡ false = search rules in
     let unforced : (rulesets : List Layer) (s : State) → enforced rulesets op s ≡ None = search rules in
-    settles_quiet c.args.record.now.process.0 op c.args.self.now c.requires.sound _ Open quiet (extends_same _) c.requires.sound.layers
+    settles_quiet c.args.record.now.process.0 op c.args.self.now c.requires.sound _ ByState quiet (extends_same _) c.requires.sound.layers
     (λ w agrees. (off, unforced w.rulesets (w.processes c.args.record.now.process.0)))

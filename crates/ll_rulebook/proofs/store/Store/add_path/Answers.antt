@@ -14,6 +14,6 @@ pub returns : goal.returns
 returns c =
     (adds_rule c.self.inside.rulesets.items c.self.inside.layers.items c.args.self.now c.self.view_is c.args.place c.requires.there c.index_mut.result.now
     c.index_mut.ensures.value
-    (λ before. add_path_fault c.args.tree.now before c.args.at c.args.files)
-    (IsPathAdded c.args.tree.now c.args.at c.args.files) c.add_path.result c.add_path.new.self
+    (λ before. add_path_fault c.args.tree.now before c.args.spot c.args.files)
+    (IsPathAdded c.args.tree.now c.args.spot c.args.files) c.add_path.result c.add_path.new.self
     c.add_path.ensures.fault c.add_path.ensures.ok c.add_path.ensures.err)

@@ -30,31 +30,31 @@ left_of-left-requires c =
 pub returns-then-left-eq0-clause-left : goal.returns-then-left-eq0-clause-left
 returns-then-left-eq0-clause-left c = λ right.
     let here : IfSome (Some c.in-Some.here) (IsNode c.args.self.now.tree.now) = rw c.in-Some.is at c.next_marked.ensures.inside in
-    let passed = left_passed c.args.self.now.tree.now c.args.self.now.layer.now c.loop-here.at c.next_marked.result right
+    let passed = left_passed c.args.self.now.tree.now c.args.self.now.layer.now c.loop-here.cursor c.next_marked.result right
     (has (set_of c.loop-here.left) right) _ (c.next_marked.ensures.passed right) (c.loop-here.invariant.so_far right) in
-    left_nothing c.args.self.now.tree.now c.args.self.now.layer.now c.parent-at.result right (has (set_of 0) right) _ (nothing_in 0 right refl)
-    (left_goes_on c.args.self.now.tree.now c.args.self.now.layer.now c.in-Some.here c.parent-at.result right (has (set_of c.loop-here.left) right)
+    left_nothing c.args.self.now.tree.now c.args.self.now.layer.now c.parent-cursor.result right (has (set_of 0) right) _ (nothing_in 0 right refl)
+    (left_goes_on c.args.self.now.tree.now c.args.self.now.layer.now c.in-Some.here c.parent-cursor.result right (has (set_of c.loop-here.left) right)
     (has (set_of 0) right) _
-    c.parent-at.ensures.tree here c.args.self.now.rules c.parent-at.ensures.root c.parent-at.ensures.front
+    c.parent-cursor.ensures.tree here c.args.self.now.rules c.parent-cursor.ensures.root c.parent-cursor.ensures.front
     (ap (λ (bits : ℕ). has (set_of bits) right) (sym c.if-left-eq0.true) ∙ c.left_of-left.ensures.left right) (rw c.in-Some.is at passed))
 
 pub returns-then-left-eq0-clause-count : goal.returns-then-left-eq0-clause-count
 returns-then-left-eq0-clause-count c =
-    let step = nodes_up-step c.args.self.now.tree.now c.in-Some.here c.parent-at.result c.parent-at.ensures.exact c.parent-at.ensures.front in
+    let step = nodes_up-step c.args.self.now.tree.now c.in-Some.here c.parent-cursor.result c.parent-cursor.ensures.exact c.parent-cursor.ensures.front in
     omega (arith, step, c.loop-here.invariant.count, rw c.in-Some.is at c.next_marked.ensures.count, c.left_of-left.ensures.count)
 
 pub loop-here-preserved : goal.loop-here-preserved
 loop-here-preserved c =
     let here : IfSome (Some c.in-Some.here) (IsNode c.args.self.now.tree.now) = rw c.in-Some.is at c.next_marked.ensures.inside in
-    let step = nodes_up-step c.args.self.now.tree.now c.in-Some.here c.parent-at.result c.parent-at.ensures.exact c.parent-at.ensures.front in
+    let step = nodes_up-step c.args.self.now.tree.now c.in-Some.here c.parent-cursor.result c.parent-cursor.ensures.exact c.parent-cursor.ensures.front in
     record {
-      inside = nodes_above c.args.self.now.tree.now c.in-Some.here c.parent-at.result c.parent-at.ensures.front;
+      inside = nodes_above c.args.self.now.tree.now c.in-Some.here c.parent-cursor.result c.parent-cursor.ensures.front;
       so_far = λ right.
-          let passed = left_passed c.args.self.now.tree.now c.args.self.now.layer.now c.loop-here.at c.next_marked.result right
+          let passed = left_passed c.args.self.now.tree.now c.args.self.now.layer.now c.loop-here.cursor c.next_marked.result right
           (has (set_of c.loop-here.left) right) _ (c.next_marked.ensures.passed right) (c.loop-here.invariant.so_far right) in
-          left_goes_on c.args.self.now.tree.now c.args.self.now.layer.now c.in-Some.here c.parent-at.result right (has (set_of c.loop-here.left) right)
+          left_goes_on c.args.self.now.tree.now c.args.self.now.layer.now c.in-Some.here c.parent-cursor.result right (has (set_of c.loop-here.left) right)
           (has (set_of c.left_of-left.result) right) _
-          c.parent-at.ensures.tree here c.args.self.now.rules c.parent-at.ensures.root c.parent-at.ensures.front
+          c.parent-cursor.ensures.tree here c.args.self.now.rules c.parent-cursor.ensures.root c.parent-cursor.ensures.front
           (c.left_of-left.ensures.left right) (rw c.in-Some.is at passed);
       count = omega (arith, step, c.loop-here.invariant.count, rw c.in-Some.is at c.next_marked.ensures.count, c.left_of-left.ensures.count);
     }
@@ -62,13 +62,13 @@ loop-here-preserved c =
 pub loop-here-smaller : goal.loop-here-smaller
 loop-here-smaller c = omega (
   arith,
-  nodes_up-step c.args.self.now.tree.now c.in-Some.here c.parent-at.result c.parent-at.ensures.exact c.parent-at.ensures.front,
+  nodes_up-step c.args.self.now.tree.now c.in-Some.here c.parent-cursor.result c.parent-cursor.ensures.exact c.parent-cursor.ensures.front,
   rw c.in-Some.is at c.next_marked.ensures.above,
 )
 
 pub returns-clause-left : goal.returns-clause-left
 returns-clause-left c = λ right.
-    let passed = left_passed c.args.self.now.tree.now c.args.self.now.layer.now c.loop-here.at c.next_marked.result right
+    let passed = left_passed c.args.self.now.tree.now c.args.self.now.layer.now c.loop-here.cursor c.next_marked.result right
     (has (set_of c.loop-here.left) right) _ (c.next_marked.ensures.passed right) (c.loop-here.invariant.so_far right) in
     left_ends c.args.self.now.tree.now c.args.self.now.layer.now right (has (set_of c.loop-here.left) right) _ (rw c.in_default.is at passed)
 

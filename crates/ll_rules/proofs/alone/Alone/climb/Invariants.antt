@@ -13,11 +13,11 @@ use Rattle.ll_rules.proofs.alone.Alone.climb.Given as goal
 -- what is left of the lane, less what is granted from here on up
 abbrev pub invariant-loop-here : goal.invariant-loop-here
 invariant-loop-here l = record {
-  inside : IfSome l.at (IsNode l.self.tree.now);
-  so_far : (right : FsRight) → left_above l.self.tree.now l.self.layer.now l.at right (has (set_of l.left) right)
+  inside : IfSome l.cursor (IsNode l.self.tree.now);
+  so_far : (right : FsRight) → left_above l.self.tree.now l.self.layer.now l.cursor right (has (set_of l.left) right)
       ≡ (has (set_of l.lane) right && not (granted (in_tree l.self.tree.now l.self.layer.now) (path_at l.self.tree.now l.fn.node) right));
-  count : l.look_ups + nodes_up l.self.tree.now l.at ≤ depth_at l.self.tree.now l.fn.node + 1;
+  count : l.look_ups + nodes_up l.self.tree.now l.cursor ≤ depth_at l.self.tree.now l.fn.node + 1;
 }
 
 abbrev pub decreases-loop-here : goal.decreases-loop-here
-decreases-loop-here l = nodes_up l.self.tree.now l.at
+decreases-loop-here l = nodes_up l.self.tree.now l.cursor

@@ -4,7 +4,7 @@ use Rattle.ll_rules.specs.InTree.{in_tree}
 use Rattle.ll_rules.specs.Lanes.{lane}
 use Rattle.ll_rules.specs.Stacks.{stacked}
 use Rattle.ll_rules.specs.Moves.{source_of, destination_of}
-use Rattle.ll_rules.proofs.StackedLayers.{stacked-within}
+use Rattle.ll_rules.proofs.DomainLanes.{stacked-within}
 use Rattle.ll_rules.proofs.MoveLanes.{either_some, kept_some, gained_some, held_numbers}
 use Rattle.ll_rules.proofs.passage.Passage.held_back.Goals as goal
 

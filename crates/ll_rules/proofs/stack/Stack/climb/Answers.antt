@@ -9,8 +9,7 @@ use Rattle.ll_rules.specs.WaysUp.{nodes_up}
 use Rattle.ll_rules.specs.Stacks.{stacked}
 use Rattle.ll_rules.proofs.Climbs.{nodes_above}
 use Rattle.ll_rules.proofs.DomainLanes.{count_begins, count_goes_on, few_look_ups, nodes_up-step, left_begins, left_passed, left_goes_on, left_ends}
-use Rattle.ll_rules.proofs.DomainLanes.{left_nothing, left_unasked, layer_in-past}
-use Rattle.ll_rules.proofs.StackedLayers.{stacked-within}
+use Rattle.ll_rules.proofs.DomainLanes.{left_nothing, left_unasked, layer_in-past, stacked-within}
 use Rattle.ll_rules.proofs.stack.Stack.climb.Goals as goal
 
 -- of empty lanes nothing is left
@@ -38,16 +37,16 @@ pub returns-then-not-is_any_left-clause-left : goal.returns-then-not-is_any_left
 returns-then-not-is_any_left-clause-left c = λ place right.
     let here : IfSome (Some c.in-Some.here) (IsNode c.args.self.now.tree.now) = rw c.in-Some.is at c.next_marked.ensures.inside in
     let rules = stacked c.args.self.now place in
-    let passed = left_passed c.args.self.now.tree.now rules c.loop-here.at c.next_marked.result right (has (lane c.loop-here.lanes place) right) _
+    let passed = left_passed c.args.self.now.tree.now rules c.loop-here.cursor c.next_marked.result right (has (lane c.loop-here.lanes place) right) _
     (c.next_marked.ensures.passed place right) (c.loop-here.invariant.so_far place right) in
-    let so_far = left_goes_on c.args.self.now.tree.now rules c.in-Some.here c.parent-at.result right (has (lane c.loop-here.lanes place) right)
+    let so_far = left_goes_on c.args.self.now.tree.now rules c.in-Some.here c.parent-cursor.result right (has (lane c.loop-here.lanes place) right)
     (has (lane c.ask_on-is_any_left.new.lanes place) right) _
-    c.parent-at.ensures.tree here (stacked-within c.args.self.now place) c.parent-at.ensures.root c.parent-at.ensures.front
+    c.parent-cursor.ensures.tree here (stacked-within c.args.self.now place) c.parent-cursor.ensures.root c.parent-cursor.ensures.front
     (c.ask_on-is_any_left.ensures.left place right) (rw c.in-Some.is at passed) in
     elim (cases_lt place (length c.args.self.now.ids.now)) [
-      | inl inside ↦ left_nothing c.args.self.now.tree.now rules c.parent-at.result right (has (lane c.ask_on-is_any_left.new.lanes place) right) _
+      | inl inside ↦ left_nothing c.args.self.now.tree.now rules c.parent-cursor.result right (has (lane c.ask_on-is_any_left.new.lanes place) right) _
           (c.ask_on-is_any_left.ensures.none c.if-not-is_any_left.true place inside right) so_far
-      | inr past ↦ left_unasked c.args.self.now.tree.now rules c.parent-at.result right (has (lane c.ask_on-is_any_left.new.lanes place) right) _
+      | inr past ↦ left_unasked c.args.self.now.tree.now rules c.parent-cursor.result right (has (lane c.ask_on-is_any_left.new.lanes place) right) _
           (layer_in-past c.args.self.now.layers.now c.args.self.now.ids.now place past) so_far
     ]
 
@@ -58,9 +57,9 @@ returns-then-not-is_any_left-clause-count c =
     omega (arith, c.next_marked.ensures.count, c.loop-here.invariant.count) in
     omega (
       arith,
-      count_goes_on c.args.self.now.tree.now c.in-Some.here c.parent-at.result (length c.args.self.now.ids.now) c.next_marked.new.look_ups
+      count_goes_on c.args.self.now.tree.now c.in-Some.here c.parent-cursor.result (length c.args.self.now.ids.now) c.next_marked.new.look_ups
           (c.next_marked.new.look_ups + c.ask_on-is_any_left.result.1) _
-          c.parent-at.ensures.exact c.parent-at.ensures.front (omega (arith, c.ask_on-is_any_left.ensures.count)) (rw c.in-Some.is at bound),
+          c.parent-cursor.ensures.exact c.parent-cursor.ensures.front (omega (arith, c.ask_on-is_any_left.ensures.count)) (rw c.in-Some.is at bound),
     )
 
 pub loop-here-preserved : goal.loop-here-preserved
@@ -70,32 +69,32 @@ loop-here-preserved c =
     ≤ length c.args.self.now.ids.now * (depth_at c.args.self.now.tree.now c.args.node + 1) =
     omega (arith, c.next_marked.ensures.count, c.loop-here.invariant.count) in
     record {
-      inside = nodes_above c.args.self.now.tree.now c.in-Some.here c.parent-at.result c.parent-at.ensures.front;
+      inside = nodes_above c.args.self.now.tree.now c.in-Some.here c.parent-cursor.result c.parent-cursor.ensures.front;
       so_far = λ place right.
           let rules = stacked c.args.self.now place in
-          let passed = left_passed c.args.self.now.tree.now rules c.loop-here.at c.next_marked.result right (has (lane c.loop-here.lanes place) right) _
+          let passed = left_passed c.args.self.now.tree.now rules c.loop-here.cursor c.next_marked.result right (has (lane c.loop-here.lanes place) right) _
           (c.next_marked.ensures.passed place right) (c.loop-here.invariant.so_far place right) in
-          left_goes_on c.args.self.now.tree.now rules c.in-Some.here c.parent-at.result right (has (lane c.loop-here.lanes place) right)
+          left_goes_on c.args.self.now.tree.now rules c.in-Some.here c.parent-cursor.result right (has (lane c.loop-here.lanes place) right)
           (has (lane c.ask_on-is_any_left.new.lanes place) right) _
-          c.parent-at.ensures.tree here (stacked-within c.args.self.now place) c.parent-at.ensures.root c.parent-at.ensures.front
+          c.parent-cursor.ensures.tree here (stacked-within c.args.self.now place) c.parent-cursor.ensures.root c.parent-cursor.ensures.front
           (c.ask_on-is_any_left.ensures.left place right) (rw c.in-Some.is at passed);
       count =
-          count_goes_on c.args.self.now.tree.now c.in-Some.here c.parent-at.result (length c.args.self.now.ids.now) c.next_marked.new.look_ups
+          count_goes_on c.args.self.now.tree.now c.in-Some.here c.parent-cursor.result (length c.args.self.now.ids.now) c.next_marked.new.look_ups
           (c.next_marked.new.look_ups + c.ask_on-is_any_left.result.1) _
-          c.parent-at.ensures.exact c.parent-at.ensures.front (omega (arith, c.ask_on-is_any_left.ensures.count)) (rw c.in-Some.is at bound);
+          c.parent-cursor.ensures.exact c.parent-cursor.ensures.front (omega (arith, c.ask_on-is_any_left.ensures.count)) (rw c.in-Some.is at bound);
     }
 
 pub loop-here-smaller : goal.loop-here-smaller
 loop-here-smaller c = omega (
   arith,
-  nodes_up-step c.args.self.now.tree.now c.in-Some.here c.parent-at.result c.parent-at.ensures.exact c.parent-at.ensures.front,
+  nodes_up-step c.args.self.now.tree.now c.in-Some.here c.parent-cursor.result c.parent-cursor.ensures.exact c.parent-cursor.ensures.front,
   rw c.in-Some.is at c.next_marked.ensures.above,
 )
 
 pub returns-clause-left : goal.returns-clause-left
 returns-clause-left c = λ place right.
     let rules = stacked c.args.self.now place in
-    let passed = left_passed c.args.self.now.tree.now rules c.loop-here.at c.next_marked.result right (has (lane c.loop-here.lanes place) right) _
+    let passed = left_passed c.args.self.now.tree.now rules c.loop-here.cursor c.next_marked.result right (has (lane c.loop-here.lanes place) right) _
     (c.next_marked.ensures.passed place right) (c.loop-here.invariant.so_far place right) in
     left_ends c.args.self.now.tree.now rules right (has (lane c.loop-here.lanes place) right) _ (rw c.in_default.is at passed)
 

@@ -14,11 +14,11 @@ use Rattle.ll_rules.proofs.stack.Stack.climb.Given as goal
 -- what is left of the lanes, less what is granted from here on up
 abbrev pub invariant-loop-here : goal.invariant-loop-here
 invariant-loop-here l = record {
-  inside : IfSome l.at (IsNode l.self.tree.now);
-  so_far : (place : ℕ) (right : FsRight) → left_above l.self.tree.now (stacked l.self place) l.at right (has (lane l.lanes place) right)
+  inside : IfSome l.cursor (IsNode l.self.tree.now);
+  so_far : (place : ℕ) (right : FsRight) → left_above l.self.tree.now (stacked l.self place) l.cursor right (has (lane l.lanes place) right)
       ≡ (has (lane l.fn.lanes place) right && not (granted (in_tree l.self.tree.now (stacked l.self place)) (path_at l.self.tree.now l.fn.node) right));
-  count : l.look_ups + length l.self.ids.now * nodes_up l.self.tree.now l.at ≤ length l.self.ids.now * (depth_at l.self.tree.now l.fn.node + 1);
+  count : l.look_ups + length l.self.ids.now * nodes_up l.self.tree.now l.cursor ≤ length l.self.ids.now * (depth_at l.self.tree.now l.fn.node + 1);
 }
 
 abbrev pub decreases-loop-here : goal.decreases-loop-here
-decreases-loop-here l = nodes_up l.self.tree.now l.at
+decreases-loop-here l = nodes_up l.self.tree.now l.cursor

@@ -8,14 +8,14 @@ use Rattle.ll_rules.specs.Stacks.{stacked}
 use Rattle.ll_rules.proofs.stack.Stack.next_marked.Given as goal
 
 -- nothing is granted on what was passed
-abbrev pub invariant-loop-at : goal.invariant-loop-at
-invariant-loop-at l = record {
-  inside : IfSome l.at (IsNode l.self.tree.now);
-  above : nodes_up l.self.tree.now l.at ≤ nodes_up l.self.tree.now l.fn.from;
+abbrev pub invariant-loop-cursor : goal.invariant-loop-cursor
+invariant-loop-cursor l = record {
+  inside : IfSome l.cursor (IsNode l.self.tree.now);
+  above : nodes_up l.self.tree.now l.cursor ≤ nodes_up l.self.tree.now l.fn.from;
   passed : (place : ℕ) (right : FsRight)
-      → granted_above l.self.tree.now (stacked l.self place) l.at right ≡ granted_above l.self.tree.now (stacked l.self place) l.fn.from right;
-  count : l.look_ups + length l.self.ids.now * nodes_up l.self.tree.now l.at ≤ l.fn.look_ups + length l.self.ids.now * nodes_up l.self.tree.now l.fn.from;
+      → granted_above l.self.tree.now (stacked l.self place) l.cursor right ≡ granted_above l.self.tree.now (stacked l.self place) l.fn.from right;
+  count : l.look_ups + length l.self.ids.now * nodes_up l.self.tree.now l.cursor ≤ l.fn.look_ups + length l.self.ids.now * nodes_up l.self.tree.now l.fn.from;
 }
 
-abbrev pub decreases-loop-at : goal.decreases-loop-at
-decreases-loop-at l = option_map_or (λ here. here.0 + 1) l.at 0
+abbrev pub decreases-loop-cursor : goal.decreases-loop-cursor
+decreases-loop-cursor l = option_map_or (λ here. here.0 + 1) l.cursor 0

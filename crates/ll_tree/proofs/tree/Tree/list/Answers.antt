@@ -2,6 +2,7 @@
 use Rattle.std.proofs.Common.{◌≡◌, ap, ltb, length, true, false, refl, Some, None, cond, arith}
 use Rattle.std.proofs.lemmas.Bool.Decides.{nat_tests}
 use Rattle.ll_lines.specs.declared.fault.Cause.TheVariants.{Twice, NoParent, TooMany}
+use Rattle.ll_tree.specs.declared.tree.TheConstants.{MOST_NODES}
 use Rattle.ll_tree.specs.TreeFacts.{named}
 use Rattle.ll_tree.proofs.TreeLines.{fault_at, with_entry-fault, with_entry-added, rooted_later}
 use Rattle.ll_tree.proofs.tree.Tree.list.Goals as goal
@@ -20,8 +21,8 @@ pub returns-in-Gap-clause-entry : goal.returns-in-Gap-clause-entry
 unfolding fault_at
 returns-in-Gap-clause-entry c =
     let count = c.nodes.ensures.count in
-    let many = c.if-nodes-ge-NODES.true in
-    let full : ltb (length c.args.self.now) 65536 ≡ false = grind (arith, nat_tests) in
+    let many = c.if-nodes-ge-MOST_NODES.true in
+    let full : ltb (length c.args.self.now) MOST_NODES ≡ false = grind (arith, nat_tests) in
     with_entry-fault c.args.self.now c.args.path.now c.args.kind _ c.in-Gap.ensures.tree c.requires c.in-Gap.ensures.place TooMany
     (ap (λ b. cond b None (Some TooMany)) full)
 
@@ -29,8 +30,8 @@ pub returns-in_ok-add-in-Gap-2-clause-entry : goal.returns-in_ok-add-in-Gap-2-cl
 unfolding fault_at
 returns-in_ok-add-in-Gap-2-clause-entry c =
     let count = c.nodes.ensures.count in
-    let few = c.if-nodes-ge-NODES.false in
-    let room : ltb (length c.args.self.now) 65536 ≡ true = grind (arith, nat_tests) in
+    let few = c.if-nodes-ge-MOST_NODES.false in
+    let room : ltb (length c.args.self.now) MOST_NODES ≡ true = grind (arith, nat_tests) in
     with_entry-added c.args.self.now c.args.path.now c.args.kind _ c.in-Gap-2.ensures.tree c.requires c.in-Gap-2.ensures.place c.add.new.self
     (ap (λ b. cond b None (Some TooMany)) room) c.in_ok-add-in-Gap-2.ensures.ok
 

@@ -1,0 +1,9 @@
+use Rattle.std.proofs.Common.{◌≡◌, length, drop}
+use Rattle.ll_pool.specs.Gathered.{placed}
+use Rattle.ll_pool.proofs.gather.place.Given as goal
+
+abbrev pub invariant-loop-part : goal.invariant-loop-part
+invariant-loop-part l = record {
+  len : length l.answers.items ≡ length l.initial.answers.items;
+  rest : placed (drop l.part-index l.parts) l.answers.items ≡ placed l.parts l.initial.answers.items;
+}

@@ -1,0 +1,28 @@
+-- The note's answer, and the layer of a ruleset.
+use Rattle.std.proofs.Common.{subst}
+use Rattle.ll_semantics.specs.declared.note.Note.{Note}
+use Rattle.ll_semantics.specs.Notes.{NoteFits}
+use Rattle.ll_state.proofs.Judging.{Agrees-on_rulesets, frozen_judged}
+use Rattle.ll_state.proofs.own_state.OwnState.meet.Goals as goal
+
+pub returns-in-Answered-clause-answer : goal.returns-in-Answered-clause-answer
+unfolding NoteFits
+returns-in-Answered-clause-answer g c = (subst (λ (note : Note). NoteFits g.ctx c.args.op.now note) c.in-Answered.is c.requires.1.1.0).1
+
+pub returns-in-Answered-clause-ok : goal.returns-in-Answered-clause-ok
+unfolding NoteFits
+returns-in-Answered-clause-ok g c =
+    Agrees-on_rulesets g.ctx c.args.self.now c.args.op.now c.requires.1.0
+    (subst (λ (note : Note). NoteFits g.ctx c.args.op.now note) c.in-Answered.is c.requires.1.1.0).0
+
+pub returns-in-Frozen-clause-answer : goal.returns-in-Frozen-clause-answer
+unfolding NoteFits
+returns-in-Frozen-clause-answer g c =
+    let fits = subst (λ (note : Note). NoteFits g.ctx c.args.op.now note) c.in-Frozen.is c.requires.1.1.0 in
+    (frozen_judged g.ctx c.args.self.now c.restrict.new.self c.restrict.result c.requires.1.0 c.args.op.now c.in-Frozen.layer c.restrict.ensures fits).0
+
+pub returns-in-Frozen-clause-ok : goal.returns-in-Frozen-clause-ok
+unfolding NoteFits
+returns-in-Frozen-clause-ok g c =
+    let fits = subst (λ (note : Note). NoteFits g.ctx c.args.op.now note) c.in-Frozen.is c.requires.1.1.0 in
+    (frozen_judged g.ctx c.args.self.now c.restrict.new.self c.restrict.result c.requires.1.0 c.args.op.now c.in-Frozen.layer c.restrict.ensures fits).1
