@@ -4,3 +4,5 @@ pub mod ValueLemmas
 pub mod MembersLemmas
 pub mod ReadingLemmas
 pub mod PathLaws
+pub mod CutLemmas
+pub mod NumberLemmas

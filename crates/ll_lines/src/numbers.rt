@@ -1,7 +1,8 @@
 //! The numbers in a JSON value: each has to be one that `serde_json` has.
 
-ghost use Rattle.std.specs.Prelude.{◌≡◌, ◌==◌, ◌<◌, length, slice_index, option_and_then, is_some, IsTrue};
+ghost use Rattle.std.specs.Prelude.{◌≡◌, ◌==◌, ◌<◌, length, slice_index, option_and_then, is_some, IsTrue, Some, IfSome};
 ghost use Rattle.json.specs.Value.{value_view, items_view, members_view};
+ghost use Rattle.serde_json.specs.Data.{unsigned};
 ghost use Rattle.serde_json.specs.Read.{number_of, number_from};
 ghost use Rattle.serde_json.specs.Find.{as_u64};
 ghost use Rattle.ll_lines.specs.Values.{is_in_range as in_range, are_in_range, have_range, is_whole};
@@ -9,10 +10,16 @@ ghost use Rattle.ll_lines.specs.Values.{is_in_range as in_range, are_in_range, h
 use fast_float::Numeral;
 use json::Value;
 
+/// The most digits that are read at once: what they write is below 2 ^ 64.
+const MOST_DIGITS: usize = 18;
+
 /// The whole number below 2 ^ 64 that a number's text stands for.
 pub(crate) fn whole_number(text: &str) -> Option<u64>
     ensures { result ≡ option_and_then as_u64 (number_of text.now) }
 {
+    if let Some(number) = short_number(text.as_bytes()) {
+        return Some(number);
+    }
     let (negative, numeral) = signed(text);
     if negative { None } else { numeral.to_u64() }
 }
@@ -21,6 +28,9 @@ pub(crate) fn whole_number(text: &str) -> Option<u64>
 fn is_number_in_range(text: &str) -> bool
     ensures { result ≡ is_some (number_of text.now) }
 {
+    if short_number(text.as_bytes()).is_some() {
+        return true;
+    }
     let (negative, numeral) = signed(text);
     is_integer(negative, &numeral) || numeral.to_float::<f64>(negative).is_finite()
 }
@@ -60,6 +70,23 @@ fn members_in_range<'a>(members: &Vec<(&'a str, Value<'a>)>) -> bool
         }
     }
     true
+}
+
+/// The whole number that bytes write which are digits alone, one to 18 of them.
+fn short_number(digits: &[u8]) -> Option<u64>
+    ensures { IfSome result (λ number. number_of digits.now ≡ Some (unsigned number)) }
+{
+    if digits.is_empty() || digits.len() > MOST_DIGITS {
+        return None;
+    }
+    let mut number = 0;
+    for digit in digits {
+        if !digit.is_ascii_digit() {
+            return None;
+        }
+        number = number * 10 + u64::from(*digit - b'0');
+    }
+    Some(number)
 }
 
 fn is_integer(negative: bool, numeral: &Numeral<'_>) -> bool

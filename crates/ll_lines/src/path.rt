@@ -1,26 +1,55 @@
 //! Paths as text.
 
-ghost use Rattle.std.specs.Prelude.{◌≡◌, ℕ, List, Some, true, is_some, IsTrue};
-ghost use Rattle.std.specs.List.{list_all};
-ghost use Rattle.ll_lines.specs.Paths.{Path, is_name_byte, is_name, path_of, front};
+ghost use Rattle.std.specs.Prelude.{◌≡◌, ◌<◌, ◌∷◌, [], ℕ, List, Some, true, is_some, length, IsTrue, MatchOption};
+ghost use Rattle.std.specs.List.{list_all, slice_split};
+ghost use Rattle.ll_lines.specs.Paths.{Path, is_slash, is_name_byte, is_name, path_of, front};
 ghost use Rattle.ll_lines.specs.PathTexts.{is_path, text_of};
+
+use memchr::memchr;
 
 /// The longest path, in bytes.
 pub const LONGEST_PATH: usize = 4096;
 
-/// Whether a text holds neither a slash nor the character of number 0.
-fn has_name_bytes(name: &str) -> bool
+/// Whether bytes hold neither a slash nor the character of number 0.
+fn has_name_bytes(name: &[u8]) -> bool
     ensures { result ≡ list_all is_name_byte name.now }
 {
-    name.bytes().all(|byte| byte != b'/' && byte != 0)
+    name.iter().all(|byte| *byte != b'/' && *byte != 0)
 }
 
-/// Whether a text is the name of an object in its directory.
+/// Whether bytes are the name of an object in its directory.
 #[tactic(auto, unfolding(crate::specs::Paths::is_name))]
-fn name_ok(name: &str) -> bool
+fn name_ok(name: &[u8]) -> bool
     ensures { result ≡ is_name name.now }
 {
-    !name.is_empty() && name != "." && name != ".." && has_name_bytes(name)
+    !name.is_empty() && name != b".".as_slice() && name != b"..".as_slice() && has_name_bytes(name)
+}
+
+/// The bytes in front of the first slash, and those behind it.
+#[tactic(auto, using(crate::proofs::CutLemmas::split_at, crate::proofs::CutLemmas::unsplit))]
+fn cut_name(bytes: &[u8]) -> Option<(&[u8], &[u8])>
+    ensures { MatchOption result (slice_split is_slash bytes.now ≡ bytes.now ∷ [])
+        (λ cut. (slice_split is_slash bytes.now ≡ cut.0.now ∷ slice_split is_slash cut.1.now)
+        × (length cut.1.now < length bytes.now)) }
+{
+    match memchr(b'/', bytes) {
+        None => None,
+        Some(end) => Some((&bytes[..end], &bytes[end + 1..])),
+    }
+}
+
+/// Whether bytes are names with a slash between each two of them.
+fn are_names(bytes: &[u8]) -> bool
+    ensures { result ≡ list_all is_name (slice_split is_slash bytes.now) }
+{
+    let mut rest = bytes;
+    while let Some((name, others)) = cut_name(rest) {
+        if !name_ok(name) {
+            return false;
+        }
+        rest = others;
+    }
+    name_ok(rest)
 }
 
 /// Whether a text has the shape of a path: `/` alone, or one or more names, each after one `/`, in at most
@@ -35,7 +64,7 @@ pub fn path_ok(text: &str) -> bool
     match text.strip_prefix('/') {
         None => false,
         Some("") => true,
-        Some(names) => names.split('/').all(name_ok),
+        Some(names) => are_names(names.as_bytes()),
     }
 }
 

@@ -1,6 +1,6 @@
 -- What is kept stays sound: of the root alone, and when an object is put at the end.
 use Rattle.std.proofs.Common.{◌≡◌, ℕ, ◌<◌, ◌∷◌, [], ◌++◌, List, length, sym, ap, ◌∙◌, subst, arith, get_or, suc, ◌≤◌, ◌+◌, Bool, true, false, Option, Some}
-use Rattle.std.proofs.Common.{None, cond, leb, refl, inl, inr, ⊎_elim, take, Global}
+use Rattle.std.proofs.Common.{◌⊎◌, None, cond, leb, refl, inl, inr, ⊎_elim, take, Global}
 use Rattle.std.specs.String.{string_bytes, string_cmp}
 use Rattle.std.specs.declared.string.String.{String}
 use Rattle.ll_tree.specs.declared.tree.TheConstants.{MOST_NODES}
@@ -9,7 +9,8 @@ use Rattle.ll_tree.specs.declared.place.NodeId.{NodeId}
 use Rattle.ll_tree.specs.TreeFacts.{spelt, named, IsTree, depth_at}
 use Rattle.ll_tree.specs.Trees.{Entry, root, path_at, kind_at, IsNode, is_dir, is_dir_in, position_of, node_at, parent_of, parent_at, gap_in, place_or_gap}
 use Rattle.ll_tree.specs.Trees.{place}
-use Rattle.ll_tree.specs.Kept.{entry_of, entries_of, IsOf, IsSound, number_of}
+use Rattle.ll_tree.specs.Kept.{entry_of, entries_of, IsOf, IsSound, number_of, mark_at}
+use Rattle.ll_tree.specs.Chains.{text_mark, slot_in, head_in}
 use Rattle.std.proofs.lemmas.List.{length-map, map-append, get_or-map, length-append, length_push, get_or_append_left, get_or_push, take-append-le, take_at}
 use Rattle.std.specs.Prelude.{◌≢◌, IsTrue, is_some}
 use Rattle.std.specs.Option.{option_map}
@@ -66,8 +67,8 @@ module _ (objects : List Object) (value : List Entry) (is : entries_of objects �
     unfolding path_at entry_of
     path_is = sym (ap (λ (e : Entry). e.path) entry_is)
 
-    pub of_node : {A : Type 0} (numbers : List (String A × ℕ)) → IsSound objects numbers → IsOf value node.0 object
-    of_node numbers sound =
+    pub of_node : {A : Type 0} (numbers : List (String A × ℕ)) (heads : List ℕ) → IsSound objects numbers heads → IsOf value node.0 object
+    of_node numbers heads sound =
         rw found (subst (λ (entries : List Entry). IsOf entries node.0 (get_or objects node.0 object)) is (sound.each node.0 object (within_is node.0 within)))
 
 -- ---- a tree with one more object is a tree
@@ -99,6 +100,12 @@ gap_fits tree text kind up shape is = go (position_of (spelt text) tree) refl (p
   go None eq same =
       let dir = gap_dir tree (node_at tree (front (spelt text))) up same in
       record { is_path = is_path-path_of text (spelt text) (spelt_is text shape); fresh = eq; above = dir.0; is_dir = is_dir-Dir (kind_at tree up) dir.1 }
+
+eq_or_not : (a b : ℕ) → (a ≡ b) ⊎ (a ≢ b)
+eq_or_not a b = elim (cases_lt a b) [
+  | inl less ↦ inr (λ same. omega arith)
+  | inr more ↦ elim (cases_lt b a) [ inl less ↦ inr (λ same. omega arith) | inr equal ↦ inl (omega arith) ]
+]
 
 -- what holds of each item by its place, and of a new one at the end
 pub each_push : {X : Type 0} (P : ℕ → X → Type 0) (xs : List X) (x other : X) → ((n : ℕ) → n < length xs → P n (get_or xs n other)) → P (length xs) x → (n : ℕ)
@@ -221,7 +228,8 @@ depth_small tree here listed within =
 
 module _ {A : Type 0} (objects : List Object) (value : List Entry) (view : entries_of objects ≡ value) (numbers later : BTreeMap (String A) ℕ) (key : String A)
     (object : Object) (up : NodeId) (number : ℕ)
-    (sound : IsSound objects numbers.entries)
+    (heads grown_heads : List ℕ)
+    (sound : IsSound objects numbers.entries heads)
     (room : length value < MOST_NODES)
     (shape : is_some (path_of (string_bytes object.text)) ≡ true)
     (gap : place value (string_bytes object.text) ≡ places.Gap up)
@@ -229,6 +237,11 @@ module _ {A : Type 0} (objects : List Object) (value : List Entry) (view : entri
     (counted : number ≡ length value)
     (parent : object.parent ≡ Some up)
     (deeper : object.depth ≡ depth_at value up + 1)
+    (marked : object.mark ≡ text_mark (string_bytes object.text))
+    (falls : object.next ≤ number)
+    (ahead : (before : ℕ) → before < number → before < head_in heads (slot_in (text_mark (string_bytes object.text))) → before < object.next)
+    (this : number < head_in grown_heads (slot_in (text_mark (string_bytes object.text))))
+    (others : (slot : ℕ) → slot ≢ slot_in (text_mark (string_bytes object.text)) → head_in grown_heads slot ≡ head_in heads slot)
     (updates : UpdatesBy string_cmp (λ k. slice_cmp nat_cmp (string_bytes key) (string_bytes k)) numbers later (Some number))
   where
     listed : IsTree value
@@ -259,7 +272,37 @@ module _ {A : Type 0} (objects : List Object) (value : List Entry) (view : entri
         ∙ ap (cond (path_eq path other) (Some (length value))) (sound.found other other_shape ∙ ap (position_of other) view)
         ∙ sym (position_of-push other value new fits.fresh)
 
-    sound_push : IsSound (objects ++ object ∷ []) later.entries
+    own_text : text_of path ≡ string_bytes object.text
+    own_text = text_of-path_of (string_bytes object.text) path (spelt_is (string_bytes object.text) shape)
+
+    mark_at-old : (n : ℕ) → n < length value → mark_at (value ++ new ∷ []) n ≡ mark_at value n
+    unfolding mark_at
+    mark_at-old n within = ap (λ p. text_mark (text_of p)) (path_at-old value new (node n) within)
+
+    path_at-new : path_at (value ++ new ∷ []) (node (length value)) ≡ path
+    unfolding path_at
+    path_at-new = ap (λ (e : Entry). e.path) (get_or_push value new root (length value) refl)
+
+    mark_at-new : mark_at (value ++ new ∷ []) (length value) ≡ text_mark (string_bytes object.text)
+    unfolding mark_at path_at
+    mark_at-new = ap (λ (e : Entry). text_mark (text_of e.path)) (get_or_push value new root (length value) refl) ∙ ap text_mark own_text
+
+    -- the heads are over each node
+    first_old : (n : ℕ) → n < length value → n < head_in heads (slot_in (mark_at value n))
+    first_old n within =
+        subst (λ (es : List Entry). n < head_in heads (slot_in (mark_at es n))) view (sound.first n (let same = length_is objects value view in omega arith))
+
+    first_push : (n : ℕ) → n < suc (length value) → n < head_in grown_heads (slot_in (mark_at (value ++ new ∷ []) n))
+    first_push n within = elim (cases_lt n (length value)) [
+      | inl before ↦ rw (mark_at-old n before) (elim (eq_or_not (slot_in (mark_at value n)) (slot_in (text_mark (string_bytes object.text)))) [
+        | inl same ↦ rw same (let over = this in omega (arith, counted))
+        | inr other ↦ rw (others (slot_in (mark_at value n)) other) (first_old n before)
+      ])
+      | inr after ↦ (let end : length value ≡ n = omega arith in
+          subst (λ m. m < head_in grown_heads (slot_in (mark_at (value ++ new ∷ []) m))) end (rw (mark_at-new, ← counted) this))
+    ]
+
+    sound_push : IsSound (objects ++ object ∷ []) later.entries grown_heads
     sound_push = record {
       listed = rw listed_push (grown value new up listed fits);
       small = let pushed = length_push objects object in let same = length_is objects value view in omega arith;
@@ -271,13 +314,27 @@ module _ {A : Type 0} (objects : List Object) (value : List Entry) (view : entri
           record {
             parent = before.parent ∙ sym (parent_at-old value new up listed fits (node n) there);
             depth = before.depth ∙ sym (depth_at-old value new up listed fits (node n) there);
+            mark = before.mark ∙ sym (mark_at-old n there);
+            text = before.text ∙ sym (ap text_of (path_at-old value new (node n) there));
+            falls = before.falls;
+            next = λ m earlier same. before.next m earlier
+                (sym (ap slot_in (mark_at-old m (omega arith))) ∙ same ∙ ap slot_in (mark_at-old n there));
           })
           (rw (← length_is objects value view)
-          record { parent = parent ∙ sym (parent_at-new value new up listed fits); depth = deeper ∙ sym (depth_at-new value new up listed fits) })
+          record {
+            parent = parent ∙ sym (parent_at-new value new up listed fits);
+            depth = deeper ∙ sym (depth_at-new value new up listed fits);
+            mark = marked ∙ sym mark_at-new;
+            text = sym own_text ∙ sym (ap text_of path_at-new);
+            falls = rw (← counted) falls;
+            next = λ m earlier same. ahead m (omega (arith, counted))
+                (subst (λ slot. m < head_in heads slot) (sym (ap slot_in (mark_at-old m earlier)) ∙ same ∙ ap slot_in mark_at-new) (first_old m earlier));
+          })
           n within);
+      first = λ n within. rw listed_push (first_push n (let size = length_push objects object in let same = length_is objects value view in omega arith));
     }
 
-    pub pushed : IsSound (objects ++ object ∷ []) later.entries × (entries_of (objects ++ object ∷ []) ≡ value ++ new ∷ [])
+    pub pushed : IsSound (objects ++ object ∷ []) later.entries grown_heads × (entries_of (objects ++ object ∷ []) ≡ value ++ new ∷ [])
     pushed = (sound_push, listed_push)
 
 -- ---- the root alone
@@ -296,29 +353,44 @@ unfolding path_eq
 path_eq-root [] = refl
 path_eq-root (name ∷ names) = refl
 
-module _ {A : Type 0} (key : String A) (text : String Global) (key_text : string_bytes key ≡ 47 ∷ []) (own_text : string_bytes text ≡ 47 ∷ []) where
-  abbrev object : Object
-  object = record { text = text; kind = Dir; parent = None; depth = 0 }
+module _ {A : Type 0} (key : String A) (text : String Global) (key_text : string_bytes key ≡ 47 ∷ []) (own_text : string_bytes text ≡ 47 ∷ [])
+    (mark : ℕ) (heads : List ℕ) (marked : mark ≡ text_mark (47 ∷ [])) (over : 1 ≤ head_in heads (slot_in (text_mark (47 ∷ []))))
+  where
+    abbrev object : Object
+    object = record { text = text; kind = Dir; parent = None; depth = 0; mark = mark; next = 0; behind = 0 }
 
-  entries_root : entries_of (object ∷ []) ≡ root ∷ []
-  unfolding entries_of entry_of path_of after_slash names_in
-  entries_root = ap (λ t. named t Dir ∷ []) own_text
+    entries_root : entries_of (object ∷ []) ≡ root ∷ []
+    unfolding entries_of entry_of path_of after_slash names_in
+    entries_root = ap (λ t. named t Dir ∷ []) own_text
 
-  found_root : (path : Path) → is_path path ≡ true → number_of ((key, 0) ∷ []) (text_of path) ≡ position_of path (root ∷ [])
-  unfolding position_of text_of is_path
-  found_root path shape =
-      let tests : is_eq (slice_cmp nat_cmp (text_of path) (string_bytes key)) ≡ path_eq [] path =
-      is_eq-slice_cmp (text_of path) (string_bytes key) ∙ ap (bytes_eq (text_of path)) key_text ∙ bytes_eq-text_of path [] shape refl ∙ path_eq-root path in
-      ap (λ b. cond b (Some 0) None) tests
+    found_root : (path : Path) → is_path path ≡ true → number_of ((key, 0) ∷ []) (text_of path) ≡ position_of path (root ∷ [])
+    unfolding position_of text_of is_path
+    found_root path shape =
+        let tests : is_eq (slice_cmp nat_cmp (text_of path) (string_bytes key)) ≡ path_eq [] path =
+        is_eq-slice_cmp (text_of path) (string_bytes key) ∙ ap (bytes_eq (text_of path)) key_text ∙ bytes_eq-text_of path [] shape refl ∙ path_eq-root path in
+        ap (λ b. cond b (Some 0) None) tests
 
-  each_root : (number : ℕ) (other : Object) → number < 1 → IsOf (root ∷ []) number (get_or (object ∷ []) number other)
-  unfolding parent_at parent_of depth_at path_at
-  each_root number other within =
-      let first : 0 ≡ number = omega arith in
-      let zeroth : IsOf (root ∷ []) 0 object = record { parent = refl; depth = refl } in
-      subst (λ n. IsOf (root ∷ []) n (get_or (object ∷ []) n other)) first zeroth
+    each_root : (number : ℕ) (other : Object) → number < 1 → IsOf (root ∷ []) number (get_or (object ∷ []) number other)
+    unfolding parent_at parent_of depth_at path_at mark_at text_of
+    each_root number other within =
+        let first : 0 ≡ number = omega arith in
+        let zeroth : IsOf (root ∷ []) 0 object =
+        record { parent = refl; depth = refl; mark = marked; text = own_text; falls = omega arith; next = λ before earlier same. absurd (omega arith) } in
+        subst (λ n. IsOf (root ∷ []) n (get_or (object ∷ []) n other)) first zeroth
 
-  -- what is kept of the root
-  pub kept_root : IsSound (object ∷ []) ((key, 0) ∷ []) × (entries_of (object ∷ []) ≡ root ∷ [])
-  kept_root =
-      (record { listed = rw entries_root root_tree; small = omega arith; found = rw entries_root found_root; each = rw entries_root each_root }, entries_root)
+    first_root : (number : ℕ) → number < 1 → number < head_in heads (slot_in (mark_at (root ∷ []) number))
+    unfolding mark_at path_at text_of
+    first_root number within = let first : 0 ≡ number = omega arith in subst (λ n. n < head_in heads (slot_in (mark_at (root ∷ []) n))) first over
+
+    -- what is kept of the root
+    pub kept_root : IsSound (object ∷ []) ((key, 0) ∷ []) heads × (entries_of (object ∷ []) ≡ root ∷ [])
+    kept_root = (
+      record {
+        listed = rw entries_root root_tree;
+        small = omega arith;
+        found = rw entries_root found_root;
+        each = rw entries_root each_root;
+        first = rw entries_root first_root;
+      },
+      entries_root,
+    )

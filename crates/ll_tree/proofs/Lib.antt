@@ -1,3 +1,4 @@
 pub mod Positions
 pub mod Keeping
 pub mod TreeLines
+pub mod Walk

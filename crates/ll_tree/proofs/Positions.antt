@@ -214,11 +214,11 @@ spelt_is text shape =
     elim (path_of text) as (λ r. is_some r ≡ true → r ≡ Some (unwrap_or r [])) [ None ↦ λ some. absurd (false≢true some) | Some path ↦ λ some. refl ] shape
 
 -- what the map has at the text of a path is the path's node
-pub found_is : {A : Type 0} (objects : List Object) (numbers : List (String A × ℕ)) (value : List Entry) (text : List ℕ) (found : Option ℕ)
-    → IsSound objects numbers → entries_of objects ≡ value → is_some (path_of text) ≡ true → found ≡ number_of numbers text
+pub found_is : {A : Type 0} (objects : List Object) (numbers : List (String A × ℕ)) (value : List Entry) (text : List ℕ) (found : Option ℕ) (heads : List ℕ)
+    → IsSound objects numbers heads → entries_of objects ≡ value → is_some (path_of text) ≡ true → found ≡ number_of numbers text
     → option_map node found ≡ node_at value (spelt text)
 unfolding node_at
-found_is objects numbers value text found sound is shape got =
+found_is objects numbers value text found heads sound is shape got =
     let read = spelt_is text shape in
     ap (option_map node) (got ∙ ap (number_of numbers) (sym (text_of-path_of text (spelt text) read))
     ∙ sound.found (spelt text) (is_path-path_of text (spelt text) read) ∙ ap (position_of (spelt text)) is)

@@ -11,7 +11,8 @@ use Rattle.ll_tree.specs.declared.tree.TheConstants.{MOST_NODES}
 use Rattle.ll_tree.specs.declared.tree.Object.{Object}
 use Rattle.ll_lines.specs.Paths.{Path}
 use Rattle.ll_lines.specs.PathTexts.{is_path, text_of}
-use Rattle.ll_tree.specs.Trees.{Entry, position_of, parent_at, root}
+use Rattle.ll_tree.specs.Trees.{Entry, position_of, parent_at, path_at, root}
+use Rattle.ll_tree.specs.Chains.{text_mark, slot_in, head_in}
 use Rattle.ll_tree.specs.TreeFacts.{IsTree, depth_at, named}
 use Rattle.serde_json.specs.Data.{Data}
 use Rattle.ll_lines.specs.declared.fault.Cause.{Cause}
@@ -30,18 +31,28 @@ entries_of objects = map entry_of objects
 abbrev pub number_of : {A : Type 0} → List (String A × ℕ) → List ℕ → Option ℕ
 number_of numbers text = lookup (is_at (λ key. slice_cmp nat_cmp text (string_bytes key))) numbers
 
--- an object has the parent and the depth of the node of a number
+-- the mark of the text of a node
+unfoldable pub mark_at : List Entry → ℕ → ℕ
+mark_at entries number = text_mark (text_of (path_at entries (record { 0 = number })))
+
+-- An object has the text, the parent, the depth and the mark of the node of a number, and the next of its chain leaves out no
+-- earlier node of its slot.
 pub record IsOf (entries : List Entry) (number : ℕ) (object : Object) : Type 0 where
   pub parent : object.parent ≡ parent_at entries (record { 0 = number })
   pub depth : object.depth ≡ depth_at entries (record { 0 = number })
+  pub mark : object.mark ≡ mark_at entries number
+  pub text : string_bytes object.text ≡ text_of (path_at entries (record { 0 = number }))
+  pub falls : object.next ≤ number
+  pub next : (before : ℕ) → before < number → slot_in (mark_at entries before) ≡ slot_in (mark_at entries number) → before < object.next
 
 -- The entries are a tree of at most 65,536 nodes, the map has the number of each of their paths, and each object
--- is that of its number.
-pub record IsSound {A : Type 0} (objects : List Object) (numbers : List (String A × ℕ)) : Type 0 where
+-- is that of its number. The head of a slot is over each node whose text has it.
+pub record IsSound {A : Type 0} (objects : List Object) (numbers : List (String A × ℕ)) (heads : List ℕ) : Type 0 where
   pub listed : IsTree (entries_of objects)
   pub small : length objects ≤ MOST_NODES
   pub found : (path : Path) → IsTrue (is_path path) → number_of numbers (text_of path) ≡ position_of path (entries_of objects)
   pub each : (number : ℕ) (other : Object) → number < length objects → IsOf (entries_of objects) number (slice_index_or objects number other)
+  pub first : (number : ℕ) → number < length objects → number < head_in heads (slot_in (mark_at (entries_of objects) number))
 
 -- the entries with the object that a value describes, or its fault
 abbrev pub with_value : List Entry → Data → Result (List Entry) Cause

@@ -1,3 +1,4 @@
+pub mod Chains
 pub mod Trees
 pub mod TreeFacts
 pub mod TreeReading

@@ -1,7 +1,7 @@
 //! The listed file tree: the nodes of a tree and the places that paths name, and the reading of a tree file.
 #![tactic(auto)]
 
-mod hints;
+mod chains;
 pub mod laws;
 mod object;
 mod place;

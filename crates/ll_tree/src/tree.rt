@@ -1,6 +1,8 @@
 //! The tree in memory.
 
-ghost use Rattle.std.specs.Prelude.{◌≡◌, ◌≤◌, ◌<◌, [], ◌∷◌, ◌++◌, length, Some, ◌≢◌, IfOk, IfErr, OnOk, OnErr, IsTrue, is_some, IfSome, IfNone};
+ghost use Rattle.std.specs.Prelude.{◌≡◌, ◌≤◌, ◌<◌, [], ◌∷◌, ◌++◌, length, Some, ◌≢◌, IfOk, IfErr, OnOk, OnErr, ◌==◌, ◌&&◌, IsTrue, is_some, IfSome, IfNone};
+ghost use Rattle.std.specs.String.{string_bytes};
+ghost use Rattle.std.specs.Str.{bytes_eq};
 ghost use Rattle.ll_lines.specs.declared.fault.Cause.TheVariants.{Memory};
 ghost use Rattle.ll_lines.specs.Readers.{Gives};
 ghost use Rattle.ll_lines.specs.Values.{value_data};
@@ -11,10 +13,13 @@ ghost use Rattle.ll_tree.specs.declared.tree.TheConstants.{MOST_NODES};
 ghost use Rattle.ll_tree.specs.TreeReading.{IsTreeOf, tree_format};
 ghost use Rattle.ll_tree.specs.Kept.{IsRooted, below_root, with_value};
 ghost use Rattle.ll_lines.specs.Paths.{Path, path_of, is_prefix};
+ghost use Rattle.ll_lines.specs.PathTexts.{text_of};
 ghost use Rattle.ll_tree.specs.Trees.{Entry, root, IsNode, is_dir, path_at, kind_at, parent_at, node_at, gap_in, place};
 ghost use Rattle.ll_tree.specs.TreeFacts.{spelt, named, IsTree, IsPlace, StandsIn, depth_at};
 
-use crate::hints::Hints;
+use crate::chains::{
+    LONGEST_CHAIN, head, head_over, mark_of, next_of, no_heads, set_head, slot_of,
+};
 use crate::object::object_of;
 use crate::place::{NodeId, Place};
 use json::{Scratch, Value};
@@ -35,6 +40,22 @@ struct Object {
     kind: Kind,
     parent: Option<NodeId>,
     depth: u32,
+    /// The mark of the text's hash.
+    mark: u32,
+    /// A number over each earlier node of the text's slot, and not over this node's own.
+    next: u32,
+    /// How many nodes are after this one in its chain.
+    behind: u8,
+}
+
+impl Object {
+    /// Whether this is the object of a text that has this mark.
+    fn is_of(&self, mark: u32, text: &str) -> bool
+        ensures { result ≡ ((self.now.mark == mark)
+            && bytes_eq (string_bytes self.now.text) text.now) }
+    {
+        self.mark == mark && self.text.as_str() == text
+    }
 }
 
 /// A listed file tree: the root, and objects in the order of their lines, each in a directory that
@@ -43,7 +64,7 @@ struct Object {
 pub struct Tree {
     objects: Vec<Object>,
     numbers: BTreeMap<String, u32>,
-    hints: Hints,
+    heads: Vec<u32>,
 }
 
 impl Model for Tree {
@@ -56,7 +77,7 @@ impl Model for Tree {
 
     ghost view = { λ tree. entries_of tree.objects.items };
 
-    ghost invariant = { λ tree. IsSound tree.objects.items tree.numbers.entries };
+    ghost invariant = { λ tree. IsSound tree.objects.items tree.numbers.entries tree.heads.items };
 }
 
 impl Tree {
@@ -145,7 +166,9 @@ impl Tree {
     fn root_only(alloc: Global) -> Result<Tree, AllocError>
         ensures { IfOk result (λ tree. tree ≡ root ∷ []) }
     {
-        let hints = Hints::new(alloc)?;
+        let mut heads = no_heads(alloc)?;
+        let mark = mark_of("/");
+        set_head(&mut heads, slot_of(mark), 1);
         let mut numbers = BTreeMap::new(alloc);
         numbers.insert(String::from_str(alloc, "/")?, 0)?;
         let root = Object {
@@ -153,13 +176,16 @@ impl Tree {
             kind: Kind::Dir,
             parent: None,
             depth: 0,
+            mark,
+            next: 0,
+            behind: 0,
         };
         let mut objects = Vec::with_capacity(alloc, 1)?;
         objects.push(root)?;
         Ok(Tree {
             objects,
             numbers,
-            hints,
+            heads,
         })
     }
 
@@ -179,16 +205,23 @@ impl Tree {
     {
         let depth = self.depth(parent) + 1;
         let number = self.nodes();
+        let mark = mark_of(text);
+        let slot = slot_of(mark);
+        let before = head(&self.heads, slot);
+        let behind = self.behind(before);
         let key = String::from_str(alloc, text)?;
         let kept = String::from_str(alloc, text)?;
         self.objects.reserve(1)?;
         self.numbers.insert(key, number)?;
-        self.hints.note(text, number);
+        set_head(&mut self.heads, slot, head_over(number, behind));
         self.objects.push_reserved(Object {
             text: kept,
             kind,
             parent: Some(parent),
             depth,
+            mark,
+            next: next_of(number, before),
+            behind,
         });
         Ok(())
     }
@@ -196,12 +229,21 @@ impl Tree {
     /// What is kept of a node.
     fn object(&self, node: NodeId) -> &Object
         requires { IsNode self.now node }
+        ensures text { string_bytes result.now.text ≡ text_of (path_at self.now node) }
         ensures kind { result.now.kind ≡ kind_at self.now node }
         ensures parent { result.now.parent ≡ parent_at self.now node }
         ensures depth { result.now.depth ≡ depth_at self.now node }
         ensures tree { IsTree self.now }
     {
         &self.objects[node.0 as usize]
+    }
+
+    /// The text of a node's path.
+    pub fn text(&self, node: NodeId) -> &str
+        requires { IsNode self.now node }
+        ensures { result.now ≡ text_of (path_at self.now node) }
+    {
+        &self.object(node).text
     }
 
     /// How many nodes the tree has, the root among them: at most 65,536.
@@ -309,25 +351,33 @@ impl Tree {
         ensures node { IfSome result (IsNode self.now) }
         ensures tree { IsTree self.now }
     {
-        match self.hinted(text) {
-            Some(node) => Some(node),
-            None => self.numbers.get(text).map(|number| NodeId(*number)),
+        let mark = mark_of(text);
+        let slot = slot_of(mark);
+        let mut bound = head(&self.heads, slot);
+        while bound > 0 {
+            let number = bound - 1;
+            match self.objects.get(number as usize) {
+                Some(object) if slot_of(object.mark) == slot => {
+                    if object.is_of(mark, text) {
+                        return Some(NodeId(number));
+                    }
+                    bound = object.next;
+                }
+                _ => return self.numbers.get(text).map(|number| NodeId(*number)),
+            }
         }
+        None
     }
 
-    /// The node that is guessed for a text, where the text is that node's.
-    fn hinted(&self, text: &str) -> Option<NodeId>
-        ensures { IfSome result (λ node. IsNode self.now node
-            × (path_at self.now node ≡ spelt text.now)) }
-    {
-        let number = self.hints.guess(text);
-        let Some(object) = self.objects.get(number as usize) else {
-            return None;
-        };
-        if object.text.as_str() != text {
-            return None;
+    /// How many nodes a chain with this head has: no fewer than the longest has, where the slot is crowded.
+    fn behind(&self, head: u32) -> u8 {
+        if head == 0 {
+            return 0;
         }
-        Some(NodeId(number))
+        match self.objects.get(head as usize - 1) {
+            Some(object) => object.behind.saturating_add(1),
+            None => LONGEST_CHAIN,
+        }
     }
 
     /// The gap in a directory.

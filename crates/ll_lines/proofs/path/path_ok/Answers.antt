@@ -1,10 +1,9 @@
 -- The ways out are the cases of `path_of`.
-use Rattle.std.proofs.Common.{sym, ap, ◌∙◌, rules, lit<, tests, refl, Some, None}
+use Rattle.std.proofs.Common.{sym, ap, ◌∙◌, lit<, refl, Some, None}
 use Rattle.std.specs.Prelude.{is_some}
-use Rattle.std.proofs.lemmas.Iterator.Splits.{YieldsList-from_str_split}
-use Rattle.std.proofs.lemmas.Iterator.Search.{all_from_yields_List}
+use Rattle.std.specs.List.{list_all, slice_split}
 use Rattle.std.proofs.lemmas.Str.Pattern.{strip_prefix_char}
-use Rattle.ll_lines.specs.Paths.{is_name}
+use Rattle.ll_lines.specs.Paths.{is_name, is_slash}
 use Rattle.ll_lines.proofs.PathLaws.{path_of-other, path_of-root, path_of-slash, is_some-names_in}
 use Rattle.ll_lines.proofs.path.path_ok.Goals as goal
 
@@ -20,10 +19,7 @@ returns-in-Some-empty c =
 
 pub returns-in-Some : goal.returns-in-Some
 returns-in-Some c =
-    let all =
-    all_from_yields_List is_name _ _ c.all.result c.all.ensures.ran
-    (YieldsList-from_str_split 47 c.in-Some.names.now (lit< tt) c.split.ensures.text c.split.ensures.has_more c.split.ensures.pattern)
-    (λ x b q k. search (rules, tests)) in
     let text = strip_prefix_char 47 c.args.text.now (Some c.in-Some.names) c.in-Some.ensures.cases (lit< tt) in
-    all ∙ sym (is_some-names_in c.in-Some.names.now c.in-Some.not-empty)
+    c.are_names.ensures ∙ ap (λ bytes. list_all is_name (slice_split is_slash bytes)) c.as_bytes.ensures.value
+    ∙ sym (is_some-names_in c.in-Some.names.now c.in-Some.not-empty)
     ∙ ap is_some (sym (path_of-slash c.args.text.now _ c.if-text-gt-LONGEST_PATH.false text))

@@ -11,8 +11,12 @@ returns-clause-kind c = kind_is c.self.inside.objects.items c.args.self.now c.se
 
 pub returns-clause-parent : goal.returns-clause-parent
 returns-clause-parent c =
-    (of_node c.self.inside.objects.items c.args.self.now c.self.view_is c.args.node c.index.result.now c.requires c.index.ensures _ c.self.invariant).parent
+    (of_node c.self.inside.objects.items c.args.self.now c.self.view_is c.args.node c.index.result.now c.requires c.index.ensures _ _ c.self.invariant).parent
 
 pub returns-clause-depth : goal.returns-clause-depth
 returns-clause-depth c =
-    (of_node c.self.inside.objects.items c.args.self.now c.self.view_is c.args.node c.index.result.now c.requires c.index.ensures _ c.self.invariant).depth
+    (of_node c.self.inside.objects.items c.args.self.now c.self.view_is c.args.node c.index.result.now c.requires c.index.ensures _ _ c.self.invariant).depth
+
+pub returns-clause-text : goal.returns-clause-text
+returns-clause-text c =
+    (of_node c.self.inside.objects.items c.args.self.now c.self.view_is c.args.node c.index.result.now c.requires c.index.ensures _ _ c.self.invariant).text
