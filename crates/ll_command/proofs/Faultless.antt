@@ -11,7 +11,7 @@ use Rattle.std.proofs.lemmas.Slice.Eq.{bytes_eq-Decides}
 use Rattle.std.specs.Str.Parse.{digits_value, without_leading_plus}
 use Rattle.clap.specs.declared.builder.value_parser.ValueParser.TheVariants.{Unsigned}
 use Rattle.clap.proofs.ValueTestLemmas.{accepts-Accepts, Accepts-accepts}
-use Rattle.ll_options.specs.declared.abis.AbiRange.{AbiRange}
+use Rattle.ll_options.specs.Versions.{Range}
 use Rattle.ll_command.proofs.CommandLine.{no_misuse, request_of-matches}
 use Rattle.ll_command.specs.Command.{Request, command, crew_of, faults, is_misuse, number_at, range_in, request_if, request_in, request_of, options_in}
 use Rattle.ll_command.specs.Command.{with_misuse}
@@ -615,10 +615,10 @@ number_found low high name rows text fits one passes =
 
 -- what isn't misused names a range
 range_found : (rows : List Row) (text : Text) → is_misuse rows ≡ false → first_of (codes "abi") rows ≡ Some text
-    → (abis : AbiRange) × (range_in text ≡ Some abis)
+    → (abis : Range) × (range_in text ≡ Some abis)
 range_found rows text used first = there (range_in text) refl
   where
-    there : (found : Option AbiRange) → range_in text ≡ found → (abis : AbiRange) × (range_in text ≡ Some abis)
+    there : (found : Option Range) → range_in text ≡ found → (abis : Range) × (range_in text ≡ Some abis)
     there None is =
         let misused : is_misuse rows ≡ true = rw (first, is) refl in
         cc

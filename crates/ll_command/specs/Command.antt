@@ -16,7 +16,7 @@ use Rattle.ll_rights.specs.declared.abi.Abi.{Abi}
 use Rattle.ll_rights.specs.Abis.{all_versions, number_of, version_of}
 use Rattle.ll_options.specs.declared.shown.Shown.{Shown}
 use Rattle.ll_options.specs.Crews.{IsCrew}
-use Rattle.ll_options.specs.declared.abis.AbiRange.{AbiRange}
+use Rattle.ll_options.specs.Versions.{Range, range_from}
 use Rattle.ll_command.specs.declared.command.Run.{Run}
 use Rattle.ll_options.specs.declared.options.Effort.{Effort}
 use Rattle.ll_options.specs.declared.options.Effort.TheVariants.{AsRecorded, Best}
@@ -88,13 +88,12 @@ abbrev pub newer_digit : ℕ
 newer_digit = 49 + length all_versions
 
 -- the range from a version to one that isn't older
-abbrev pub range_between : Option Abi → Option Abi → Option AbiRange
-range_between (Some oldest) (Some newest) =
-    if nat_le (number_of oldest) (number_of newest) then Some (record { oldest = oldest; newest = newest }) else None
+abbrev pub range_between : Option Abi → Option Abi → Option Range
+range_between (Some oldest) (Some newest) = range_from oldest newest
 range_between _ _ = None
 
 -- the range that a text names: a version, or two with a hyphen between them
-abbrev pub range_in : Text → Option AbiRange
+abbrev pub range_in : Text → Option Range
 range_in (digit ∷ []) = range_between (version_at digit) (version_at digit)
 range_in (oldest ∷ byte ∷ newest ∷ []) = if byte == 45 then range_between (version_at oldest) (version_at newest) else None
 range_in _ = None
@@ -133,7 +132,7 @@ abbrev pub effort_in : List Row → Effort
 effort_in rows = if flag_at (codes "best-effort") rows then Best else AsRecorded
 
 -- what the matches ask of an audit under some versions
-abbrev pub options_in : AbiRange → List Row → Options
+abbrev pub options_in : Range → List Row → Options
 options_in abis rows = record { abis = abis; effort = effort_in rows; shown = shown_in rows }
 
 infixl 10 ◌>>=◌

@@ -235,12 +235,7 @@ fn version(digit: u8) -> Option<Abi>
 fn range_between(oldest: Option<Abi>, newest: Option<Abi>) -> Option<AbiRange>
     ensures { result ≡ spec.range_between oldest newest }
 {
-    let (oldest, newest) = (oldest?, newest?);
-    if oldest.number() <= newest.number() {
-        Some(AbiRange { oldest, newest })
-    } else {
-        None
-    }
+    AbiRange::new(oldest?, newest?)
 }
 
 /// The range that a text names: a version, or two with a hyphen between them.

@@ -1,5 +1,9 @@
 -- What a writer holds while the bytes that are to be written go out piece by piece.
-use Rattle.std.proofs.Common.{◌≡◌, ◌∙◌, ℕ, ◌-◌, List, ◌++◌, length, take, drop, Option, ap, sym, subst, append_assoc, take-append-drop}
+use Rattle.std.proofs.Common.{◌≡◌, ◌∙◌, ℕ, suc, ◌+◌, ◌-◌, ◌<◌, List, ◌++◌, Bor, codes, get_or, length, take, drop, Option, ap, ap₂, refl, sym, subst}
+use Rattle.std.proofs.Common.{append_assoc, take-append-drop, add-one}
+use Rattle.std.specs.List.{flat_map}
+use Rattle.std.proofs.lemmas.List.Concat.{flat_map-cons}
+use Rattle.std.proofs.Math.Seq.{drop-cons}
 use Rattle.std.proofs.Math.Seq.{take-append_seam}
 use Rattle.std.proofs.lemmas.List.{take_rest}
 use Rattle.std.specs.Io.KnownBytes.{Appends}
@@ -16,3 +20,32 @@ pub moves_on : (all done rest : List ℕ) (count : ℕ) → all ≡ done ++ rest
 moves_on all done rest count split =
     split ∙ ap (λ l. done ++ l) (sym (take-append-drop count rest)) ∙ sym (append_assoc done (take count rest) (drop count rest))
     ∙ ap (λ l. (done ++ take count rest) ++ l) (sym (take_rest rest count))
+
+-- all that is done, and a beginning of what comes next
+pub further : (all done next rest : List ℕ) (count : ℕ) → all ≡ done ++ (next ++ rest)
+    → all ≡ (done ++ take count next) ++ (drop count next ++ rest)
+further all done next rest count split =
+    split
+    ∙ ap (λ l. done ++ (l ++ rest)) (sym (take-append-drop count next))
+    ∙ ap (λ l. done ++ l) (append_assoc (take count next) (drop count next) rest)
+    ∙ sym (append_assoc done (take count next) (drop count next ++ rest))
+
+-- the texts of a line, one behind the other
+pub line_of_two : (first second : List ℕ) → codes "landaudit: " ++ (first ++ (second ++ codes "\n")) ≡ codes "landaudit: " ++ (first ++ second) ++ codes "\n"
+line_of_two first second = simp append_assoc refl
+
+pub line_of_words : (file line cause : List ℕ)
+    → codes "landaudit: " ++ (file ++ (codes " line " ++ (line ++ (codes ": " ++ (cause ++ codes "\n")))))
+    ≡ codes "landaudit: " ++ (file ++ codes " line " ++ line ++ codes ": " ++ cause) ++ codes "\n"
+line_of_words file line cause = simp append_assoc refl
+
+-- texts, one behind the other
+abbrev pub text_of : List (Bor (List ℕ)) → List ℕ
+text_of texts = flat_map (λ (text : Bor (List ℕ)). text.now) texts
+
+pub text_next : (texts : List (Bor (List ℕ))) (k : ℕ) (other : Bor (List ℕ)) (bytes : List ℕ) → k < length texts → bytes ≡ (get_or texts k other).now
+    → text_of (drop k texts) ≡ bytes ++ text_of (drop (k + 1) texts)
+text_next texts k other bytes below is =
+    ap text_of (drop-cons texts k other below)
+    ∙ flat_map-cons (λ (text : Bor (List ℕ)). text.now) (get_or texts k other) (drop (suc k) texts)
+    ∙ ap₂ (λ (text : List ℕ) (n : ℕ). text ++ text_of (drop n texts)) (sym is) (sym (add-one k))

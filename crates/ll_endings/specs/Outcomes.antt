@@ -15,10 +15,13 @@ use Rattle.ll_endings.specs.FaultLines.{failure_line, failure_status}
 abbrev pub AppendsBeginning : Option (List ℕ) → Option (List ℕ) → List ℕ → Type 0
 AppendsBeginning old new bytes = (count : ℕ) × Appends old new (take count bytes)
 
--- A failure has its status, and its line was appended to the lines on standard error, if it could be told.
+-- A failure has its status, and its line was appended to the lines on standard error, if it could be told, and else a
+-- beginning of it.
 abbrev pub Complains : Failure → Ending → Option (List ℕ) → Option (List ℕ) → Type 0
 Complains one ending lines_old lines_new =
-    (ending.status ≡ failure_status one) × OnTrue ending.told (Appends lines_old lines_new (failure_line one))
+    (ending.status ≡ failure_status one)
+    × OnTrue ending.told (Appends lines_old lines_new (failure_line one))
+    × AppendsBeginning lines_old lines_new (failure_line one)
 
 -- An outcome ends in this way, and turns what the output and the error output were into what they are.
 abbrev pub EndsWith : {Output Errors : Type 0} → (Output → Option (List ℕ)) → (Errors → Option (List ℕ)) → Outcome → Ending

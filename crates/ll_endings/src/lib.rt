@@ -3,6 +3,7 @@
 
 mod lines;
 mod outcome;
+mod writing;
 
 pub use lines::Failure;
 pub use outcome::{Ending, Outcome};

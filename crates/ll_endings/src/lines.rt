@@ -3,7 +3,10 @@
 ghost use Rattle.std.specs.Prelude.{◌≡◌, ◌++◌, OnOk, codes};
 ghost use Rattle.std.specs.Io.KnownBytes.{Appends};
 ghost use Rattle.ll_endings.specs.FaultLines.{cause_name, failure_line, failure_status, place_text};
+ghost use Rattle.ll_endings.specs.Outcomes.{AppendsBeginning};
 
+use crate::writing::write_texts;
+use itoa::Buffer;
 use ll_lines::{Cause, ReadFault};
 use std::io;
 use std::io::Write;
@@ -36,29 +39,64 @@ impl Failure<'_> {
         }
     }
 
-    /// Writes the line for standard error.
+    /// Writes the line for standard error. Where that fails a beginning of it was written.
     pub fn write_to<W: Write>(&self, err: &mut W) -> io::Result<()>
-        ensures { OnOk result (Appends (W.contents err.old) (W.contents err.new)
+        ensures whole { OnOk result (Appends (W.contents err.old) (W.contents err.new)
             (failure_line self.now)) }
+        ensures beginning { AppendsBeginning (W.contents err.old) (W.contents err.new)
+            (failure_line self.now) }
     {
         match self {
             Failure::Tree(fault) => write_place(err, "tree", fault),
             Failure::Trace(fault) => write_place(err, "trace", fault),
-            Failure::Unread(name) => writeln!(err, "landaudit: cannot read {name}"),
-            Failure::Memory => writeln!(err, "landaudit: no memory"),
-            Failure::NoThread => writeln!(err, "landaudit: no thread"),
-            Failure::Unwritten => writeln!(err, "landaudit: cannot write"),
+            Failure::Unread(name) => write_line(err, "cannot read ", name),
+            Failure::Memory => write_line(err, "no memory", ""),
+            Failure::NoThread => write_line(err, "no thread", ""),
+            Failure::Unwritten => write_line(err, "cannot write", ""),
         }
     }
 }
 
-fn write_place<W: Write>(err: &mut W, file: &str, fault: &ReadFault) -> io::Result<()>
-    ensures { OnOk result (Appends (W.contents err.old) (W.contents err.new)
-        (codes "landaudit: " ++ place_text file.now fault.now ++ codes "\n")) }
+/// Writes a line of two texts behind the program's name.
+fn write_line<W: Write>(err: &mut W, first: &str, second: &str) -> io::Result<()>
+    ensures whole { OnOk result (Appends (W.contents err.old) (W.contents err.new)
+        (codes "landaudit: " ++ (first.now ++ second.now) ++ codes "\n")) }
+    ensures beginning { AppendsBeginning (W.contents err.old) (W.contents err.new)
+        (codes "landaudit: " ++ (first.now ++ second.now) ++ codes "\n") }
 {
-    let line = fault.line;
-    let cause = name_of(fault.cause);
-    writeln!(err, "landaudit: {file} line {line}: {cause}")
+    write_texts(err, &["landaudit: ", first, second, "\n"])
+}
+
+/// Writes the line that says which line of a file is wrong, and why.
+fn write_place<W: Write>(err: &mut W, file: &str, fault: &ReadFault) -> io::Result<()>
+    ensures whole { OnOk result (Appends (W.contents err.old) (W.contents err.new)
+        (codes "landaudit: " ++ place_text file.now fault.now ++ codes "\n")) }
+    ensures beginning { AppendsBeginning (W.contents err.old) (W.contents err.new)
+        (codes "landaudit: " ++ place_text file.now fault.now ++ codes "\n") }
+{
+    let mut buffer = Buffer::new();
+    let line = buffer.format(fault.line);
+    write_words(err, file, line, name_of(fault.cause))
+}
+
+/// Writes the line on this line of a file, which has this cause.
+fn write_words<'t, W: Write>(
+    err: &mut W,
+    file: &'t str,
+    line: &'t str,
+    cause: &'t str,
+) -> io::Result<()>
+    ensures whole { OnOk result (Appends (W.contents err.old) (W.contents err.new)
+        (codes "landaudit: " ++ (file.now ++ codes " line " ++ line.now ++ codes ": " ++ cause.now)
+        ++ codes "\n")) }
+    ensures beginning { AppendsBeginning (W.contents err.old) (W.contents err.new)
+        (codes "landaudit: " ++ (file.now ++ codes " line " ++ line.now ++ codes ": " ++ cause.now)
+        ++ codes "\n") }
+{
+    write_texts(
+        err,
+        &["landaudit: ", file, " line ", line, ": ", cause, "\n"],
+    )
 }
 
 fn name_of(cause: Cause) -> &'static str

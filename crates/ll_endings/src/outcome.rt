@@ -1,15 +1,14 @@
 //! What a run comes to, and how it ends.
 
-ghost use Rattle.std.specs.Prelude.{◌≡◌, OnOk};
-ghost use Rattle.std.specs.Io.{WritesAtMost};
-ghost use Rattle.std.specs.Io.KnownBytes.{Appends, WriteAppends};
-ghost use Rattle.ll_endings.specs.Outcomes.{AppendsBeginning, Complains, EndsWith};
+ghost use Rattle.std.specs.Prelude.{◌≡◌};
+ghost use Rattle.ll_endings.specs.Outcomes.{Complains, EndsWith};
 
 use crate::lines::Failure;
+use crate::writing::write_whole;
 use ll_command::{Message, Misuse};
 use ll_report::Report;
 use std::io;
-use std::io::{ErrorKind, Write};
+use std::io::Write;
 
 /// What a run comes to, before anything is written.
 #[derive(Debug, Drop)]
@@ -67,44 +66,6 @@ fn wrong_words(told: bool) -> Ending
     ensures { result ≡ record { status = 2; told = told } }
 {
     Ending { status: 2, told }
-}
-
-/// Writes all bytes, and sends them on. Where that fails a beginning of them was written.
-fn write_whole<O: Write>(out: &mut O, bytes: &[u8]) -> io::Result<()>
-    ensures whole { OnOk result (Appends (O.contents out.old) (O.contents out.new) bytes.now) }
-    ensures beginning { AppendsBeginning (O.contents out.old) (O.contents out.new) bytes.now }
-{
-    write_bytes(out, bytes)?;
-    out.flush()
-}
-
-/// Writes all bytes, as `write_all` does. That promises nothing of what was written before a write
-/// failed.
-fn write_bytes<O: Write>(out: &mut O, bytes: &[u8]) -> io::Result<()>
-    ensures whole { OnOk result (Appends (O.contents out.old) (O.contents out.new) bytes.now) }
-    ensures beginning { AppendsBeginning (O.contents out.old) (O.contents out.new) bytes.now }
-{
-    let mut rest = bytes;
-    for _ in 0..u64::MAX {
-        if rest.is_empty() {
-            return Ok(());
-        }
-        let count = write_some(out, rest)?;
-        rest = &rest[count..];
-    }
-    Err(ErrorKind::Interrupted.into())
-}
-
-/// Writes some bytes, and none where the write was interrupted.
-fn write_some<O: Write>(out: &mut O, bytes: &[u8]) -> io::Result<usize>
-    ensures bound { WritesAtMost result bytes.now }
-    ensures bytes { WriteAppends (O.contents out.old) (O.contents out.new) result bytes.now }
-{
-    match out.write(bytes) {
-        Ok(0) => Err(ErrorKind::WriteZero.into()),
-        Err(error) if error.kind() == ErrorKind::Interrupted => Ok(0),
-        result => result,
-    }
 }
 
 fn write_text<O: Write>(out: &mut O, text: &Message) -> io::Result<()> {

@@ -3,9 +3,11 @@
 #![tactic(auto)]
 
 mod abis;
+mod laws;
 mod options;
 mod shown;
 
 pub use abis::AbiRange;
+pub use laws::a_range_has_a_version_for_each_number;
 pub use options::{Effort, Options};
 pub use shown::{ALL_LINES, Shown};

@@ -16,10 +16,11 @@ changes_rulesets (AddPort rs port net) = true
 changes_rulesets (CreateEmpty rs) = true
 changes_rulesets op = false
 
--- A call changes the state of its own process, or of the process that it starts, which gets the next number, and of no other.
+-- A call changes the state of its own process, or, if it starts one, of that process, which gets the next number, and of no other.
 abbrev pub ChangesNoOther : Type 0
 ChangesNoOther =
-    (tree : List Entry) (abi : Abi) (world : World) (process : ℕ) (op : Op) (other : ℕ) → other ≢ process → other ≢ world.count →
+    (tree : List Entry) (abi : Abi) (world : World) (process : ℕ) (op : Op) (other : ℕ) → other ≢ process →
+    (is_starting op ≡ true → other ≢ world.count) →
     (step tree abi world process op).processes other ≡ world.processes other
 
 -- The list of rulesets is changed by create, add_path and add_port alone.

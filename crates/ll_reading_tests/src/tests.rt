@@ -5,3 +5,4 @@ mod rights;
 mod texts;
 mod traces;
 mod trees;
+mod values;

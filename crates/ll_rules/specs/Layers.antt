@@ -30,6 +30,10 @@ module _ {P : Type 0} where
   abbrev pub with_port_rule : RulesOn P → ℕ → Net → RulesOn P
   with_port_rule rules port granted = record rules { port_rules = (port, granted) ∷ rules.port_rules }
 
+  -- whether no right is handled
+  abbrev pub handles_nothing : RulesOn P → Bool
+  handles_nothing rules = files.is_empty rules.handled_files && network.is_empty rules.handled_network
+
   -- Whether a right for files is handled: moving files between directories is, wherever any right is.
   abbrev pub handles : RulesOn P → FsRight → Bool
   handles rules refer = not (files.is_empty rules.handled_files)

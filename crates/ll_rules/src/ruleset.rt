@@ -74,7 +74,7 @@ impl Layer {
     ghost use Rattle.ll_rights.specs.Rights.{FsRight, has, other, is_empty, is_within};
     ghost use Rattle.ll_rights.specs.NetRights as for_ports;
     ghost use Rattle.ll_tree.specs.Trees.{IsNode, path_at, kind_at};
-    ghost use Rattle.ll_rules.specs.Layers.{handles, granted, granted_on_port};
+    ghost use Rattle.ll_rules.specs.Layers.{handles, handles_nothing, granted, granted_on_port};
     ghost use Rattle.ll_rules.specs.KeptLayers.{granted_on_node, GrantsOn, GrantsOnPort};
     ghost use Rattle.ll_rules.specs.InTree.{node, in_tree, AreInTree};
     ghost use Rattle.ll_rules.specs.Checks.{lacks, lacks_on_port};
@@ -165,6 +165,13 @@ impl Layer {
         ensures { result ≡ not (is_empty self.now.handled_files) }
     {
         !self.files.is_empty()
+    }
+
+    /// Whether the layer handles no right at all, as that of `Ruleset::empty`.
+    pub fn handles_nothing(&self) -> bool
+        ensures { result ≡ handles_nothing self.now }
+    {
+        self.files.is_empty() && self.network.is_empty()
     }
 
     /// Whether the ruleset handles each of some rights.

@@ -12,6 +12,7 @@ use Rattle.ll_rules.specs.declared.errno.Errno.TheVariants.{Perm, BadFd, Acces, 
 use Rattle.ll_rules.specs.declared.moves.Move.{Move}
 use Rattle.ll_rules.specs.declared.moves.Verdict.{Verdict}
 use Rattle.ll_rules.specs.declared.moves.Verdict.TheVariants as verdicts
+use Rattle.ll_rules.specs.Layers.{handles_nothing}
 use Rattle.ll_rules.specs.Rulesets.{create_fault, RuleRefusal, with_error, without_object, add_path_refusal, add_port_refusal}
 use Rattle.ll_rules.specs.Checks.{refusing, refusing_port, refusing_mount}
 use Rattle.ll_rules.specs.Moves.{move_verdict}
@@ -92,10 +93,14 @@ if_free (Some it) asked = Moot
 abbrev pub may_restrict : State → Bool
 may_restrict s = s.no_new_privs || s.admin
 
+-- A ruleset that handles nothing is none of the kernel's: a program that makes do with it calls nothing, and nothing fails.
+abbrev pub fails_by : Layer → Errno → Answer
+fails_by rules error = if handles_nothing rules then Moot else fails error
+
 -- by a ruleset that it holds, up to sixteen layers
 unfoldable pub restrict_answer : State → Option Layer → Answer
 restrict_answer s None = if may_restrict s then fails BadFd else fails Perm
-restrict_answer s (Some rules) = if may_restrict s then (if nat_le MOST_LAYERS (length s.domain) then fails TooBig else Allowed) else fails Perm
+restrict_answer s (Some rules) = if may_restrict s then (if nat_le MOST_LAYERS (length s.domain) then fails_by rules TooBig else Allowed) else fails_by rules Perm
 
 -- ---- descriptors
 

@@ -1,10 +1,10 @@
 -- Traces of calls on files, descriptors and ports, with the answer to each record.
 -- Source: docs/FORMATS.md, "The trace file" and "The report"; the manual pages on Landlock.
-use Rattle.std.specs.Prelude.{List, [], ◌∷◌, ◌++◌, codes, true, false}
+use Rattle.std.specs.Prelude.{List, [], ◌∷◌, ◌++◌, codes, replicate, true, false}
 use Rattle.ll_rights.specs.declared.kind.Kind.TheVariants.{Reg, Fifo}
 use Rattle.ll_rights.specs.Rights.{execute, write_file, read_file, read_dir, remove_dir, remove_file, make_dir, make_reg, refer, truncate, ioctl_dev}
 use Rattle.ll_rights.specs.NetRights.{bind_tcp, connect_tcp}
-use Rattle.ll_rules.specs.declared.errno.Errno.TheVariants.{Perm, Acces, XDev, Inval}
+use Rattle.ll_rules.specs.declared.errno.Errno.TheVariants.{Perm, Acces, XDev, Inval, TooBig}
 use Rattle.ll_trace.specs.declared.record.Record.{Record}
 use Rattle.ll_trace.specs.declared.op.Op.TheVariants as calls
 use Rattle.ll_trace.specs.declared.op.Mode.TheVariants.{Read, Write, Both}
@@ -240,11 +240,15 @@ abbrev pub device_right_gaining : List (Record × Answer)
 device_right_gaining = confines_on_two (moving ++ ioctl_dev ∷ []) moving (refer ∷ make_reg ∷ ioctl_dev ∷ []) ++ refused XDev (1 ∷ []) 0 goes_over ∷ []
 
 -- A program makes do with a ruleset that handles nothing, and leaves out a rule for it. The ruleset's number is held,
--- its layer refuses nothing, and the layer after it is the second.
+-- its layer refuses nothing, and the layer after it is the second. Restricting by it never fails: not without
+-- no_new_privs, and not where there are sixteen layers.
 abbrev pub makes_do : List (Record × Answer)
 makes_do =
-    begins
-    ++ ok 0 (calls.CreateEmpty 3)
+    ok 0 start
+    ∷ ok 0 (calls.CreateEmpty 3)
+    ∷ moot 0 (calls.Restrict 3)
+    ∷ refused Perm [] 0 (calls.Restrict 4)
+    ∷ ok 0 calls.Nnp
     ∷ moot 0 (calls.CreateEmpty 3)
     ∷ moot 0 (creates 3 (read_file ∷ []) [])
     ∷ moot 0 (calls.LeaveOut PathBeneath)
@@ -267,4 +271,8 @@ makes_do =
     ∷ ok 0 (calls.CloseRs 3)
     ∷ moot 0 (calls.CloseRs 3)
     ∷ ok 0 (calls.CreateEmpty 3)
+    ∷ replicate 14 (ok 0 (calls.Restrict 3))
+    ++ moot 0 (calls.Restrict 3)
+    ∷ refused TooBig [] 0 (calls.Restrict 4)
+    ∷ refused Acces (2 ∷ []) 0 (opens (codes "/a/f") 7 Read)
     ∷ []

@@ -5,6 +5,7 @@
 mod answer;
 mod descriptor;
 mod laws;
+mod making_do;
 mod note;
 mod request;
 mod unchanging;
@@ -16,6 +17,7 @@ pub use laws::{
     worked_confinements, worked_descriptors, worked_moves, worked_ports, worked_processes,
     worked_requests, worked_rulesets,
 };
+pub use making_do::making_do_is_never_refused;
 pub use note::Note;
 pub use request::{Request, Wanted};
 pub use unchanging::only_allowed_records_change_the_world;

@@ -5,4 +5,4 @@ mod failing;
 mod source;
 
 pub use failing::FailingSource;
-pub use source::{MemorySource, Source, SourceFault};
+pub use source::{LARGEST_FILE, MemorySource, Source, SourceFault};

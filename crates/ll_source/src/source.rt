@@ -6,6 +6,10 @@ ghost use Rattle.ll_source.specs.Files.{Files, bytes_of, files_of};
 
 use std::alloc::Global;
 
+/// The most bytes that a file may have. A source over files gives no more, so that there is a bound on what a
+/// file from a stranger asks for.
+pub const LARGEST_FILE: u64 = 1_073_741_824;
+
 /// Why a source gives no bytes.
 #[derive(Clone, Copy, Debug, PartialEq, Eq)]
 pub enum SourceFault {

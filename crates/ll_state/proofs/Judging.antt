@@ -1,5 +1,5 @@
 -- What the calls of each kind are answered and leave, so that a judge may look at them one kind at a time.
-use Rattle.std.proofs.Common.{◌≡◌, ℕ, Bool, true, false, List, Option, Some, None, refl, ◌∙◌, if◌then◌else◌, sym, subst}
+use Rattle.std.proofs.Common.{◌≡◌, ◌<◌, ℕ, Bool, true, false, List, length, Option, Some, None, refl, ◌∙◌, if◌then◌else◌, sym, subst}
 use Rattle.std.specs.Prelude.{IfSome}
 use Rattle.ll_tree.specs.declared.place.NodeId.{NodeId}
 use Rattle.ll_tree.specs.declared.place.Place.{Place}
@@ -16,6 +16,7 @@ use Rattle.ll_semantics.specs.declared.request.Wanted.{Wanted}
 use Rattle.ll_semantics.specs.Requests.{wanted}
 use Rattle.std.proofs.lemmas.Bool.{false≢true}
 use Rattle.ll_rules.specs.declared.domain.LayerId.{LayerId}
+use Rattle.ll_rules.specs.Layers.{RulesOn}
 use Rattle.ll_semantics.specs.declared.answer.Answer.{Answer}
 use Rattle.ll_semantics.specs.declared.answer.Answer.TheVariants.{Allowed, Moot, Refused}
 use Rattle.ll_semantics.specs.declared.note.Note.TheVariants.{ByState}
@@ -118,29 +119,40 @@ Agrees-on_rulesets ctx own op agrees on =
 
 -- ---- a process that restricts itself
 
-module _ (ctx : CallContext) (before after : OwnState) (a : Answer) (agrees : Agrees ctx.tree ctx.layers before ctx.state) where
-  restrict_judged : (rs : ℕ) (layer : Option LayerId) → Restricts layer before after a → IsFrozen ctx layer (named ctx.rulesets (ctx.state.held rs))
-      → (a ≡ answer_to ctx (calls.Restrict rs)) × Agrees ctx.tree ctx.layers after (state_then ctx (calls.Restrict rs))
-  unfolding answer_to state_then state_after answer change state_by effect
-  restrict_judged rs layer restricts frozen =
-      let rules = named ctx.rulesets (ctx.state.held rs) in
-      let both = restricts ctx agrees rules frozen in
-      (both.0, subst (λ (b : Answer). Agrees ctx.tree ctx.layers after (if_allowed b (with_layer ctx.state rules) ctx.state)) both.0 both.1)
-
-  -- by a ruleset that it holds
-  pub frozen_judged : (op : Op) (id : LayerId) → Restricts (Some id) before after a → IsFrozen ctx (Some id) (enforced ctx.rulesets op ctx.state)
-      → (a ≡ answer_to ctx op) × Agrees ctx.tree ctx.layers after (state_then ctx op)
+module _ (ctx : CallContext) (layers : List (RulesOn ℕ)) (met : ctx.layers ≡ layers) where
+  -- by a ruleset that it holds, whose layer is there
+  pub frozen_is_there : (op : Op) (id : LayerId) → IsFrozen ctx (Some id) (enforced ctx.rulesets op ctx.state) → id.0 < length layers
   unfolding enforced IsFrozen
-  frozen_judged (calls.Restrict rs) id restricts frozen = restrict_judged rs (Some id) restricts frozen
-  frozen_judged op id restricts frozen = absurd frozen
+  frozen_is_there (calls.Restrict rs) id frozen = there (named ctx.rulesets (ctx.state.held rs)) frozen
+    where
+      there : (rules : Option Layer) → IsFrozen ctx (Some id) rules → id.0 < length layers
+      there None frozen = absurd frozen
+      there (Some rules) frozen = subst (λ (all : List (RulesOn ℕ)). id.0 < length all) met frozen.0
+  frozen_is_there op id frozen = absurd frozen
 
-  unheld : (rs : ℕ) → NoteFits ctx (calls.Restrict rs) ByState → IsFrozen ctx None (named ctx.rulesets (ctx.state.held rs))
-  unfolding NoteFits enforced IsFrozen
-  unheld rs fits = subst (λ (rules : Option Layer). IsFrozen ctx None rules) (sym fits.1) tt
+  module _ (before after : OwnState) (a : Answer) (agrees : Agrees ctx.tree ctx.layers before ctx.state) where
+    restrict_judged : (rs : ℕ) (layer : Option LayerId) → Restricts layers layer before after a
+        → IsFrozen ctx layer (named ctx.rulesets (ctx.state.held rs))
+        → (a ≡ answer_to ctx (calls.Restrict rs)) × Agrees ctx.tree ctx.layers after (state_then ctx (calls.Restrict rs))
+    unfolding answer_to state_then state_after answer change state_by effect
+    restrict_judged rs layer restricts frozen =
+        let rules = named ctx.rulesets (ctx.state.held rs) in
+        let both = restricts ctx met agrees rules frozen in
+        (both.0, subst (λ (b : Answer). Agrees ctx.tree ctx.layers after (if_allowed b (with_layer ctx.state rules) ctx.state)) both.0 both.1)
 
-  -- by none
-  pub unheld_judged : (op : Op) (rs : ℕ) → Restricts None before after a → op ≡ calls.Restrict rs → NoteFits ctx op ByState
-      → (a ≡ answer_to ctx op) × Agrees ctx.tree ctx.layers after (state_then ctx op)
-  unheld_judged op rs restricts is fits =
-      subst (λ (o : Op). (a ≡ answer_to ctx o) × Agrees ctx.tree ctx.layers after (state_then ctx o)) (sym is)
-      (restrict_judged rs None restricts (unheld rs (subst (λ (o : Op). NoteFits ctx o ByState) is fits)))
+    pub frozen_judged : (op : Op) (id : LayerId) → Restricts layers (Some id) before after a
+        → IsFrozen ctx (Some id) (enforced ctx.rulesets op ctx.state) → (a ≡ answer_to ctx op) × Agrees ctx.tree ctx.layers after (state_then ctx op)
+    unfolding enforced IsFrozen
+    frozen_judged (calls.Restrict rs) id restricts frozen = restrict_judged rs (Some id) restricts frozen
+    frozen_judged op id restricts frozen = absurd frozen
+
+    unheld : (rs : ℕ) → NoteFits ctx (calls.Restrict rs) ByState → IsFrozen ctx None (named ctx.rulesets (ctx.state.held rs))
+    unfolding NoteFits enforced IsFrozen
+    unheld rs fits = subst (λ (rules : Option Layer). IsFrozen ctx None rules) (sym fits.1) tt
+
+    -- by none
+    pub unheld_judged : (op : Op) (rs : ℕ) → Restricts layers None before after a → op ≡ calls.Restrict rs → NoteFits ctx op ByState
+        → (a ≡ answer_to ctx op) × Agrees ctx.tree ctx.layers after (state_then ctx op)
+    unheld_judged op rs restricts is fits =
+        subst (λ (o : Op). (a ≡ answer_to ctx o) × Agrees ctx.tree ctx.layers after (state_then ctx o)) (sym is)
+        (restrict_judged rs None restricts (unheld rs (subst (λ (o : Op). NoteFits ctx o ByState) is fits)))

@@ -1,7 +1,7 @@
 -- What the layers that are kept of a domain answer is what the same layers answer, one by one, in a state; and what
 -- restricting itself answers a process.
 use Rattle.std.proofs.Common.{◌≡◌, ℕ, List, Option, Some, None, refl, ap, sym, ◌≢◌, ◌||◌, ◌<◌, ◌≤◌, inl, inr, leb, true, false, [], ◌∷◌, ◌++◌, length, ◌∙◌}
-use Rattle.std.proofs.Common.{arith}
+use Rattle.std.proofs.Common.{arith, Bool, if◌then◌else◌}
 use Rattle.std.specs.List.{AllZip}
 use Rattle.ll_rights.specs.declared.kind.Kind.{Kind}
 use Rattle.ll_rights.specs.declared.kind.Kind.TheVariants.{Reg, Char, Block}
@@ -13,9 +13,10 @@ use Rattle.ll_tree.specs.declared.place.Place.TheVariants.{Node, Gap, Nowhere}
 use Rattle.ll_lines.specs.Paths.{Path}
 use Rattle.ll_tree.specs.Trees.{Entry, path_at, kind_at}
 use Rattle.ll_rules.specs.declared.domain.TheConstants.{MOST_LAYERS}
+use Rattle.ll_rules.specs.declared.errno.Errno.{Errno}
 use Rattle.ll_rules.specs.declared.errno.Errno.TheVariants.{Acces, Perm, BadFd, TooBig}
 use Rattle.ll_rules.specs.declared.moves.Move.{Move}
-use Rattle.ll_rules.specs.Layers.{RulesOn}
+use Rattle.ll_rules.specs.Layers.{RulesOn, handles_nothing}
 use Rattle.ll_rules.specs.KeptLayers.{SameRules, layer_at, domain_of}
 use Rattle.ll_rules.specs.Checks.{refusing, refusing_port, refusing_mount}
 use Rattle.ll_rules.specs.InTree.{all_in_tree, in_tree}
@@ -30,10 +31,11 @@ use Rattle.std.proofs.lemmas.Bool.Decides.{leb_tells}
 use Rattle.std.proofs.lemmas.List.{map-append, length-map}
 use Rattle.std.proofs.lemmas.List.Elements.{All-push, AllZip-push, length_all_zip}
 use Rattle.ll_rules.specs.declared.domain.LayerId.{LayerId}
-use Rattle.ll_semantics.specs.declared.answer.Answer.TheVariants.{Allowed}
+use Rattle.ll_semantics.specs.declared.answer.Answer.TheVariants.{Allowed, Moot}
+use Rattle.ll_semantics.specs.Worlds.{if_allowed}
 use Rattle.ll_state.specs.declared.own_state.OwnState.{OwnState}
 use Rattle.ll_semantics.specs.CallContexts.{CallContext}
-use Rattle.ll_state.specs.Agreement.{Agrees}
+use Rattle.ll_state.specs.Agreement.{Agrees, fails_by_layer}
 use Rattle.ll_semantics.specs.Notes.{IsFrozen}
 
 -- ports and mounts ask no path, so that the kept layers are asked as they are
@@ -84,11 +86,30 @@ opened_same tree a b Nowhere mode same = refl
 pub kept_may : (ctx : CallContext) (own : OwnState) (s : State) → Agrees ctx.tree ctx.layers own s → may_restrict s ≡ (own.no_new_privs || own.admin)
 kept_may ctx own s agrees = rw (agrees.no_new_privs, agrees.admin) refl
 
+-- a layer handles nothing where the ruleset does
+same_nothing : (ctx : CallContext) (id : LayerId) (rules : Layer) → SameRules (in_tree ctx.tree (layer_at ctx.layers id)) rules
+    → handles_nothing (layer_at ctx.layers id) ≡ handles_nothing rules
+same_nothing ctx id rules same = rw (same.same_files, same.same_network) refl
+
 -- a process that may not
-pub restrict_denied : (s : State) (rules : Option Layer) → may_restrict s ≡ false → fails Perm ≡ restrict_answer s rules
-unfolding restrict_answer
-restrict_denied s None denied = rw denied refl
-restrict_denied s (Some rules) denied = rw denied refl
+pub restrict_denied : (ctx : CallContext) (layer : Option LayerId) (s : State) (rules : Option Layer) → may_restrict s ≡ false
+    → IsFrozen ctx layer rules → fails_by_layer ctx.layers layer Perm ≡ restrict_answer s rules
+unfolding restrict_answer IsFrozen fails_by_layer
+restrict_denied ctx None s None denied frozen = rw denied refl
+restrict_denied ctx None s (Some rules) denied frozen = absurd frozen
+restrict_denied ctx (Some id) s None denied frozen = absurd frozen
+restrict_denied ctx (Some id) s (Some rules) denied frozen = rw (denied, same_nothing ctx id rules frozen.1) refl
+
+-- what fails leaves a state as it was, and what is moot too
+pub failing_keeps : (layers : List (RulesOn ℕ)) (layer : Option LayerId) (error : Errno) (after before : State)
+    → if_allowed (fails_by_layer layers layer error) after before ≡ before
+unfolding fails_by_layer
+failing_keeps layers None error after before = refl
+failing_keeps layers (Some id) error after before = kept (handles_nothing (layer_at layers id))
+  where
+    kept : (nothing : Bool) → if_allowed (if nothing then Moot else fails error) after before ≡ before
+    kept true = refl
+    kept false = refl
 
 -- one that may, and holds no ruleset
 pub restrict_unheld : (ctx : CallContext) (s : State) (rules : Option Layer) → may_restrict s ≡ true → IsFrozen ctx None rules
@@ -99,10 +120,11 @@ restrict_unheld ctx s (Some rules) may frozen = absurd frozen
 
 -- one that may, and has sixteen layers or more
 pub restrict_full : (ctx : CallContext) (id : LayerId) (s : State) (rules : Option Layer) → may_restrict s ≡ true → MOST_LAYERS ≤ length s.domain
-    → IsFrozen ctx (Some id) rules → fails TooBig ≡ restrict_answer s rules
-unfolding restrict_answer IsFrozen
+    → IsFrozen ctx (Some id) rules → fails_by_layer ctx.layers (Some id) TooBig ≡ restrict_answer s rules
+unfolding restrict_answer IsFrozen fails_by_layer
 restrict_full ctx id s None may full frozen = absurd frozen
-restrict_full ctx id s (Some rules) may full frozen = rw (may, le-leb MOST_LAYERS (length s.domain) full) refl
+restrict_full ctx id s (Some rules) may full frozen =
+    rw (may, le-leb MOST_LAYERS (length s.domain) full, same_nothing ctx id rules frozen.1) refl
 
 has_room : (layers : ℕ) → layers ≤ MOST_LAYERS → layers ≢ MOST_LAYERS → leb MOST_LAYERS layers ≡ false
 has_room layers most other =

@@ -1,22 +1,24 @@
 -- When what is kept of one process agrees with its state in the semantics of a trace.
 -- Source: landlock_restrict_self(2); the kernel's userspace document on Landlock, "Inheritance".
-use Rattle.std.specs.Prelude.{◌≡◌, ℕ, Bool, false, not, List, All, Option, Result, IfOk, OnOk, OnErr}
+use Rattle.std.specs.Prelude.{◌≡◌, ℕ, Bool, false, not, List, All, Option, Some, None, Result, IfOk, OnOk, OnErr, if◌then◌else◌}
 use Rattle.std.specs.List.{AllZip}
 use Rattle.std.specs.FinMap.{get}
 use Rattle.ll_tree.specs.Trees.{Entry}
-use Rattle.ll_rules.specs.Layers.{RulesOn}
+use Rattle.ll_rules.specs.Layers.{RulesOn, handles_nothing}
 use Rattle.ll_rules.specs.declared.domain.LayerId.{LayerId}
-use Rattle.ll_rules.specs.KeptLayers.{SameRules, domain_of, IsDomainOf}
+use Rattle.ll_rules.specs.KeptLayers.{SameRules, layer_at, domain_of, IsDomainOf}
 use Rattle.ll_rules.specs.InTree.{AreInTree, all_in_tree}
+use Rattle.ll_rules.specs.declared.errno.Errno.{Errno}
 use Rattle.ll_rules.specs.declared.errno.NoMemory.{NoMemory}
 use Rattle.ll_state.specs.declared.own_state.OwnState.{OwnState}
 use Rattle.ll_trace.specs.declared.op.Op.{Op}
 use Rattle.ll_trace.specs.declared.op.Op.TheVariants as calls
 use Rattle.ll_semantics.specs.States.{State, Layer}
-use Rattle.ll_semantics.specs.Answers.{restrict_answer}
+use Rattle.ll_semantics.specs.Answers.{fails, restrict_answer}
 use Rattle.ll_semantics.specs.Effects.{with_layer}
 use Rattle.ll_semantics.specs.Worlds.{if_allowed}
 use Rattle.ll_semantics.specs.declared.answer.Answer.{Answer}
+use Rattle.ll_semantics.specs.declared.answer.Answer.TheVariants.{Moot}
 use Rattle.ll_semantics.specs.Notes.{IsFrozen, is_on_rulesets}
 use Rattle.ll_semantics.specs.CallContexts.{CallContext, answer_to, state_then}
 
@@ -42,10 +44,15 @@ IsJudged ctx op own result =
     × OnOk result (Agrees ctx.tree ctx.layers own (state_then ctx op))
     × OnErr result (Agrees ctx.tree ctx.layers own ctx.state)
 
+-- Restricting by the layer that a ruleset was frozen to fails, or is moot where that handles nothing; without a ruleset it fails.
+unfoldable pub fails_by_layer : List (RulesOn ℕ) → Option LayerId → Errno → Answer
+fails_by_layer layers None error = fails error
+fails_by_layer layers (Some id) error = if handles_nothing (layer_at layers id) then Moot else fails error
+
 -- a process restricted itself by the layer that a ruleset was frozen to, or held none: its answer, and what is kept of it then
-abbrev pub Restricts : Option LayerId → OwnState → OwnState → Answer → Type 0
-Restricts layer before after answer =
-    (ctx : CallContext) → Agrees ctx.tree ctx.layers before ctx.state → (rules : Option Layer) → IsFrozen ctx layer rules
+abbrev pub Restricts : List (RulesOn ℕ) → Option LayerId → OwnState → OwnState → Answer → Type 0
+Restricts layers layer before after answer =
+    (ctx : CallContext) → ctx.layers ≡ layers → Agrees ctx.tree ctx.layers before ctx.state → (rules : Option Layer) → IsFrozen ctx layer rules
     → (answer ≡ restrict_answer ctx.state rules) × Agrees ctx.tree ctx.layers after (if_allowed answer (with_layer ctx.state rules) ctx.state)
 
 -- a call that leaves the state of its process and the rulesets as they are

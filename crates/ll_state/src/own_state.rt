@@ -98,7 +98,7 @@ impl OwnState {
     {
         match note {
             Note::Answered(answer) => Ok(*answer),
-            Note::Frozen(layer) => Ok(self.restrict(Some(*layer))),
+            Note::Frozen(layer) => Ok(self.restrict(layers, Some(*layer))),
             Note::ByState => self.meet_by_state(&Call {
                 known,
                 op,
@@ -122,7 +122,7 @@ impl OwnState {
                 self.no_new_privs = true;
                 Ok(Answer::Allowed)
             }
-            Op::Restrict { .. } => Ok(self.restrict(None)),
+            Op::Restrict { .. } => Ok(self.restrict(call.layers, None)),
             Op::OpenFile {
                 path,
                 fd,

@@ -25,6 +25,8 @@ impl Located {
     pub fn of(alloc: Global, tree: Tree, trace: Trace) -> Result<Located, AllocError>
         ensures tree { IfOk result (λ located. located.tree ≡ tree) }
         ensures trace { IfOk result (λ located. located.trace ≡ trace) }
+        ensures places { IfOk result
+            (λ located. located.places.items ≡ map (λ r. first_place tree r.op) trace) }
     {
         let places = places_of(alloc, &tree, trace.records())?;
         Ok(Located {
@@ -39,6 +41,7 @@ impl Located {
     pub fn at_best_effort(self, abi: Abi) -> Located
         ensures tree { result.tree ≡ self.tree }
         ensures trace { result.trace ≡ records_at_best_effort abi self.trace }
+        ensures places { result.places ≡ self.places }
     {
         let Located {
             tree,

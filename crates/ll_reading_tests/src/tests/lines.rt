@@ -76,7 +76,7 @@ fn one_value_on_a_line(rt: HostRuntime) {
 }
 
 const MEMBERS: &[u8] =
-    b"{\"text\":\"a\",\"t\\u0065xt\":\"\\u00e9\\n\",\"truth\":true,\"list\":[\"c\",1],\"top\":18446744073709551615,\"past\":18446744073709551616,\"below\":-1,\"part\":1.0}";
+    b"{\"text\":\"a\",\"t\\u0065xt\":\"\\u00e9\\n\",\"truth\":true,\"list\":[\"c\",1],\"top\":18446744073709551615,\"past\":18446744073709551616,\"nines\":999999999999999999,\"tens\":1234567890123456789,\"below\":-1,\"part\":1.0}";
 
 fn reads_numbers(value: &Value<'_>) -> bool {
     for name in ["past", "below", "part", "text", "absent"] {
@@ -85,6 +85,8 @@ fn reads_numbers(value: &Value<'_>) -> bool {
         }
     }
     number_of(value, "top") == Ok(u64::MAX)
+        && number_of(value, "nines") == Ok(999_999_999_999_999_999)
+        && number_of(value, "tens") == Ok(1_234_567_890_123_456_789)
 }
 
 fn reads_truths(value: &Value<'_>) -> bool {

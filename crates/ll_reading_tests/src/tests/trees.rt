@@ -48,7 +48,11 @@ fn is_listed(
 ) -> Result<bool, Fail> {
     let node = node_named(tree, path)?;
     let directory = node_named(tree, above)?;
-    Ok(node.index() as usize == number && stands_in(tree, directory, node, kind, depth))
+    Ok(
+        node.index() as usize == number
+            && tree.text(node) == path
+            && stands_in(tree, directory, node, kind, depth),
+    )
 }
 
 #[test]

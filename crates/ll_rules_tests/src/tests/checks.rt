@@ -73,11 +73,10 @@ fn rename_onto(tree: &Tree) -> Result<Move, Fail>
     })
 }
 
-/// The answer to the rename under one layer, and its look-ups.
-fn renamed_under(tree: &Tree, layer: &Layer) -> Result<(Verdict, u64), Fail>
-    requires { AreInTree tree.now layer.now }
+/// The answer to the rename under layers, and its look-ups.
+fn renamed_under(tree: &Tree, layers: &[Layer]) -> Result<(Verdict, u64), Fail>
+    requires { All (AreInTree tree.now) layers.now }
 {
-    let layers = slice::from_ref(layer);
     let domain = stacked(layers)?;
     let attempt = rename_onto(tree)?;
     Ok(check_move_counted(tree, layers, &domain, &attempt))
@@ -105,10 +104,28 @@ fn is_refused_by_the_first(verdict: &Verdict) -> bool {
 fn look_ups_of_a_move(rt: HostRuntime) -> Result<(), Fail> {
     let tree = Tree::read(rt.alloc(), TREE.as_bytes())?;
     let layer = layer_without_rules(rt.alloc(), &tree)?;
-    let (verdict, look_ups) = renamed_under(&tree, &layer)?;
+    let (verdict, look_ups) = renamed_under(&tree, slice::from_ref(&layer))?;
     assert!(rt; is_refused_by_the_first(&verdict), "{verdict:?}");
     // Both directories and the root above each have to be asked about.
     assert!(rt; look_ups >= 4 && look_ups <= 6, "{look_ups} look-ups");
+    Ok(())
+}
+
+/// The look-ups of the rename under two layers that each refuse it.
+fn look_ups_of_a_move_twice(alloc: Global, tree: &Tree) -> Result<u64, Fail> {
+    let layers = [
+        layer_without_rules(alloc, tree)?,
+        layer_without_rules(alloc, tree)?,
+    ];
+    Ok(renamed_under(tree, &layers)?.1)
+}
+
+/// Each of two layers has to be asked what one alone is.
+#[test]
+fn look_ups_of_a_move_under_two_layers(rt: HostRuntime) -> Result<(), Fail> {
+    let tree = Tree::read(rt.alloc(), TREE.as_bytes())?;
+    let look_ups = look_ups_of_a_move_twice(rt.alloc(), &tree)?;
+    assert!(rt; look_ups >= 8 && look_ups <= 12, "{look_ups} look-ups");
     Ok(())
 }
 

@@ -1,5 +1,6 @@
 -- The law of orders, from what one step does.
-use Rattle.std.proofs.Common.{◌≡◌, ℕ, true, false, List, refl, sym, ◌∙◌, arith}
+use Rattle.std.proofs.Common.{◌≡◌, ℕ, true, false, List, refl, sym, ◌∙◌, inl, inr, arith}
+use Rattle.std.proofs.lemmas.Bool.{cases_Bool}
 use Rattle.ll_rights.specs.declared.abi.Abi.{Abi}
 use Rattle.ll_tree.specs.Trees.{Entry}
 use Rattle.ll_trace.specs.declared.op.Op.{Op}
@@ -8,14 +9,18 @@ use Rattle.ll_semantics.specs.States.{State, Layer, fresh}
 use Rattle.ll_semantics.specs.Answers.{answer}
 use Rattle.ll_semantics.specs.Effects.{effect}
 use Rattle.ll_trace.specs.Processes.{is_starting}
-use Rattle.ll_semantics.specs.CallContexts.{started, begun_by, rules as rules_of, rulesets_by, rulesets_after}
+use Rattle.ll_semantics.specs.CallContexts.{started, begun_by, rules as rules_of, rulesets_by, rulesets_after, state_after}
 use Rattle.ll_semantics.specs.Worlds.{World, answer_in, step}
-use Rattle.ll_semantics.proofs.Steps.{if_allowed-same, step-other, step-own, step-new, step-rulesets}
+use Rattle.ll_semantics.proofs.Steps.{if_allowed-same, started-none, step-other, step-own, step-new, step-rulesets, step-unbegun, with_state-other}
 use Rattle.ll_process.specs.Orders.{changes_rulesets, SeenAlike}
 use Rattle.ll_process.proofs.laws.law_of_orders.Goals as goal
 
 pub returns-clause-others : goal.returns-clause-others
-returns-clause-others c = step-other
+returns-clause-others c = λ tree abi w process op other differs older. elim (cases_Bool (is_starting op)) [
+  | inl starts ↦ step-other tree abi w process op other differs (older starts)
+  | inr fails ↦ step-unbegun tree abi w process op other (started-none tree w.rulesets op (w.processes process) fails)
+      ∙ with_state-other w.processes process other (state_after tree abi w.rulesets op (w.processes process)) differs
+]
 
 rules-same : (tree : List Entry) (rulesets : List Layer) (op : Op) (s : State) → changes_rulesets op ≡ false → rules_of tree rulesets op s ≡ rulesets
 unfolding rules_of rulesets_by effect changes_rulesets

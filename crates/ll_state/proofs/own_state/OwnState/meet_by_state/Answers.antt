@@ -8,7 +8,8 @@ use Rattle.ll_state.proofs.own_state.OwnState.meet_by_state.Goals as goal
 pub returns-in-Restrict : goal.returns-in-Restrict
 returns-in-Restrict g c =
     let both =
-    unheld_judged g.ctx c.args.self.now c.restrict.new.self c.restrict.result c.requires.1.0 c.args.call.now.op.now c.in-Restrict.rs c.restrict.ensures
+    unheld_judged g.ctx c.args.call.now.layers.now c.requires.0.same_layers c.args.self.now
+    c.restrict.new.self c.restrict.result c.requires.1.0 c.args.call.now.op.now c.in-Restrict.rs c.restrict.ensures
     c.in-Restrict.is c.requires.1.1 in
     (both.0, both.1, tt)
 
