@@ -2,20 +2,17 @@
 
 ghost use Rattle.std.specs.Prelude.{◌≡◌, ◌≤◌, IfOk, None, vec_len};
 
-use ll_audit::{Source, SourceFault};
+use ll_audit::{LARGEST_FILE, Source, SourceFault};
 use std::alloc::Global;
 use std::fs::File;
 use std::io;
 use std::io::{ErrorKind, Input, Read};
 use std::rt::Files;
 
-/// How many bytes a file may have.
-const LIMIT: u64 = 1_073_741_824;
-
 /// The name by which a file is standard input.
 const STANDARD_INPUT: &str = "-";
 
-/// The files of the system, and standard input by the name `-`. What has more than `LIMIT` bytes can't be read.
+/// The files of the system, and standard input by the name `-`. What has more than `LARGEST_FILE` bytes can't be read.
 #[derive(Drop)]
 pub(crate) struct FileSource<'a, R: Files + Input> {
     rt: &'a R,
@@ -51,9 +48,9 @@ impl<R: Files + Input> Source for FileSource<'_, R> {
     }
 }
 
-/// The bytes of a file, or those of standard input, if there are at most `LIMIT`.
+/// The bytes of a file, or those of standard input, if there are at most `LARGEST_FILE`.
 fn read<R: Files + Input>(rt: &R, alloc: Global, name: &str) -> io::Result<Vec<u8>>
-    ensures { IfOk result (λ bytes. vec_len bytes ≤ LIMIT) }
+    ensures { IfOk result (λ bytes. vec_len bytes ≤ LARGEST_FILE) }
 {
     if name == STANDARD_INPUT {
         read_all(alloc, rt.reader())
@@ -62,13 +59,13 @@ fn read<R: Files + Input>(rt: &R, alloc: Global, name: &str) -> io::Result<Vec<u
     }
 }
 
-/// The bytes that a reader gives, if there are at most `LIMIT`.
+/// The bytes that a reader gives, if there are at most `LARGEST_FILE`.
 fn read_all<I: Read + Drop>(alloc: Global, reader: I) -> io::Result<Vec<u8>>
-    ensures { IfOk result (λ bytes. vec_len bytes ≤ LIMIT) }
+    ensures { IfOk result (λ bytes. vec_len bytes ≤ LARGEST_FILE) }
 {
     let mut bytes = Vec::new(alloc);
-    reader.take(LIMIT + 1).read_to_end(&mut bytes)?;
-    if bytes.len() as u64 > LIMIT {
+    reader.take(LARGEST_FILE + 1).read_to_end(&mut bytes)?;
+    if bytes.len() as u64 > LARGEST_FILE {
         return Err(ErrorKind::FileTooLarge.into());
     }
     Ok(bytes)

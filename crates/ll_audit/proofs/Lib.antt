@@ -1,4 +1,5 @@
 pub mod Endings
 pub mod Wants
 pub mod OneReport
+pub mod Totals
 pub mod VersionByVersion

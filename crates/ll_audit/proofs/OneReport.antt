@@ -12,23 +12,18 @@ use Rattle.ll_trace.proofs.LawLemmas.{one_trace}
 use Rattle.ll_explain.specs.Explained.{text_at}
 use Rattle.ll_semantics.specs.Worlds.{judged}
 use Rattle.ll_report.specs.declared.report.Report.{Report}
-use Rattle.ll_options.specs.declared.shown.TheConstants.{ALL_LINES}
 use Rattle.ll_report.specs.Lines.{lines_of, refused_among}
 use Rattle.ll_report.specs.Report.{report_text}
 use Rattle.ll_report.specs.Shown.{IsShownReportOn}
 use Rattle.ll_report.proofs.BlocksLeft.{is_report_text}
-use Rattle.ll_options.specs.declared.options.Effort.TheVariants.{AsRecorded}
 use Rattle.ll_options.specs.declared.options.Options.{Options}
 use Rattle.ll_audit.specs.Audits.{IsReport}
-use Rattle.ll_options.specs.declared.abis.AbiRange.{AbiRange}
-use Rattle.ll_audit.specs.ShownReports.{IsReportBy, IsReportWith, taken}
-
--- the options of the plain report: rulesets as they were recorded, all lines, and no explanations
-abbrev pub plain : Abi → Options
-plain abi = record { abis = record { oldest = abi; newest = abi }; effort = AsRecorded; shown = ALL_LINES }
+use Rattle.ll_options.specs.Versions.{Range}
+use Rattle.ll_audit.specs.ShownReports.{IsReportBy, IsReportWith, plain_options, taken}
 
 -- a report with these options is the report
-pub with_all_lines : (abi : Abi) (tree trace : List ℕ) (report : Report) → IsReportWith (plain abi) tree trace report → IsReport abi tree trace report
+pub with_all_lines : (abi : Abi) (tree trace : List ℕ) (report : Report) → IsReportWith (plain_options abi) tree trace report
+    → IsReport abi tree trace report
 with_all_lines abi tree trace report is = record {
   tree = is.tree;
   records = is.records;
@@ -40,8 +35,25 @@ with_all_lines abi tree trace report is = record {
   };
 }
 
+-- and the report is one with these options
+pub by_plain_options : (abi : Abi) (tree trace : List ℕ) (report : Report) → IsReport abi tree trace report
+    → IsReportWith (plain_options abi) tree trace report
+by_plain_options abi tree trace report is = record {
+  tree = is.tree;
+  records = is.records;
+  reads_tree = is.reads_tree;
+  reads_trace = is.reads_trace;
+  so = record {
+    under_one = λ same. record {
+      text = is.so.text ∙ sym (is_report_text (text_at is.tree abi is.records) (lines_of is.records (judged is.tree abi is.records)));
+      refused = is.so.refused;
+    };
+    over_several = λ differs. absurd (differs refl);
+  };
+}
+
 -- a range of which this is the only version
-single_version : (range : AbiRange) (abi : Abi) → (if number_of range.oldest == number_of range.newest then Some range.oldest else None) ≡ Some abi
+single_version : (range : Range) (abi : Abi) → (if number_of range.oldest == number_of range.newest then Some range.oldest else None) ≡ Some abi
     → (abi ≡ range.oldest) × (number_of range.oldest ≡ number_of range.newest)
 single_version range abi is = go (number_of range.oldest == number_of range.newest) refl is
   where

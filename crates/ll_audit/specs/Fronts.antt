@@ -16,7 +16,7 @@ use Rattle.ll_endings.specs.declared.outcome.Outcome.TheVariants as outcome
 use Rattle.ll_audit.specs.Audits.{ReadsAsTrace, ReadsAsTree}
 use Rattle.ll_audit.specs.ShownReports.{IsReportWith}
 use Rattle.ll_command.specs.Command.{AreWrong, AskForText, Request, Text, request_of}
-use Rattle.ll_endings.specs.FaultLines.{failure_status}
+use Rattle.ll_endings.specs.FaultLines.{failure_line, failure_status}
 use Rattle.ll_source.specs.Files.{Files, bytes_of}
 use Rattle.ll_endings.specs.Outcomes.{AppendsBeginning, Complains}
 
@@ -120,14 +120,15 @@ abbrev pub IsWhy : List Text → Option Files → ℕ → ℕ → Failure → Ty
 IsWhy words files before after one =
     HasFailure words files before after one ⊎ ((one ≡ failure.Unwritten) × HasOutput words files)
 
--- With status 3 or 4 there is a reason of that status, and its line is appended to the error output, if it could be told.
+-- With status 3 or 4 there is a reason of that status, and its line is appended to the error output, if it could be told, and
+-- else a beginning of it.
 abbrev pub TellsWhy : List Text → Option Files → ℕ → ℕ → Ending → Option (List ℕ) → Option (List ℕ) → Type 0
 TellsWhy words files before after ending old new =
     (ending.status ≡ 3) ⊎ (ending.status ≡ 4) →
     (one : Failure) × IsWhy words files before after one × Complains one ending old new
 
--- With status 3 or 4 there is a reason of that status.
-abbrev pub HasReason : List Text → Option Files → ℕ → ℕ → ℕ → Type 0
-HasReason words files before after status =
+-- With status 3 or 4 there is a reason of that status, and the error output grows by a beginning of its line.
+abbrev pub HasReason : List Text → Option Files → ℕ → ℕ → ℕ → Option (List ℕ) → Option (List ℕ) → Type 0
+HasReason words files before after status old new =
     (status ≡ 3) ⊎ (status ≡ 4) →
-    (one : Failure) × IsWhy words files before after one × (status ≡ failure_status one)
+    (one : Failure) × IsWhy words files before after one × (status ≡ failure_status one) × AppendsBeginning old new (failure_line one)

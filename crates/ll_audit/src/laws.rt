@@ -1,15 +1,28 @@
 //! What holds by the definitions alone.
 
-ghost use Rattle.std.specs.Prelude.{◌≡◌, ℕ, List, Ok};
+ghost use Rattle.std.specs.Prelude.{◌≡◌, ◌++◌, ◌≤◌, ℕ, List, Ok, length};
+ghost use Rattle.std.specs.List.{flat_map};
 ghost use Rattle.ll_rights.specs.declared.abi.Abi.{Abi as Version};
+ghost use Rattle.ll_rights.specs.declared.net.TheConstants.{LARGEST_PORT};
+ghost use Rattle.ll_rights.specs.Abis.{number_of};
 ghost use Rattle.ll_lines.specs.Lines.{Line};
+ghost use Rattle.ll_lines.specs.declared.path.TheConstants.{LONGEST_PATH};
+ghost use Rattle.ll_tree.specs.declared.tree.TheConstants.{MOST_NODES};
+ghost use Rattle.ll_tree.specs.Trees.{Entry};
+ghost use Rattle.ll_rules.specs.declared.domain.TheConstants.{MOST_LAYERS};
+ghost use Rattle.ll_trace.specs.declared.reader.TheConstants.{MOST_PROCESSES, MOST_RECORDS};
 ghost use Rattle.ll_trace.specs.declared.record.Record.{Record};
 ghost use Rattle.ll_trace.specs.Entries.{entry_at};
 ghost use Rattle.ll_trace.specs.Records.{entry_of};
 ghost use Rattle.ll_semantics.specs.declared.answer.Answer.{Answer};
 ghost use Rattle.ll_report.specs.Lines.{line_of};
+ghost use Rattle.ll_report.specs.Rows.{rows_from};
 ghost use Rattle.ll_report.specs.declared.report.Report.{Report as Made};
+ghost use Rattle.ll_options.specs.declared.options.Options.{Options as Asked};
+ghost use Rattle.ll_options.specs.Versions.{IsRising, versions_in};
+ghost use Rattle.ll_source.specs.declared.source.TheConstants.{LARGEST_FILE};
 ghost use Rattle.ll_audit.specs.Audits.{IsReport};
+ghost use Rattle.ll_audit.specs.ShownReports.{IsReportOver, IsReportWith, findings, plain_options, total_at};
 ghost use Rattle.ll_trace.specs.SaidByName.{SaysOperation};
 
 /// The word by which the report tells of a record's operation is the one that the record's line of the
@@ -28,4 +41,36 @@ pub fn the_same_bytes_have_one_report()
     ensures refused { (abi : Version) (tree trace : List ℕ) (report other : Made)
         → IsReport abi tree trace report → IsReport abi tree trace other
         → report.refused ≡ other.refused }
+{}
+
+/// `audit_with` answers by plain options what `audit` answers, and nothing else.
+pub fn plain_options_ask_for_the_report()
+    ensures leads { (abi : Version) (tree trace : List ℕ) (report : Made)
+        → IsReportWith (plain_options abi) tree trace report → IsReport abi tree trace report }
+    ensures back { (abi : Version) (tree trace : List ℕ) (report : Made)
+        → IsReport abi tree trace report → IsReportWith (plain_options abi) tree trace report }
+{}
+
+/// The report over several versions ends with one total for each version of the range, the oldest
+/// first, under its own number. There is at least one.
+pub fn reports_have_a_total_for_each_version()
+    ensures totals { (options : Asked) (tree : List Entry) (records : List Record) (report : Made)
+        → IsReportOver options tree records report
+        → report.bytes.items ≡ rows_from options.shown (number_of options.abis.oldest)
+        (findings options tree records) 0 records
+        ++ flat_map (total_at options tree records) (versions_in options.abis) }
+    ensures at_least_one { (options : Asked) → IsRising options.abis
+        → 1 ≤ length (versions_in options.abis) }
+{}
+
+/// The limits of what is read, as docs/FORMATS.md has them, and the most layers of a domain. A definition
+/// cites a limit by its name, so this alone says which number that is.
+pub fn limits_of_reading()
+    ensures file { LARGEST_FILE ≡ 1073741824 }
+    ensures port { LARGEST_PORT ≡ 65535 }
+    ensures path { LONGEST_PATH ≡ 4096 }
+    ensures nodes { MOST_NODES ≡ 65536 }
+    ensures records { MOST_RECORDS ≡ 1000000 }
+    ensures processes { MOST_PROCESSES ≡ 65536 }
+    ensures layers { MOST_LAYERS ≡ 16 }
 {}

@@ -14,10 +14,13 @@ pub use auditing::{audit, audit_with};
 pub use crew::Idle;
 pub use cut::Cut;
 pub use fault::Fault;
-pub use laws::{the_report_has_the_words_of_the_trace, the_same_bytes_have_one_report};
+pub use laws::{
+    limits_of_reading, plain_options_ask_for_the_report, reports_have_a_total_for_each_version,
+    the_report_has_the_words_of_the_trace, the_same_bytes_have_one_report,
+};
 pub use ll_command::{command_lines, words_without_a_fault_name_a_run};
 pub use ll_endings::Ending;
 pub use ll_options::{AbiRange, Effort, Options};
 pub use ll_report::{ALL_LINES, Report, Shown, empty_report};
-pub use ll_source::{MemorySource, Source, SourceFault};
+pub use ll_source::{LARGEST_FILE, MemorySource, Source, SourceFault};
 pub use program::{front, front_ending};

@@ -44,7 +44,8 @@ pub fn front<R: Threads + Wait + Sync, S: Source, O: Write, E: Write, G: Gate + 
         result out.old out.new }
     ensures quiet { StaysQuiet result err.old err.new }
     ensures why { HasReason (map string_bytes words.now) (S.files source.old)
-        (S.failed source.old) (S.failed source.new) result }
+        (S.failed source.old) (S.failed source.new) result
+        (E.contents err.old) (E.contents err.new) }
 {
     front_ending(rt, alloc, words, source, out, err, gate).status
 }

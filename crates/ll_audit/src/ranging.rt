@@ -121,11 +121,11 @@ pub(crate) fn report_over<R: Threads + Wait + Sync, G: Gate + Sync>(
         findings: Vec::new(crew.alloc),
     };
     let all = none.under_all(crew, options)?;
-    let oldest = options.abis.oldest.number();
+    let oldest = options.abis.oldest();
     let report = Report::over(
         crew.alloc,
         options.shown,
-        oldest,
+        oldest.number(),
         &all.findings,
         all.located.trace.records(),
     )?;

@@ -34,10 +34,7 @@ fn abis_of(value: &Value) -> Option<AbiRange> {
     match value {
         Value::String(text) => {
             let (oldest, newest) = text.split_once('-')?;
-            Some(AbiRange {
-                oldest: abi_of(oldest)?,
-                newest: abi_of(newest)?,
-            })
+            AbiRange::new(abi_of(oldest)?, abi_of(newest)?)
         }
         _ => Some(AbiRange::only(Abi::new(value.as_u64()?)?)),
     }

@@ -1,6 +1,9 @@
 -- Texts that are appended one after another.
 use Rattle.std.proofs.Common.{◌≡◌, ◌∙◌, ℕ, List, ◌++◌, ap, append_assoc}
 
+pub appended_2 : (start first second a b : List ℕ) → first ≡ start ++ a → second ≡ first ++ b → second ≡ start ++ (a ++ b)
+appended_2 start first second a b is_first is_second = is_second ∙ ap (λ t. t ++ b) is_first ∙ append_assoc start a b
+
 pub appended_3 : (start first second third a b c : List ℕ) → first ≡ start ++ a → second ≡ first ++ b → third ≡ second ++ c → third ≡ start ++ (a ++ b ++ c)
 appended_3 start first second third a b c is_first is_second is_third =
     is_third ∙ ap (λ t. t ++ c) (is_second ∙ ap (λ t. t ++ b) is_first ∙ append_assoc start a b) ∙ append_assoc start (a ++ b) c

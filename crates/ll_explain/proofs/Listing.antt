@@ -1,7 +1,7 @@
 -- Texts of the items of a list that pass a test, written one after another.
 use Rattle.std.proofs.Common.{◌≡◌, ◌∙◌, ℕ, ◌+◌, ◌<◌, ◌≤◌, Bool, true, false, cond, List, [], ◌∷◌, ◌++◌, length, map, drop, get_or, refl, sym, ap, append_assoc}
-use Rattle.std.specs.Prelude.{filter, not, ◌&&◌, ◌||◌}
-use Rattle.std.specs.List.{flat_map, list_all}
+use Rattle.std.specs.Prelude.{filter, not}
+use Rattle.std.specs.List.{flat_map}
 use Rattle.std.proofs.lemmas.List.{append-nil, drop_all, drop_more}
 use Rattle.ll_explain.specs.Words.{behind, joined}
 
@@ -58,32 +58,3 @@ module _ {X : Type 0} (test : X → Bool) (text_of : X → List ℕ) (separator 
   unfolding left
   written_all start text first items k end is =
       sym (append-nil text) ∙ ap (λ t. text ++ t) (sym (ap (left first) (drop_all k items end) ∙ none_left first)) ∙ is
-
--- ---- sets within sets
-
-module _ {R : Type 0} (has whole : R → Bool) where
-  abbrev pub within : List R → Bool
-  within rights = list_all (λ right. not (has right) || whole right) rights
-
-  not_beyond : (a b all : Bool) → ((not a || b) && all) ≡ (not (a && not b) && all)
-  not_beyond true true all = refl
-  not_beyond true false all = refl
-  not_beyond false b all = refl
-
-  here : (rights : List R) (k : ℕ) (x : R) (b : Bool) → k < length rights → x ≡ get_or rights k x → (has x && not (whole x)) ≡ b →
-      within (drop k rights) ≡ (not b && within (drop (k + 1) rights))
-  here rights k x b there is beyond =
-      ap within (drop_more rights k x there ∙ ap (λ y. y ∷ drop (k + 1) rights) (sym is))
-      ∙ not_beyond (has x) (whole x) (within (drop (k + 1) rights)) ∙ ap (λ b. not b && within (drop (k + 1) rights)) beyond
-
-  pub within_next : (rights : List R) (k : ℕ) (x : R) (all : Bool) → k < length rights → x ≡ get_or rights k x → (has x && not (whole x)) ≡ false
-      → within (drop k rights) ≡ all →
-      within (drop (k + 1) rights) ≡ all
-  within_next rights k x all there is beyond so_far = sym (here rights k x false there is beyond) ∙ so_far
-
-  pub within_not : (rights : List R) (k : ℕ) (x : R) (all : Bool) → k < length rights → x ≡ get_or rights k x → (has x && not (whole x)) ≡ true
-      → within (drop k rights) ≡ all → false ≡ all
-  within_not rights k x all there is beyond so_far = sym (here rights k x true there is beyond) ∙ so_far
-
-  pub within_all : (rights : List R) (k : ℕ) (all : Bool) → length rights ≤ k → within (drop k rights) ≡ all → true ≡ all
-  within_all rights k all end so_far = sym (ap within (drop_all k rights end)) ∙ so_far

@@ -1,11 +1,4 @@
 pub mod Words
 pub mod Tables
-pub mod Confined
-pub mod Lacked
-pub mod Named
-pub mod Parts
-pub mod PortRights
-pub mod Kept
-pub mod Route
-pub mod Questions
+pub mod Lines
 pub mod Explained

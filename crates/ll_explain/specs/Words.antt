@@ -119,6 +119,7 @@ reason_text (not_for_writing fd) = codes "descriptor " ++ decimal fd ++ codes " 
 reason_text (held_already rs) = codes "ruleset " ++ decimal rs ++ codes " is held already"
 reason_text (reasons.unheld rs) = codes "ruleset " ++ decimal rs ++ codes " is not held"
 reason_text reasons.unsupported = codes "left out, as this ABI supports none of the rule's rights"
+reason_text reasons.unenforced = codes "left out, as this ABI supports none of the ruleset's rights"
 
 -- ---- explanations
 

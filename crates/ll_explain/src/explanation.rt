@@ -1,108 +1,70 @@
-//! The explanation of a record of a case.
+//! The text of explanations.
 
-ghost use Rattle.std.specs.Prelude.{◌≡◌, ◌≢◌, ◌++◌, [], OnOk, Some, slice_get};
-ghost use Rattle.ll_semantics.specs.declared.answer.Answer.TheVariants.{Allowed, Moot, Refused};
-ghost use Rattle.ll_reasons.specs.Explanations.{origins_at};
+ghost use Rattle.std.specs.Prelude.{◌≡◌, ◌++◌, ℕ, List, OnOk};
 ghost use Rattle.ll_trails.specs.CaseTrails.{AreTrailsAt, IsAnswerAt};
-ghost use Rattle.ll_trails.specs.Trails.{Follows};
+ghost use Rattle.ll_explanations.specs.Meanings.{AreMade, condition_in, explanation_in};
+ghost use Rattle.ll_reasons.specs.Meant.{reason_in};
 ghost use Rattle.ll_explain.specs.Explained.{text_at};
+ghost use Rattle.ll_explain.specs.Words.{alone, condition_text, explanation_text, reason_text};
 
 use crate::conditions::push_condition;
-use crate::confinement::Confinement;
-use crate::mootness::push_mootness;
-use crate::objections::push_objections;
-use crate::words::Added;
+use crate::objections::push_lines;
+use crate::reasons::push_reason;
+use crate::words::{Added, push_words};
+use ll_explanations::{Condition, Explanation, explain};
 use ll_process::Case;
-use ll_rules::{Errno, LayerSet, NoMemory};
+use ll_reasons::Reason;
+use ll_rules::NoMemory;
 use ll_semantics::Answer;
-use ll_trace::Record;
-use ll_trails::{Trail, Trails, domain_of};
+use ll_trace::{Op, Record};
+use ll_trails::Trails;
+use ll_tree::Tree;
 use std::alloc::Global;
 
-/// The record at a place, and where all that its process has comes from; the record isn't the process's first.
-fn found_at<'t>(
-    case: &'t Case,
-    trails: &'t Trails,
-    place: usize,
-    answer: Answer,
-) -> (&'t Record, &'t Trail)
-    requires answer { IsAnswerAt case.now place answer }
-    requires known { answer ≢ Allowed }
-    requires trails { AreTrailsAt case.now place trails.now }
-    ensures read { slice_get case.now.records place ≡ Some result.0.now }
-    ensures trail { Follows result.1.now
-        (origins_at case.now.tree case.now.abi case.now.records place result.0.now.process.0) }
-{
-    let found = &case.trace().records()[place];
-    (found, trails.of(found.process))
-}
-
-/// Adds why a moot record isn't asked about.
-fn push_moot(text: &mut Vec<u8>, case: &Case, trails: &Trails, place: usize) -> Added
-    requires answer { IsAnswerAt case.now place Moot }
-    requires trails { AreTrailsAt case.now place trails.now }
+/// Adds the line of a condition.
+#[tactic(auto, using(crate::proofs::Appending::appended_3))]
+fn push_failure(text: &mut Vec<u8>, op: &Op, condition: &Condition) -> Added
     ensures { OnOk result (text.new.items
-        ≡ text.old.items ++ text_at case.now.tree case.now.abi case.now.records place) }
+        ≡ text.old.items ++ alone (condition_text (condition_in op.now condition.now))) }
 {
-    let (found, trail) = found_at(case, trails, place, Answer::Moot);
-    push_mootness(text, case.tree(), trail, &found.op)?;
+    push_words(text, "    ")?;
+    push_condition(text, op, condition)?;
+    push_words(text, "\n")?;
     Ok(())
 }
 
-/// Adds why a record is refused by no layer.
-fn push_failed(
-    text: &mut Vec<u8>,
-    case: &Case,
-    trails: &Trails,
-    place: usize,
-    error: Errno,
-) -> Added
-    requires answer { IsAnswerAt case.now place (Refused error []) }
-    requires trails { AreTrailsAt case.now place trails.now }
+/// Adds the line of a reason.
+#[tactic(auto, using(crate::proofs::Appending::appended_3))]
+fn push_mootness(text: &mut Vec<u8>, op: &Op, reason: &Reason) -> Added
     ensures { OnOk result (text.new.items
-        ≡ text.old.items ++ text_at case.now.tree case.now.abi case.now.records place) }
+        ≡ text.old.items ++ alone (reason_text (reason_in op.now reason.now))) }
 {
-    let answer = Answer::Refused(error, LayerSet::new());
-    let (found, trail) = found_at(case, trails, place, answer);
-    text.extend_from_slice(b"    ")?;
-    push_condition(
-        text,
-        case.trace().records(),
-        trail,
-        case.abi(),
-        &found.op,
-        error,
-    )?;
-    text.push(b'\n')?;
+    push_words(text, "    ")?;
+    push_reason(text, op, reason)?;
+    push_words(text, "\n")?;
     Ok(())
 }
 
-/// Adds what the layers that refuse a record object to.
-fn push_refusing(
-    alloc: Global,
+/// Adds the text of an explanation of a record's call: nothing where it is allowed, else lines that begin with four
+/// spaces. The tree and the records are those of the case that was explained.
+#[tactic(auto, unfolding(crate::specs::Words::explanation_text, ll_explanations::specs::Meanings::explanation_in))]
+pub fn push_text(
     text: &mut Vec<u8>,
-    case: &Case,
-    trails: &Trails,
-    place: usize,
-    error: Errno,
-    numbers: LayerSet,
-) -> Added
-    requires answer { IsAnswerAt case.now place (Refused error numbers) }
-    requires some { numbers ≢ [] }
-    requires trails { AreTrailsAt case.now place trails.now }
-    ensures { OnOk result (text.new.items
-        ≡ text.old.items ++ text_at case.now.tree case.now.abi case.now.records place) }
+    tree: &Tree,
+    records: &[Record],
+    op: &Op,
+    explanation: &Explanation,
+) -> Result<(), NoMemory>
+    ensures { OnOk result ((layers : List ℕ) → AreMade layers explanation.now → text.new.items
+        ≡ text.old.items
+        ++ explanation_text records.now layers (explanation_in tree.now op.now explanation.now)) }
 {
-    let (found, trail) = found_at(case, trails, place, Answer::Refused(error, numbers));
-    let domain = domain_of(alloc, case, trail)?;
-    let ctx = Confinement {
-        records: case.trace().records(),
-        trail,
-        tree: case.tree(),
-        layers: case.layers(),
-        domain: &domain,
-    };
-    push_objections(text, &ctx, &found.op, error, numbers)?;
+    match explanation {
+        Explanation::Nothing | Explanation::Mootness(None) => {}
+        Explanation::Objections(all) => push_lines(text, tree, records, all)?,
+        Explanation::Failure(condition) => push_failure(text, op, condition)?,
+        Explanation::Mootness(Some(reason)) => push_mootness(text, op, reason)?,
+    }
     Ok(())
 }
 
@@ -121,16 +83,9 @@ pub fn push_explanation(
     ensures { OnOk result (text.new.items
         ≡ text.old.items ++ text_at case.now.tree case.now.abi case.now.records place) }
 {
-    match answer {
-        Answer::Allowed => {}
-        Answer::Moot => push_moot(text, case, trails, place)?,
-        Answer::Refused(error, numbers) => {
-            if numbers.is_empty() {
-                push_failed(text, case, trails, place, error)?;
-            } else {
-                push_refusing(alloc, text, case, trails, place, error, numbers)?;
-            }
-        }
-    }
+    let explanation = explain(alloc, case, trails, place, answer)?;
+    let records = case.trace().records();
+    let op = &records[place].op;
+    push_text(text, case.tree(), records, op, &explanation)?;
     Ok(())
 }

@@ -9,7 +9,7 @@ ghost use Rattle.ll_trace.specs.declared.op.Mode.TheVariants.{Write};
 ghost use Rattle.ll_reasons.specs.Conditions.{unhandled, unknown};
 ghost use Rattle.ll_reasons.specs.Explanations.{failure, mootness, nothing, objections};
 ghost use Rattle.ll_reasons.specs.Objections.{closed, gained, kept, missing};
-ghost use Rattle.ll_reasons.specs.Reasons.{absent, unsupported};
+ghost use Rattle.ll_reasons.specs.Reasons.{absent, unsupported, unenforced};
 ghost use Rattle.ll_explain.specs.Words.{explanation_text};
 
 /// The text of some explanations, in a trace whose first record is on line 5 and opens a file.
@@ -49,4 +49,6 @@ pub fn worked_words()
         ≡ codes "    /none is not in the tree\n" }
     ensures left_out { explanation_text [] [] (mootness (Some unsupported))
         ≡ codes "    left out, as this ABI supports none of the rule's rights\n" }
+    ensures unenforced { explanation_text [] [] (mootness (Some unenforced))
+        ≡ codes "    left out, as this ABI supports none of the ruleset's rights\n" }
 {}

@@ -2,24 +2,12 @@
 #![tactic(auto)]
 
 mod conditions;
-mod confinement;
 mod explanation;
-mod kept;
 mod laws;
-mod layers;
-mod missing;
-mod mootness;
-mod moved;
-mod named;
 mod objections;
-mod parts;
-mod paths;
-mod ports;
 mod reasons;
 mod rights;
-mod route;
-mod wants;
 mod words;
 
-pub use explanation::push_explanation;
+pub use explanation::{push_explanation, push_text};
 pub use laws::worked_words;

@@ -1,43 +1,227 @@
-//! The lines for a call that layers refuse.
+//! The lines on what layers object to.
 
-ghost use Rattle.std.specs.Prelude.{◌≡◌, ◌++◌, OnOk};
-ghost use Rattle.ll_reasons.specs.Explanations.{objections_to};
-ghost use Rattle.ll_explain.specs.Confined.{lines, stacked, followed};
+ghost use Rattle.std.specs.Prelude.{◌≡◌, ◌++◌, All, ℕ, List, OnOk, codes, decimal, option_and_then, slice_get};
+ghost use Rattle.std.specs.List.{flat_map};
+ghost use Rattle.json.specs.Print.{escape};
+ghost use Rattle.ll_lines.specs.PathTexts.{text_of};
+ghost use Rattle.ll_rights.specs.CodeRights.{fs_right};
+ghost use Rattle.ll_rights.specs.Rights.{name_of};
+ghost use Rattle.ll_tree.specs.Trees.{path_at};
+ghost use Rattle.ll_explanations.specs.Meanings.{IsMade, by_layer, objection_in};
+ghost use Rattle.ll_explanations.specs.Sets.{port_rights_in, rights_in};
+ghost use Rattle.ll_explain.specs.Lines.{ending, head_of, next_text, opening};
+ghost use Rattle.ll_explain.specs.Words.{layer_text, line_of, objection_text, path_opened, path_text, port_rights_text, rights_text, word_for};
 
-use crate::confinement::Confinement;
-use crate::kept::push_kept;
-use crate::layers::{Question, push_asked};
-use crate::moved::{push_linked, push_renamed};
-use crate::wants::push_request;
-use crate::words::Added;
-use ll_rights::{FsRight, Net};
-use ll_rules::{Errno, LayerSet};
-use ll_trace::Op;
+use crate::rights::{push_port_rights, push_rights, word_for};
+use crate::words::{Added, push_escaped, push_number, push_numbered, push_words};
+use ll_explanations::{LayerObjection, Objection};
+use ll_rights::{Fs, FsRight, Net};
+use ll_trace::{Op, Record};
+use ll_tree::{NodeId, Tree};
 
-/// Adds the lines of the layers of a process that refuse a call. The call's error says what is looked at for a move, and
-/// the numbers of the layers for a call on a descriptor.
-#[tactic(auto, unfolding(ll_reasons::specs::Explanations::objections_to, ll_rights::specs::Rights::only, ll_rights::specs::NetRights::only))]
-pub(crate) fn push_objections(
-    text: &mut Vec<u8>,
-    ctx: &Confinement,
-    op: &Op,
-    error: Errno,
-    numbers: LayerSet,
-) -> Added
-    ensures { OnOk result (text.new.items ≡ text.old.items ++ lines ctx.now
-        (objections_to ctx.now.tree.now (stacked ctx.now)
-        (followed ctx.now.trail.now) op.now error numbers)) }
+/// The text of a node's path, and the root's for what is no node of the tree.
+fn text_at(tree: &Tree, node: NodeId) -> &str
+    ensures { result.now ≡ text_of (path_at tree.now node) }
 {
-    match op {
-        Op::Ftruncate { fd } => push_kept(text, ctx, FsRight::Truncate, numbers, *fd),
-        Op::Ioctl { fd, .. } => push_kept(text, ctx, FsRight::IoctlDev, numbers, *fd),
-        Op::Rename { from, to, exchange } => {
-            push_renamed(text, ctx, from, to.path(), *exchange, error)
-        }
-        Op::Link { from, to } => push_linked(text, ctx, from, to.path(), error),
-        Op::Mount => push_asked(text, ctx, &Question::Mounting),
-        Op::Bind { port } => push_asked(text, ctx, &Question::OnPort(*port, Net::BIND_TCP)),
-        Op::Connect { port } => push_asked(text, ctx, &Question::OnPort(*port, Net::CONNECT_TCP)),
-        _ => push_request(text, ctx, op),
+    if node.index() < tree.nodes() {
+        tree.text(node)
+    } else {
+        "/"
     }
+}
+
+/// Adds the path of a node.
+#[tactic(auto, unfolding(crate::specs::Words::path_text))]
+fn push_node(text: &mut Vec<u8>, tree: &Tree, node: NodeId) -> Added
+    ensures { OnOk result (text.new.items ≡ text.old.items ++ path_text (path_at tree.now node)) }
+{
+    push_escaped(text, text_at(tree, node))
+}
+
+/// Adds names of rights, and the node on which they are missing.
+#[tactic(auto, using(crate::proofs::Appending::appended_3))]
+fn push_missing(text: &mut Vec<u8>, tree: &Tree, rights: Fs, node: NodeId) -> Added
+    ensures { OnOk result (text.new.items ≡ text.old.items
+        ++ (rights_text (rights_in rights) ++ codes " on " ++ path_text (path_at tree.now node))) }
+{
+    push_rights(text, rights)?;
+    push_words(text, " on ")?;
+    push_node(text, tree, node)?;
+    Ok(())
+}
+
+/// Adds names of rights, and the port on which they are missing.
+#[tactic(auto, using(crate::proofs::Appending::appended_3))]
+fn push_closed(text: &mut Vec<u8>, rights: Net, port: u16) -> Added
+    ensures { OnOk result (text.new.items ≡ text.old.items
+        ++ (port_rights_text (port_rights_in rights) ++ codes " on port " ++ decimal port)) }
+{
+    push_port_rights(text, rights)?;
+    push_words(text, " on port ")?;
+    push_number(text, port as u64)?;
+    Ok(())
+}
+
+/// Says which rights an object would gain in a directory.
+fn push_gained(
+    text: &mut Vec<u8>,
+    tree: &Tree,
+    object: NodeId,
+    rights: Fs,
+    directory: NodeId,
+) -> Added
+    ensures { OnOk result (text.new.items ≡ text.old.items
+        ++ (path_text (path_at tree.now object) ++ codes " would gain "
+        ++ rights_text (rights_in rights) ++ codes " in " ++ path_text (path_at tree.now directory))) }
+{
+    push_node(text, tree, object)?;
+    push_words(text, " would gain ")?;
+    push_rights(text, rights)?;
+    push_words(text, " in ")?;
+    push_node(text, tree, directory)?;
+    Ok(())
+}
+
+/// Adds the path that the record at a place opens, if it opens one.
+#[tactic(auto, unfolding(crate::specs::Words::path_opened))]
+fn push_path_opened(text: &mut Vec<u8>, records: &[Record], place: u32) -> Added
+    ensures { OnOk result (text.new.items
+        ≡ text.old.items ++ escape (path_opened (slice_get records.now place))) }
+{
+    match records.get(place as usize) {
+        None => Ok(()),
+        Some(record) => match &record.op {
+            Op::OpenFile { path, .. } => push_escaped(text, path.as_str()),
+            _ => Ok(()),
+        },
+    }
+}
+
+/// The line of the record at a place, or 0 where there is none.
+fn line_at(records: &[Record], place: u32) -> u64
+    ensures { result ≡ line_of (slice_get records.now place) }
+{
+    match records.get(place as usize) {
+        None => 0,
+        Some(record) => record.line,
+    }
+}
+
+/// Says which right was missing on which path, and where it was opened.
+fn push_kept(text: &mut Vec<u8>, records: &[Record], right: FsRight, opened: u32) -> Added
+    ensures { OnOk result (text.new.items ≡ text.old.items
+        ++ (word_for (name_of (fs_right right)) ++ codes " on "
+        ++ escape (path_opened (slice_get records.now opened)) ++ codes ", opened at line "
+        ++ decimal (line_of (slice_get records.now opened)))) }
+{
+    push_words(text, word_for(right.name()))?;
+    push_words(text, " on ")?;
+    push_path_opened(text, records, opened)?;
+    push_words(text, ", opened at line ")?;
+    push_number(text, line_at(records, opened))?;
+    Ok(())
+}
+
+/// Says what is objected to.
+#[tactic(auto, unfolding(crate::specs::Words::objection_text))]
+fn push_objection(
+    text: &mut Vec<u8>,
+    tree: &Tree,
+    records: &[Record],
+    objection: &Objection,
+) -> Added
+    ensures { OnOk result (text.new.items ≡ text.old.items
+        ++ objection_text records.now (objection_in tree.now objection.now)) }
+{
+    match objection {
+        Objection::Missing { rights, node } => push_missing(text, tree, *rights, *node),
+        Objection::Closed { rights, port } => push_closed(text, *rights, *port),
+        Objection::Gained {
+            object,
+            rights,
+            directory,
+        } => push_gained(text, tree, *object, *rights, *directory),
+        Objection::Mounting => push_words(text, "it handles rights for files"),
+        Objection::Kept { right, opened } => push_kept(text, records, *right, *opened),
+    }
+}
+
+/// The line of the record that made a layer, or 0 where there is none.
+fn line_made(records: &[Record], made: Option<u32>) -> u64
+    ensures { result ≡ line_of (option_and_then (slice_get records.now) made) }
+{
+    match made {
+        None => 0,
+        Some(place) => line_at(records, place),
+    }
+}
+
+/// Begins the line of a layer, which says where the layer comes from.
+fn push_head(text: &mut Vec<u8>, records: &[Record], layer: u64, made: Option<u32>) -> Added
+    ensures { OnOk result (text.new.items ≡ text.old.items ++ head_of records.now layer made) }
+{
+    push_numbered(text, "    layer ", layer, " (line ")?;
+    push_number(text, line_made(records, made))?;
+    push_words(text, "): ")?;
+    Ok(())
+}
+
+/// Ends the line of the layer before, if there is one.
+#[tactic(auto, unfolding(crate::specs::Lines::ending))]
+fn push_ending(text: &mut Vec<u8>, before: u64) -> Added
+    ensures { OnOk result (text.new.items ≡ text.old.items ++ ending before) }
+{
+    if before == 0 {
+        return Ok(());
+    }
+    push_words(text, "\n")
+}
+
+/// Goes on behind an objection of the same layer, or begins the line of the next layer.
+#[tactic(auto, unfolding(crate::specs::Lines::opening))]
+fn push_opening(text: &mut Vec<u8>, records: &[Record], before: u64, one: &LayerObjection) -> Added
+    ensures { OnOk result (text.new.items ≡ text.old.items ++ opening records.now before one.now) }
+{
+    if one.layer == before {
+        return push_words(text, "; ");
+    }
+    push_ending(text, before)?;
+    push_head(text, records, one.layer, one.made)?;
+    Ok(())
+}
+
+/// Says one objection behind those before it.
+#[tactic(auto, unfolding(crate::specs::Lines::next_text))]
+fn push_next(
+    text: &mut Vec<u8>,
+    tree: &Tree,
+    records: &[Record],
+    before: u64,
+    one: &LayerObjection,
+) -> Added
+    ensures { OnOk result (text.new.items
+        ≡ text.old.items ++ next_text tree.now records.now before one.now) }
+{
+    push_opening(text, records, before, one)?;
+    push_objection(text, tree, records, &one.objection)?;
+    Ok(())
+}
+
+/// Adds the lines of all layers that object.
+pub(crate) fn push_lines(
+    text: &mut Vec<u8>,
+    tree: &Tree,
+    records: &[Record],
+    all: &[LayerObjection],
+) -> Added
+    ensures { OnOk result ((layers : List ℕ) → All (IsMade layers) all.now → text.new.items
+        ≡ text.old.items ++ flat_map (layer_text records.now layers) (by_layer tree.now all.now)) }
+{
+    let mut before = 0;
+    for one in all {
+        push_next(text, tree, records, before, one)?;
+        before = one.layer;
+    }
+    push_ending(text, before)?;
+    Ok(())
 }

@@ -1,107 +1,117 @@
 //! The words for calls that the policy isn't asked about.
 
-ghost use Rattle.std.specs.Prelude.{◌≡◌, ◌++◌, IsTrue, OnOk, is_some};
+ghost use Rattle.std.specs.Prelude.{◌≡◌, ◌++◌, IsTrue, OnOk, codes, is_some};
 ghost use Rattle.ll_lines.specs.Paths.{path_of};
-ghost use Rattle.ll_reasons.specs.Meant.{meant};
-ghost use Rattle.ll_reasons.specs.Reasons.{mixed, of_kind, spelt};
+ghost use Rattle.ll_reasons.specs.declared.why.Which.TheVariants.{First, Second};
+ghost use Rattle.ll_reasons.specs.Meant.{path_in, path_named, reason_in};
+ghost use Rattle.ll_reasons.specs.Reasons.{of_kind, spelt};
 ghost use Rattle.ll_explain.specs.Words.{path_text, reason_text};
 
-use crate::words::{Added, push_escaped, push_numbered};
-use ll_reasons::{SpeltPath, Why};
+use crate::words::{Added, push_escaped, push_numbered, push_words};
+use ll_reasons::{NamedPath, Reason, Which, text_above, text_of};
 use ll_rights::Kind;
+use ll_trace::Op;
 
 /// Adds a path.
-#[tactic(auto, using(crate::proofs::PlacesNamed::path_text_spelt))]
-pub(crate) fn push_path(text: &mut Vec<u8>, path: &str) -> Added
+#[tactic(auto, using(crate::proofs::PathsSpelt::path_text_spelt))]
+fn push_path(text: &mut Vec<u8>, path: &str) -> Added
     requires { IsTrue (is_some (path_of path.now)) }
     ensures { OnOk result (text.new.items ≡ text.old.items ++ path_text (spelt path.now)) }
 {
     push_escaped(text, path)
 }
 
-/// Adds a path and what is said of it.
-fn push_said(text: &mut Vec<u8>, path: &SpeltPath, said: &str) -> Added
-    ensures { OnOk result (text.new.items ≡ text.old.items ++ (path_text path.now ++ said.now)) }
+/// Adds a path that a call names.
+fn push_which(text: &mut Vec<u8>, op: &Op, which: Which) -> Added
+    ensures { OnOk result (text.new.items
+        ≡ text.old.items ++ path_text (path_named op.now which)) }
 {
-    push_path(text, path.as_str())?;
-    text.extend_from_slice(said.as_bytes())
+    push_path(text, text_of(op, which))
 }
 
-/// Says of what kind the object of a path is.
+/// Adds a path that a call names, or one above it, and what is said of it.
+fn push_named(text: &mut Vec<u8>, op: &Op, named: NamedPath, said: &str) -> Added
+    ensures { OnOk result (text.new.items
+        ≡ text.old.items ++ (path_text (path_in op.now named) ++ said.now)) }
+{
+    push_path(text, text_above(op, named))?;
+    push_words(text, said)?;
+    Ok(())
+}
+
+/// Adds a path that a call names and what is said of it.
+fn push_said(text: &mut Vec<u8>, op: &Op, which: Which, said: &str) -> Added
+    ensures { OnOk result (text.new.items
+        ≡ text.old.items ++ (path_text (path_named op.now which) ++ said.now)) }
+{
+    push_which(text, op, which)?;
+    push_words(text, said)?;
+    Ok(())
+}
+
+/// Says of what kind the object of the first path is.
 #[tactic(auto, unfolding(crate::specs::Words::reason_text))]
-fn push_kind(text: &mut Vec<u8>, path: &SpeltPath, kind: Kind) -> Added
-    ensures { OnOk result (text.new.items ≡ text.old.items ++ reason_text (of_kind path.now kind)) }
+fn push_kind(text: &mut Vec<u8>, op: &Op, kind: Kind) -> Added
+    ensures { OnOk result (text.new.items
+        ≡ text.old.items ++ reason_text (of_kind (path_named op.now First) kind)) }
 {
     match kind {
-        Kind::Dir => push_said(text, path, " is a directory"),
-        Kind::Reg => push_said(text, path, " is a regular file"),
-        Kind::Sym => push_said(text, path, " is a symbolic link"),
-        Kind::Char => push_said(text, path, " is a character device"),
-        Kind::Block => push_said(text, path, " is a block device"),
-        Kind::Fifo => push_said(text, path, " is a named pipe"),
-        Kind::Sock => push_said(text, path, " is a socket"),
+        Kind::Dir => push_said(text, op, Which::First, " is a directory"),
+        Kind::Reg => push_said(text, op, Which::First, " is a regular file"),
+        Kind::Sym => push_said(text, op, Which::First, " is a symbolic link"),
+        Kind::Char => push_said(text, op, Which::First, " is a character device"),
+        Kind::Block => push_said(text, op, Which::First, " is a block device"),
+        Kind::Fifo => push_said(text, op, Which::First, " is a named pipe"),
+        Kind::Sock => push_said(text, op, Which::First, " is a socket"),
     }
 }
 
-/// Adds two paths and what is said of both.
-fn push_both(
-    text: &mut Vec<u8>,
-    from: &SpeltPath,
-    between: &str,
-    to: &SpeltPath,
-    said: &str,
-) -> Added
-    ensures { OnOk result (text.new.items
-        ≡ text.old.items ++ (path_text from.now ++ between.now ++ path_text to.now ++ said.now)) }
+/// Adds the two paths of a call, and what is said before, between and behind them.
+fn push_both(text: &mut Vec<u8>, op: &Op, between: &str, said: &str) -> Added
+    ensures { OnOk result (text.new.items ≡ text.old.items
+        ++ (path_text (path_named op.now First) ++ between.now
+        ++ path_text (path_named op.now Second) ++ said.now)) }
 {
-    push_said(text, from, between)?;
-    push_said(text, to, said)
+    push_said(text, op, Which::First, between)?;
+    push_said(text, op, Which::Second, said)?;
+    Ok(())
 }
 
 /// Says that a directory and something else would take one another's place.
-#[tactic(auto, unfolding(crate::specs::Words::reason_text))]
-fn push_mixed(text: &mut Vec<u8>, from: &SpeltPath, to: &SpeltPath) -> Added
-    ensures { OnOk result (text.new.items ≡ text.old.items ++ reason_text (mixed from.now to.now)) }
+fn push_mixed(text: &mut Vec<u8>, op: &Op) -> Added
+    ensures { OnOk result (text.new.items ≡ text.old.items
+        ++ (codes "one of " ++ path_text (path_named op.now First) ++ codes " and "
+        ++ path_text (path_named op.now Second) ++ codes " is a directory, the other is not")) }
 {
-    text.extend_from_slice(b"one of ")?;
-    push_path(text, from.as_str())?;
-    text.extend_from_slice(b" and ")?;
-    push_path(text, to.as_str())?;
-    text.extend_from_slice(b" is a directory, the other is not")
+    push_words(text, "one of ")?;
+    push_which(text, op, Which::First)?;
+    push_words(text, " and ")?;
+    push_which(text, op, Which::Second)?;
+    push_words(text, " is a directory, the other is not")?;
+    Ok(())
 }
 
 /// Says why the policy isn't asked.
-#[tactic(auto, unfolding(ll_reasons::specs::Meant::meant, crate::specs::Words::reason_text))]
-pub(crate) fn push_reason(text: &mut Vec<u8>, why: &Why) -> Added
-    ensures { OnOk result (text.new.items ≡ text.old.items ++ reason_text (meant why.now)) }
+#[tactic(auto, unfolding(ll_reasons::specs::Meant::reason_in, crate::specs::Words::reason_text))]
+pub(crate) fn push_reason(text: &mut Vec<u8>, op: &Op, reason: &Reason) -> Added
+    ensures { OnOk result (text.new.items
+        ≡ text.old.items ++ reason_text (reason_in op.now reason.now)) }
 {
-    match why {
-        Why::Absent(path) => push_said(text, path, " is not in the tree"),
-        Why::NoDirectory(path) => push_said(text, path, " is not a directory"),
-        Why::Present(path) => push_said(text, path, " is in the tree already"),
-        Why::OfKind(path, kind) => push_kind(text, path, *kind),
-        Why::Root => text.extend_from_slice(b"/ stays where it is"),
-        Why::Unmoved(path) => push_said(text, path, " would go where it is"),
-        Why::BeneathItself(from, to) => push_both(
-            text,
-            from,
-            " would go beneath itself, to ",
-            to,
-            "",
-        ),
-        Why::OverItself(from, to) => {
-            push_both(
-                text,
-                from,
-                " would take the place of ",
-                to,
-                ", which it is in",
-            )
+    match reason {
+        Reason::Absent(named) => push_named(text, op, *named, " is not in the tree"),
+        Reason::NoDirectory(named) => push_named(text, op, *named, " is not a directory"),
+        Reason::Present(which) => push_said(text, op, *which, " is in the tree already"),
+        Reason::OfKind(kind) => push_kind(text, op, *kind),
+        Reason::Root => push_words(text, "/ stays where it is"),
+        Reason::Unmoved => push_said(text, op, Which::First, " would go where it is"),
+        Reason::BeneathItself => push_both(text, op, " would go beneath itself, to ", ""),
+        Reason::OverItself => {
+            push_both(text, op, " would take the place of ", ", which it is in")
         }
-        Why::Mixed(from, to) => push_mixed(text, from, to),
-        Why::OpenAlready(fd) => push_numbered(text, "descriptor ", *fd, " is open already"),
-        Why::Unopened(fd) => push_numbered(text, "descriptor ", *fd, " is not open"),
-        Why::NotForWriting(fd) => {
+        Reason::Mixed => push_mixed(text, op),
+        Reason::OpenAlready(fd) => push_numbered(text, "descriptor ", *fd, " is open already"),
+        Reason::Unopened(fd) => push_numbered(text, "descriptor ", *fd, " is not open"),
+        Reason::NotForWriting(fd) => {
             push_numbered(
                 text,
                 "descriptor ",
@@ -109,10 +119,19 @@ pub(crate) fn push_reason(text: &mut Vec<u8>, why: &Why) -> Added
                 " is not a regular file open for writing",
             )
         }
-        Why::HeldAlready(rs) => push_numbered(text, "ruleset ", *rs, " is held already"),
-        Why::Unheld(rs) => push_numbered(text, "ruleset ", *rs, " is not held"),
-        Why::Unsupported => {
-            text.extend_from_slice(b"left out, as this ABI supports none of the rule's rights")
+        Reason::HeldAlready(rs) => push_numbered(text, "ruleset ", *rs, " is held already"),
+        Reason::Unheld(rs) => push_numbered(text, "ruleset ", *rs, " is not held"),
+        Reason::Unsupported => {
+            push_words(
+                text,
+                "left out, as this ABI supports none of the rule's rights",
+            )
+        }
+        Reason::Unenforced => {
+            push_words(
+                text,
+                "left out, as this ABI supports none of the ruleset's rights",
+            )
         }
     }
 }

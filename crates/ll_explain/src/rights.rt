@@ -1,15 +1,14 @@
 //! The names of the rights of a set, for files and for ports alike.
 
-ghost use Rattle.std.specs.Prelude.{◌≡◌, ◌++◌, ◌&&◌, ◌||◌, ℕ, Bool, List, not, OnOk, codes, filter, map, if◌then◌else◌};
-ghost use Rattle.std.specs.List.{list_all};
+ghost use Rattle.std.specs.Prelude.{◌≡◌, ◌++◌, ℕ, Bool, List, OnOk, codes, filter, map, if◌then◌else◌};
 ghost use Rattle.ll_rights.specs.CodeRights.{fs_right, net_right};
 ghost use Rattle.ll_rights.specs.Rights as files;
 ghost use Rattle.ll_rights.specs.NetRights as network;
-ghost use Rattle.ll_reasons.specs.Conditions.{port_rights_beyond, rights_beyond};
-ghost use Rattle.ll_explain.specs.Tables.{files_within, listed_alike, ports_within};
+ghost use Rattle.ll_explanations.specs.Sets.{port_rights_in, rights_in};
+ghost use Rattle.ll_explain.specs.Tables.{listed_alike};
 ghost use Rattle.ll_explain.specs.Words.{behind, listed, port_rights_text, rights_text, word_for};
 
-use crate::words::Added;
+use crate::words::{Added, push_words};
 use ll_rights::{Fs, FsRight, Net, NetRight};
 
 /// A set of access rights, for files or for ports.
@@ -23,9 +22,7 @@ pub(crate) trait RightSet: Copy {
 
     ghost name: { Self.Right → List ℕ };
 
-    ghost beyond_text: { Self → Self → List ℕ };
-
-    ghost is_within: { Self → Self → Bool };
+    ghost text: { Self → List ℕ };
 
     /// All rights, in the order of the table.
     fn all() -> &'static [Self::Right]
@@ -39,12 +36,8 @@ pub(crate) trait RightSet: Copy {
     fn name(right: Self::Right) -> &'static str
         ensures { result.now ≡ name right };
 
-    ghost named: { (all : List Self.Right) → is_table all → (set whole : Self)
-        → listed name (filter (λ right. has set right && not (has whole right)) all)
-        ≡ beyond_text set whole };
-
-    ghost tested: { (all : List Self.Right) → is_table all → (set whole : Self)
-        → list_all (λ right. not (has set right) || has whole right) all ≡ is_within set whole };
+    ghost named: { (all : List Self.Right) → is_table all → (set : Self)
+        → listed name (filter (has set) all) ≡ text set };
 }
 
 impl RightSet for Fs {
@@ -56,15 +49,10 @@ impl RightSet for Fs {
 
     ghost name = { λ right. files.name_of (fs_right right) };
 
-    ghost beyond_text = { λ set whole. rights_text (rights_beyond set whole) };
+    ghost text = { λ set. rights_text (filter (files.has set) files.all_rights) };
 
-    ghost is_within = { files.is_within };
-
-    ghost named = { λ all table set whole.
-        listed_alike fs_right files.name_of files.all_rights all table
-        (λ right. files.has set right && not (files.has whole right)) };
-
-    ghost tested = { files_within };
+    ghost named = { λ all table set.
+        listed_alike fs_right files.name_of files.all_rights all table (files.has set) };
 
     fn all() -> &'static [FsRight] {
         FsRight::all()
@@ -88,15 +76,10 @@ impl RightSet for Net {
 
     ghost name = { λ right. network.name_of (net_right right) };
 
-    ghost beyond_text = { λ set whole. port_rights_text (port_rights_beyond set whole) };
+    ghost text = { λ set. port_rights_text (filter (network.has set) network.all_rights) };
 
-    ghost is_within = { network.is_within };
-
-    ghost named = { λ all table set whole.
-        listed_alike net_right network.name_of network.all_rights all table
-        (λ right. network.has set right && not (network.has whole right)) };
-
-    ghost tested = { ports_within };
+    ghost named = { λ all table set.
+        listed_alike net_right network.name_of network.all_rights all table (network.has set) };
 
     fn all() -> &'static [NetRight] {
         NetRight::all()
@@ -134,20 +117,13 @@ fn push_name(text: &mut Vec<u8>, name: &str, is_first: bool) -> Added
     text.extend_from_slice(name.as_bytes())
 }
 
-/// Whether a set has a right, and another hasn't.
-fn is_beyond<S: RightSet>(rights: S, whole: S, right: S::Right) -> bool
-    ensures { result ≡ (S.has rights right && not (S.has whole right)) }
-{
-    rights.has(right) && !whole.has(right)
-}
-
-/// Adds the names of the rights that a set has and another hasn't, in the order of the table.
-pub(crate) fn push_beyond<S: RightSet>(text: &mut Vec<u8>, rights: S, whole: S) -> Added
-    ensures { OnOk result (text.new.items ≡ text.old.items ++ S.beyond_text rights whole) }
+/// Adds the names of the rights of a set, in the order of the table.
+fn push_names<S: RightSet>(text: &mut Vec<u8>, rights: S) -> Added
+    ensures { OnOk result (text.new.items ≡ text.old.items ++ S.text rights) }
 {
     let mut is_first = true;
     for right in S::all() {
-        if is_beyond(rights, whole, *right) {
+        if rights.has(*right) {
             push_name(text, word_for(S::name(*right)), is_first)?;
             is_first = false;
         }
@@ -155,14 +131,19 @@ pub(crate) fn push_beyond<S: RightSet>(text: &mut Vec<u8>, rights: S, whole: S) 
     Ok(())
 }
 
-/// Whether each right of a set is one of `whole`.
-pub(crate) fn is_within<S: RightSet>(rights: S, whole: S) -> bool
-    ensures { result ≡ S.is_within rights whole }
+/// Adds the names of the rights for files of a set.
+#[tactic(auto, unfolding(ll_explanations::specs::Sets::rights_in))]
+pub(crate) fn push_rights(text: &mut Vec<u8>, rights: Fs) -> Added
+    ensures { OnOk result (text.new.items ≡ text.old.items ++ rights_text (rights_in rights)) }
 {
-    for right in S::all() {
-        if is_beyond(rights, whole, *right) {
-            return false;
-        }
-    }
-    true
+    push_names(text, rights)
+}
+
+/// Adds the names of the rights for ports of a set.
+#[tactic(auto, unfolding(ll_explanations::specs::Sets::port_rights_in))]
+pub(crate) fn push_port_rights(text: &mut Vec<u8>, rights: Net) -> Added
+    ensures { OnOk result (text.new.items
+        ≡ text.old.items ++ port_rights_text (port_rights_in rights)) }
+{
+    push_names(text, rights)
 }

@@ -10,6 +10,13 @@ use std::alloc::AllocError;
 /// What adding to a text gives: nothing, or that memory ran out.
 pub(crate) type Added = Result<(), AllocError>;
 
+/// Adds words.
+pub(crate) fn push_words(text: &mut Vec<u8>, words: &str) -> Added
+    ensures { OnOk result (text.new.items ≡ text.old.items ++ words.now) }
+{
+    text.extend_from_slice(words.as_bytes())
+}
+
 /// Adds a number in decimal digits.
 pub(crate) fn push_number(text: &mut Vec<u8>, number: u64) -> Added
     ensures { OnOk result (text.new.items ≡ text.old.items ++ decimal number) }

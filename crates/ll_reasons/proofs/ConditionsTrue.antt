@@ -10,6 +10,7 @@ use Rattle.ll_rights.specs.NetRights as network
 use Rattle.ll_rules.specs.declared.domain.TheConstants.{MOST_LAYERS}
 use Rattle.ll_rules.specs.declared.errno.Errno.{Errno}
 use Rattle.ll_rules.specs.declared.errno.Errno.TheVariants.{Perm, Acces, BadFd, TooBig, Inval, NoMsg}
+use Rattle.ll_rules.specs.Layers.{handles_nothing}
 use Rattle.ll_rules.specs.Rulesets.{has_ports, knows_all, are_file_rights, RuleRefusal, with_error, place_refusal}
 use Rattle.ll_tree.specs.declared.place.Place.{Place}
 use Rattle.ll_tree.specs.declared.place.Place.TheVariants.{Node, Gap, Nowhere}
@@ -17,7 +18,7 @@ use Rattle.ll_tree.specs.Trees.{Entry, kind_at, is_dir, place}
 use Rattle.ll_trace.specs.declared.record.Record.{Record}
 use Rattle.ll_trace.specs.declared.op.Op.{Op}
 use Rattle.ll_trace.specs.declared.op.Op.TheVariants as calls
-use Rattle.ll_semantics.specs.declared.answer.Answer.TheVariants.{Allowed, Refused}
+use Rattle.ll_semantics.specs.declared.answer.Answer.TheVariants.{Allowed, Moot, Refused}
 use Rattle.ll_semantics.specs.States.{State, Layer}
 use Rattle.ll_semantics.specs.Answers as answers
 use Rattle.ll_semantics.specs.Requests.{request, wanted}
@@ -28,7 +29,7 @@ use Rattle.ll_reasons.proofs.RulesetsMade.{ruleset_handles}
 use Rattle.ll_reasons.specs.Origins.{Origins}
 use Rattle.ll_reasons.specs.Conditions.{handled, handled_on_ports, of_create, invalid_on_path, of_add_path, invalid_on_port, of_add_port, of_restrict}
 use Rattle.ll_reasons.specs.Conditions.{condition}
-use Rattle.ll_reasons.specs.ConditionsHold.{files_of, ports_of, ruleset_of, IsCondition}
+use Rattle.ll_reasons.specs.ConditionsHold.{files_of, paths_of, port_of, ports_of, ruleset_number, ruleset_of, IsCondition}
 use Rattle.ll_reasons.proofs.Enough.{and_both, and_from}
 use Rattle.ll_reasons.proofs.Named.{rights_named, port_rights_named}
 use Rattle.ll_reasons.proofs.Shapes.{never_faulty, can_there, can_free, can_allowed, can_refused_by, can_request, can_move, can_ftruncate, can_ioctl}
@@ -105,16 +106,16 @@ invalid_beyond abi rulesets s rs path fs layer is beyond =
 invalid_for_directories : (abi : Abi) (rulesets : List Layer) (s : State) (rs : ℕ) (path : List ℕ) (fs : Fs) (layer : Layer)
     → files.is_within fs layer.handled_files ≡ true → are_file_rights fs ≡ false
     → IsCondition abi rulesets s (calls.AddPath rs path fs) (invalid_on_path path fs layer.handled_files)
-unfolding IsCondition files_of
+unfolding IsCondition files_of paths_of
 invalid_for_directories abi rulesets s rs path fs layer within not_files =
-    rw within ((λ right. rights_named (λ right. files.has fs right && not (files.is_file_right right)) right), not_files)
+    rw within (refl, (λ right. rights_named (λ right. files.has fs right && not (files.is_file_right right)) right), not_files)
 
 path_condition : (abi : Abi) (tree : List Entry) (rulesets : List Layer) (s : State) (rs : ℕ) (path : List ℕ) (fs whole : Fs) (rules : Option Layer)
     (error : Errno) → answers.named rulesets (s.held rs) ≡ rules → ((layer : Layer) → rules ≡ Some layer → whole ≡ layer.handled_files)
     → answers.add_path_answer tree path fs rules ≡ Refused error [] → IsCondition abi rulesets s (calls.AddPath rs path fs) (of_add_path rs path fs whole error)
-unfolding answers.add_path_answer of_add_path IsCondition files_of ports_of ruleset_of
+unfolding answers.add_path_answer of_add_path IsCondition files_of ports_of ruleset_of ruleset_number
 path_condition abi tree rulesets s rs path fs whole None error is handles asked =
-    by_error (λ (e : Errno). IsCondition abi rulesets s (calls.AddPath rs path fs) (of_add_path rs path fs whole e)) BadFd error asked is
+    by_error (λ (e : Errno). IsCondition abi rulesets s (calls.AddPath rs path fs) (of_add_path rs path fs whole e)) BadFd error asked (refl, is)
 path_condition abi tree rulesets s rs path fs whole (Some layer) error is handles asked =
     subst (λ (w : Fs). IsCondition abi rulesets s (calls.AddPath rs path fs) (of_add_path rs path fs w error)) (sym (handles layer refl))
     (by_rule (λ (e : Errno). IsCondition abi rulesets s (calls.AddPath rs path fs) (of_add_path rs path fs layer.handled_files e))
@@ -156,16 +157,16 @@ module _ (abi : Abi) (rulesets : List Layer) (s : State) (rs port : ℕ) (net : 
 
   invalid_number : (whole : Net) → not (has_ports abi) ≡ false → network.is_within net whole ≡ true → nat_lt LARGEST_PORT port ≡ true
       → IsCondition abi rulesets s (calls.AddPort rs port net) (invalid_on_port abi port net whole)
-  unfolding IsCondition
-  invalid_number whole newer within outside = rw (newer, within) outside
+  unfolding IsCondition port_of
+  invalid_number whole newer within outside = rw (newer, within) (refl, outside)
 
   port_condition : (whole : Net) (rules : Option Layer) (error : Errno) → answers.named rulesets (s.held rs) ≡ rules
       → ((layer : Layer) → rules ≡ Some layer → whole ≡ layer.handled_network)
       → answers.add_port_answer abi port net rules ≡ Refused error []
       → IsCondition abi rulesets s (calls.AddPort rs port net) (of_add_port abi rs port net whole error)
-  unfolding answers.add_port_answer of_add_port IsCondition files_of ports_of
+  unfolding answers.add_port_answer of_add_port IsCondition files_of ports_of ruleset_number
   port_condition whole None error is handles asked =
-      by_error (λ (e : Errno). IsCondition abi rulesets s (calls.AddPort rs port net) (of_add_port abi rs port net whole e)) BadFd error asked is
+      by_error (λ (e : Errno). IsCondition abi rulesets s (calls.AddPort rs port net) (of_add_port abi rs port net whole e)) BadFd error asked (refl, is)
   port_condition whole (Some layer) error is handles asked =
       subst (λ (w : Net). IsCondition abi rulesets s (calls.AddPort rs port net) (of_add_port abi rs port net w error)) (sym (handles layer refl))
       (by_port (λ (e : Errno). IsCondition abi rulesets s (calls.AddPort rs port net) (of_add_port abi rs port net layer.handled_network e))
@@ -177,11 +178,14 @@ module _ (abi : Abi) (rulesets : List Layer) (s : State) (rs port : ℕ) (net : 
 
 -- ---- restricting
 
-by_restrict : (P : Errno → Type 0) (may many : Bool) (error : Errno) → (if may then (if many then answers.fails TooBig else Allowed) else answers.fails Perm)
+by_restrict : (P : Errno → Type 0) (may many nothing : Bool) (error : Errno)
+    → (if may then (if many then (if nothing then Moot else answers.fails TooBig) else Allowed) else (if nothing then Moot else answers.fails Perm))
     ≡ Refused error [] → (may ≡ false → P Perm) → (many ≡ true → P TooBig) → P error
-by_restrict P true true error is perm too_big = by_error P TooBig error is (too_big refl)
-by_restrict P true false error is perm too_big = absurd (cc)
-by_restrict P false many error is perm too_big = by_error P Perm error is (perm refl)
+by_restrict P true true true error is perm too_big = absurd (cc)
+by_restrict P true true false error is perm too_big = by_error P TooBig error is (too_big refl)
+by_restrict P true false nothing error is perm too_big = absurd (cc)
+by_restrict P false many true error is perm too_big = absurd (cc)
+by_restrict P false many false error is perm too_big = by_error P Perm error is (perm refl)
 
 by_no_ruleset : (P : Errno → Type 0) (may : Bool) (error : Errno) → (if may then answers.fails BadFd else answers.fails Perm) ≡ Refused error []
     → (may ≡ false → P Perm) → P BadFd → P error
@@ -190,12 +194,13 @@ by_no_ruleset P false error is perm bad_fd = by_error P Perm error is (perm refl
 
 restrict_condition : (abi : Abi) (rulesets : List Layer) (s : State) (rs : ℕ) (rules : Option Layer) (error : Errno) → answers.named rulesets (s.held rs)
     ≡ rules → answers.restrict_answer s rules ≡ Refused error [] → IsCondition abi rulesets s (calls.Restrict rs) (of_restrict rs error)
-unfolding answers.restrict_answer of_restrict IsCondition
+unfolding answers.restrict_answer of_restrict IsCondition ruleset_number
 restrict_condition abi rulesets s rs None error is asked =
-    by_no_ruleset (λ (e : Errno). IsCondition abi rulesets s (calls.Restrict rs) (of_restrict rs e)) (answers.may_restrict s) error asked (λ may. may) is
+    by_no_ruleset (λ (e : Errno). IsCondition abi rulesets s (calls.Restrict rs) (of_restrict rs e)) (answers.may_restrict s) error asked
+    (λ may. may) (refl, is)
 restrict_condition abi rulesets s rs (Some rules) error is asked =
     by_restrict (λ (e : Errno). IsCondition abi rulesets s (calls.Restrict rs) (of_restrict rs e)) (answers.may_restrict s)
-    (nat_le MOST_LAYERS (length s.domain)) error asked (λ may. may) (λ many. many)
+    (nat_le MOST_LAYERS (length s.domain)) (handles_nothing rules) error asked (λ may. may) (λ many. many)
 
 -- ---- every call
 

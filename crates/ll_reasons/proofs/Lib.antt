@@ -11,6 +11,7 @@ pub mod Enough
 pub mod Gains
 pub mod InDomain
 pub mod ReasonsTrue
+pub mod ReasonsAbout
 pub mod ConditionsTrue
 pub mod SpeltTexts
 pub mod Upward

@@ -7,11 +7,12 @@ use Rattle.ll_rights.specs.declared.net.Net.{Net}
 use Rattle.ll_rights.specs.NetRights as network
 use Rattle.ll_rules.specs.declared.domain.TheConstants.{MOST_LAYERS}
 use Rattle.ll_rules.specs.declared.errno.Errno.{Errno}
-use Rattle.ll_rules.specs.declared.errno.Errno.TheVariants.{Acces, Inval, NoMsg, TooBig, XDev}
+use Rattle.ll_rules.specs.declared.errno.Errno.TheVariants.{Acces, Inval, NoMsg, Perm, TooBig, XDev}
 use Rattle.ll_rules.specs.declared.moves.Move.{Move}
 use Rattle.ll_rules.specs.declared.moves.Verdict.{Verdict}
 use Rattle.ll_rules.specs.declared.moves.Verdict.TheVariants as verdicts
 use Rattle.ll_rules.specs.Checks.{numbers_where}
+use Rattle.ll_rules.specs.Layers.{handles_nothing}
 use Rattle.ll_rules.specs.Moves.{move_verdict, refused_or, denies, holds_back, source_of, destination_of}
 use Rattle.ll_rules.specs.Rulesets.{RuleRefusal, with_error, without_object, has_ports}
 use Rattle.ll_lines.specs.Paths.{path_eq}
@@ -127,8 +128,8 @@ can_ioctl (Some held) driver = can_ioctl_kept true held.sort held.kept driver
 
 -- ---- rulesets
 
-either : (b : Bool) (x y : Answer) → among true false true false x ≡ true → among true false true false y ≡ true
-    → among true false true false (if b then x else y) ≡ true
+either : (b : Bool) (x y : Answer) → among true true true false x ≡ true → among true true true false y ≡ true
+    → among true true true false (if b then x else y) ≡ true
 either true x y this that = this
 either false x y this that = that
 
@@ -170,7 +171,13 @@ can_add_port abi port net None = refl
 can_add_port abi port net (Some rules) =
     tests (not (has_ports abi)) (network.is_empty net) (not (network.is_within net rules.handled_network)) (nat_lt LARGEST_PORT port)
 
-pub can_restrict : (s : State) (rules : Option Layer) → among true false true false (answers.restrict_answer s rules) ≡ true
+can_fail_by : (rules : Layer) (error : Errno) → among true true true false (answers.fails_by rules error) ≡ true
+unfolding among
+can_fail_by rules error = either (handles_nothing rules) Moot (answers.fails error) refl refl
+
+pub can_restrict : (s : State) (rules : Option Layer) → among true true true false (answers.restrict_answer s rules) ≡ true
 unfolding answers.restrict_answer among
 can_restrict s None = either (answers.may_restrict s) _ _ refl refl
-can_restrict s (Some rules) = either (answers.may_restrict s) _ _ (either (nat_le MOST_LAYERS (length s.domain)) (answers.fails TooBig) Allowed refl refl) refl
+can_restrict s (Some rules) =
+    either (answers.may_restrict s) _ _ (either (nat_le MOST_LAYERS (length s.domain)) (answers.fails_by rules TooBig) Allowed (can_fail_by rules TooBig) refl)
+    (can_fail_by rules Perm)

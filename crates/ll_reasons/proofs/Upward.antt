@@ -1,9 +1,10 @@
 -- Where the tree ends on the way to a path that isn't there, by the path above it.
-use Rattle.std.proofs.Common.{◌≡◌, ℕ, suc, ◌<◌, true, false, List, [], ◌∷◌, length, Option, Some, None, refl, sym, ap, ◌∙◌, arith}
+use Rattle.std.proofs.Common.{◌≡◌, ℕ, suc, ◌+◌, ◌<◌, true, false, List, [], ◌∷◌, length, Option, Some, None, refl, sym, ap, ◌∙◌, arith}
 use Rattle.std.specs.Prelude.{◌≢◌}
 use Rattle.ll_tree.specs.declared.place.NodeId.{NodeId}
 use Rattle.ll_lines.specs.Paths.{Name, Path, front}
 use Rattle.ll_tree.specs.Trees.{Entry, is_dir, kind_at, node_at}
+use Rattle.ll_reasons.specs.Meant.{above_by}
 use Rattle.ll_reasons.specs.Reasons.{absent, beside, ends_at, no_directory, nowhere, or_above}
 
 -- a path has one name more than the one above it
@@ -39,3 +40,13 @@ above_gone tree path some is = by_above tree path some ∙ ap (λ (above : Optio
 pub root_absent : (tree : List Entry) (path : Path) → path ≡ [] → nowhere tree path ≡ absent path
 unfolding ends_at
 root_absent tree path is = rw is refl
+
+-- one name less
+pub above_next : (names : ℕ) (path : Path) → above_by (names + 1) path ≡ front (above_by names path)
+unfolding above_by
+above_next names path = let next : names + 1 ≡ suc names = omega arith in ap (λ n. above_by n path) next
+
+-- nothing is above the root
+pub front_root : (path : Path) → path ≡ [] → front path ≡ []
+unfolding front
+front_root path is = rw is refl

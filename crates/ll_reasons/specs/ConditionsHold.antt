@@ -1,6 +1,6 @@
 -- What each condition of an error without layers says of the call, the version, and the rulesets and state of its process.
 -- Source: landlock_create_ruleset(2), landlock_add_rule(2), landlock_restrict_self(2), "ERRORS".
-use Rattle.std.specs.Prelude.{◌≡◌, Bool, true, false, not, ◌&&◌, List, length, Option, Some, None, nat_le, nat_lt}
+use Rattle.std.specs.Prelude.{◌≡◌, Bool, true, false, not, ◌&&◌, List, [], ◌∷◌, length, Option, Some, None, nat_le, nat_lt}
 use Rattle.std.specs.List.{list_any}
 use Rattle.ll_rights.specs.declared.net.TheConstants.{LARGEST_PORT}
 use Rattle.ll_rights.specs.declared.abi.Abi.{Abi}
@@ -15,6 +15,7 @@ use Rattle.ll_trace.specs.declared.op.Op.{Op}
 use Rattle.ll_trace.specs.declared.op.Op.TheVariants as calls
 use Rattle.ll_semantics.specs.States.{State, Layer}
 use Rattle.ll_semantics.specs.Answers.{named, may_restrict}
+unfoldable pub use Rattle.ll_reasons.specs.CallNames.{paths_of, port_of, ruleset_number}
 use Rattle.ll_reasons.specs.Conditions.{Condition, unknown, portless, rightless, unheld, unhandled, unhandled_on_ports, only_for_directories, no_port, unprivileged, full, other}
 
 -- the rights that a call names
@@ -46,14 +47,14 @@ IsCondition abi rulesets s op (unknown version rights) =
     (version ≡ abi) × AreJust rights (λ right. files.has (files_of op) right && not (knows_fs abi right)) × (knows_all abi (files_of op) (ports_of op) ≡ false)
 IsCondition abi rulesets s op (portless version) = (version ≡ abi) × (has_ports abi ≡ false)
 IsCondition abi rulesets s op rightless = (files.is_empty (files_of op) && network.is_empty (ports_of op)) ≡ true
-IsCondition abi rulesets s op (unheld rs) = named rulesets (s.held rs) ≡ None
+IsCondition abi rulesets s op (unheld rs) = (ruleset_number op ≡ Some rs) × (named rulesets (s.held rs) ≡ None)
 IsCondition abi rulesets s op (unhandled rights) =
     (rules : Layer) × (ruleset_of rulesets op s ≡ Some rules) × AreJust rights (λ right. files.has (files_of op) right && not (files.has rules.handled_files right)) × (files.is_within (files_of op) rules.handled_files ≡ false)
 IsCondition abi rulesets s op (unhandled_on_ports rights) =
     (rules : Layer) × (ruleset_of rulesets op s ≡ Some rules) × AreJustOnPorts rights (λ right. network.has (ports_of op) right && not (network.has rules.handled_network right)) × (network.is_within (ports_of op) rules.handled_network ≡ false)
 IsCondition abi rulesets s op (only_for_directories rights path) =
-    AreJust rights (λ right. files.has (files_of op) right && not (files.is_file_right right)) × (are_file_rights (files_of op) ≡ false)
-IsCondition abi rulesets s op (no_port port) = nat_lt LARGEST_PORT port ≡ true
+    (paths_of op ≡ path ∷ []) × AreJust rights (λ right. files.has (files_of op) right && not (files.is_file_right right)) × (are_file_rights (files_of op) ≡ false)
+IsCondition abi rulesets s op (no_port port) = (port_of op ≡ Some port) × (nat_lt LARGEST_PORT port ≡ true)
 IsCondition abi rulesets s op unprivileged = may_restrict s ≡ false
 IsCondition abi rulesets s op full = nat_le MOST_LAYERS (length s.domain) ≡ true
 IsCondition abi rulesets s op other = ⊥

@@ -5,6 +5,7 @@ pub mod Made
 pub mod Conditions
 pub mod ConditionsHold
 pub mod Reasons
+pub mod CallNames
 pub mod ReasonsHold
 pub mod Meant
 pub mod Explanations

@@ -44,6 +44,8 @@ pub data Reason : Type 0 where
   unheld : ℕ → Reason
   -- the program leaves the call out: the ABI supports none of the rights that the rule would grant
   unsupported : Reason
+  -- the program leaves the call out: the ABI supports none of the rights that the ruleset would handle
+  unenforced : Reason
 
 -- ---- the tree
 
@@ -129,6 +131,7 @@ unfoldable pub reason : List Entry → Origins → Op → Option Reason
 reason tree o (calls.Create rs fs net) = Some (held_already rs)
 reason tree o (calls.AddPath rs path fs) = Some (no_object tree (spelt path) (place tree path))
 reason tree o (calls.CloseRs rs) = Some (unheld rs)
+reason tree o (calls.Restrict rs) = Some unenforced
 reason tree o (calls.OpenFile path fd mode create trunc) = Some (if is_some (o.openings fd) then open_already fd else no_object tree (spelt path) (place tree path))
 reason tree o (calls.Adopt fd kind) = Some (open_already fd)
 reason tree o (calls.Dup fd to) = Some (unopened fd)

@@ -12,7 +12,7 @@ use Rattle.ll_trace.specs.declared.record.Record.{Record}
 use Rattle.ll_trace.specs.declared.op.Op.TheVariants as calls
 use Rattle.ll_trace.specs.declared.op.RuleType.TheVariants.{PathBeneath, NetPort}
 use Rattle.ll_semantics.specs.declared.answer.Answer.{Answer}
-use Rattle.ll_semantics.specs.WorkedWords.{begins, ok, moot, refused, creates, adds}
+use Rattle.ll_semantics.specs.WorkedWords.{begins, start, ok, moot, refused, creates, adds}
 use Rattle.ll_reasons.specs.Objections.{missing, closed, gained, kept}
 use Rattle.ll_reasons.specs.Conditions as conditions
 use Rattle.ll_reasons.specs.Reasons as reasons
@@ -80,6 +80,9 @@ best_effort =
     ∷ ok 0 (creates 4 (execute ∷ []) [])
     ∷ ok 0 (calls.Restrict 4)
     ∷ refused Acces (2 ∷ []) 0 (calls.Exec (codes "/a/f"))
+    ∷ ok 1 start
+    ∷ ok 1 (calls.CreateEmpty 3)
+    ∷ moot 1 (calls.Restrict 3)
     ∷ []
 
 abbrev pub execute_unhandled : Explanation

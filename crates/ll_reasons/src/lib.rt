@@ -7,9 +7,9 @@ mod layers;
 mod moves;
 mod objects;
 mod origins;
+mod paths;
 mod reasons;
 mod remedies;
-mod spelt_path;
 mod why;
 mod worked;
 
@@ -21,10 +21,10 @@ pub use origins::{
     descriptors_come_from_their_openings, layers_come_from_their_restricts,
     layers_keep_their_numbers, rulesets_come_from_their_creations,
 };
+pub use paths::{text_above, text_of};
 pub use reasons::{conditions_hold, reasons_hold};
 pub use remedies::{
     granting_what_is_named_is_enough, named_rights_are_needed, satisfied_layers_do_not_refuse,
 };
-pub use spelt_path::SpeltPath;
-pub use why::Why;
+pub use why::{NamedPath, Reason, Which};
 pub use worked::{worked_best_effort, worked_reasons, worked_refusals};

@@ -2,102 +2,98 @@
 
 ghost use Rattle.std.specs.Prelude.{◌≡◌};
 ghost use Rattle.ll_tree.specs.Trees.{IsNode, place};
-ghost use Rattle.ll_reasons.specs.Meant.{meant};
-ghost use Rattle.ll_reasons.specs.Reasons.{linked_to, moved_to, onto, spelt, unlinked, unrenamed};
+ghost use Rattle.ll_reasons.specs.declared.why.Which.TheVariants.{First, Second};
+ghost use Rattle.ll_reasons.specs.Meant.{path_named, reason_in, text_named};
+ghost use Rattle.ll_reasons.specs.Reasons.{linked_to, moved_to, onto, unlinked, unrenamed};
 
 use crate::objects::nowhere;
-use crate::spelt_path::SpeltPath;
-use crate::why::Why;
-use ll_trace::PathText;
+use crate::paths::text_of;
+use crate::why::{NamedPath, Reason, Which};
+use ll_trace::Op;
 use ll_tree::{NodeId, Place, Tree};
 
 /// Why an object doesn't take the place of another.
-#[tactic(auto, unfolding(crate::specs::Meant::meant, crate::specs::Reasons::onto))]
-fn onto<'t>(
-    tree: &Tree,
-    from: &'t PathText,
-    moved: NodeId,
-    to: &'t PathText,
-    there: NodeId,
-) -> Why<'t>
+#[tactic(auto, unfolding(crate::specs::Meant::reason_in, crate::specs::Meant::path_in, crate::specs::Meant::above_by, crate::specs::Reasons::onto))]
+fn onto(tree: &Tree, op: &Op, moved: NodeId, there: NodeId) -> Reason
     requires moved_is_node { IsNode tree.now moved }
     requires there_is_node { IsNode tree.now there }
-    ensures { meant result ≡ onto tree.now (spelt from.now) moved (spelt to.now) there }
+    ensures { reason_in op.now result
+        ≡ onto tree.now (path_named op.now First) moved (path_named op.now Second) there }
 {
     if there.is_root() {
-        return Why::Root;
+        return Reason::Root;
     }
     if moved == there {
-        return Why::Unmoved(SpeltPath::of(from));
+        return Reason::Unmoved;
     }
     if tree.is_above(moved, there) {
-        return Why::BeneathItself(SpeltPath::of(from), SpeltPath::of(to));
+        return Reason::BeneathItself;
     }
     if tree.is_above(there, moved) {
-        return Why::OverItself(SpeltPath::of(from), SpeltPath::of(to));
+        return Reason::OverItself;
     }
-    Why::Mixed(SpeltPath::of(from), SpeltPath::of(to))
+    Reason::Mixed
 }
 
 /// Why an object that isn't the root isn't renamed to a path, or exchanged with what is there.
-#[tactic(auto, unfolding(crate::specs::Meant::meant, crate::specs::Reasons::moved_to))]
-fn moved_to<'t>(
-    tree: &Tree,
-    from: &'t PathText,
-    moved: NodeId,
-    to: &'t PathText,
-    exchange: bool,
-) -> Why<'t>
+#[tactic(auto, unfolding(crate::specs::Meant::reason_in, crate::specs::Meant::path_in, crate::specs::Meant::above_by, crate::specs::Reasons::moved_to))]
+fn moved_to(tree: &Tree, op: &Op, moved: NodeId, exchange: bool) -> Reason
     requires { IsNode tree.now moved }
-    ensures { meant result
-        ≡ moved_to tree.now (spelt from.now) moved (spelt to.now) (place tree.now to.now) exchange }
+    ensures { reason_in op.now result ≡ moved_to tree.now (path_named op.now First) moved
+        (path_named op.now Second) (place tree.now (text_named op.now Second)) exchange }
 {
-    match tree.place_of(to.as_str()) {
-        Place::Node(there) => onto(tree, from, moved, to, there),
-        Place::Gap(_) if exchange => Why::Absent(SpeltPath::of(to)),
-        Place::Gap(_) => Why::BeneathItself(SpeltPath::of(from), SpeltPath::of(to)),
-        Place::Nowhere => nowhere(tree, to),
+    let which = Which::Second;
+    match tree.place_of(text_of(op, which)) {
+        Place::Node(there) => onto(tree, op, moved, there),
+        Place::Gap(_) if exchange => Reason::Absent(NamedPath { which, above: 0 }),
+        Place::Gap(_) => Reason::BeneathItself,
+        Place::Nowhere => nowhere(tree, op, which),
     }
 }
 
-/// Why an object isn't renamed, or two aren't exchanged.
-#[tactic(auto, unfolding(crate::specs::Meant::meant, crate::specs::Reasons::unrenamed))]
-pub fn unrenamed<'t>(tree: &Tree, from: &'t PathText, to: &'t PathText, exchange: bool) -> Why<'t>
-    ensures { meant result ≡ unrenamed tree.now (spelt from.now) (place tree.now from.now)
-        (spelt to.now) (place tree.now to.now) exchange }
+/// Why the object of a call's first path isn't renamed to its second, or the two aren't exchanged.
+#[tactic(auto, unfolding(crate::specs::Meant::reason_in, crate::specs::Meant::path_in, crate::specs::Meant::above_by, crate::specs::Reasons::unrenamed))]
+pub fn unrenamed(tree: &Tree, op: &Op, exchange: bool) -> Reason
+    ensures { reason_in op.now result ≡ unrenamed tree.now (path_named op.now First)
+        (place tree.now (text_named op.now First)) (path_named op.now Second)
+        (place tree.now (text_named op.now Second)) exchange }
 {
-    match tree.place_of(from.as_str()) {
-        Place::Node(moved) if moved.is_root() => Why::Root,
-        Place::Node(moved) => moved_to(tree, from, moved, to, exchange),
-        Place::Gap(_) => Why::Absent(SpeltPath::of(from)),
-        Place::Nowhere => nowhere(tree, from),
+    let which = Which::First;
+    match tree.place_of(text_of(op, which)) {
+        Place::Node(moved) if moved.is_root() => Reason::Root,
+        Place::Node(moved) => moved_to(tree, op, moved, exchange),
+        Place::Gap(_) => Reason::Absent(NamedPath { which, above: 0 }),
+        Place::Nowhere => nowhere(tree, op, which),
     }
 }
 
 /// Why an object that isn't the root gets no further name.
-#[tactic(auto, unfolding(crate::specs::Meant::meant, crate::specs::Reasons::linked_to))]
-fn linked_to<'t>(tree: &Tree, from: &'t PathText, linked: NodeId, to: &'t PathText) -> Why<'t>
+#[tactic(auto, unfolding(crate::specs::Meant::reason_in, crate::specs::Meant::path_in, crate::specs::Meant::above_by, crate::specs::Reasons::linked_to))]
+fn linked_to(tree: &Tree, op: &Op, linked: NodeId) -> Reason
     requires { IsNode tree.now linked }
-    ensures { meant result
-        ≡ linked_to tree.now (spelt from.now) linked (spelt to.now) (place tree.now to.now) }
+    ensures { reason_in op.now result ≡ linked_to tree.now (path_named op.now First) linked
+        (path_named op.now Second) (place tree.now (text_named op.now Second)) }
 {
-    match tree.place_of(to.as_str()) {
-        Place::Node(_) => Why::Present(SpeltPath::of(to)),
-        Place::Gap(_) => Why::OfKind(SpeltPath::of(from), tree.kind(linked)),
-        Place::Nowhere => nowhere(tree, to),
+    let which = Which::Second;
+    match tree.place_of(text_of(op, which)) {
+        Place::Node(_) => Reason::Present(which),
+        Place::Gap(_) => Reason::OfKind(tree.kind(linked)),
+        Place::Nowhere => nowhere(tree, op, which),
     }
 }
 
-/// Why an object gets no further name.
-#[tactic(auto, unfolding(crate::specs::Meant::meant, crate::specs::Reasons::unlinked))]
-pub fn unlinked<'t>(tree: &Tree, from: &'t PathText, to: &'t PathText) -> Why<'t>
-    ensures { meant result ≡ unlinked tree.now (spelt from.now) (place tree.now from.now)
-        (spelt to.now) (place tree.now to.now) }
+/// Why the object of a call's first path gets no further name, the second.
+#[tactic(auto, unfolding(crate::specs::Meant::reason_in, crate::specs::Meant::path_in, crate::specs::Meant::above_by, crate::specs::Reasons::unlinked))]
+pub fn unlinked(tree: &Tree, op: &Op) -> Reason
+    ensures { reason_in op.now result ≡ unlinked tree.now (path_named op.now First)
+        (place tree.now (text_named op.now First)) (path_named op.now Second)
+        (place tree.now (text_named op.now Second)) }
 {
-    match tree.place_of(from.as_str()) {
-        Place::Node(linked) if linked.is_root() => Why::Root,
-        Place::Node(linked) => linked_to(tree, from, linked, to),
-        Place::Gap(_) => Why::Absent(SpeltPath::of(from)),
-        Place::Nowhere => nowhere(tree, from),
+    let which = Which::First;
+    match tree.place_of(text_of(op, which)) {
+        Place::Node(linked) if linked.is_root() => Reason::Root,
+        Place::Node(linked) => linked_to(tree, op, linked),
+        Place::Gap(_) => Reason::Absent(NamedPath { which, above: 0 }),
+        Place::Nowhere => nowhere(tree, op, which),
     }
 }

@@ -2,58 +2,67 @@
 
 ghost use Rattle.std.specs.Prelude.{◌≡◌};
 ghost use Rattle.ll_tree.specs.Trees.{place};
-ghost use Rattle.ll_reasons.specs.Meant.{meant};
-ghost use Rattle.ll_reasons.specs.Reasons.{no_object, nowhere, spelt, unmet};
+ghost use Rattle.ll_reasons.specs.declared.why.Which.TheVariants.{First};
+ghost use Rattle.ll_reasons.specs.Meant.{path_named, reason_in, text_named};
+ghost use Rattle.ll_reasons.specs.Reasons.{no_object, nowhere, unmet};
 
-use crate::spelt_path::SpeltPath;
-use crate::why::Why;
+use crate::paths::{SpeltPath, text_of};
+use crate::why::{NamedPath, Reason, Which};
 use ll_semantics::Wanted;
-use ll_trace::PathText;
+use ll_trace::Op;
 use ll_tree::{Place, Tree};
 
-/// Where the tree ends on the way to a path that isn't there: at the first path, going up, whose directory is there.
-#[tactic(auto, unfolding(crate::specs::Meant::meant))]
-pub(crate) fn nowhere<'t>(tree: &Tree, path: &'t PathText) -> Why<'t>
-    ensures { meant result ≡ nowhere tree.now (spelt path.now) }
+/// Where the tree ends on the way to a path of a call that isn't there: at the first path, going up, whose directory is
+/// there.
+#[tactic(auto, unfolding(crate::specs::Meant::reason_in, crate::specs::Meant::path_in))]
+pub(crate) fn nowhere(tree: &Tree, op: &Op, which: Which) -> Reason
+    ensures { reason_in op.now result ≡ nowhere tree.now (path_named op.now which) }
 {
-    let mut missing = SpeltPath::of(path);
-    while let Some(above) = missing.front() {
-        if let Some(node) = above.node(tree) {
+    let mut missing = SpeltPath::of(op, which);
+    let mut above = 0;
+    while let Some(up) = missing.front() {
+        if let Some(node) = up.node(tree) {
             if tree.is_directory(node) {
-                return Why::Absent(missing);
+                return Reason::Absent(NamedPath { which, above });
             }
-            return Why::NoDirectory(above);
+            let above = above + 1;
+            return Reason::NoDirectory(NamedPath { which, above });
         }
-        missing = above;
+        missing = up;
+        above += 1;
     }
-    Why::Absent(missing)
+    Reason::Absent(NamedPath { which, above })
 }
 
-/// Why a path isn't that of an object which the call takes.
-#[tactic(auto, unfolding(crate::specs::Meant::meant, crate::specs::Reasons::no_object))]
-pub fn no_object<'t>(tree: &Tree, path: &'t PathText) -> Why<'t>
-    ensures { meant result ≡ no_object tree.now (spelt path.now) (place tree.now path.now) }
+/// Why the first path of a call isn't that of an object which the call takes.
+#[tactic(auto, unfolding(crate::specs::Meant::reason_in, crate::specs::Meant::path_in, crate::specs::Meant::above_by, crate::specs::Reasons::no_object))]
+pub fn no_object(tree: &Tree, op: &Op) -> Reason
+    ensures { reason_in op.now result ≡ no_object tree.now (path_named op.now First)
+        (place tree.now (text_named op.now First)) }
 {
-    match tree.place_of(path.as_str()) {
-        Place::Node(node) => Why::OfKind(SpeltPath::of(path), tree.kind(node)),
-        Place::Gap(_) => Why::Absent(SpeltPath::of(path)),
-        Place::Nowhere => nowhere(tree, path),
+    let which = Which::First;
+    match tree.place_of(text_of(op, which)) {
+        Place::Node(node) => Reason::OfKind(tree.kind(node)),
+        Place::Gap(_) => Reason::Absent(NamedPath { which, above: 0 }),
+        Place::Nowhere => nowhere(tree, op, which),
     }
 }
 
-/// Why what is at a path isn't what a call wants there.
-#[tactic(auto, unfolding(crate::specs::Meant::meant, crate::specs::Reasons::unmet, crate::specs::Reasons::unsuited))]
-pub fn unmet<'t>(tree: &Tree, path: &'t PathText, wanted: Wanted) -> Why<'t>
-    ensures { meant result ≡ unmet tree.now (spelt path.now) (place tree.now path.now) wanted }
+/// Why what is at the first path of a call isn't what it wants there.
+#[tactic(auto, unfolding(crate::specs::Meant::reason_in, crate::specs::Meant::path_in, crate::specs::Meant::above_by, crate::specs::Reasons::unmet, crate::specs::Reasons::unsuited))]
+pub fn unmet(tree: &Tree, op: &Op, wanted: Wanted) -> Reason
+    ensures { reason_in op.now result ≡ unmet tree.now (path_named op.now First)
+        (place tree.now (text_named op.now First)) wanted }
 {
-    let node = match tree.place_of(path.as_str()) {
+    let which = Which::First;
+    let node = match tree.place_of(text_of(op, which)) {
         Place::Node(node) => node,
-        Place::Gap(_) => return Why::Absent(SpeltPath::of(path)),
-        Place::Nowhere => return nowhere(tree, path),
+        Place::Gap(_) => return Reason::Absent(NamedPath { which, above: 0 }),
+        Place::Nowhere => return nowhere(tree, op, which),
     };
     match wanted {
-        Wanted::Make(_) => Why::Present(SpeltPath::of(path)),
-        Wanted::Unlink | Wanted::Rmdir if node.is_root() => Why::Root,
-        _ => Why::OfKind(SpeltPath::of(path), tree.kind(node)),
+        Wanted::Make(_) => Reason::Present(which),
+        Wanted::Unlink | Wanted::Rmdir if node.is_root() => Reason::Root,
+        _ => Reason::OfKind(tree.kind(node)),
     }
 }

@@ -1,30 +1,45 @@
-//! Why the policy isn't asked about a call, as code decides it.
+//! Why the policy isn't asked about a call.
 
-use crate::spelt_path::SpeltPath;
 use ll_rights::Kind;
 
-/// Why the policy isn't asked about a call, with the paths, kinds and numbers that say so. Each variant stands for the
-/// reason of the same name in the definitions, which is what it means.
-#[derive(Drop)]
-pub enum Why<'t> {
+/// Which of the paths that a call names: its only one or the first of two, or the second.
+#[derive(Clone, Copy)]
+pub enum Which {
+    First,
+    Second,
+}
+
+/// A path that a call names, or one above it.
+#[derive(Clone, Copy)]
+pub struct NamedPath {
+    /// The path of the call.
+    pub which: Which,
+    /// How many names are left out at its end.
+    pub above: u32,
+}
+
+/// Why the policy isn't asked about a call. Each variant stands for the reason of the same name in the definitions; its
+/// paths are those that the call names.
+#[derive(Clone, Copy)]
+pub enum Reason {
     /// There is no object of this path.
-    Absent(SpeltPath<'t>),
+    Absent(NamedPath),
     /// The object of this path should be a directory and is none.
-    NoDirectory(SpeltPath<'t>),
-    /// There is an object of this path, where a new one should be.
-    Present(SpeltPath<'t>),
-    /// The object of this path is of a kind that the call doesn't take.
-    OfKind(SpeltPath<'t>, Kind),
+    NoDirectory(NamedPath),
+    /// There is an object of this path of the call, where a new one should be.
+    Present(Which),
+    /// The object of the first path is of a kind that the call doesn't take.
+    OfKind(Kind),
     /// The root is neither moved nor removed nor replaced.
     Root,
-    /// The object would go where it is.
-    Unmoved(SpeltPath<'t>),
-    /// The first object would go under itself, to the second path.
-    BeneathItself(SpeltPath<'t>, SpeltPath<'t>),
-    /// The first object would take the place of the second, which it is in.
-    OverItself(SpeltPath<'t>, SpeltPath<'t>),
-    /// One of the two is a directory and the other isn't.
-    Mixed(SpeltPath<'t>, SpeltPath<'t>),
+    /// The object of the first path would go where it is.
+    Unmoved,
+    /// The object of the first path would go under itself, to the second path.
+    BeneathItself,
+    /// The object of the first path would take the place of that of the second, which it is in.
+    OverItself,
+    /// One of the two objects is a directory and the other isn't.
+    Mixed,
     /// The descriptor's number is open already.
     OpenAlready(u64),
     /// The descriptor's number isn't open.
@@ -37,4 +52,6 @@ pub enum Why<'t> {
     Unheld(u64),
     /// The program leaves the call out: the version supports none of the rights that the rule would grant.
     Unsupported,
+    /// The program leaves the call out: the version supports none of the rights that the ruleset would handle.
+    Unenforced,
 }

@@ -48,4 +48,5 @@ pub fn worked_best_effort()
     ensures handles_nothing { IsExplained V3 best_effort 5 execute_unhandled }
     ensures path_left_out { IsExplained V3 best_effort 6 (mootness (Some reasons.unsupported)) }
     ensures second_layer { IsExplained V3 best_effort 11 execute_on_the_second }
+    ensures restrict_left_out { IsExplained V3 best_effort 14 (mootness (Some reasons.unenforced)) }
 {}

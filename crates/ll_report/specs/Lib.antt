@@ -7,4 +7,5 @@ pub mod Texts
 pub mod Found
 pub mod Alike
 pub mod Spans
+pub mod SpansSpread
 pub mod Rows

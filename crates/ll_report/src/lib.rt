@@ -12,6 +12,6 @@ mod spans;
 mod texts;
 
 pub use found::Finding;
-pub use laws::empty_report;
+pub use laws::{empty_report, spans_give_back_what_was_said};
 pub use ll_options::{ALL_LINES, Shown};
 pub use report::Report;

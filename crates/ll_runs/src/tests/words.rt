@@ -34,31 +34,36 @@ fn words_that_are_misused(rt: HostRuntime) -> Result<(), Fail> {
     Ok(())
 }
 
-/// Whether the program prints a text with this end, and nothing else.
+/// Whether the program prints a text with this beginning and this end, and nothing else.
 fn is_printed<R: Threads + Wait + AllocGlobal + Sync>(
     rt: &R,
     word: &str,
+    beginning: &str,
     end: &str,
 ) -> Result<bool, AllocError> {
     let ended = run(rt, ["landaudit", word].as_slice(), &[])?;
-    Ok(ended.status == 0 && ended.out.as_slice().ends_with(end.as_bytes()) && ended.err.is_empty())
+    let out = ended.out.as_slice();
+    Ok(
+        ended.status == 0
+            && out.starts_with(beginning.as_bytes())
+            && out.ends_with(end.as_bytes())
+            && ended.err.is_empty(),
+    )
 }
+
+const ABOUT: &str = "Says for each call of a trace what Landlock answers\n";
+
+const VERSION: &str = "landaudit 0.1 (rattle-kit-13f logic dac8208d650f15bf)\n";
 
 #[test]
 fn help_and_the_version_are_told(rt: HostRuntime) -> Result<(), Fail> {
-    for (word, end) in [
-        ("-h", "Print version\n"),
-        ("--help", "landaudit(5) and docs/FORMATS.md.\n"),
-        (
-            "-V",
-            "landaudit 0.1 (rattle-kit-13f logic dac8208d650f15bf)\n",
-        ),
-        (
-            "--version",
-            "landaudit 0.1 (rattle-kit-13f logic dac8208d650f15bf)\n",
-        ),
+    for (word, beginning, end) in [
+        ("-h", ABOUT, "Print version\n"),
+        ("--help", ABOUT, "landaudit(5) and docs/FORMATS.md.\n"),
+        ("-V", VERSION, VERSION),
+        ("--version", VERSION, VERSION),
     ] {
-        assert!(rt; is_printed(&rt, word, end)?, "{word}");
+        assert!(rt; is_printed(&rt, word, beginning, end)?, "{word}");
     }
     Ok(())
 }

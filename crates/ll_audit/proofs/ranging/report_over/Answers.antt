@@ -15,7 +15,8 @@ pub over-requires : goal.over-requires
 over-requires g c =
     omega (
       arith,
-      c.number-oldest.ensures,
+      c.number.ensures,
+      ap number_of c.oldest-oldest.ensures.version,
       small_number c.args.options.now.abis.oldest,
       ap length (c.deref.ensures.value ∙ c.in_ok-all.ensures.findings),
       few_found c.args.options.now c.in_ok-located.located.tree c.in_ok-located.located.trace,
@@ -35,7 +36,8 @@ returns-clause-report g c =
     omega (arith, ap length told, length-map c.records.result.now told_of, length-map c.args.trace told_of) in
     record {
       text = c.in_ok-report.ensures.text
-          ∙ ap₂ (λ (first : ℕ) (founds : List Found). rows_text shown first founds c.records.result.now) c.number-oldest.ensures same
+          ∙ ap₂ (λ (first : ℕ) (founds : List Found). rows_text shown first founds c.records.result.now)
+          (c.number.ensures ∙ ap number_of c.oldest-oldest.ensures.version) same
           ∙ ap (λ (rows : List ℕ). rows ++ totals_from oldest all) (same_rows shown oldest all 0 c.records.result.now c.args.trace told);
       refused = c.in_ok-report.ensures.refused
           ∙ ap (λ (founds : List Found). refused_under_some founds c.records.result.now) same

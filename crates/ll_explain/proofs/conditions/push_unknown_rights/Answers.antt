@@ -1,9 +1,11 @@
-use Rattle.std.proofs.Common.{◌∙◌, sym, rules}
-use Rattle.ll_explain.proofs.Unknown.{unknown_none, unknown_some}
+use Rattle.std.proofs.Common.{◌∙◌, ◌++◌, ap, sym}
+use Rattle.ll_explain.proofs.ConditionsSaid.{unknown_none, unknown_some}
 use Rattle.ll_explain.proofs.conditions.push_unknown_rights.Goals as goal
 
-pub returns-then-is_within : goal.returns-then-is_within
-returns-then-is_within c = rw (unknown_none c.args.rights c.args.known (sym c.is_within.ensures ∙ c.if-is_within.true)) (search rules)
+pub returns-then-is_empty : goal.returns-then-is_empty
+returns-then-is_empty c =
+    c.in_ok-push_words.ensures ∙ ap (λ t. c.args.text.now.items ++ t) (unknown_none c.args.rights (sym c.is_empty.ensures ∙ c.if-is_empty.true))
 
-pub returns-else-is_within : goal.returns-else-is_within
-returns-else-is_within c = rw (unknown_some c.args.rights c.args.known (sym c.is_within.ensures ∙ c.if-is_within.false)) c.push_beyond.ensures
+pub returns : goal.returns
+returns c =
+    c.in_ok-push_rights.ensures ∙ ap (λ t. c.args.text.now.items ++ t) (unknown_some c.args.rights (sym c.is_empty.ensures ∙ c.if-is_empty.false))

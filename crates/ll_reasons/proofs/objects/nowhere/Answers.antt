@@ -1,39 +1,58 @@
-use Rattle.std.proofs.Common.{◌≡◌, ◌<◌, ◌∙◌, true, false, None, length, sym, ap, subst, rules}
+use Rattle.std.proofs.Common.{◌≡◌, ◌<◌, ◌≤◌, ◌+◌, ◌∙◌, true, false, None, length, suc, sym, ap, subst, rules, arith, refl}
+use Rattle.ll_lines.specs.declared.path.TheConstants.{LONGEST_PATH}
 use Rattle.ll_lines.specs.Paths.{Path, front}
 use Rattle.ll_tree.specs.Trees.{is_dir, kind_at, node_at}
-use Rattle.ll_reasons.specs.Meant.{meant}
-use Rattle.ll_reasons.specs.Reasons.{nowhere}
-use Rattle.ll_reasons.proofs.Upward.{above_directory, above_gone, above_other, root_absent, shorter_above}
+use Rattle.ll_reasons.specs.Meant.{above_by, path_in, path_named, reason_in}
+use Rattle.ll_reasons.specs.Reasons.{absent, no_directory, nowhere}
+use Rattle.ll_reasons.proofs.SpeltTexts.{few_names}
+use Rattle.ll_reasons.proofs.Upward.{above_directory, above_gone, above_next, above_other, root_absent, shorter_above}
 use Rattle.ll_reasons.proofs.objects.nowhere.Goals as goal
 
 pub returns-then-is_directory : goal.returns-then-is_directory
-unfolding meant
+unfolding reason_in path_in
 returns-then-is_directory c =
     let directory : is_dir (kind_at c.args.tree.now c.in-Some-node.node) ≡ true = search rules in
-    above_directory c.args.tree.now c.loop-above.missing _ c.in-Some-node.node c.in-Some.ensures.some (sym c.in-Some-node.is ∙ c.node.ensures.exact) directory
-    ∙ c.loop-above.invariant
+    ap absent c.loop-up.invariant.1
+    ∙ above_directory c.args.tree.now c.loop-up.missing _ c.in-Some-node.node c.in-Some.ensures.some (sym c.in-Some-node.is ∙ c.node.ensures.exact) directory
+    ∙ c.loop-up.invariant.0
 
 pub returns-in-Some-node : goal.returns-in-Some-node
-unfolding meant
+unfolding reason_in path_in
 returns-in-Some-node c =
     let other : is_dir (kind_at c.args.tree.now c.in-Some-node.node) ≡ false = search rules in
-    above_other c.args.tree.now c.loop-above.missing _ c.in-Some-node.node c.in-Some.ensures.some (sym c.in-Some-node.is ∙ c.node.ensures.exact) other
-    ∙ c.loop-above.invariant
-
-pub loop-above-smaller : goal.loop-above-smaller
-loop-above-smaller c =
     let up = c.in-Some.ensures.some in
-    subst (λ (p : Path). length p < length c.loop-above.missing) (sym up.0) (shorter_above c.loop-above.missing up.1)
+    ap no_directory (above_next c.loop-up.above (path_named c.args.op.now c.args.which) ∙ ap front c.loop-up.invariant.1 ∙ sym up.0)
+    ∙ above_other c.args.tree.now c.loop-up.missing _ c.in-Some-node.node up (sym c.in-Some-node.is ∙ c.node.ensures.exact) other
+    ∙ c.loop-up.invariant.0
 
-pub loop-above-preserved : goal.loop-above-preserved
-loop-above-preserved c =
+pub loop-up-init : goal.loop-up-init
+unfolding above_by
+loop-up-init c = (
+  ap (nowhere c.args.tree.now) c.of-missing.ensures,
+  sym c.of-missing.ensures,
+  subst (λ (p : Path). 0 + length p ≤ LONGEST_PATH)
+      (sym c.of-missing.ensures) (few_names c.args.op.now c.args.which),
+)
+
+pub loop-up-smaller : goal.loop-up-smaller
+loop-up-smaller c =
+    let up = c.in-Some.ensures.some in
+    subst (λ (p : Path). length p < length c.loop-up.missing) (sym up.0) (shorter_above c.loop-up.missing up.1)
+
+pub loop-up-preserved : goal.loop-up-preserved
+loop-up-preserved c =
     let tree = c.args.tree.now in
-    let path = c.loop-above.missing in
+    let path = c.loop-up.missing in
     let up = c.in-Some.ensures.some in
     let none : c.node.result ≡ None = search rules in
     let gone : None ≡ node_at tree (front path) = sym none ∙ c.node.ensures.exact ∙ ap (node_at tree) up.0 in
-    ap (nowhere tree) up.0 ∙ sym (above_gone tree path up.1 gone) ∙ c.loop-above.invariant
+    let shorter : length (front path) < length path = shorter_above path up.1 in
+    let same : length c.in-Some.up ≡ length (front path) = ap length up.0 in (
+      ap (nowhere tree) up.0 ∙ sym (above_gone tree path up.1 gone) ∙ c.loop-up.invariant.0,
+      above_next c.loop-up.above (path_named c.args.op.now c.args.which) ∙ ap front c.loop-up.invariant.1 ∙ sym up.0,
+      omega (arith, shorter, same, c.loop-up.invariant.2),
+    )
 
 pub returns : goal.returns
-unfolding meant
-returns c = sym (root_absent c.args.tree.now c.loop-above.missing c.in_default.ensures.none) ∙ c.loop-above.invariant
+unfolding reason_in path_in
+returns c = ap absent c.loop-up.invariant.1 ∙ sym (root_absent c.args.tree.now c.loop-up.missing c.in_default.ensures.none) ∙ c.loop-up.invariant.0

@@ -1,10 +1,14 @@
--- Going up keeps the answer: where a path isn't there, it is the answer for the path above.
-use Rattle.std.proofs.Common.{◌≡◌, length}
-use Rattle.ll_reasons.specs.Reasons.{nowhere, spelt}
+-- Going up keeps the answer: where a path isn't there, it is the answer for the path above, which is so many names shorter.
+use Rattle.std.proofs.Common.{◌≡◌, ◌+◌, ◌≤◌, length}
+use Rattle.ll_lines.specs.declared.path.TheConstants.{LONGEST_PATH}
+use Rattle.ll_reasons.specs.Meant.{above_by, path_named}
+use Rattle.ll_reasons.specs.Reasons.{nowhere}
 use Rattle.ll_reasons.proofs.objects.nowhere.Given as goal
 
-abbrev pub invariant-loop-above : goal.invariant-loop-above
-invariant-loop-above l = nowhere l.tree l.missing ≡ nowhere l.tree (spelt l.path)
+abbrev pub invariant-loop-up : goal.invariant-loop-up
+invariant-loop-up l =
+    (nowhere l.tree l.missing ≡ nowhere l.tree (path_named l.op l.which)) × (above_by l.above (path_named l.op l.which) ≡ l.missing)
+    × (l.above + length l.missing ≤ LONGEST_PATH)
 
-abbrev pub decreases-loop-above : goal.decreases-loop-above
-decreases-loop-above l = length l.missing
+abbrev pub decreases-loop-up : goal.decreases-loop-up
+decreases-loop-up l = length l.missing

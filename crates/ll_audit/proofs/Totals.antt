@@ -1,0 +1,31 @@
+-- The last lines of a report over several versions.
+use Rattle.std.proofs.Common.{◌≡◌, ◌∙◌, ℕ, ◌+◌, List, [], ◌∷◌, ◌++◌, ap, ap₂, length, map, refl, sym}
+use Rattle.std.specs.List.{flat_map, range_with_len}
+use Rattle.ll_rights.specs.declared.abi.Abi.{Abi}
+use Rattle.ll_rights.specs.Abis.{number_of}
+use Rattle.ll_tree.specs.Trees.{Entry}
+use Rattle.ll_trace.specs.declared.record.Record.{Record}
+use Rattle.ll_options.specs.declared.options.Options.{Options}
+use Rattle.ll_options.specs.Versions.{versions_in}
+use Rattle.ll_options.proofs.Ranges.{versions_from}
+use Rattle.ll_report.specs.declared.report.Report.{Report}
+use Rattle.ll_report.specs.Found.{Found}
+use Rattle.ll_report.specs.Rows.{rows_from, total_under_text, totals_from}
+use Rattle.ll_audit.specs.ShownReports.{IsReportOver, findings, found_at, total_at}
+
+totals_numbered : (n : ℕ) (found : Abi → Found) (abis : List Abi) → map number_of abis ≡ range_with_len n (length abis)
+    → totals_from n (map found abis) ≡ flat_map (λ abi. total_under_text (number_of abi) (found abi)) abis
+unfolding totals_from
+totals_numbered n found [] are = refl
+totals_numbered n found (abi ∷ newer) are =
+    let first : number_of abi ≡ n = cc in
+    let others : map number_of newer ≡ range_with_len (n + 1) (length newer) = cc in
+    ap₂ (λ (number : ℕ) (rest : List ℕ). total_under_text number (found abi) ++ rest) (sym first) (totals_numbered (n + 1) found newer others)
+
+pub one_total_each : (options : Options) (tree : List Entry) (records : List Record) (report : Report) → IsReportOver options tree records report
+    → report.bytes.items ≡ rows_from options.shown (number_of options.abis.oldest) (findings options tree records) 0 records
+    ++ flat_map (total_at options tree records) (versions_in options.abis)
+one_total_each options tree records report is =
+    is.text
+    ∙ ap (λ (totals : List ℕ). rows_from options.shown (number_of options.abis.oldest) (findings options tree records) 0 records ++ totals)
+    (totals_numbered (number_of options.abis.oldest) (found_at options tree records) (versions_in options.abis) (versions_from options.abis))

@@ -1,0 +1,9 @@
+use Rattle.ll_options.proofs.Ranges.{at_least_one}
+use Rattle.ll_audit.proofs.Totals.{one_total_each}
+use Rattle.ll_audit.proofs.laws.reports_have_a_total_for_each_version.Goals as goal
+
+pub returns-clause-totals : goal.returns-clause-totals
+returns-clause-totals c = one_total_each
+
+pub returns-clause-at_least_one : goal.returns-clause-at_least_one
+returns-clause-at_least_one c = λ options rising. at_least_one options.abis rising

@@ -1,0 +1,135 @@
+-- The lines of objections that are said one after another are those of the layers.
+use Rattle.std.proofs.Common.{◌≡◌, ◌∙◌, ℕ, ◌+◌, ◌<◌, ◌≤◌, Bool, true, false, cond, eqb, List, [], ◌∷◌, ◌++◌, length, map, drop, get_or, codes, refl, sym, ap}
+use Rattle.std.proofs.Common.{append_assoc, arith}
+use Rattle.std.specs.Prelude.{All, ◌==◌, ◌-◌, slice_get}
+use Rattle.std.specs.List.{flat_map}
+use Rattle.std.proofs.lemmas.Bool.{ne_eqb}
+use Rattle.std.proofs.lemmas.List.{drop_all, drop_more}
+use Rattle.std.proofs.lemmas.List.Elements.{All-head, All-tail}
+use Rattle.ll_tree.specs.Trees.{Entry}
+use Rattle.ll_trace.specs.declared.record.Record.{Record}
+use Rattle.ll_reasons.specs.Objections.{Objection}
+use Rattle.ll_explanations.specs.Meanings.{IsMade, by_layer, in_front, objection_in}
+use Rattle.ll_explanations.specs.declared.objection.LayerObjection.{LayerObjection}
+use Rattle.ll_explain.specs.Lines.{ending, head_of, next_text, opening}
+use Rattle.ll_explain.specs.Words.{behind, joined, layer_head, layer_text, objection_text}
+
+module _ (tree : List Entry) (records : List Record) where
+  -- what is to be said behind an objection of this layer
+  unfoldable pub left : ℕ → List LayerObjection → List ℕ
+  left before [] = ending before
+  left before (one ∷ more) = next_text tree records before one ++ left one.layer more
+
+  pub left_next : (text after whole : List ℕ) (before : ℕ) (all : List LayerObjection) (k : ℕ) (one : LayerObjection) →
+      k < length all → one ≡ get_or all k one →
+      text ++ left before (drop k all) ≡ whole → after ≡ text ++ next_text tree records before one → after ++ left one.layer (drop (k + 1) all) ≡ whole
+  unfolding left
+  left_next text after whole before all k one there is so_far written =
+      let rest = left one.layer (drop (k + 1) all) in
+      ap (λ t. t ++ rest) written ∙ append_assoc text (next_text tree records before one) rest
+      ∙ ap (λ t. text ++ t) (sym (ap (left before) (drop_more all k one there ∙ ap (λ y. y ∷ drop (k + 1) all) (sym is)))) ∙ so_far
+
+  pub left_none : (text after whole : List ℕ) (before : ℕ) (all : List LayerObjection) (k : ℕ) → length all ≤ k → text ++ left before (drop k all) ≡ whole
+      → after ≡ text ++ ending before → after ≡ whole
+  unfolding left
+  left_none text after whole before all k end so_far written =
+      written ∙ ap (λ t. text ++ t) (sym (ap (left before) (drop_all k all end))) ∙ so_far
+
+  module _ (layers : List ℕ) where
+    abbrev Groups : Type 0
+    Groups = List (ℕ × List Objection)
+
+    abbrev texts : List Objection → List ℕ
+    texts objections = flat_map (behind (codes "; ")) (map (objection_text records) objections)
+
+    abbrev lines : Groups → List ℕ
+    lines groups = flat_map (layer_text records layers) groups
+
+    -- the objections of this layer that follow, and the groups behind them
+    abbrev same_of : ℕ → Groups → List Objection
+    same_of layer [] = []
+    same_of layer (g ∷ gs) = cond (eqb g.0 layer) g.1 []
+
+    abbrev later_of : ℕ → Groups → Groups
+    later_of layer [] = []
+    later_of layer (g ∷ gs) = cond (eqb g.0 layer) gs (g ∷ gs)
+
+    fronted : (layer : ℕ) (objection : Objection) (groups : Groups)
+        → in_front layer objection groups ≡ (layer, objection ∷ same_of layer groups) ∷ later_of layer groups
+    unfolding in_front
+    fronted layer objection [] = refl
+    fronted layer objection (g ∷ gs) = go (eqb g.0 layer) where
+      go : (b : Bool) → cond b ((layer, objection ∷ g.1) ∷ gs) ((layer, objection ∷ []) ∷ g ∷ gs) ≡ (layer, objection ∷ cond b g.1 []) ∷ cond b gs (g ∷ gs)
+      go true = refl
+      go false = refl
+
+    -- what is to be said of groups behind an objection of this layer
+    abbrev rest_of : ℕ → Groups → List ℕ
+    rest_of before [] = ending before
+    rest_of before (g ∷ gs) = cond (eqb g.0 before) (texts g.1 ++ codes "\n" ++ lines gs) (ending before ++ lines (g ∷ gs))
+
+    ended : (layer : ℕ) → 0 < layer → ending layer ≡ codes "\n"
+    unfolding ending
+    ended layer positive = rw (ne_eqb layer 0 (λ zero. absurd (omega (arith, zero, positive)))) refl
+
+    rest_is : (layer : ℕ) (groups : Groups) → 0 < layer → rest_of layer groups ≡ texts (same_of layer groups) ++ codes "\n" ++ lines (later_of layer groups)
+    rest_is layer [] positive = ended layer positive
+    rest_is layer (g ∷ gs) positive = go (eqb g.0 layer) where
+      go : (b : Bool) → cond b (texts g.1 ++ codes "\n" ++ lines gs) (ending layer ++ lines (g ∷ gs))
+          ≡ texts (cond b g.1 []) ++ codes "\n" ++ lines (cond b gs (g ∷ gs))
+      go true = refl
+      go false = ap (λ t. t ++ lines (g ∷ gs)) (ended layer positive)
+
+    on_the_line : (o t b n f : List ℕ) → (o ++ t) ++ ((b ++ n) ++ f) ≡ (((o ++ t) ++ b) ++ n) ++ f
+    on_the_line o t b n f = sym (append_assoc (o ++ t) (b ++ n) f) ∙ ap (λ z. z ++ f) (sym (append_assoc (o ++ t) b n))
+
+    on_the_next : (e h t b n f : List ℕ) → ((e ++ h) ++ t) ++ ((b ++ n) ++ f) ≡ e ++ (((h ++ (t ++ b)) ++ n) ++ f)
+    on_the_next e h t b n f =
+        append_assoc (e ++ h) t ((b ++ n) ++ f) ∙ append_assoc e h (t ++ ((b ++ n) ++ f))
+        ∙ ap (λ z. e ++ z) (sym (append_assoc (h ++ (t ++ b)) n f ∙ append_assoc h (t ++ b) (n ++ f)
+        ∙ ap (λ z. h ++ z) (append_assoc t b (n ++ f) ∙ ap (λ z. t ++ z) (sym (append_assoc b n f)))))
+
+    headed : (one : LayerObjection) → IsMade layers one → head_of records one.layer one.made ≡ layer_head records layers one.layer
+    unfolding head_of layer_head
+    headed one made = rw made.1 refl
+
+    one_said : (before : ℕ) (one : LayerObjection) (os : List Objection) (gs : Groups) → IsMade layers one →
+        next_text tree records before one ++ (texts os ++ codes "\n" ++ lines gs)
+        ≡ rest_of before ((one.layer, objection_in tree one.objection ∷ os) ∷ gs)
+    unfolding next_text opening layer_text joined behind
+    one_said before one os gs made = go (eqb one.layer before) where
+      said : List ℕ
+      said = objection_text records (objection_in tree one.objection)
+
+      go : (b : Bool) → (cond b (codes "; ") (ending before ++ head_of records one.layer one.made) ++ said) ++ (texts os ++ codes "\n" ++ lines gs)
+          ≡ cond b (texts (objection_in tree one.objection ∷ os) ++ codes "\n" ++ lines gs)
+          (ending before ++ lines ((one.layer, objection_in tree one.objection ∷ os) ∷ gs))
+      go true = on_the_line (codes "; ") said (texts os) (codes "\n") (lines gs)
+      go false = on_the_next (ending before) (head_of records one.layer one.made) said (texts os) (codes "\n") (lines gs)
+          ∙ ap (λ h. ending before ++ (((h ++ (said ++ texts os)) ++ codes "\n") ++ lines gs)) (headed one made)
+
+    said_from : (before : ℕ) (all : List LayerObjection) → All (IsMade layers) all → left before all ≡ rest_of before (by_layer tree all)
+    unfolding left by_layer
+    said_from before [] made = refl
+    said_from before (one ∷ more) made =
+        let o = objection_in tree one.objection in
+        let groups = by_layer tree more in
+        let here : IsMade layers one = All-head (IsMade layers) one more made in
+        ap (λ t. next_text tree records before one ++ t)
+        (said_from one.layer more (All-tail (IsMade layers) one more made) ∙ rest_is one.layer groups here.0)
+        ∙ one_said before one (same_of one.layer groups) (later_of one.layer groups) here
+        ∙ ap (rest_of before) (sym (fronted one.layer o groups))
+
+    begun : (layer : ℕ) (os : List Objection) (gs : Groups) → 0 < layer → rest_of 0 ((layer, os) ∷ gs) ≡ lines ((layer, os) ∷ gs)
+    unfolding ending
+    begun layer os gs positive = rw (ne_eqb layer 0 (λ zero. absurd (omega (arith, zero, positive)))) refl
+
+    pub all_said : (all : List LayerObjection) → All (IsMade layers) all → left 0 all ≡ lines (by_layer tree all)
+    unfolding left by_layer ending
+    all_said [] made = refl
+    all_said (one ∷ more) made =
+        let o = objection_in tree one.objection in
+        let groups = by_layer tree more in
+        said_from 0 (one ∷ more) made ∙ ap (rest_of 0) (fronted one.layer o groups)
+        ∙ begun one.layer (o ∷ same_of one.layer groups) (later_of one.layer groups) (All-head (IsMade layers) one more made).0
+        ∙ ap lines (sym (fronted one.layer o groups))

@@ -1,8 +1,0 @@
-use Rattle.ll_explain.specs.Confined.{rules_of}
-use Rattle.ll_explain.specs.Lacked.{passes}
-use Rattle.ll_explain.proofs.Lacking.{AreBefore}
-use Rattle.ll_explain.proofs.missing.passing.Given as goal
-
--- the rights before the place that pass are in the set
-abbrev pub invariant-loop-right : goal.invariant-loop-right
-invariant-loop-right l = AreBefore (passes l.layer.ctx.tree.now (rules_of l.layer) l.test) l.rights l.right-index

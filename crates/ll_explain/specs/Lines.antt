@@ -1,0 +1,24 @@
+-- The lines of an explanation's objections, one after another: what stands in front of each.
+-- Source: docs/FORMATS.md, "Explanations".
+use Rattle.std.specs.Prelude.{ℕ, List, [], ◌++◌, ◌==◌, Option, codes, decimal, option_and_then, slice_get, if◌then◌else◌}
+use Rattle.ll_tree.specs.Trees.{Entry}
+use Rattle.ll_trace.specs.declared.record.Record.{Record}
+use Rattle.ll_explanations.specs.Meanings.{objection_in}
+use Rattle.ll_explanations.specs.declared.objection.LayerObjection.{LayerObjection}
+use Rattle.ll_explain.specs.Words.{line_of, objection_text}
+
+-- a layer's line begins with its number and the line of the record that made it
+unfoldable pub head_of : List Record → ℕ → Option ℕ → List ℕ
+head_of records number made = codes "    layer " ++ decimal number ++ codes " (line " ++ decimal (line_of (option_and_then (slice_get records) made)) ++ codes "): "
+
+-- the end of a layer's line, where there is one before
+unfoldable pub ending : ℕ → List ℕ
+ending before = if before == 0 then [] else codes "\n"
+
+-- an objection follows one of the same layer, or begins a line
+unfoldable pub opening : List Record → ℕ → LayerObjection → List ℕ
+opening records before one = if one.layer == before then codes "; " else ending before ++ head_of records one.layer one.made
+
+-- it is said
+unfoldable pub next_text : List Entry → List Record → ℕ → LayerObjection → List ℕ
+next_text tree records before one = opening records before one ++ objection_text records (objection_in tree one.objection)

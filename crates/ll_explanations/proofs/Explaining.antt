@@ -1,0 +1,64 @@
+-- The explanation of a record by its answer.
+use Rattle.std.proofs.Common.{◌≡◌, ◌≢◌, ◌∙◌, ◌<◌, ℕ, true, false, List, [], ◌∷◌, Some, suc, arith, inl, inr, refl, subst, sym, ap}
+use Rattle.std.specs.Prelude.{◌==◌, length, slice_get}
+use Rattle.std.proofs.lemmas.Bool.{cases_Bool, ne_eqb, true≢false}
+use Rattle.std.proofs.lemmas.Option.{same_Some, slice_get_within}
+use Rattle.ll_rights.specs.declared.abi.Abi.{Abi}
+use Rattle.ll_rules.specs.declared.errno.Errno.{Errno}
+use Rattle.ll_tree.specs.Trees.{Entry}
+use Rattle.ll_trace.specs.declared.record.Record.{Record}
+use Rattle.ll_trace.specs.declared.op.Op.{Op}
+use Rattle.ll_trace.specs.declared.op.Op.TheVariants as calls
+use Rattle.ll_trace.specs.Entries.{is_start}
+use Rattle.ll_semantics.specs.declared.answer.Answer.{Answer}
+use Rattle.ll_semantics.specs.declared.answer.Answer.TheVariants.{Allowed, Refused}
+use Rattle.ll_semantics.specs.Answers.{answer}
+use Rattle.ll_semantics.specs.Worlds.{World, answer_in, judged}
+use Rattle.ll_semantics.specs.CallContexts.{world_at}
+use Rattle.ll_semantics.proofs.Steps.{judged-at, length-judged}
+use Rattle.ll_process.specs.Cases.{CaseValue}
+use Rattle.ll_reasons.specs.Explanations.{domain_at, explained, explained_at, objections, objections_to, origins_at}
+use Rattle.ll_explanations.specs.Explained.{Explains, IsExplanation}
+use Rattle.ll_explanations.specs.declared.explanation.Explanation.{Explanation}
+
+-- what starts a process is allowed
+start_allowed : (tree : List Entry) (abi : Abi) (w : World) (process : ℕ) (op : Op) → is_start op ≡ true → answer_in tree abi w process op ≡ Allowed
+unfolding is_start answer_in answer
+start_allowed tree abi w process (calls.Start nnp admin) starts = refl
+start_allowed tree abi w process (calls.Fork child) starts = refl
+start_allowed tree abi w process op starts = absurd (true≢false (sym starts))
+
+module _ (tree : List Entry) (abi : Abi) (records : List Record) (place : ℕ) where
+  -- what is answered stands in the trace
+  pub placed : (a : Answer) → slice_get (judged tree abi records) place ≡ Some a → place < length records
+  placed a is = subst (λ (n : ℕ). place < n) (length-judged tree abi records) (slice_get_within (judged tree abi records) place a is)
+
+  -- a record that isn't allowed starts nothing
+  pub starts_nothing : (r : Record) (a : Answer) → slice_get records place ≡ Some r → slice_get (judged tree abi records) place ≡ Some a
+      → a ≢ Allowed → is_start r.op ≡ false
+  starts_nothing r a eq is not_allowed = elim (cases_Bool (is_start r.op)) [
+    | inl starts ↦
+        let told : answer_in tree abi (world_at tree abi records place) r.process.0 r.op ≡ a =
+        same_Some _ a (sym (judged-at tree abi records place r eq) ∙ is) in
+        absurd (not_allowed (sym told ∙ start_allowed tree abi (world_at tree abi records place) r.process.0 r.op starts))
+    | inr goes ↦ goes
+  ]
+
+  -- what layers that refuse object to
+  pub refusing : (r : Record) (error : Errno) (numbers : List ℕ) → numbers ≢ []
+      → objections (objections_to tree (domain_at tree abi records place r.process.0) (origins_at tree abi records place r.process.0) r.op error numbers)
+      ≡ explained_at tree abi records place r (Refused error numbers)
+  unfolding explained_at explained
+  refusing r error [] some = absurd (some refl)
+  refusing r error (number ∷ numbers) some = refl
+
+-- the record that is found is the one there
+pub explains : (case : CaseValue) (place : ℕ) (answer : Answer) (found : Record) (e : Explanation) → slice_get case.records place ≡ Some found
+    → IsExplanation case place answer found e → Explains case place answer e
+explains case place answer found e read is r eq =
+    subst (λ (one : Record). IsExplanation case place answer one e) (same_Some found r (sym read ∙ eq)) is
+
+-- a set without layers
+pub none_of : (numbers : List ℕ) → (length numbers == 0) ≡ true → numbers ≡ []
+none_of [] none = refl
+none_of (number ∷ numbers) none = absurd (true≢false (sym none ∙ ne_eqb (suc (length numbers)) 0 (λ is. omega (arith, is))))

@@ -1,0 +1,35 @@
+-- What an object would gain, right by right.
+use Rattle.std.proofs.Common.{◌≡◌, ◌∙◌, Bool, true, false, refl}
+use Rattle.std.specs.Prelude.{not, ◌&&◌, ◌||◌}
+use Rattle.ll_rights.specs.declared.kind.Kind.{Kind}
+use Rattle.ll_rights.specs.Rights as files
+use Rattle.ll_lines.specs.Paths.{Path}
+use Rattle.ll_tree.specs.Trees.{is_dir}
+use Rattle.ll_rules.specs.Layers.{handles, granted}
+use Rattle.ll_rules.specs.Checks.{lacks}
+use Rattle.ll_semantics.specs.States.{Layer}
+use Rattle.ll_explanations.specs.Lacked.{gainable}
+use Rattle.ll_explanations.proofs.Lacking.{lacks-only}
+
+-- lacking on the object, counting, and not lacking in the directory: by whether it is handled, granted on the object and granted in the directory
+won : (handled on counted there : Bool) → ((handled && not on) && counted && not (handled && not there)) ≡ (there && (handled && counted) && not on)
+won true true true true = refl
+won true true true false = refl
+won true true false true = refl
+won true true false false = refl
+won true false true true = refl
+won true false true false = refl
+won true false false true = refl
+won true false false false = refl
+won false on counted true = refl
+won false on counted false = refl
+
+module _ (layer : Layer) (kind : Kind) (object directory : Path) where
+  pub gainable-by : (one : files.FsRight) (lacking holder file_right lacking_there : Bool) →
+      lacking ≡ lacks layer object (files.only one) → holder ≡ is_dir kind → file_right ≡ files.is_file_right one
+      → lacking_there ≡ lacks layer directory (files.only one) →
+      (lacking && (holder || file_right) && not lacking_there) ≡ gainable layer kind object directory one
+  unfolding gainable
+  gainable-by one lacking holder file_right lacking_there here is counts there =
+      rw (here ∙ lacks-only layer object one, is, counts, there ∙ lacks-only layer directory one)
+      (won (handles layer one) (granted layer object one) (is_dir kind || files.is_file_right one) (granted layer directory one))

@@ -1,0 +1,11 @@
+pub mod Lacking
+pub mod RightPlaces
+pub mod Telling
+pub mod Gaining
+pub mod Adding
+pub mod Moving
+pub mod Keeping
+pub mod Following
+pub mod Beyond
+pub mod Wanting
+pub mod Explaining

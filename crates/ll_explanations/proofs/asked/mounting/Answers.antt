@@ -1,0 +1,10 @@
+use Rattle.std.proofs.Common.{◌∙◌, sym}
+use Rattle.ll_explanations.specs.Confined.{rules_of}
+use Rattle.ll_explanations.proofs.Telling.{mounting_none, mounting_some}
+use Rattle.ll_explanations.proofs.asked.mounting.Goals as goal
+
+pub returns-then-handles_files : goal.returns-then-handles_files
+returns-then-handles_files c = mounting_some (rules_of c.args.layer.now) (sym c.handles_files.ensures ∙ c.if-handles_files.true)
+
+pub returns-else-handles_files : goal.returns-else-handles_files
+returns-else-handles_files c = mounting_none (rules_of c.args.layer.now) (sym c.handles_files.ensures ∙ c.if-handles_files.false)

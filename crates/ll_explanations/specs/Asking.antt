@@ -1,0 +1,24 @@
+-- What each layer of a process is asked, and what it objects to in that.
+-- Source: landlock(7), "Landlock rules"; the kernel's userspace document on Landlock, "Layers of file path access rights".
+use Rattle.std.specs.Prelude.{List}
+use Rattle.ll_rights.specs.Rights.{has}
+use Rattle.ll_tree.specs.Trees.{Entry, IsNode, path_at}
+use Rattle.ll_semantics.specs.States.{Layer}
+use Rattle.ll_reasons.specs.Objections.{Objection, on_mount, on_move, on_path, on_port}
+use Rattle.ll_explanations.specs.Passages.{IsPassage}
+use Rattle.ll_explanations.specs.PortRights.{IsOne}
+use Rattle.ll_explanations.specs.declared.asked.Asked.{Asked}
+use Rattle.ll_explanations.specs.declared.asked.Asked.TheVariants.{OnNode, OnPort, Mounting, Moving}
+
+unfoldable pub objected : List Entry → Asked → Layer → List Objection
+objected tree (OnNode node rights) = on_path (path_at tree node) (has rights)
+objected tree (OnPort port right) = on_port port right
+objected tree Mounting = on_mount
+objected tree (Moving passage error) = on_move tree passage.attempt error
+
+-- nodes are of the tree, and one right is asked on a port
+abbrev pub IsAsked : List Entry → Asked → Type 0
+IsAsked tree (OnNode node rights) = IsNode tree node
+IsAsked tree (OnPort port right) = IsOne right
+IsAsked tree Mounting = Unit {0}
+IsAsked tree (Moving passage error) = IsPassage tree passage

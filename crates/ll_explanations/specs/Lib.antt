@@ -1,0 +1,9 @@
+pub mod Sets
+pub mod Lacked
+pub mod PortRights
+pub mod Confined
+pub mod Meanings
+pub mod Adding
+pub mod Passages
+pub mod Asking
+pub mod Explained

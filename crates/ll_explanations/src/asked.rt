@@ -1,0 +1,169 @@
+//! What each layer of a process objects to.
+
+ghost use Rattle.std.specs.Prelude.{◌≡◌, ◌∷◌, [], IfOk, OnOk, All, option_map, option_to_list};
+ghost use Rattle.ll_rights.specs.Rights as files;
+ghost use Rattle.ll_tree.specs.Trees.{IsNode, path_at, kind_at};
+ghost use Rattle.ll_reasons.specs.Objections.{objecting, on_gain, on_mount, on_path, on_port};
+ghost use Rattle.ll_explanations.specs.Adding.{AddsOf};
+ghost use Rattle.ll_explanations.specs.Asking.{IsAsked, objected};
+ghost use Rattle.ll_explanations.specs.Confined.{rules_of, stacked};
+ghost use Rattle.ll_explanations.specs.Meanings.{IsMade, by_layer, objection_in};
+ghost use Rattle.ll_explanations.specs.PortRights.{IsOne};
+
+use crate::confinement::{Confinement, OneLayer, made_by};
+use crate::missing::{Test, passing};
+use crate::moved::{Passage, push_denied, push_held_back};
+use crate::objection::{LayerObjection, Objection};
+use crate::ports::{handles_files, lacks_on_port};
+use ll_rights::{Fs, Net};
+use ll_rules::Errno;
+use ll_tree::NodeId;
+use std::alloc::{AllocError, Global};
+
+/// What each layer of a process is asked.
+#[derive(Clone, Copy)]
+pub(crate) enum Asked {
+    /// Rights on a node.
+    OnNode(NodeId, Fs),
+    /// One right on a port.
+    OnPort(u16, Net),
+    /// To let what is mounted be changed.
+    Mounting,
+    /// To let an object be moved, which is refused with this error.
+    Moving(Passage, Errno),
+}
+
+/// What a layer lacks of rights on a node.
+pub(crate) fn missing(layer: &OneLayer, node: NodeId, asked: Fs) -> Option<Objection>
+    requires { IsNode layer.now.ctx.tree.now node }
+    ensures { option_to_list (option_map (objection_in layer.now.ctx.tree.now) result)
+        ≡ on_path (path_at layer.now.ctx.tree.now node) (files.has asked) (rules_of layer.now) }
+{
+    let rights = passing(layer, Test::Lacking { node, asked });
+    if rights.is_empty() {
+        return None;
+    }
+    Some(Objection::Missing { rights, node })
+}
+
+/// What an object would gain in a directory under a layer.
+pub(crate) fn gained(layer: &OneLayer, object: NodeId, directory: NodeId) -> Option<Objection>
+    requires object { IsNode layer.now.ctx.tree.now object }
+    requires directory { IsNode layer.now.ctx.tree.now directory }
+    ensures { option_to_list (option_map (objection_in layer.now.ctx.tree.now) result)
+        ≡ on_gain (kind_at layer.now.ctx.tree.now object)
+        (path_at layer.now.ctx.tree.now object) (path_at layer.now.ctx.tree.now directory)
+        (rules_of layer.now) }
+{
+    let rights = passing(layer, Test::Gaining { object, directory });
+    if rights.is_empty() {
+        return None;
+    }
+    Some(Objection::Gained {
+        object,
+        rights,
+        directory,
+    })
+}
+
+/// What a layer lacks of one right on a port.
+fn closed(layer: &OneLayer, port: u16, right: Net) -> Option<Objection>
+    requires { IsOne right }
+    ensures { option_to_list (option_map (objection_in layer.now.ctx.tree.now) result)
+        ≡ on_port port right (rules_of layer.now) }
+{
+    if !lacks_on_port(layer, port, right) {
+        return None;
+    }
+    Some(Objection::Closed {
+        rights: right,
+        port,
+    })
+}
+
+/// Whether a layer keeps what is mounted as it is.
+fn mounting(layer: &OneLayer) -> Option<Objection>
+    ensures { option_to_list (option_map (objection_in layer.now.ctx.tree.now) result)
+        ≡ on_mount (rules_of layer.now) }
+{
+    if handles_files(layer) {
+        Some(Objection::Mounting)
+    } else {
+        None
+    }
+}
+
+/// Adds an objection of a layer.
+fn push_one(
+    all: &mut Vec<LayerObjection>,
+    layer: &OneLayer,
+    objection: Objection,
+) -> Result<(), AllocError>
+    ensures { OnOk result (AddsOf layer.now all.old.items all.new.items
+        (objection_in layer.now.ctx.tree.now objection ∷ [])) }
+{
+    all.push(LayerObjection {
+        layer: layer.number,
+        made: made_by(layer.ctx.trail, layer.number as usize - 1),
+        objection,
+    })?;
+    Ok(())
+}
+
+/// Adds an objection of a layer, if there is one.
+pub(crate) fn push_any(
+    all: &mut Vec<LayerObjection>,
+    layer: &OneLayer,
+    objection: Option<Objection>,
+) -> Result<(), AllocError>
+    ensures { OnOk result (AddsOf layer.now all.old.items all.new.items
+        (option_to_list (option_map (objection_in layer.now.ctx.tree.now) objection))) }
+{
+    match objection {
+        None => Ok(()),
+        Some(objection) => push_one(all, layer, objection),
+    }
+}
+
+/// Adds what a layer objects to in what is asked.
+#[tactic(auto, unfolding(crate::specs::Asking::objected))]
+fn push_objections(
+    all: &mut Vec<LayerObjection>,
+    layer: &OneLayer,
+    asked: &Asked,
+) -> Result<(), AllocError>
+    requires { IsAsked layer.now.ctx.tree.now asked.now }
+    ensures { OnOk result (AddsOf layer.now all.old.items all.new.items
+        (objected layer.now.ctx.tree.now asked.now (rules_of layer.now))) }
+{
+    match asked {
+        Asked::OnNode(node, rights) => push_any(all, layer, missing(layer, *node, *rights)),
+        Asked::OnPort(port, right) => push_any(all, layer, closed(layer, *port, *right)),
+        Asked::Mounting => push_any(all, layer, mounting(layer)),
+        Asked::Moving(passage, Errno::XDev) => push_held_back(all, layer, passage),
+        Asked::Moving(passage, _) => push_denied(all, layer, passage),
+    }
+}
+
+/// What the layers of a process object to in what is asked, layer after layer.
+pub(crate) fn objections_of(
+    alloc: Global,
+    ctx: &Confinement,
+    asked: &Asked,
+) -> Result<Vec<LayerObjection>, AllocError>
+    requires { IsAsked ctx.now.tree.now asked.now }
+    ensures said { IfOk result (λ all. by_layer ctx.now.tree.now all.items
+        ≡ objecting (objected ctx.now.tree.now asked.now) (stacked ctx.now)) }
+    ensures made { IfOk result (λ all. All (IsMade ctx.now.trail.now.layers.items) all.items) }
+{
+    let mut all = Vec::new(alloc);
+    for (index, id) in ctx.domain.iter().enumerate() {
+        let layer = OneLayer {
+            ctx: *ctx,
+            number: index as u64 + 1,
+            id: *id,
+        };
+        push_objections(&mut all, &layer, asked)?;
+    }
+    Ok(all)
+}

@@ -1,0 +1,197 @@
+//! Why a call fails by no layer, as a value.
+
+ghost use Rattle.std.specs.Prelude.{◌≡◌, ◌&&◌, if◌then◌else◌, not, option_and_then, option_map, slice_get};
+ghost use Rattle.std.specs.FinMap.{get};
+ghost use Rattle.ll_rights.specs.CodeRights.{fs_right, net_right};
+ghost use Rattle.ll_rights.specs.Rights as files;
+ghost use Rattle.ll_rights.specs.NetRights as network;
+ghost use Rattle.ll_trace.specs.declared.op.Op.{Op};
+ghost use Rattle.ll_reasons.specs.Conditions as conditions;
+ghost use Rattle.ll_reasons.specs.Conditions.{handled, handled_on_ports};
+ghost use Rattle.ll_reasons.specs.Origins.{Origins};
+ghost use Rattle.ll_trails.specs.Trails.{Follows};
+ghost use Rattle.ll_explanations.specs.Meanings.{condition_in, path_of_rule};
+
+use ll_rights::{Abi, Fs, FsRight, Net, NetRight};
+use ll_rules::Errno;
+use ll_trace::{Op, Record};
+use ll_trails::Trail;
+
+/// Why a call fails by no layer. Each variant stands for the condition of the same name in the definitions.
+#[derive(Clone, Copy)]
+pub enum Condition {
+    /// The version doesn't know these rights.
+    Unknown(Abi, Fs),
+    /// The version has no rules for ports.
+    Portless(Abi),
+    /// No right is named.
+    Rightless,
+    /// The process holds no ruleset under this number.
+    Unheld(u64),
+    /// The ruleset doesn't handle these rights.
+    Unhandled(Fs),
+    UnhandledOnPorts(Net),
+    /// These rights are for directories, and the path of the call is that of something else.
+    OnlyForDirectories(Fs),
+    /// A port has 16 bits.
+    NoPort(u64),
+    /// The process could gain privileges and has none.
+    Unprivileged,
+    /// The process has as many layers as there can be.
+    Full,
+    /// None of these.
+    Other,
+}
+
+/// Whether a set has a right, and another hasn't.
+fn is_beyond(rights: Fs, whole: Fs, right: FsRight) -> bool
+    ensures { result
+        ≡ (files.has rights (fs_right right) && not (files.has whole (fs_right right))) }
+{
+    rights.has(right) && !whole.has(right)
+}
+
+/// The rights that a set has and another hasn't.
+fn beyond(rights: Fs, whole: Fs) -> Fs
+    ensures { (right : files.FsRight)
+        → files.has result right ≡ (files.has rights right && not (files.has whole right)) }
+{
+    let mut beyond = Fs::NONE;
+    for right in FsRight::all() {
+        if is_beyond(rights, whole, *right) {
+            beyond = beyond.union(right.set());
+        }
+    }
+    beyond
+}
+
+/// A right for ports, where a set has it and another hasn't; else none.
+fn if_beyond(rights: Net, whole: Net, right: NetRight) -> Net
+    ensures { result ≡ (if network.has rights (net_right right)
+        && not (network.has whole (net_right right)) then network.only (net_right right)
+        else network.no_right) }
+{
+    if rights.has(right) && !whole.has(right) {
+        right.set()
+    } else {
+        Net::NONE
+    }
+}
+
+/// The rights for ports that a set has and another hasn't.
+fn beyond_on_ports(rights: Net, whole: Net) -> Net
+    ensures { (right : network.NetRight)
+        → network.has result right ≡ (network.has rights right && not (network.has whole right)) }
+{
+    let bind = if_beyond(rights, whole, NetRight::BindTcp);
+    let connect = if_beyond(rights, whole, NetRight::ConnectTcp);
+    let other = if_beyond(rights, whole, NetRight::Other);
+    bind.union(connect).union(other)
+}
+
+/// The call of the record that created the ruleset which a number of a process names.
+fn creation<'t>(records: &'t [Record], trail: &Trail, rs: u64) -> Option<&'t Op>
+    ensures { option_map (λ op. op.now) result ≡ option_map (λ r. r.op)
+        (option_and_then (slice_get records.now) (get trail.now.rulesets rs)) }
+{
+    let place = *trail.rulesets.get(rs)?;
+    let record = records.get(place as usize)?;
+    Some(&record.op)
+}
+
+/// The rights for files and those for ports that a ruleset of a process handles.
+#[tactic(auto, unfolding(ll_reasons::specs::Conditions::handled, ll_reasons::specs::Conditions::handled_on_ports))]
+fn handled(records: &[Record], trail: &Trail, rs: u64) -> (Fs, Net)
+    ensures files { (o : Origins) → Follows trail.now o → result.0 ≡ handled records.now o rs }
+    ensures ports { (o : Origins) → Follows trail.now o
+        → result.1 ≡ handled_on_ports records.now o rs }
+{
+    match creation(records, trail, rs) {
+        Some(Op::Create { fs, net, .. }) => (*fs, *net),
+        _ => (Fs::NONE, Net::NONE),
+    }
+}
+
+/// Why a rule for files is invalid in a ruleset that handles `whole`.
+#[tactic(auto, unfolding(crate::specs::Meanings::condition_in))]
+fn invalid_on_path(fs: Fs, whole: Fs) -> Condition
+    ensures { (op : Op)
+        → condition_in op result ≡ conditions.invalid_on_path (path_of_rule op) fs whole }
+{
+    let unhandled = beyond(fs, whole);
+    if unhandled.is_empty() {
+        Condition::OnlyForDirectories(beyond(fs, Fs::FILE))
+    } else {
+        Condition::Unhandled(unhandled)
+    }
+}
+
+/// Why a version with ports takes no rule for a port in a ruleset that handles `whole`.
+#[tactic(auto, unfolding(crate::specs::Meanings::condition_in))]
+fn invalid_port(port: u64, net: Net, whole: Net) -> Condition
+    ensures { (op : Op) → condition_in op result
+        ≡ (if network.is_within net whole then conditions.no_port port
+        else conditions.unhandled_on_ports (conditions.port_rights_beyond net whole)) }
+{
+    let unhandled = beyond_on_ports(net, whole);
+    if unhandled.is_empty() {
+        Condition::NoPort(port)
+    } else {
+        Condition::UnhandledOnPorts(unhandled)
+    }
+}
+
+/// Why a rule for a port is invalid in a ruleset that handles `whole`.
+#[tactic(auto, unfolding(crate::specs::Meanings::condition_in))]
+fn invalid_on_port(abi: Abi, port: u64, net: Net, whole: Net) -> Condition
+    ensures { (op : Op)
+        → condition_in op result ≡ conditions.invalid_on_port abi port net whole }
+{
+    if abi.number() < 4 {
+        Condition::Portless(abi)
+    } else {
+        invalid_port(port, net, whole)
+    }
+}
+
+/// Which rights a version doesn't know.
+#[tactic(auto, unfolding(crate::specs::Meanings::condition_in))]
+fn unknown(abi: Abi, fs: Fs) -> Condition
+    ensures { (op : Op)
+        → condition_in op result ≡ conditions.unknown abi (conditions.unknown_rights abi fs) }
+{
+    Condition::Unknown(abi, beyond(fs, abi.fs()))
+}
+
+/// The condition of an error that a call fails with by no layer.
+#[tactic(auto, unfolding(ll_reasons::specs::Conditions::condition, ll_reasons::specs::Conditions::of_create, ll_reasons::specs::Conditions::of_add_path, ll_reasons::specs::Conditions::of_add_port, ll_reasons::specs::Conditions::of_restrict, crate::specs::Meanings::condition_in))]
+pub(crate) fn condition_of(
+    records: &[Record],
+    trail: &Trail,
+    abi: Abi,
+    op: &Op,
+    error: Errno,
+) -> Condition
+    ensures { (o : Origins) → Follows trail.now o
+        → condition_in op.now result ≡ conditions.condition abi records.now o op.now error }
+{
+    match (op, error) {
+        (Op::Create { .. }, Errno::TooBig) => Condition::Portless(abi),
+        (Op::Create { fs, .. }, Errno::Inval) => unknown(abi, *fs),
+        (Op::Create { .. } | Op::AddPath { .. } | Op::AddPort { .. }, Errno::NoMsg) => {
+            Condition::Rightless
+        }
+        (Op::AddPath { rs, .. } | Op::AddPort { rs, .. } | Op::Restrict { rs }, Errno::BadFd) => {
+            Condition::Unheld(*rs)
+        }
+        (Op::AddPath { rs, fs, .. }, Errno::Inval) => {
+            invalid_on_path(*fs, handled(records, trail, *rs).0)
+        }
+        (Op::AddPort { rs, port, net }, Errno::Inval) => {
+            invalid_on_port(abi, *port, *net, handled(records, trail, *rs).1)
+        }
+        (Op::Restrict { .. }, Errno::Perm) => Condition::Unprivileged,
+        (Op::Restrict { .. }, Errno::TooBig) => Condition::Full,
+        _ => Condition::Other,
+    }
+}

@@ -1,0 +1,128 @@
+//! The explanation of a record of a case.
+
+ghost use Rattle.std.specs.Prelude.{◌≡◌, ◌≢◌, [], IfOk, Some, slice_get};
+ghost use Rattle.ll_semantics.specs.declared.answer.Answer.TheVariants.{Allowed, Moot, Refused};
+ghost use Rattle.ll_process.specs.Cases.{IsCase};
+ghost use Rattle.ll_reasons.specs.Explanations.{origins_at};
+ghost use Rattle.ll_trails.specs.CaseTrails.{AreTrailsAt, IsAnswerAt};
+ghost use Rattle.ll_trails.specs.Trails.{Follows};
+ghost use Rattle.ll_explanations.specs.Explained.{Explains};
+
+use crate::call::objections_to;
+use crate::condition::{Condition, condition_of};
+use crate::confinement::Confinement;
+use crate::mootness::reason_of;
+use crate::objection::LayerObjection;
+use ll_process::Case;
+use ll_reasons::Reason;
+use ll_rules::{Errno, LayerSet, NoMemory};
+use ll_semantics::Answer;
+use ll_trace::Record;
+use ll_trails::{Trail, Trails, domain_of};
+use std::alloc::Global;
+
+/// Why a record is refused or moot. Its paths are those that the record's call names, its nodes are of the case's tree,
+/// and other records are told by their places in the trace.
+#[derive(Drop)]
+pub enum Explanation {
+    /// The record is allowed.
+    Nothing,
+    /// What the layers that refuse it object to: those of one layer stand side by side, and the layers rise.
+    Objections(Vec<LayerObjection>),
+    /// Why it fails by no layer.
+    Failure(Condition),
+    /// Why the policy isn't asked.
+    Mootness(Option<Reason>),
+}
+
+/// The record at a place, and where all that its process has comes from; the record isn't the process's first.
+fn found_at<'t>(
+    case: &'t Case,
+    trails: &'t Trails,
+    place: usize,
+    answer: Answer,
+) -> (&'t Record, &'t Trail)
+    requires answer { IsAnswerAt case.now place answer }
+    requires known { answer ≢ Allowed }
+    requires trails { AreTrailsAt case.now place trails.now }
+    ensures case { IsCase case.now }
+    ensures read { slice_get case.now.records place ≡ Some result.0.now }
+    ensures trail { Follows result.1.now
+        (origins_at case.now.tree case.now.abi case.now.records place result.0.now.process.0) }
+{
+    let found = &case.trace().records()[place];
+    (found, trails.of(found.process))
+}
+
+/// Why a moot record isn't asked about.
+fn moot(case: &Case, trails: &Trails, place: usize) -> Explanation
+    requires answer { IsAnswerAt case.now place Moot }
+    requires trails { AreTrailsAt case.now place trails.now }
+    ensures { Explains case.now place Moot result }
+{
+    let (found, trail) = found_at(case, trails, place, Answer::Moot);
+    Explanation::Mootness(reason_of(case.tree(), trail, &found.op))
+}
+
+/// Why a record is refused by no layer.
+fn failed(case: &Case, trails: &Trails, place: usize, error: Errno) -> Explanation
+    requires answer { IsAnswerAt case.now place (Refused error []) }
+    requires trails { AreTrailsAt case.now place trails.now }
+    ensures { Explains case.now place (Refused error []) result }
+{
+    let answer = Answer::Refused(error, LayerSet::new());
+    let (found, trail) = found_at(case, trails, place, answer);
+    Explanation::Failure(condition_of(case.trace().records(), trail, case.abi(), &found.op, error))
+}
+
+/// What the layers that refuse a record object to.
+fn refused(
+    alloc: Global,
+    case: &Case,
+    trails: &Trails,
+    place: usize,
+    error: Errno,
+    numbers: LayerSet,
+) -> Result<Explanation, NoMemory>
+    requires answer { IsAnswerAt case.now place (Refused error numbers) }
+    requires some { numbers ≢ [] }
+    requires trails { AreTrailsAt case.now place trails.now }
+    ensures { IfOk result (Explains case.now place (Refused error numbers)) }
+{
+    let (found, trail) = found_at(case, trails, place, Answer::Refused(error, numbers));
+    let domain = domain_of(alloc, case, trail)?;
+    let ctx = Confinement {
+        trail,
+        tree: case.tree(),
+        layers: case.layers(),
+        domain: &domain,
+    };
+    let all = objections_to(alloc, &ctx, &found.op, error, numbers)?;
+    Ok(Explanation::Objections(all))
+}
+
+/// The explanation of the record at a place of a case, by its answer and by where all that its process has comes from.
+/// An error says that memory ran out.
+pub fn explain(
+    alloc: Global,
+    case: &Case,
+    trails: &Trails,
+    place: usize,
+    answer: Answer,
+) -> Result<Explanation, NoMemory>
+    requires answer { IsAnswerAt case.now place answer }
+    requires trails { AreTrailsAt case.now place trails.now }
+    ensures { IfOk result (Explains case.now place answer) }
+{
+    match answer {
+        Answer::Allowed => Ok(Explanation::Nothing),
+        Answer::Moot => Ok(moot(case, trails, place)),
+        Answer::Refused(error, numbers) => {
+            if numbers.is_empty() {
+                Ok(failed(case, trails, place, error))
+            } else {
+                refused(alloc, case, trails, place, error, numbers)
+            }
+        }
+    }
+}

@@ -1,0 +1,113 @@
+//! The rights that a layer lacks on a node, and those that an object would gain in a directory, right by right.
+
+ghost use Rattle.std.specs.Prelude.{◌≡◌, ◌&&◌, ◌||◌, ◌∷◌, [], not};
+ghost use Rattle.ll_rights.specs.CodeRights.{fs_right};
+ghost use Rattle.ll_rights.specs.Rights as files;
+ghost use Rattle.ll_tree.specs.Trees.{IsNode, kind_at, path_at};
+ghost use Rattle.ll_rules.specs.Checks.{lacks as is_lacking_on};
+ghost use Rattle.ll_explanations.specs.Confined.{rules_of};
+ghost use Rattle.ll_explanations.specs.Lacked.{IsTest, gainable, lacked, passes};
+
+use crate::confinement::OneLayer;
+use ll_rights::{Fs, FsRight};
+use ll_rules::{Domain, LayerId, check_path};
+use ll_tree::NodeId;
+
+/// A test that rights pass or don't under a layer.
+#[derive(Clone, Copy)]
+pub(crate) enum Test {
+    /// Is it asked, and lacking on a node?
+    Lacking { node: NodeId, asked: Fs },
+    /// Would an object gain it in a directory?
+    Gaining { object: NodeId, directory: NodeId },
+}
+
+/// The domain of one layer.
+pub(crate) fn alone(id: LayerId) -> Domain
+    ensures { result ≡ id ∷ [] }
+{
+    let mut domain = Domain::new();
+    match domain.push(id) {
+        Ok(()) => domain,
+        Err(_) => unreachable!(),
+    }
+}
+
+/// Whether a layer handles a right of a set and doesn't grant it on a node.
+fn lacks(layer: &OneLayer, node: NodeId, rights: Fs) -> bool
+    requires { IsNode layer.now.ctx.tree.now node }
+    ensures { result
+        ≡ is_lacking_on (rules_of layer.now) (path_at layer.now.ctx.tree.now node) rights }
+{
+    let domain = alone(layer.id);
+    !check_path(layer.ctx.tree, layer.ctx.layers, &domain, node, rights).is_empty()
+}
+
+/// Whether a right is in a set, and a layer handles it and doesn't grant it on a node.
+fn is_missing(layer: &OneLayer, node: NodeId, asked: Fs, right: FsRight) -> bool
+    requires { IsNode layer.now.ctx.tree.now node }
+    ensures { result
+        ≡ lacked (rules_of layer.now) (path_at layer.now.ctx.tree.now node) asked (fs_right right) }
+{
+    if asked.has(right) {
+        lacks(layer, node, right.set())
+    } else {
+        false
+    }
+}
+
+/// Whether a right is one that files have.
+fn is_file_right(right: FsRight) -> bool
+    ensures { result ≡ files.is_file_right (fs_right right) }
+{
+    Fs::FILE.has(right)
+}
+
+/// Whether a right is gained that is lacking on an object, counts for a directory or is one that files have, and isn't
+/// lacking where the object goes.
+fn is_won(lacking: bool, directory: bool, file_right: bool, lacking_there: bool) -> bool
+    ensures { result ≡ (lacking && (directory || file_right) && not lacking_there) }
+{
+    lacking && (directory || file_right) && !lacking_there
+}
+
+/// Whether an object would gain a right in a directory, under a layer.
+fn is_gained(layer: &OneLayer, object: NodeId, directory: NodeId, right: FsRight) -> bool
+    requires object { IsNode layer.now.ctx.tree.now object }
+    requires directory { IsNode layer.now.ctx.tree.now directory }
+    ensures { result ≡ gainable (rules_of layer.now) (kind_at layer.now.ctx.tree.now object)
+        (path_at layer.now.ctx.tree.now object)
+        (path_at layer.now.ctx.tree.now directory) (fs_right right) }
+{
+    let set = right.set();
+    let lacking = lacks(layer, object, set);
+    let lacking_there = lacks(layer, directory, set);
+    let holder = layer.ctx.tree.is_directory(object);
+    is_won(lacking, holder, is_file_right(right), lacking_there)
+}
+
+/// Whether a right passes a test under a layer.
+fn does_pass(layer: &OneLayer, test: Test, right: FsRight) -> bool
+    requires { IsTest layer.now.ctx.tree.now test }
+    ensures { result ≡ passes layer.now.ctx.tree.now (rules_of layer.now) test (fs_right right) }
+{
+    match test {
+        Test::Lacking { node, asked } => is_missing(layer, node, asked, right),
+        Test::Gaining { object, directory } => is_gained(layer, object, directory, right),
+    }
+}
+
+/// The rights that pass a test under a layer.
+pub(crate) fn passing(layer: &OneLayer, test: Test) -> Fs
+    requires { IsTest layer.now.ctx.tree.now test }
+    ensures { (right : files.FsRight)
+        → files.has result right ≡ passes layer.now.ctx.tree.now (rules_of layer.now) test right }
+{
+    let mut rights = Fs::NONE;
+    for right in FsRight::all() {
+        if does_pass(layer, test, *right) {
+            rights = rights.union(right.set());
+        }
+    }
+    rights
+}

@@ -1,0 +1,82 @@
+//! Why a call is moot.
+
+ghost use Rattle.std.specs.Prelude.{◌≡◌, if◌then◌else◌, is_some, option_map};
+ghost use Rattle.ll_tree.specs.Trees.{place};
+ghost use Rattle.ll_trace.specs.declared.op.Op.{Op};
+ghost use Rattle.ll_semantics.specs.Requests.{wanted};
+ghost use Rattle.ll_reasons.specs.declared.why.Which.TheVariants.{First};
+ghost use Rattle.ll_reasons.specs.Meant.{path_named, reason_in, text_named};
+ghost use Rattle.ll_reasons.specs.Origins.{Origins};
+ghost use Rattle.ll_reasons.specs.Reasons.{no_object, not_for_writing, open_already, reason, spelt, unmet, unopened};
+ghost use Rattle.ll_trails.specs.Opened.{opened};
+ghost use Rattle.ll_trails.specs.Trails.{Follows};
+
+use ll_reasons::{Reason, no_object, unlinked, unmet, unrenamed};
+use ll_semantics::wanted;
+use ll_trace::Op;
+use ll_trails::Trail;
+use ll_tree::Tree;
+
+/// Whether a number of the process is open.
+fn is_open(trail: &Trail, fd: u64) -> bool
+    ensures { result ≡ is_some (opened trail.now.openings fd) }
+{
+    trail.openings.get(fd).is_some()
+}
+
+/// Why nothing is opened at the first path of a call.
+#[tactic(auto, unfolding(ll_reasons::specs::Meant::reason_in))]
+fn not_opened(tree: &Tree, trail: &Trail, op: &Op, fd: u64) -> Reason
+    ensures { reason_in op.now result
+        ≡ (if is_some (opened trail.now.openings fd) then open_already fd
+        else no_object tree.now (path_named op.now First)
+        (place tree.now (text_named op.now First))) }
+{
+    if is_open(trail, fd) {
+        return Reason::OpenAlready(fd);
+    }
+    no_object(tree, op)
+}
+
+/// Why a descriptor's file isn't truncated.
+#[tactic(auto, unfolding(ll_reasons::specs::Meant::reason_in))]
+fn not_truncated(trail: &Trail, fd: u64) -> Reason
+    ensures { (op : Op) → reason_in op result
+        ≡ (if is_some (opened trail.now.openings fd) then not_for_writing fd else unopened fd) }
+{
+    if is_open(trail, fd) {
+        return Reason::NotForWriting(fd);
+    }
+    Reason::Unopened(fd)
+}
+
+/// Why what is at the first path of a call isn't what it wants there, if it wants something at one.
+fn unwanted(tree: &Tree, op: &Op) -> Option<Reason>
+    ensures { option_map (reason_in op.now) result ≡ option_map
+        (λ want. unmet tree.now (spelt want.0) (place tree.now want.0) want.1) (wanted op.now) }
+{
+    let (_, wanted) = wanted(op)?;
+    Some(unmet(tree, op, wanted))
+}
+
+/// Why a call is moot, and None for a call that never is.
+#[tactic(auto, unfolding(ll_reasons::specs::Meant::reason_in, ll_reasons::specs::Meant::text_named, ll_trace::specs::Operations::paths_of, ll_reasons::specs::Reasons::reason))]
+pub(crate) fn reason_of(tree: &Tree, trail: &Trail, op: &Op) -> Option<Reason>
+    ensures { (o : Origins) → Follows trail.now o
+        → option_map (reason_in op.now) result ≡ reason tree.now o op.now }
+{
+    match op {
+        Op::Create { rs, .. } | Op::CreateEmpty { rs } => Some(Reason::HeldAlready(*rs)),
+        Op::LeaveOut { .. } => Some(Reason::Unsupported),
+        Op::Restrict { .. } => Some(Reason::Unenforced),
+        Op::CloseRs { rs } => Some(Reason::Unheld(*rs)),
+        Op::OpenFile { fd, .. } => Some(not_opened(tree, trail, op, *fd)),
+        Op::Adopt { fd, .. } => Some(Reason::OpenAlready(*fd)),
+        Op::Dup { fd, .. } | Op::Close { fd } | Op::Ioctl { fd, .. } => Some(Reason::Unopened(*fd)),
+        Op::Ftruncate { fd } => Some(not_truncated(trail, *fd)),
+        Op::AddPath { .. } => Some(no_object(tree, op)),
+        Op::Rename { exchange, .. } => Some(unrenamed(tree, op, *exchange)),
+        Op::Link { .. } => Some(unlinked(tree, op)),
+        _ => unwanted(tree, op),
+    }
+}

@@ -1,0 +1,111 @@
+//! What one layer objects to in a rename or a link.
+
+ghost use Rattle.std.specs.Prelude.{◌≡◌, OnOk, option_map, option_to_list};
+ghost use Rattle.ll_semantics.specs.Fits.{IsFitMove};
+ghost use Rattle.ll_reasons.specs.Objections.{on_crossing, on_directories, on_other_gain};
+ghost use Rattle.ll_explanations.specs.Adding.{AddsOf};
+ghost use Rattle.ll_explanations.specs.Confined.{rules_of};
+ghost use Rattle.ll_explanations.specs.Passages.{IsPassage};
+ghost use Rattle.ll_explanations.specs.Meanings.{objection_in};
+
+use crate::asked::{gained, missing, push_any};
+use crate::confinement::OneLayer;
+use crate::objection::{LayerObjection, Objection};
+use ll_rights::Fs;
+use ll_rules::{How, Move, Target, entering, leaving};
+use ll_tree::{NodeId, Tree};
+use std::alloc::AllocError;
+
+/// A move, with its two directories and what it asks of them.
+#[derive(Clone, Copy)]
+pub(crate) struct Passage {
+    /// The move.
+    pub(crate) attempt: Move,
+    /// The directory that the object is in.
+    pub(crate) source: NodeId,
+    /// The rights that are asked there.
+    pub(crate) leaving: Fs,
+    /// The directory that it goes to.
+    pub(crate) destination: NodeId,
+    /// The rights that are asked there.
+    pub(crate) entering: Fs,
+}
+
+/// A move with what it asks of which directory.
+pub(crate) fn passage_of(tree: &Tree, attempt: Move) -> Passage
+    requires { IsFitMove tree.now attempt }
+    ensures passage { IsPassage tree.now result }
+    ensures attempt { result.attempt ≡ attempt }
+{
+    let source = leaving(tree, &attempt);
+    let destination = entering(tree, &attempt);
+    Passage {
+        attempt,
+        source: source.directory,
+        leaving: source.rights,
+        destination: destination.directory,
+        entering: destination.rights,
+    }
+}
+
+/// What the object that is there already would gain in an exchange; nothing in other moves.
+fn gained_other(layer: &OneLayer, passage: &Passage) -> Option<Objection>
+    requires { IsPassage layer.now.ctx.tree.now passage.now }
+    ensures { option_to_list (option_map (objection_in layer.now.ctx.tree.now) result)
+        ≡ on_other_gain layer.now.ctx.tree.now passage.now.attempt passage.now.attempt.how
+        passage.now.attempt.target (rules_of layer.now) }
+{
+    match passage.attempt.how {
+        How::Exchange => match passage.attempt.target {
+            Target::Over(there) => gained(layer, there, passage.source),
+            Target::New(_) => None,
+        },
+        How::Rename | How::Link => None,
+    }
+}
+
+/// Adds what a layer lacks of what a move asks of its two directories, in one objection if they are one.
+pub(crate) fn push_denied(
+    all: &mut Vec<LayerObjection>,
+    layer: &OneLayer,
+    passage: &Passage,
+) -> Result<(), AllocError>
+    requires { IsPassage layer.now.ctx.tree.now passage.now }
+    ensures { OnOk result (AddsOf layer.now all.old.items all.new.items
+        (on_directories layer.now.ctx.tree.now passage.now.attempt (rules_of layer.now))) }
+{
+    if passage.destination == passage.source {
+        let asked = passage.leaving.union(passage.entering);
+        push_any(all, layer, missing(layer, passage.source, asked))?;
+        return Ok(());
+    }
+    push_any(all, layer, missing(layer, passage.source, passage.leaving))?;
+    push_any(
+        all,
+        layer,
+        missing(layer, passage.destination, passage.entering),
+    )?;
+    Ok(())
+}
+
+/// Adds what keeps a move from leaving its directory under a layer: where `refer` is missing, and what objects would
+/// gain.
+pub(crate) fn push_held_back(
+    all: &mut Vec<LayerObjection>,
+    layer: &OneLayer,
+    passage: &Passage,
+) -> Result<(), AllocError>
+    requires { IsPassage layer.now.ctx.tree.now passage.now }
+    ensures { OnOk result (AddsOf layer.now all.old.items all.new.items
+        (on_crossing layer.now.ctx.tree.now passage.now.attempt (rules_of layer.now))) }
+{
+    push_any(all, layer, missing(layer, passage.source, Fs::REFER))?;
+    push_any(all, layer, missing(layer, passage.destination, Fs::REFER))?;
+    push_any(
+        all,
+        layer,
+        gained(layer, passage.attempt.moved, passage.destination),
+    )?;
+    push_any(all, layer, gained_other(layer, passage))?;
+    Ok(())
+}
