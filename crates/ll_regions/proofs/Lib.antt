@@ -1,0 +1,9 @@
+pub mod Answers
+pub mod MovesAlike
+pub mod Trying
+pub mod TryingObjects
+pub mod TryingMoves
+pub mod RightByRight
+pub mod BothDomains
+pub mod OnAllPaths
+pub mod PassingMoves

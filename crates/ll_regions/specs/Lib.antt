@@ -1,0 +1,5 @@
+pub mod Regions
+pub mod AlikeMoves
+pub mod Outlines
+pub mod Comparing
+pub mod Passing
