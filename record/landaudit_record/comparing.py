@@ -16,7 +16,7 @@ from dataclasses import dataclass, field
 from .kernel_calls import RULESET_CALLS, Call, newer_rights
 from .jsonl import Record
 from .processes import shown
-from .trees import Tree, directory_of
+from .trees import ROOT, Tree, directory_of
 
 OK = "ok"
 MOVES = frozenset({"rename", "link"})
@@ -156,7 +156,7 @@ class Classes:
         """A move between file systems, which the kernel refuses before Landlock is asked."""
         if call.op not in MOVES or call.kernel != "EXDEV":
             return False
-        source, target = (self._stat_of(directory_of(call.record[member])) for member in ("from", "to"))
+        source, target = (self._stat_of(directory_of(shown(call.record, member) or ROOT)) for member in ("from", "to"))
         return source is not None and target is not None and source.st_dev != target.st_dev
 
     def _modes(self, call: Call) -> bool:

@@ -46,7 +46,7 @@ def place(call: Call) -> str:
     """What a call is about, without what its process holds: its path or paths, its port, else its descriptor."""
     record = call.record
     if "from" in record:
-        return f"{record['from']} -> {shown(record, 'to')}"
+        return f"{shown(record, 'from')} -> {shown(record, 'to')}"
     path = shown(record, "path")
     if path is not None:
         return path

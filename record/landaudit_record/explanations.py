@@ -33,6 +33,7 @@ _RIGHTS = f"(?:{_RIGHT})(?:, (?:{_RIGHT}))*"
 _HANDLES_FILES = "it handles rights for files"
 NOT_OPEN = "is not open"
 LEFT_OUT = "left out, as this ABI supports none of the rule's rights"
+UNENFORCED = "left out, as this ABI supports none of the ruleset's rights"
 
 
 @dataclass(frozen=True)
@@ -172,6 +173,8 @@ def reason(record: Record, answer: Answer) -> Reason:
     text = _alone(answer)
     if text == LEFT_OUT and record["op"] in _RULES:
         return Reason((record["path"] if record["op"] == "add_path" else f"port {record['port']}",), LEFT_OUT)
+    if text == UNENFORCED and record["op"] == "restrict":
+        return Reason((f"ruleset {record['rs']}",), UNENFORCED)
     if record["op"] in _MOVES:
         both = record["from"], record["to"]
         why = _reasons_of_move(*both).get(text)

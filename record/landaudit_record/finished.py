@@ -1,51 +1,195 @@
-"""A finished recording: the files of its folder, by what they hold."""
+"""A finished recording: the files of its folder by what they hold, and what its conversion says of itself.
+
+A recording is kept in parts, each with a tree and a trace that landaudit reads by themselves. One that is all in one
+part has `tree.jsonl` and `trace.jsonl`; else they are `tree-1.jsonl`, `trace-1.jsonl`, `tree-2.jsonl` and so on.
+"""
 
 from __future__ import annotations
 
-from dataclasses import dataclass
+import json
+import os
+from collections import Counter
+from collections.abc import Iterator
+from dataclasses import asdict, dataclass, field
 from pathlib import Path
+from typing import Any
 
+from . import jsonl
 from .problems import Problem
+from .wording import counted
+
+CONVERTED = "converted.json"
+FORMAT = 1
+#: The files of which each part has one, with their endings; the last two are those of the last audit.
+OF_A_PART = {"tree": "jsonl", "trace": "jsonl", "tried": "jsonl", "report": "txt"}
+#: What is in a folder by `landaudit-record run` and can be converted (again).
+RECORDED = ("recording.json", "strace.txt", "strace.txt.gz")
 
 
 @dataclass(frozen=True)
-class Finished:
-    """The folder of a recording that has a tree and a trace."""
+class Size:
+    """How much a part holds: records, those of them that only give once more what there was, objects, bytes."""
+
+    records: int
+    again: int
+    objects: int
+    bytes: int
+
+
+@dataclass(frozen=True)
+class Converted:
+    """What a conversion that came to its end says of itself.
+
+    `unsaid` counts by class what could not be said, `holes` those of these calls that the kernel may refuse by a policy
+    and an audit can't foresee; `ended` says that the tracer ended by itself.
+    """
+
+    parts: tuple[Size, ...]
+    processes: int
+    objects: int
+    unsaid: Counter[str] = field(default_factory=Counter)
+    holes: Counter[str] = field(default_factory=Counter)
+    ended: bool = True
+
+    @property
+    def records(self) -> int:
+        """How many records there are in all parts, but for those that are written again."""
+        return sum(part.records - part.again for part in self.parts)
+
+    def write(self, folder: Path) -> None:
+        """Says in a folder that the conversion is whole; nobody ever sees half of it."""
+        said = {name: getattr(self, name) for name in ("processes", "objects", "unsaid", "holes", "ended")}
+        parts = [asdict(part) for part in self.parts]
+        beside = folder / f"{CONVERTED}.new"
+        with open(beside, "w", encoding="utf-8") as out:
+            json.dump({"format": FORMAT, "records": self.records, **said, "parts": parts}, out, indent=2)
+            out.write("\n")
+            out.flush()
+            os.fsync(out.fileno())
+        beside.replace(folder / CONVERTED)
+
+
+@dataclass(frozen=True)
+class Part:
+    """A part of a recording: where its files are; `again` is how many of its first records are written again."""
 
     folder: Path
+    number: int | None = None
+    again: int = 0
 
     @property
     def tree(self) -> Path:
         """The objects that the run met."""
-        return self.folder / "tree.jsonl"
+        return self._file("tree")
 
     @property
     def trace(self) -> Path:
         """The calls, as they were recorded."""
-        return self.folder / "trace.jsonl"
-
-    @property
-    def unsaid(self) -> Path:
-        """What the recording could not say."""
-        return self.folder / "unsaid.jsonl"
+        return self._file("trace")
 
     @property
     def tried(self) -> Path:
         """The trace with a policy's records in it, where a policy was tried."""
-        return self.folder / "tried.jsonl"
+        return self._file("tried")
 
     @property
     def report(self) -> Path:
         """landaudit's answers of the last audit."""
-        return self.folder / "report.txt"
+        return self._file("report")
+
+    def _file(self, name: str) -> Path:
+        ending = OF_A_PART[name]
+        return self.folder / (f"{name}.{ending}" if self.number is None else f"{name}-{self.number}.{ending}")
+
+
+def files_of_parts(folder: Path) -> Iterator[Path]:
+    """All files of parts in a folder."""
+    for name, ending in OF_A_PART.items():
+        yield from folder.glob(f"{name}.{ending}")
+        yield from folder.glob(f"{name}-[0-9]*.{ending}")
+
+
+def numbered(folder: Path, parts: int) -> list[Part]:
+    """The parts of a recording by their number."""
+    return [Part(folder)] if parts == 1 else [Part(folder, number) for number in range(1, parts + 1)]
+
+
+@dataclass(frozen=True)
+class Finished:
+    """The folder of a recording that has all its parts."""
+
+    folder: Path
+    parts: tuple[Part, ...]
+    unsaid: Counter[str]
+    holes: Counter[str]
+    ended: bool
+
+    @property
+    def missing(self) -> list[str]:
+        """What an audit of the recording can't say, a text for each cause; with any of them none is an all clear."""
+        told: list[str] = []
+        if self.holes:
+            calls = ", ".join(f"{name} ({times})" for name, times in self.holes.most_common())
+            number = counted(self.holes.total(), "call")
+            told.append(f"{number} that a policy may refuse could not be recorded: {calls}")
+        if not self.ended:
+            told.append("the recording is cut: the log stops before the command's end, so record it again")
+        return told
 
 
 def opened(folder: str) -> Finished:
-    """The recording in a folder; a folder without one is a Problem."""
-    recording = Finished(Path(folder))
-    for path in (recording.tree, recording.trace):
-        if not path.is_file():
-            if recording.folder.exists():
-                raise Problem(f"{folder} has no {path.name}: name a folder that 'landaudit-record run' made")
-            raise Problem(f"{folder} is not there: record first, by landaudit-record run {folder} -- COMMAND")
-    return recording
+    """The recording in a folder; a folder without one, or with one that is not whole, is a Problem."""
+    path = Path(folder)
+    converted = _converted(path)
+    if converted is None:
+        return _by_hand(path)
+    parts = [Part(part.folder, part.number, size.again)
+             for part, size in zip(numbered(path, len(converted.parts)), converted.parts)]
+    for part, size in zip(parts, converted.parts):
+        if not part.tree.is_file() or not part.trace.is_file() or part.trace.stat().st_size != size.bytes:
+            raise Problem(f"{part.trace} is not what was converted: {_mending(path)}")
+    return Finished(path, tuple(parts), converted.unsaid, converted.holes, converted.ended)
+
+
+def _mending(path: Path) -> str:
+    return f"run landaudit-record convert {path}"
+
+
+def _converted(folder: Path) -> Converted | None:
+    """What a conversion says of itself in a folder, None if there is no word of one."""
+    file = folder / CONVERTED
+    try:
+        said: dict[str, Any] = json.loads(file.read_text(encoding="utf-8"))
+        if said.pop("format") != FORMAT:
+            raise Problem(f"{file} is of another version of landaudit-record: {_mending(folder)}")
+        parts = tuple(Size(**size) for size in said["parts"])
+        unsaid, holes = Counter(said["unsaid"]), Counter(said["holes"])
+        return Converted(parts, said["processes"], said["objects"], unsaid, holes, said["ended"])
+    except (FileNotFoundError, NotADirectoryError):
+        return None
+    except (ValueError, TypeError, KeyError, AttributeError) as error:
+        raise Problem(f"{file} is not what a conversion writes: {_mending(folder)}") from error
+
+
+def _by_hand(path: Path) -> Finished:
+    """A tree and a trace that no conversion wrote; beside a log that is a conversion which did not come to its end."""
+    part = Part(path)
+    if any((path / name).is_file() for name in RECORDED):
+        raise Problem(f"{path} was not converted to the end: {_mending(path)}")
+    for file in (part.tree, part.trace):
+        if not file.is_file():
+            if path.exists():
+                raise Problem(f"{path} has no {file.name}: name a folder that 'landaudit-record run' made")
+            raise Problem(f"{path} is not there: record first, by landaudit-record run {path} -- COMMAND")
+    unsaid, holes = _unsaid(path / "unsaid.jsonl")
+    return Finished(path, (part,), unsaid, holes, True)
+
+
+def _unsaid(path: Path) -> tuple[Counter[str], Counter[str]]:
+    """What the recording could not say, by class, and which of it are holes; nothing where it left no list."""
+    unsaid: Counter[str] = Counter()
+    holes: Counter[str] = Counter()
+    for _, entry in jsonl.numbered(path) if path.exists() else ():
+        unsaid[str(entry.get("class"))] += 1
+        holes[str(entry.get("class"))] += entry.get("asks") is True
+    return unsaid, +holes

@@ -24,14 +24,15 @@ def numbered(path: Path) -> Iterator[tuple[int, Record]]:
         with open(path, "rb") as lines:
             for number, line in enumerate(lines, start=1):
                 if line.strip(b" \t\r\n"):
-                    yield number, _object(path, number, line)
+                    yield number, read(path, number, line)
     except OSError as error:
         raise Problem(f"cannot read {path}: {error.strerror}") from error
 
 
-def _object(path: Path, number: int, line: bytes) -> Record:
+def read(path: Path, number: int, line: bytes) -> Record:
+    """The object that is on a line of a file."""
     try:
-        value = json.loads(line)
+        value = json.loads(line.decode())
     except ValueError as error:
         raise Problem(f"{path} line {number} is no JSON: {error}") from error
     if not isinstance(value, dict):

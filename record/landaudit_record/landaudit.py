@@ -7,7 +7,7 @@ import re
 import shutil
 import subprocess
 import sys
-from collections.abc import Iterable, Iterator
+from collections.abc import Iterable, Iterator, Sequence
 from dataclasses import dataclass
 from pathlib import Path
 
@@ -21,6 +21,7 @@ _ABIS = r"([0-9]+)(?:-([0-9]+))?"
 _ANSWERED = re.compile(rf"{_ABIS} (allowed|moot|refused \S+ \S+)")
 #: Before lines that explain the answer of some ABIs of a range, where not all of them have the same lines.
 _HEADING = re.compile(rf"abi {_ABIS}:")
+MOST_WORKERS = 64
 BUILT = Path(__file__).resolve().parents[2] / "crates" / "landaudit" / "out" / "landaudit"
 
 
@@ -59,14 +60,25 @@ def find(named: str | None) -> Path:
     return Path(found)
 
 
-def audit(program: Path, abis: range, tree: Path, trace: Path, report: Path, *, best_effort: bool) -> int:
-    """Runs landaudit once for all ABIs of a range, and writes its report with explanations to a file.
+#: An answer, and the ABIs that give it.
+Answered = tuple[tuple[int, ...], Answer]
+
+
+def workers() -> int:
+    """How many threads judge: as many as there are processors to use."""
+    return min(len(os.sched_getaffinity(0)), MOST_WORKERS)
+
+
+def audit(
+    program: Path, abis: range, tree: Path, trace: Path, report: Path, *, best_effort: bool, explain: bool = True
+) -> int:
+    """Runs landaudit once for all ABIs of a range, and writes its report, with explanations or without, to a file.
 
     The status is 0, or 1 if some ABI refuses something. At best effort rulesets lose the rights that an ABI does not
     have; else they are judged as they were recorded. A fault of the run is a Problem.
     """
-    command = [str(program), "--abi", span(abis), *(["--best-effort"] if best_effort else []), "--explain"]
-    command += [str(tree), str(trace)]
+    command = [str(program), "--abi", span(abis), *(["--best-effort"] if best_effort else [])]
+    command += [*(["--explain"] if explain else []), "--workers", str(workers()), str(tree), str(trace)]
     with open(report, "wb") as out:
         try:
             run = subprocess.run(command, stdout=out, stderr=subprocess.PIPE, check=False)
@@ -85,6 +97,25 @@ def answers(report: Path, abi: int | None = None) -> Iterator[Answer]:
         for line, explanation in _explained(lines):
             if line and not line.startswith("total "):
                 yield _answer(line, explanation, abi)
+
+
+def answered(text: bytes, explanation: Sequence[bytes], abis: range) -> tuple[Answered, ...]:
+    """The answers of a report's line and those behind it that are not `allowed`, each with the ABIs that give it."""
+    line = text.decode()
+    why = tuple(said.decode().removeprefix(EXPLAINS).removesuffix("\n") for said in explanation)
+    if not _differs(line, why):
+        return ((tuple(abis), _answer(line, why, None)),)
+    found: dict[Answer, list[int]] = {}
+    for abi in abis:
+        answer = _answer(line, why, abi)
+        if answer.verdict != "allowed":
+            found.setdefault(answer, []).append(abi)
+    return tuple((tuple(some), answer) for answer, some in found.items())
+
+
+def _differs(line: str, why: Sequence[str]) -> bool:
+    """Whether the ABIs of a range answer differently, or for different reasons."""
+    return line.split(" ", 4)[3][0].isdigit() or _HEADING.fullmatch(why[0]) is not None
 
 
 def _explained(lines: Iterable[str]) -> Iterator[tuple[str, tuple[str, ...]]]:

@@ -5,6 +5,8 @@ from __future__ import annotations
 USAGE = 2
 UNREADABLE = 3
 WANTING = 4
+#: Nothing is refused, but not all that a policy may refuse could be judged.
+NOT_ALL_JUDGED = 5
 
 
 class Problem(Exception):

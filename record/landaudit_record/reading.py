@@ -1,18 +1,51 @@
-"""Reads a trace together with its report: each record with its answer and the process that it belongs to."""
+"""Reads a trace together with its report: each record with its answer, or only those that an audit tells of.
+
+Most records are allowed and change nothing that a summary needs. `Walk` goes over a trace and its report once, for all
+ABIs of the report, and takes apart only the lines of the other records.
+"""
 
 from __future__ import annotations
 
+from array import array
 from collections.abc import Iterator
+from dataclasses import dataclass
 from itertools import zip_longest
 from pathlib import Path
+from typing import IO
 
 from . import jsonl
 from .jsonl import Record
-from .landaudit import Answer, answers
+from .landaudit import EXPLAINS, Answer, Answered, answered, answers
 from .problems import Problem
-from .processes import Process, Processes, shown
+from .processes import Process, Processes, of_policy, program_run, shown
+from .recorder.processes import FIRST_MADE_UP
+from .recorder.progress import Progress
 
 Judged = tuple[Record, Answer, Process]
+
+#: Calls on paths, and what the kernel answers to those of them that it asked Landlock about.
+PATH_CALLS = frozenset(
+    {"open", "truncate", "exec", "mknod", "mkdir", "symlink", "unlink", "rmdir", "rename", "link"},
+)
+ASKED_LANDLOCK = (None, "ok", "EACCES", "EPERM", "EXDEV")
+#: Calls that a process makes on its way to a layer.
+ASKS_FOR_LAYERS = frozenset({"create", "restrict"})
+
+#: Operations whose records are taken apart whatever their answers are.
+_TELLING = ASKS_FOR_LAYERS | {"start", "fork", "exit", "exec", "add_path", "add_port"}
+_BOOKS = {"nnp", "close_rs", "adopt", "dup", "close", "ftruncate", "mount", "bind", "connect", "ioctl"}
+_OPS = _TELLING | PATH_CALLS | _BOOKS
+#: Progress is shown each time that so many records were read.
+EVERY = 10_000
+_OPENS = ("open", "adopt", "dup")
+#: How records begin as landaudit-record writes them: enough of a line to know the operation.
+_KNOWN = len('{"op":"nnp"')
+_BEGINS = {f'{{"op":"{op}"'[:_KNOWN].encode(): op for op in _OPS}
+_KERNEL = b'"kernel":"'
+_ASKED = tuple(f'{answer}"'.encode() for answer in ASKED_LANDLOCK if answer)
+_AGAIN = b'"again":true'
+_EXPLAINS = EXPLAINS.encode()
+_BLANKS = b" \t\r\n"
 
 
 def judged(trace: Path, report: Path, abi: int | None = None) -> Iterator[Judged]:
@@ -23,11 +56,173 @@ def judged(trace: Path, report: Path, abi: int | None = None) -> Iterator[Judged
     processes = Processes()
     for found, answer in zip_longest(jsonl.numbered(trace), answers(report, abi)):
         if found is None or answer is None or (found[0], found[1]["pid"]) != (answer.line, answer.pid):
-            raise Problem(f"{report} is no report on {trace}: audit it again")
+            raise _other(trace, report)
         record = found[1]
         process = Process() if record["op"] == "start" else processes.of(record["pid"])
         yield record, answer, process
         processes.follow(record, answer)
+
+
+def _other(trace: Path, report: Path) -> Problem:
+    return Problem(f"{report} is no report on {trace}: audit it again")
+
+
+@dataclass(frozen=True, slots=True)
+class Told:
+    """A record that is not allowed under all ABIs, or that changes what is kept: its line, and its answers.
+
+    `answered` has the answers that are not `allowed`, each with the ABIs that give it; `program` is what the process
+    runs, None before its first program; `asked` says whether it is a call on a path that Landlock was asked about;
+    `missed` are the ABIs under which its descriptor would be open had its opening been allowed.
+    """
+
+    line: int
+    record: Record
+    answered: tuple[Answered, ...]
+    program: str | None
+    asked: bool
+    missed: frozenset[int]
+
+
+class Walk:
+    """One walk over a trace and its report over some ABIs.
+
+    The records at the beginning that only give processes once more what they had are walked over and not told.
+    `records` and `path_calls` count what was walked over so far without them, the latter where Landlock was asked;
+    `files` are both; `confines` says whether a process asked for a layer.
+    """
+
+    def __init__(self, trace: Path, report: Path, abis: range, progress: Progress | None = None) -> None:
+        self.files = trace, report
+        self._progress = progress
+        self._abis = abis
+        self._offsets = array("Q", [0])
+        self._programs: dict[int, str | None] = {}
+        self._missed: dict[int, dict[int, frozenset[int]]] = {}
+        self._watched = 0
+        self._policies: dict[int, int | None] = {}
+        self.records = 0
+        self.path_calls = 0
+        self.confines = False
+
+    def policy_of(self, line: int) -> int | None:
+        """The number in the tried policy of the layer that the `restrict` on a line made; None if it is no policy's."""
+        return self._policies.get(line)
+
+    def opened(self, line: int) -> str | None:
+        """The path, to show, that the record on a line opened."""
+        with open(self.files[0], "rb") as trace:
+            trace.seek(self._offsets[line - 1])
+            return shown(jsonl.read(self.files[0], line, trace.readline()), "path")
+
+    def __iter__(self) -> Iterator[Told]:
+        trace, report = self.files
+        with open(trace, "rb") as lines, open(report, "rb") as said:
+            yield from self._walk(lines, said)
+
+    def _walk(self, lines: IO[bytes], said: IO[bytes]) -> Iterator[Told]:
+        """Goes over both files. This is the loop that a long recording waits for."""
+        again, at, after, offsets, readline = True, 0, said.readline(), self._offsets, said.readline
+        for number, line in enumerate(lines, start=1):
+            at += len(line)
+            offsets.append(at)
+            op = _BEGINS.get(line[:_KNOWN])
+            if op is None and not line.strip(_BLANKS):
+                continue
+            answer, after = after, readline()
+            why: list[bytes] = []
+            while after.startswith(_EXPLAINS):
+                why.append(after)
+                after = readline()
+            if again:
+                again = _AGAIN in line
+                if again:
+                    self._told(number, line, answer, why)
+                    continue
+            self.records += 1
+            if self._progress is not None and not number % EVERY:
+                self._progress.show(number, "answers read")
+            asked = op in PATH_CALLS and _asked(line)
+            self.path_calls += asked
+            opens = self._watched and op in _OPENS
+            if why or op is None or op in _TELLING or opens:
+                told = self._told(number, line, answer, why)
+                if op is None:
+                    asked = told.asked
+                    self.path_calls += asked
+                yield told
+        if not after.startswith(b"total "):
+            raise _other(*self.files)
+
+    def _told(self, number: int, line: bytes, answer: bytes, why: list[bytes]) -> Told:
+        """Takes a record and its answer apart, and keeps what they change."""
+        record = jsonl.read(self.files[0], number, line)
+        pid = record.get("pid")
+        if type(pid) is not int or not answer.startswith(b"%d %d " % (number, pid)):
+            raise _other(*self.files)
+        found = answered(answer, why, self._abis) if why else ()
+        op = record["op"]
+        asked = op in PATH_CALLS and record.get("kernel") in ASKED_LANDLOCK
+        fd = record.get("fd")
+        missed = self._missed.get(pid, {}).get(fd, frozenset()) if isinstance(fd, int) else frozenset()
+        told = Told(number, record, found, self._programs.get(pid), asked, missed)
+        self._follow(told, op, pid)
+        return told
+
+    def _follow(self, told: Told, op: str, pid: int) -> None:
+        record = told.record
+        match op:
+            case "start":
+                self._programs[pid] = None
+            case "fork":
+                child = record["child"]
+                self._programs[child] = self._programs.get(pid)
+                for fd, abis in self._missed.get(pid, {}).items():
+                    if _may_be_opened(fd):
+                        self._miss(child, fd, abis)
+            case "exit":
+                self._programs.pop(pid, None)
+                self._watched -= sum(map(_may_be_opened, self._missed.pop(pid, {})))
+            case "exec":
+                self._programs[pid] = program_run(record) or self._programs.get(pid)
+            case "create":
+                self.confines = True
+            case "restrict":
+                self.confines = True
+                self._policies[told.line] = (of_policy(record) or {}).get("layer")
+            case "open":
+                self._miss(pid, record["fd"], _not_given(told))
+            case "dup":
+                self._miss(pid, record["to"], told.missed)
+            case "close" | "adopt":
+                self._miss(pid, record["fd"], frozenset())
+        if "ran" in record:
+            self._programs[record.get("child", pid)] = record["ran"][-1]["path"]
+
+    def _miss(self, pid: int, fd: int, abis: frozenset[int]) -> None:
+        """Keeps the ABIs under which a number is not open because its opening was not allowed."""
+        missed = self._missed.setdefault(pid, {}) if abis else self._missed.get(pid, {})
+        self._watched += (bool(abis) - (fd in missed)) * _may_be_opened(fd)
+        if abis:
+            missed[fd] = abis
+        else:
+            missed.pop(fd, None)
+
+
+def _may_be_opened(fd: int) -> bool:
+    """Whether a number may be opened again: those that a recorder makes up for one call never are."""
+    return fd < FIRST_MADE_UP
+
+
+def _asked(line: bytes) -> bool:
+    """Whether the kernel asked Landlock about a call that landaudit-record wrote: by what the kernel answered."""
+    at = line.rfind(_KERNEL)
+    return at < 0 or line.startswith(_ASKED, at + len(_KERNEL))
+
+
+def _not_given(told: Told) -> frozenset[int]:
+    """The ABIs under which an opening was refused or moot."""
+    return frozenset(abi for abis, _ in told.answered for abi in abis)
 
 
 def call_text(record: Record) -> str:
@@ -40,13 +235,13 @@ def call_text(record: Record) -> str:
     return " ".join(word for word in words if word)
 
 
-def place_text(record: Record, process: Process) -> str:
-    """What a call is about: its path or paths, its port, or what its descriptor is open on."""
+def place_text(record: Record, opened: str | None = None) -> str:
+    """What a call is about: its path or paths, its port, or what its descriptor is open on, if that is known."""
     if "from" in record:
-        return f"{record['from']} -> {shown(record, 'to')}"
+        return f"{shown(record, 'from')} -> {shown(record, 'to')}"
     if "port" in record:
         return f"port {record['port']}"
     path = shown(record, "path")
     if path is None and "fd" in record:
-        path = process.descriptors.get(record["fd"]) or f"descriptor {record['fd']}"
+        path = opened or f"descriptor {record['fd']}"
     return path or "-"

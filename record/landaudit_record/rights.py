@@ -33,6 +33,10 @@ class Family:
         """The rights that an ABI knows."""
         return frozenset(right for right, first in self.since.items() if first <= abi)
 
+    def bit(self, right: str) -> int:
+        """The number of the bit that the kernel has for a right, from 0."""
+        return list(self.since).index(right)
+
     def words(self) -> list[str]:
         """Every name that a policy may use: the groups, then the rights."""
         return [*self.groups, *(right for right in self.since if right not in self.groups)]

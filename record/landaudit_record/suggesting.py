@@ -8,11 +8,10 @@ from dataclasses import dataclass, field, replace
 
 from . import wants
 from .explanations import Closed, Gained, Kept, Missing, Objection, refusing
-from .jsonl import Record
 from .landaudit import Answer
 from .policies import Access, Layer, PathRule, Policy, PortRule
-from .processes import Process, objects_made, of_policy
-from .reading import Judged, call_text
+from .processes import of_policy
+from .reading import Told, Walk, call_text
 from .rights import FS, NET, NONE, Rights
 from .trees import Tree, directory_of
 from .wants import Rule, Wants
@@ -22,12 +21,11 @@ MOST_ROUNDS = 30
 
 @dataclass
 class Round:
-    """What one audit shows: what the policy's layers lack, refusals that no rule fixes, and what the run made."""
+    """What one audit shows: what the policy's layers lack, and refusals that no rule fixes."""
 
     wants: dict[int, Wants] = field(default_factory=dict)
     unmended: Counter[str] = field(default_factory=Counter)
     of_program: Counter[str] = field(default_factory=Counter)
-    made: set[str] = field(default_factory=set)
 
 
 @dataclass(frozen=True)
@@ -46,24 +44,22 @@ class Suggestion:
     finished: bool
 
 
-def suggest(tree: Tree, policy: Policy, abi: int, audit: Callable[[Policy], Iterable[Judged]]) -> Suggestion:
+def suggest(tree: Tree, policy: Policy, abi: int, audit: Callable[[Policy], Iterable[Walk]]) -> Suggestion:
     """Rules until no layer of the policy refuses what a rule would fix.
 
-    `audit` answers the recording under a policy. Under the rules of one round
+    `audit` answers each part of the recording under a policy. Under the rules of one round
     the next may show refusals that were behind those which they fix.
     """
     found = Round()
     rules: dict[int, list[Rule]] = {}
     lacked: dict[int, Wants] = defaultdict(dict)
-    made: set[str] = set()
     for rounds in range(1, MOST_ROUNDS + 1):
         found = _look(tree, abi, audit(with_rules(policy, rules)))
         if not found.wants:
             return Suggestion(rules, found.unmended, found.of_program, rounds, True)
-        made |= found.made
         for number, more in found.wants.items():
             wants.unite(lacked[number], more)
-        rules = {number: wants.rules(tree, lacked[number], made) for number in sorted(lacked)}
+        rules = {number: wants.rules(tree, lacked[number]) for number in sorted(lacked)}
     return Suggestion(rules, found.unmended, found.of_program, MOST_ROUNDS, False)
 
 
@@ -101,32 +97,30 @@ def _port_rules(rules: list[Rule]) -> Iterator[PortRule]:
             yield PortRule("suggested", Access(rule.rights), rule.place)
 
 
-def _look(tree: Tree, abi: int, calls: Iterable[Judged]) -> Round:
+def _look(tree: Tree, abi: int, walks: Iterable[Walk]) -> Round:
     """What one audit shows. A call is known by the number that the recording gives it, else by that of its record."""
     seen = Round()
     known = FS.known(abi) | NET.known(abi)
-    ordinal = 0
-    for record, answer, process in calls:
-        if of_policy(record) is not None:
-            continue
-        ordinal += 1
-        seen.made.update(objects_made(record))
-        if answer.layers:
-            call = record.get("call")
-            _refused(seen, tree, known, record, answer, process, call if type(call) is int else -ordinal)
+    for walk in walks:
+        for told in walk:
+            if of_policy(told.record) is not None:
+                continue
+            for _, answer in told.answered:
+                if answer.layers:
+                    call = told.record.get("call")
+                    _refused(seen, tree, known, walk, told, answer, call if type(call) is int else -told.line)
     return seen
 
 
-def _refused(
-    seen: Round, tree: Tree, known: Rights, record: Record, answer: Answer, process: Process, call: int
-) -> None:
+def _refused(seen: Round, tree: Tree, known: Rights, walk: Walk, told: Told, answer: Answer, call: int) -> None:
     """Takes up one refused call, for each layer that refuses it.
 
     Where one of its objections can't be fixed, rules for the others would
     not help. So it is with `refer` at ABI 1, which no rule can grant there.
     """
+    record = told.record
     for layer in refusing(record, answer):
-        number = process.domain[layer.layer - 1].policy
+        number = walk.policy_of(layer.line)
         if number is None:
             seen.of_program[call_text(record)] += 1
             continue

@@ -32,6 +32,8 @@ def _of_layer(layer: Layer, rules: list[Rule], policy: Policy) -> Iterator[str]:
     for rule in rules:
         yield ""
         yield f"# {counted(rule.calls, 'call')}"
+        for path in rule.instead_of:
+            yield f"# (the run puts another object at {_text(path)}: a rule on that path stays with the first one)"
         yield from _rule(rule)
     yield ""
 

@@ -3,25 +3,21 @@
 from __future__ import annotations
 
 from collections import Counter
-from collections.abc import Iterable
+from collections.abc import Hashable, Iterable, Sequence
 from dataclasses import asdict, dataclass, field, replace
-from pathlib import Path
 from typing import Any
 
-from . import explanations, jsonl
+from . import explanations
 from .explanations import Condition, Kept, Missing, Objection
 from .jsonl import Record
 from .landaudit import Answer
-from .processes import Process, objects_made, of_policy, shown_path
-from .reading import Judged, call_text, place_text
+from .processes import of_policy, shown_path
+from .reading import ASKED_LANDLOCK, Told, Walk, call_text, place_text
 
-# Calls on paths, and what the kernel answers to those of them that it asked Landlock about.
-PATH_CALLS = frozenset(
-    {"open", "truncate", "exec", "mknod", "mkdir", "symlink", "unlink", "rmdir", "rename", "link"},
-)
-ASKED_LANDLOCK = (None, "ok", "EACCES", "EPERM", "EXDEV")
-# Calls that a process makes on its way to a layer.
-ASKS_FOR_LAYERS = frozenset({"create", "restrict"})
+#: The members of a record by which refused calls are alike, beside their explanation.
+_TELLS = ("op", "path", "shown", "from", "to", "shown_to", "mode", "create", "trunc", "kind", "exchange", "port", "rs")
+#: What landaudit says of what a program leaves out at an ABI that lacks all rights of it.
+LEFT_OUT = ((explanations.LEFT_OUT,), (explanations.UNENFORCED,))
 NO_LAYER = ("no process confines itself, so nothing is refused: try a policy by --policy, or record a program that "
             "confines itself")
 
@@ -50,18 +46,41 @@ class Refusal:
     condition: str | None
 
 
+@dataclass(frozen=True)
+class Accepted:
+    """A kind of refused calls that is known and fine, and why; call and place are those of a refusal."""
+
+    call: str
+    place: str
+    reason: str
+
+    def __str__(self) -> str:
+        return self.call if self.place == "-" else f"{self.call} {self.place}"
+
+
 @dataclass
 class Summary:
-    """All that is said of an audit."""
+    """All that is said of an audit; `missing` is what it can't say, with which it is no all clear.
+
+    Refusals that are accepted are apart, with how many calls there are of each.
+    """
 
     abi: int
     verdicts: Counter[str] = field(default_factory=Counter)
     refusals: dict[Refusal, Counter[str]] = field(default_factory=dict)
     moot: dict[str, Counter[str]] = field(default_factory=dict)
+    seen: int = 0
     path_calls: int = 0
     moot_path_calls: int = 0
     warnings: dict[str, int] = field(default_factory=dict)
     unsaid: Counter[str] = field(default_factory=Counter)
+    missing: tuple[str, ...] = ()
+    accepted: Counter[Accepted] = field(default_factory=Counter)
+
+    @property
+    def others_refused(self) -> bool:
+        """Whether a record is refused that is not accepted."""
+        return self.verdicts["refused"] > self.accepted.total()
 
     @property
     def records(self) -> int:
@@ -73,57 +92,127 @@ class Summary:
         return sorted(self.refusals.items(), key=lambda item: -item[1].total())
 
 
-def summarize(calls: Iterable[Judged], abi: int, unsaid: Path, *, tried: bool = False) -> Summary:
-    """The summary of an audit whose records are given with their answers, and of a tried policy where there is one."""
-    summary = Summary(abi)
-    rules: dict[str, str] = {}
-    made: set[str] = set()
-    confines = tried
-    for record, answer, process in calls:
-        if _is_left_out(record, answer):
-            continue
-        summary.verdicts[answer.verdict] += 1
-        made.update(objects_made(record))
-        confines |= record["op"] in ASKS_FOR_LAYERS
-        if record["op"] in PATH_CALLS and record.get("kernel") in ASKED_LANDLOCK:
-            summary.path_calls += 1
-            summary.moot_path_calls += answer.verdict == "moot"
-        if answer.verdict == "refused":
-            _refused(summary, record, answer, process)
-        elif answer.verdict == "moot":
-            _moot(summary, record, answer, process)
-        elif (origin := of_policy(record)) is not None and "path" in record:
-            rules[_rule_text(origin, record)] = record["path"]
-    for rule, path in rules.items():
-        if path in made:
-            _warn(summary, f"{rule}: the run makes {path} itself, so the rule finds none or an older one: grant it on "
-                           "the directory")
-    if not confines:
-        _warn(summary, NO_LAYER)
-    if 10 * summary.moot_path_calls > summary.path_calls:
-        _warn(summary, _many_moot(summary))
-    summary.unsaid = _unsaid(unsaid)
-    return summary
+class Summaries:
+    """The summaries of an audit at some ABIs, each of which takes up one part of the recording after another.
+
+    What was moot and why is told of the newest ABI alone. `tried` says whether a policy was tried.
+    """
+
+    def __init__(self, abis: range, *, tried: bool = False) -> None:
+        self._by_abi = {abi: Summary(abi) for abi in abis}
+        self._newest = abis[-1]
+        self._confines = tried
+
+    def take(self, walk: Walk, abis: range) -> None:
+        """Takes up the answers of some ABIs to a part of the recording."""
+        left_out: Counter[int] = Counter()
+        refusals: dict[Hashable, Refusal] = {}
+        for told in walk:
+            for abi in abis if "policy" in told.record else ():
+                _told_of_rule(self._by_abi[abi], told.record)
+            for some, answer in told.answered:
+                if _is_left_out(told.record, answer):
+                    left_out.update(some)
+                elif answer.refused:
+                    self._refused(walk, told, answer, some, refusals)
+                else:
+                    self._moot(told, answer, some)
+        self._confines |= walk.confines
+        for abi in abis:
+            summary = self._by_abi[abi]
+            summary.path_calls += walk.path_calls
+            # What is neither refused nor moot was let through.
+            summary.seen += walk.records - left_out[abi]
+
+    def _refused(
+        self, walk: Walk, told: Told, answer: Answer, abis: Iterable[int], known: dict[Hashable, Refusal]
+    ) -> None:
+        """Counts a refused record under the ABIs that refuse it alike."""
+        record = told.record
+        for abi in abis:
+            self._by_abi[abi].verdicts["refused"] += 1
+        if not answer.layers and self._warned(record, answer, abis):
+            return
+        about = (*map(record.get, _TELLS), answer.error, answer.explanation)
+        refusal = known.get(about)
+        if refusal is None:
+            known[about] = refusal = _refusal(walk, record, answer)
+        for abi in abis:
+            self._by_abi[abi].refusals.setdefault(refusal, Counter())[told.program or "-"] += 1
+
+    def _warned(self, record: Record, answer: Answer, abis: Iterable[int]) -> bool:
+        """Warns of a ruleset that is not made or not filled; says whether that is all to be said of the record."""
+        condition = explanations.condition(answer)
+        origin = of_policy(record)
+        for abi in abis:
+            if origin is not None:
+                text = f"{_rule_text(origin, record)} is refused with {answer.error}: {condition.text}"
+                _warn(self._by_abi[abi], text)
+            elif record["op"] == "create":
+                _warn(self._by_abi[abi], f"a ruleset of the program is refused at ABI {abi} with {answer.error}: "
+                                         f"{_without_ruleset(condition)}")
+        return origin is not None
+
+    def _moot(self, told: Told, answer: Answer, abis: Iterable[int]) -> None:
+        """Counts a moot record under the ABIs that find it moot alike."""
+        origin = of_policy(told.record)
+        for abi in abis:
+            summary = self._by_abi[abi]
+            summary.verdicts["moot"] += 1
+            summary.moot_path_calls += told.asked
+            if origin is None and abi != self._newest:
+                continue
+            why, at = _because(told.record, answer, abi in told.missed)
+            summary.moot.setdefault(why, Counter())[at] += 1
+            if origin is not None:
+                _warn(summary, f"{_rule_text(origin, told.record)} is moot: {at} {why}; was it never touched in the "
+                               "run, or is the name wrong?")
+
+    def done(self, unsaid: Counter[str], missing: Sequence[str] = ()) -> list[Summary]:
+        """The summaries, the oldest ABI first; `missing` is what no audit of the recording can say."""
+        for abi, summary in self._by_abi.items():
+            summary.verdicts["allowed"] = summary.seen - summary.verdicts["refused"] - summary.verdicts["moot"]
+            if not self._confines:
+                _warn(summary, NO_LAYER)
+            if 10 * summary.moot_path_calls > summary.path_calls:
+                _warn(summary, _many_moot(summary))
+            summary.unsaid = unsaid
+            summary.missing = tuple(missing)
+        return list(self._by_abi.values())
+
+
+def _told_of_rule(summary: Summary, record: Record) -> None:
+    """Warns of a rule of the policy on what the run makes, or puts something else in the place of."""
+    origin = of_policy(record) or {}
+    if "made" in origin:
+        _warn(summary, f"{_rule_text(origin, record)}: the run makes it itself, so no sandboxer can put a rule on it: "
+                       f"grant it on {origin['made']}")
+    if "replaced" in origin:
+        _warn(summary, f"{_rule_text(origin, record)}: the run puts another object there, and the rule stays with the "
+                       f"first one: grant it on {origin['replaced']}")
 
 
 def _is_left_out(record: Record, answer: Answer) -> bool:
-    """Whether a record is a rule of the policy that the ABI has no right of: at this ABI the policy is without it."""
-    return of_policy(record) is not None and answer.explanation == (explanations.LEFT_OUT,)
-
-
-def _refused(summary: Summary, record: Record, answer: Answer, process: Process) -> None:
-    layers = _layers(record, answer, process) if answer.layers else ()
-    condition = None if answer.layers else explanations.condition(answer)
+    """Whether a record of the policy is left out: an ABI has no right of it, or the run makes its object."""
     origin = of_policy(record)
-    if origin is not None and condition is not None:
-        _warn(summary, f"{_rule_text(origin, record)} is refused with {answer.error}: {condition.text}")
-        return
-    if record["op"] == "create" and condition is not None:
-        _warn(summary, f"a ruleset of the program is refused at ABI {summary.abi} with {answer.error}: "
-                       f"{_without_ruleset(condition)}")
-    told = None if condition is None else condition.text
-    refusal = Refusal(call_text(record), place_text(record, process), answer.error or "-", layers, told)
-    summary.refusals.setdefault(refusal, Counter())[process.program or "-"] += 1
+    return origin is not None and ("made" in origin or answer.explanation in LEFT_OUT)
+
+
+def _refusal(walk: Walk, record: Record, answer: Answer) -> Refusal:
+    """What refused calls that are like this one are counted as."""
+    layers = explanations.refusing(record, answer) if answer.layers else ()
+    told = tuple(
+        RefusingLayer(
+            layer.layer,
+            walk.policy_of(layer.line),
+            tuple(_as_shown(objection, record, walk) for objection in layer.objections),
+        )
+        for layer in layers
+    )
+    kept = next((one for layer in told for one in layer.objections if isinstance(one, Kept)), None)
+    condition = None if answer.layers else explanations.condition(answer).text
+    place = place_text(record, None if kept is None else kept.path)
+    return Refusal(call_text(record), place, answer.error or "-", told, condition)
 
 
 def _without_ruleset(condition: Condition) -> str:
@@ -133,45 +222,24 @@ def _without_ruleset(condition: Condition) -> str:
     return f"{condition.text}; the program runs without that layer"
 
 
-def _layers(record: Record, answer: Answer, process: Process) -> tuple[RefusingLayer, ...]:
-    """The layers that refuse a record."""
-    return tuple(
-        RefusingLayer(
-            layer.layer,
-            process.domain[layer.layer - 1].policy,
-            tuple(_as_shown(objection, record, process) for objection in layer.objections),
-        )
-        for layer in explanations.refusing(record, answer)
-    )
-
-
-def _as_shown(objection: Objection, record: Record, process: Process) -> Objection:
+def _as_shown(objection: Objection, record: Record, walk: Walk) -> Objection:
     """An objection with its path as a person knows it."""
     match objection:
         case Missing(path=path):
             return replace(objection, path=shown_path(record, path))
-        case Kept(path=path):
-            return replace(objection, path=process.descriptors.get(record["fd"]) or path)
+        case Kept(path=path, opened=line):
+            return replace(objection, path=walk.opened(line) or path)
     return objection
 
 
-def _moot(summary: Summary, record: Record, answer: Answer, process: Process) -> None:
-    why, at = _because(record, answer, process)
-    summary.moot.setdefault(why, Counter())[at] += 1
-    origin = of_policy(record)
-    if origin is not None:
-        _warn(summary, f"{_rule_text(origin, record)} is moot: {at} {why}; was it never touched in the run, or is the "
-                       "name wrong?")
-
-
-def _because(record: Record, answer: Answer, process: Process) -> tuple[str, str]:
+def _because(record: Record, answer: Answer, missed: bool) -> tuple[str, str]:
     """Why a call is moot, and at which path or number that shows."""
     kernel = record.get("kernel")
+    if kernel not in ASKED_LANDLOCK and answer.explanation not in LEFT_OUT:
+        return f"the call failed in the recording too: {kernel}", place_text(record)
     reason = explanations.reason(record, answer)
-    if kernel not in ASKED_LANDLOCK and reason.why != explanations.LEFT_OUT:
-        return f"the call failed in the recording too: {kernel}", place_text(record, process)
-    missed = reason.why == explanations.NOT_OPEN and record["fd"] in process.unopened
-    why = f"{reason.why}, its opening was refused or moot" if missed else reason.why
+    not_opened = reason.why == explanations.NOT_OPEN and missed
+    why = f"{reason.why}, its opening was refused or moot" if not_opened else reason.why
     return why, " -> ".join(shown_path(record, at) for at in reason.at)
 
 
@@ -192,13 +260,6 @@ def _warn(summary: Summary, text: str) -> None:
     summary.warnings[text] = summary.warnings.get(text, 0) + 1
 
 
-def _unsaid(path: Path) -> Counter[str]:
-    """What the recording could not say, by class; nothing where it left no list."""
-    if not path.exists():
-        return Counter()
-    return Counter(str(entry.get("class")) for _, entry in jsonl.numbered(path))
-
-
 def as_data(summary: Summary) -> dict[str, Any]:
     """The summary as data for programs; its keys stay."""
     return {
@@ -208,6 +269,7 @@ def as_data(summary: Summary) -> dict[str, Any]:
         "refused": summary.verdicts["refused"],
         "moot": summary.verdicts["moot"],
         "refusals": [_refusal_data(refusal, programs) for refusal, programs in summary.by_frequency()],
+        "accepted": [{"times": times, **asdict(one)} for one, times in summary.accepted.most_common()],
         "moot_because": [
             {"why": why, "times": at.total(), "at": dict(at.most_common())}
             for why, at in sorted(summary.moot.items(), key=lambda item: -item[1].total())
@@ -216,6 +278,7 @@ def as_data(summary: Summary) -> dict[str, Any]:
         "moot_path_calls": summary.moot_path_calls,
         "warnings": [{"text": text, "times": times} for text, times in summary.warnings.items()],
         "unsaid": dict(summary.unsaid.most_common()),
+        "not_judged": list(summary.missing),
     }
 
 

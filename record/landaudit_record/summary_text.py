@@ -46,16 +46,25 @@ def lines(summary: Summary, title: str, style: Style) -> Iterator[str]:
     yield style.bold(title)
     verdicts = summary.verdicts
     refused = f"{verdicts['refused']} refused"
+    not_all = ", and NOT ALL IS JUDGED (see the end)" if summary.missing else ""
     yield (f"{summary.records} records: {verdicts['allowed']} allowed, "
-           f"{style.red(refused) if verdicts['refused'] else refused}, {verdicts['moot']} moot")
+           f"{style.red(refused) if summary.others_refused else refused}{_of_these(summary)}, {verdicts['moot']} moot"
+           f"{not_all}")
     for text, times in summary.warnings.items():
         yield style.yellow("warning: ") + printable(text) + (f" ({counted(times, 'time')})" if times > 1 else "")
     yield from _refusals(summary, style)
+    yield from _accepted(summary, style)
     yield from _moot(summary, style)
     if summary.unsaid:
         yield ""
         yield style.bold(f"not recorded: {counted(summary.unsaid.total(), 'call')}")
         yield from _table(("times", "class"), [(str(times), name) for name, times in summary.unsaid.most_common()])
+
+
+def ending(summary: Summary, style: Style) -> Iterator[str]:
+    """The last lines of all: what could not be judged, so that no audit looks like more than it is."""
+    for text in summary.missing:
+        yield style.red("NOT ALL IS JUDGED: ") + printable(text)
 
 
 def by_abi(steps: Sequence[Step], style: Style) -> Iterator[str]:
@@ -99,6 +108,20 @@ def _refusals(summary: Summary, style: Style) -> Iterator[str]:
     yield from _table(("times", "call", "place", "error", "layers", "program", "why"), rows)
     if len(found) > MOST_ROWS:
         yield f"  and {counted(len(found) - MOST_ROWS, 'kind')} more: --json lists all"
+
+
+def _of_these(summary: Summary) -> str:
+    """How many of the refused records are accepted, if any are."""
+    accepted = summary.accepted.total()
+    return f" ({accepted} accepted)" if accepted else ""
+
+
+def _accepted(summary: Summary, style: Style) -> Iterator[str]:
+    if summary.accepted:
+        yield ""
+        yield style.bold(f"refused and accepted ({counted(len(summary.accepted), 'kind')})")
+        rows = [(str(times), one.call, one.place, one.reason) for one, times in summary.accepted.most_common()]
+        yield from _table(("times", "call", "place", "reason"), rows)
 
 
 def _refusal_row(refusal: Refusal, programs: Counter[str]) -> tuple[str, ...]:

@@ -1,9 +1,10 @@
-"""The listed file tree: which paths are there, of which kind, and where symbolic links lead."""
+"""The listed file tree: which objects are there, under which names, of which kind, and where symbolic links lead."""
 
 from __future__ import annotations
 
 from collections.abc import Iterator
 from dataclasses import dataclass, field
+from functools import cached_property
 from pathlib import Path
 
 from . import jsonl
@@ -37,10 +38,18 @@ def joined(directory: str, name: str) -> str:
 
 @dataclass(frozen=True)
 class Tree:
-    """The kind of each listed path, and the target of each symbolic link that says it."""
+    """The kind of each listed path, and the target of each symbolic link that says it.
+
+    `made` are the paths at which nothing was when the run began, `first` says of each further name of an object the
+    first one, `others` of a first one the further ones, and `shown` the real path of what is listed under another.
+    """
 
     kinds: dict[str, str] = field(default_factory=lambda: {ROOT: "dir"})
     targets: dict[str, str] = field(default_factory=dict)
+    made: set[str] = field(default_factory=set)
+    first: dict[str, str] = field(default_factory=dict)
+    others: dict[str, list[str]] = field(default_factory=dict)
+    shown: dict[str, str] = field(default_factory=dict)
 
     def kind(self, path: str) -> str | None:
         """The kind of what is there, None if nothing is."""
@@ -50,10 +59,40 @@ class Tree:
         """Whether a directory is there."""
         return self.kinds.get(path) == "dir"
 
-    def resolved(self, path: str) -> str:
+    def names(self, path: str) -> list[str]:
+        """All names of the object that a path names, the first one first."""
+        first = self.first.get(path, path)
+        return [first, *self.others.get(first, ())]
+
+    def real(self, path: str) -> str:
+        """The real path of a name of the tree."""
+        return self.shown.get(path, path)
+
+    def before(self, path: str) -> str:
+        """The name by which a path could be opened before the run.
+
+        This is the first name of its object if that was there, else that of the directory over it.
+        """
+        first = self.first.get(path, path)
+        while first in self.made:
+            path = directory_of(path)
+            first = self.first.get(path, path)
+        return first
+
+    @cached_property
+    def put(self) -> dict[str, str]:
+        """The real paths at which the run puts an object, each with the name of one."""
+        return {self.real(name): name for name in self.made}
+
+    def is_replaced(self, path: str) -> bool:
+        """Whether an object is at a path when the run begins, and another one later."""
+        return path in self.put and path in self.kinds and path not in self.made
+
+    def resolved(self, path: str, *, before_run: bool = False) -> str:
         """An absolute path without symbolic links, `.`, `..` and doubled slashes, as the kernel walks it.
 
-        What comes after a component that is not listed is as it is written.
+        Before the run there are no links that it makes. What comes after a component that is not listed is as it is
+        written.
         """
         todo = path.split("/")[::-1]
         here, links = ROOT, 0
@@ -65,7 +104,7 @@ class Tree:
                 here = directory_of(here)
                 continue
             there = joined(here, name)
-            target = self.targets.get(there)
+            target = None if before_run and there in self.made else self.targets.get(there)
             if target is None:
                 here = there
                 continue
@@ -77,14 +116,33 @@ class Tree:
         return here
 
 
-def read(path: Path) -> Tree:
-    """The tree in a file. A line without a path or a kind is a Problem; landaudit looks at the rest."""
+def read(*paths: Path) -> Tree:
+    """The tree in a file, or in the files of all parts of a recording.
+
+    A line without a path or a kind is a Problem; landaudit looks at the rest.
+    """
     tree = Tree()
-    for number, entry in jsonl.numbered(path):
-        listed, kind, target = entry.get("path"), entry.get("kind"), entry.get("target")
-        if not isinstance(listed, str) or not isinstance(kind, str):
-            raise Problem(f"{path} line {number} lists no object: it needs a path and a kind")
-        tree.kinds[listed] = kind
-        if kind == "sym" and isinstance(target, str):
-            tree.targets[listed] = target
+    for path in paths:
+        for number, entry in jsonl.numbered(path):
+            listed, kind, target = entry.get("path"), entry.get("kind"), entry.get("target")
+            if not isinstance(listed, str) or not isinstance(kind, str):
+                raise Problem(f"{path} line {number} lists no object: it needs a path and a kind")
+            if listed in tree.kinds:
+                continue
+            tree.kinds[listed] = kind
+            if kind == "sym" and isinstance(target, str):
+                tree.targets[listed] = target
+            _note_names(tree, listed, entry)
     return tree
+
+
+def _note_names(tree: Tree, listed: str, entry: jsonl.Record) -> None:
+    """Takes up what a line says of the object's names."""
+    first, shown = entry.get("same"), entry.get("shown")
+    if entry.get("made") is True:
+        tree.made.add(listed)
+    if isinstance(first, str):
+        tree.first[listed] = first
+        tree.others.setdefault(first, []).append(listed)
+    if isinstance(shown, str):
+        tree.shown[listed] = shown

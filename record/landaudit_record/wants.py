@@ -4,7 +4,7 @@ from __future__ import annotations
 
 import re
 from collections import Counter, defaultdict
-from dataclasses import dataclass
+from dataclasses import dataclass, replace
 from typing import TypeVar
 
 from .rights import Rights
@@ -24,11 +24,15 @@ Place = TypeVar("Place", str, str | int)
 
 @dataclass(frozen=True)
 class Rule:
-    """A rule to be written, on a path or on ports, and how many calls ask for it."""
+    """A rule to be written, on a path or on ports, and how many calls ask for it.
+
+    `instead_of` are paths beneath that at which the run puts other objects, so that rules on them would not do.
+    """
 
     place: str | tuple[int, ...]
     rights: Rights
     calls: int
+    instead_of: tuple[str, ...] = ()
 
 
 def unite(wants: dict[Place, Lacking], more: dict[Place, Lacking]) -> None:
@@ -39,32 +43,42 @@ def unite(wants: dict[Place, Lacking], more: dict[Place, Lacking]) -> None:
             here.setdefault(right, set()).update(calls)
 
 
-def rules(tree: Tree, wants: Wants, made: set[str]) -> list[Rule]:
+def rules(tree: Tree, wants: Wants) -> list[Rule]:
     """The rules that grant what is lacking, those first for which most calls ask.
 
     A rule is on what can be opened before the run: for an object that is
-    made in it, and for a symbolic link, on the directory over that. What is
+    made in it, and for a symbolic link, on the directory over that; for one
+    that is moved in it, on where it was. What is
     lacking on several files of one directory is granted on the directory,
     except for the root.
     """
-    found = _path_rules(_together(tree, _lasting(tree, wants, made))) + _port_rules(wants)
+    replaced = {tree.real(place): there_before(tree, place) for place in wants if isinstance(place, str)}
+    replaced = {path: before for path, before in replaced.items() if path != before and tree.is_replaced(path)}
+    of_paths = _path_rules(_together(tree, _lasting(tree, wants)))
+    found = [_instead(rule, replaced) for rule in of_paths] + _port_rules(wants)
     return sorted(found, key=lambda rule: -rule.calls)
 
 
-def _lasting(tree: Tree, wants: Wants, made: set[str]) -> OnPaths:
+def _instead(rule: Rule, replaced: dict[str, str]) -> Rule:
+    """A rule with the paths that are replaced in the run, and that it is there for."""
+    paths = sorted(path for path, before in replaced.items() if rule.place in [*upwards(before)])
+    return replace(rule, instead_of=tuple(paths))
+
+
+def _lasting(tree: Tree, wants: Wants) -> OnPaths:
     """What is lacking on paths, each of which can have a rule before the run."""
     lasting: OnPaths = {}
     for place, rights in wants.items():
         if isinstance(place, str):
-            unite(lasting, {_there_before(tree, place, made): rights})
+            unite(lasting, {there_before(tree, place): rights})
     return lasting
 
 
-def _there_before(tree: Tree, path: str, made: set[str]) -> str:
-    """A path, or the directory over the uppermost of its components that the run made, a process has, or is a link."""
-    before = path
-    for over in upwards(path):
-        if over in made or _OF_A_PROCESS.fullmatch(over) or tree.kind(over) == "sym":
+def there_before(tree: Tree, path: str) -> str:
+    """Where a rule for a path can be before the run: not on a link, and not on what a process has in /proc."""
+    before = tree.before(directory_of(path) if tree.kind(path) == "sym" else path)
+    for over in upwards(before):
+        if _OF_A_PROCESS.fullmatch(over):
             before = directory_of(over)
     return before
 

@@ -5,7 +5,8 @@ Prints the table of docs/CONFORMANCE.md. Each row is one recording, made by
 
     record/tests/conformance.py OUTDIR --only NAME/POLICY
 
-and kept in OUTDIR if something in it differs, or if --keep is given.
+and kept in OUTDIR if something in it differs, or if --keep is given. The programs of other_programs.toml are recorded
+bare as well, and their rows say what the bare recording foretold of the refusals that the other runs met.
 """
 
 from __future__ import annotations
@@ -26,12 +27,14 @@ from pathlib import Path
 from typing import Any
 
 import actor
+import foretelling
 import workshop
 
 from landaudit_record.rights import NEWEST_ABI, OLDEST_ABI
 
 HERE = Path(__file__).resolve().parent
 RECORDER = HERE.parent / "landaudit-record"
+POLICY = HERE.parent / "landaudit-policy"
 POLICIES = HERE / "policies"
 PYTHON = "/usr/bin/python3"
 ACTORS_POLICY = POLICIES / "actors" / "folders-and-ports.toml"
@@ -40,19 +43,23 @@ ACTORS = 20
 ACTOR_COUNT = 1500
 OWN_LAYERS = "own layers"
 """Stands for a policy where a program confines itself alone."""
+FORETOLD_UNDER = ("read-only", "two-layers", "work-only")
+"""The policies under which the programs that are recorded bare run."""
 
 
 @dataclass(frozen=True)
 class Run:
     """One recording: a program, the command that it runs, and the policy that it runs under.
 
-    `acts` is said of the random actor, whose folder is there before it begins.
+    `acts` is said of the random actor, whose folder is there before it begins; `foretold` of a run that a bare
+    recording of the program comes before.
     """
 
     program: str
     command: tuple[str, ...]
     policy: Path | None
     acts: bool = False
+    foretold: bool = False
 
     @property
     def name(self) -> str:
@@ -66,16 +73,28 @@ def runs(abi: int) -> Iterator[Run]:
     Every second actor is under a policy beside the layers that it makes itself.
     """
     policies = sorted(POLICIES.glob("*.toml"))
-    with open(HERE / "programs.toml", "rb") as file:
-        programs = tomllib.load(file)["program"]
-    for program in programs:
-        command = ("/bin/sh", "-c", program["command"])
+    for program in _programs("programs.toml"):
         chosen = [None] if program.get("own_layers") else []
-        yield from (Run(program["name"], command, policy) for policy in chosen + policies)
+        yield from (Run(program["name"], _shell(program), policy) for policy in chosen + policies)
+    for program in _programs("other_programs.toml"):
+        chosen = [POLICIES / f"{name}.toml" for name in FORETOLD_UNDER]
+        yield from (Run(program["name"], _shell(program), policy, foretold=True) for policy in chosen)
     for seed in range(1, ACTORS + 1):
         words = (PYTHON, str(HERE / "actor.py"), str(seed), str(ACTED_IN), str(ACTOR_COUNT))
         policy = ACTORS_POLICY if seed % 2 == 0 else None
         yield Run(f"actor-{seed}", (*words, "--confine", f"--abi={abi}"), policy, acts=True)
+
+
+def _programs(name: str) -> list[dict[str, Any]]:
+    """The programs of a file beside this one."""
+    with open(HERE / name, "rb") as file:
+        found: list[dict[str, Any]] = tomllib.load(file)["program"]
+    return found
+
+
+def _shell(program: dict[str, Any]) -> tuple[str, ...]:
+    """The words that run a program's command."""
+    return "/bin/sh", "-c", program["command"]
 
 
 @contextmanager
@@ -101,12 +120,12 @@ def record(run: Run, out: Path, abi: int) -> None:
     if run.acts:
         actor.fill(ACTED_IN)
     words = [sys.executable, str(RECORDER), "run", str(out)]
-    sandboxer: list[str] = []
+    confined: list[str] = []
     if run.policy is not None:
         words += ["--port-rules", str(run.policy)]
-        sandboxer = [PYTHON, str(HERE / "sandboxer.py"), str(run.policy), "--abi", str(abi), "--"]
+        confined = [PYTHON, str(POLICY), "confine", str(run.policy), "--abi", str(abi), "--"]
     quiet = subprocess.DEVNULL
-    subprocess.run([*words, "--", *sandboxer, *run.command], cwd=workshop.WORK, stdin=quiet, stdout=quiet, stderr=quiet)
+    subprocess.run([*words, "--", *confined, *run.command], cwd=workshop.WORK, stdin=quiet, stdout=quiet, stderr=quiet)
 
 
 def convert(run: Run, out: Path) -> None:
@@ -126,18 +145,39 @@ def compare(out: Path, abi: int) -> dict[str, Any]:
     return json.loads(said.stdout)
 
 
-def row(run: Run, found: dict[str, Any]) -> str:
+def foretell(run: Run, out: Path, abi: int) -> foretelling.Foretold | None:
+    """What the bare recording of a run's program, which is made where there is none yet, foretold of the run."""
+    if not run.foretold or run.policy is None:
+        return None
+    bare = out.parent / f"{run.program}-bare"
+    if not bare.exists():
+        record(Run(run.program, run.command, None), bare, abi)
+    return foretelling.compared(bare, out, run.policy, abi)
+
+
+def row(run: Run, found: dict[str, Any], told: foretelling.Foretold | None) -> str:
     """A row of the table."""
     policy = run.policy.stem if run.policy else OWN_LAYERS
     if "fault" in found:
-        return f"| {run.program} | {policy} | {found['fault']} | | |"
+        return f"| {run.program} | {policy} | {found['fault']} | | | | |"
     differences = "; ".join(f"{it['times']} {it['class']}" for it in found["differences"])
-    return f"| {run.program} | {policy} | {found['calls']:,} | {found['agree']:,} | {differences} |"
+    columns = [run.program, policy, f"{found['calls']:,}", f"{found['agree']:,}", differences, *_foretold(told)]
+    return f"| {' | '.join(columns)} |"
+
+
+def _foretold(told: foretelling.Foretold | None) -> tuple[str, str]:
+    """The columns on what was foretold: of the kinds of refusals that were met, and false alarms."""
+    if told is None:
+        return "", ""
+    behind = f", {len(told.behind)} behind another" if told.behind else ""
+    missed = f", {len(told.missed)} MISSED" if told.missed else ""
+    return f"{len(told.foretold)} of {len(told.met)}{behind}{missed}", str(len(told.false_alarms))
 
 
 def table(chosen: Sequence[Run], arguments: argparse.Namespace) -> int:
     """Makes the recordings and prints the table; the status is 1 if some difference has no name."""
-    print("| Program | Policy | Calls | Agree | Differences |\n|---|---|--:|--:|---|", flush=True)
+    print("| Program | Policy | Calls | Agree | Differences | Foretold | False alarms |")
+    print("|---|---|--:|--:|---|---|--:|", flush=True)
     calls = agree = unnamed = 0
     for run in chosen:
         out = arguments.out / run.name.replace("/", "-")
@@ -147,13 +187,16 @@ def table(chosen: Sequence[Run], arguments: argparse.Namespace) -> int:
             shutil.rmtree(out, ignore_errors=True)
             record(run, out, arguments.abi)
         found = compare(out, arguments.abi)
-        print(row(run, found), flush=True)
+        told = foretell(run, out, arguments.abi)
+        print(row(run, found, told), flush=True)
+        for line in foretelling.details(told) if told is not None else ():
+            print(f"{run.name}: {line}", file=sys.stderr, flush=True)
         calls += found.get("calls", 0)
         agree += found.get("agree", 0)
         unnamed += sum(it["times"] for it in found.get("differences", ()) if not it["named"]) + ("fault" in found)
-        if not arguments.keep and found.get("differences") == []:
+        if not arguments.keep and found.get("differences") == [] and not (told is not None and told.is_wrong):
             shutil.rmtree(out)
-    print(f"| all {len(chosen)} | | {calls:,} | {agree:,} | {calls - agree:,} |")
+    print(f"| all {len(chosen)} | | {calls:,} | {agree:,} | {calls - agree:,} | | |")
     return 1 if unnamed else 0
 
 

@@ -11,11 +11,13 @@ import unittest
 from pathlib import Path
 from typing import Any
 
-from landaudit_record import landaudit
-from landaudit_record.problems import WANTING, Problem
+from landaudit_record import confining, landaudit
+from landaudit_record.problems import Problem
+from landaudit_record.rights import NEWEST_ABI
 
 HERE = Path(__file__).resolve().parent
 RECORDER = HERE.parent / "landaudit-record"
+CONFINER = HERE.parent / "landaudit-policy"
 POLICIES = HERE / "policies"
 WORK = "/tmp/landaudit-conformance"
 """The folder that the policies name; here a temporary one stands for it."""
@@ -34,10 +36,8 @@ def wanting() -> str | None:
         return f"{PYTHON} is not there"
     if shutil.which("strace") is None:
         return "strace is not installed"
-    sandboxer = [PYTHON, str(HERE / "sandboxer.py"), str(POLICIES / "no-network.toml"), "--", "true"]
-    if subprocess.run(sandboxer, capture_output=True).returncode == WANTING:
-        return "this kernel has no Landlock"
     try:
+        confining.known_abi(NEWEST_ABI)
         landaudit.find(None)
     except Problem as problem:
         return str(problem)
@@ -67,9 +67,8 @@ class LiveActor(unittest.TestCase):
         acted_in = self.work / "actor"
         actor = [PYTHON, str(HERE / "actor.py"), str(seed), str(acted_in)]
         subprocess.run([*by, *actor, "0"], check=True)
-        sandboxed = [PYTHON, str(HERE / "sandboxer.py"), str(policy), "--"] if policy else []
-        ports = ["--port-rules", str(policy)] if policy else []
-        record = [*by, str(RECORDER), "run", str(self.work / "rec"), *ports, "--", *sandboxed, *actor]
+        under = ["--policy", str(policy)] if policy else []
+        record = [*by, str(RECORDER), "run", str(self.work / "rec"), *under, "--", *actor]
         run = subprocess.run([*record, str(COUNT), "--confine"], cwd=self.work, capture_output=True, text=True)
         self.assertEqual(run.returncode, 0, run.stderr)
         compare = [str(RECORDER), "compare", str(self.work / "rec"), "--json"]

@@ -8,7 +8,7 @@ import tempfile
 import unittest
 from pathlib import Path
 
-from .live_actor import HERE, RECORDER, wanting
+from .live_actor import CONFINER, RECORDER, wanting
 
 DENY = """[[layer]]
 handled_access_fs = ["all"]
@@ -36,7 +36,7 @@ class LiveSuggesting(unittest.TestCase):
         """The program under the policy, on a work folder as it was before."""
         for name in ("out", "also"):
             (self.work / name).unlink(missing_ok=True)
-        return self.run_in_work([sys.executable, HERE / "sandboxer.py", self.policy, "--", "sh", "-c", SHELL])
+        return self.run_in_work([sys.executable, CONFINER, "confine", self.policy, "--", "sh", "-c", SHELL])
 
     def run_in_work(self, words: list[str | Path]) -> subprocess.CompletedProcess[str]:
         return subprocess.run(words, cwd=self.work, capture_output=True, text=True, check=False)

@@ -32,6 +32,13 @@ def refused(*objections: str, error: str = "EACCES") -> str:
     return "\n".join([f"refused {error} {','.join(map(str, numbers))}", *lines])
 
 
+def at_its_line(trace: Sequence[Record], answer: str) -> str:
+    """An answer of `refused` in whose lines each layer is that of a trace's restrict, in their order."""
+    for number, line in enumerate((at for at, one in enumerate(trace, start=1) if one["op"] == "restrict"), start=1):
+        answer = answer.replace(f"(line {100 + number})", f"(line {line})")
+    return answer
+
+
 def failed(error: str, condition: str) -> str:
     """An answer by which a call fails by itself."""
     return f"refused {error} -\n    {condition}"
@@ -62,6 +69,7 @@ def _together(texts: Mapping[int, str]) -> Iterator[tuple[str, str]]:
 def write_report(path: Path, trace: Sequence[Record], answers: Sequence[str]) -> Path:
     """A report on a trace: the answers in its order, each in the report's words, with the lines that explain it."""
     answered = enumerate(zip(trace, answers, strict=True), start=1)
-    rows = [f"{number} {record['pid']} {record['op']} {answer}" for number, (record, answer) in answered]
+    rows = [f"{number} {record['pid']} {record['op']} {at_its_line(trace, answer)}"
+            for number, (record, answer) in answered]
     path.write_text("\n".join([*rows, f"total {len(rows)} allowed 0 refused 0 moot 0"]) + "\n")
     return path

@@ -6,6 +6,7 @@ import io
 import json
 import tempfile
 import unittest
+from dataclasses import replace
 from pathlib import Path
 
 from landaudit_record import applying
@@ -135,6 +136,33 @@ class Applying(unittest.TestCase):
                 {"op": "close_rs", "rs": 8, "policy": {"layer": 1}},
             ],
         )
+
+    def test_a_rule_is_on_all_names_of_its_object(self) -> None:
+        tree = replace(TREE, first={"/bin/x": "/usr/ls"}, others={"/usr/ls": ["/bin/x"]}, made={"/bin/x"})
+        tried = policy("/usr/ls")
+        added = [one for one in applying.records(tried, fit(tried, 5)[0], tree, 1) if one["op"] == "add_path"]
+        self.assertEqual([one["path"] for one in added], ["/usr/ls", "/bin/x"])
+        self.assertEqual({one["policy"]["parent"] for one in added}, {"/usr/ls"})
+
+    def test_no_rule_is_on_what_the_run_makes(self) -> None:
+        tree = replace(TREE, kinds={**TREE.kinds, "/usr/new": "dir", "/usr/new/x": "reg"},
+                       made={"/usr/new", "/usr/new/x"})
+        tried = policy("/usr/new/x")
+        (added,) = (one for one in applying.records(tried, fit(tried, 5)[0], tree, 1) if one["op"] == "add_path")
+        self.assertEqual((added["path"], added["policy"]["made"]), ("/~new~", "/usr"))
+
+    def test_a_rule_stays_with_what_was_there_before_the_run(self) -> None:
+        tree = replace(TREE, kinds={**TREE.kinds, "/usr/ls~2~": "reg"}, made={"/usr/ls~2~"},
+                       shown={"/usr/ls~2~": "/usr/ls"})
+        tried = policy("/usr/ls")
+        (added,) = (one for one in applying.records(tried, fit(tried, 5)[0], tree, 1) if one["op"] == "add_path")
+        self.assertEqual((added["path"], added["policy"]["replaced"]), ("/usr/ls", "/usr"))
+
+    def test_a_parent_behind_a_link_that_the_run_makes(self) -> None:
+        tree = replace(TREE, made={"/sh"})
+        tried = policy("/sh")
+        (added,) = (one for one in applying.records(tried, fit(tried, 5)[0], tree, 1) if one["op"] == "add_path")
+        self.assertEqual((added["path"], added["policy"]["made"]), ("/~new~", "/"))
 
     def test_a_group_on_a_file(self) -> None:
         everything, reading = Access(grouped=FS.groups["all"]), Access(grouped=FS.groups["read"])

@@ -6,56 +6,13 @@ was seen to answer.
 
 from __future__ import annotations
 
-import tempfile
 import unittest
-from pathlib import Path
-from typing import Any
-
-from landaudit_record import jsonl
-from landaudit_record.recorder import converting, recordings
-from landaudit_record.recorder.ports import Ports
 
 from .kept_logs import bare
-
-CWD = "-100 /* AT_FDCWD */</w>"
-DISK: list[jsonl.Record] = [
-    {"path": "/w", "kind": "dir"},
-    {"path": "/w/d", "kind": "dir"},
-    {"path": "/w/e", "kind": "dir"},
-    {"path": "/w/f", "kind": "reg"},
-    {"path": "/w/p", "kind": "reg", "runs": True},
-    {"path": "/w/text", "kind": "reg"},
-    {"path": "/w/to-d", "kind": "sym", "target": "d"},
-    {"path": "/w/loop", "kind": "sym", "target": "loop"},
-]
+from .strace_lines import CONFINED, CWD, StraceLines
 
 
-class Calls(unittest.TestCase):
-    def setUp(self) -> None:
-        folder = tempfile.TemporaryDirectory()
-        self.addCleanup(folder.cleanup)
-        self.out = Path(folder.name)
-
-    def convert(self, *calls: str) -> list[jsonl.Record]:
-        """The records that calls become, without those of the start and of the first program."""
-        about = recordings.About(["p"], "/w", 0.0, False, True, {})
-        about.write(self.out)
-        jsonl.write(self.out / recordings.OBJECTS, DISK)
-        lines = ['10  execve("/w/p", ["p"], 0x1 /* 2 vars */) = 0', *(f"10  {call}" for call in calls)]
-        (self.out / "strace.txt").write_text("".join(line + "\n" for line in lines), encoding="ascii")
-        converting.convert(self.out, Ports())
-        return [record for _, record in jsonl.numbered(self.out / "trace.jsonl") if record["call"] > 1]
-
-    def one(self, *calls: str) -> dict[str, Any]:
-        """The first record that calls become, as landaudit reads it."""
-        return bare(self.convert(*calls)[0])
-
-    def unsaid(self) -> list[str]:
-        return [line["class"] for _, line in jsonl.numbered(self.out / "unsaid.jsonl")]
-
-    def tree(self) -> dict[str, str]:
-        return {line["path"]: line["kind"] for _, line in jsonl.numbered(self.out / "tree.jsonl")}
-
+class Calls(StraceLines):
     def test_a_file_without_a_name_asks_no_make_reg_and_no_truncate(self) -> None:
         opened = self.one(
             f'openat({CWD}, "d", 0x410202 /* O_RDWR|O_TRUNC|O_TMPFILE */, 0600) = 3</w/d/#7>(deleted)',
@@ -64,9 +21,12 @@ class Calls(unittest.TestCase):
         self.assertEqual(self.tree()["/w/d/#7"], "reg")
 
     def test_a_file_without_a_name_that_is_refused(self) -> None:
-        refused = self.one(f'openat({CWD}, "d", 0x410002 /* O_RDWR|O_TMPFILE */, 0600) = -1 EACCES (Permission denied)')
-        self.assertEqual((refused["path"], refused.get("create")), ("/w/d/tmpfile~new~", None))
-        self.assertEqual(self.tree()["/w/d/tmpfile~new~"], "reg")
+        _, refused, _ = self.convert(
+            CONFINED,
+            f'openat({CWD}, "d", 0x410002 /* O_RDWR|O_TMPFILE */, 0600) = -1 EACCES (Permission denied)',
+        )
+        self.assertEqual((refused["path"], refused.get("create")), ("/w/d/#tmpfile", None))
+        self.assertEqual(self.tree()["/w/d/#tmpfile"], "reg")
 
     def test_a_file_without_a_name_where_no_directory_is(self) -> None:
         missing = self.one(f'openat({CWD}, "f", 0x410002 /* O_RDWR|O_TMPFILE */, 0600) = -1 ENOTDIR (Not a directory)')
@@ -85,12 +45,23 @@ class Calls(unittest.TestCase):
         self.assertEqual((looped["path"], looped.get("create")), ("/w/loop~new~", None))
 
     def test_a_refused_creation_that_made_the_file_is_seen_by_a_later_call(self) -> None:
-        refused, _, later, _ = self.convert(
+        _, refused, _, later, _ = self.convert(
+            CONFINED,
             f'openat({CWD}, "n", 0x42 /* O_RDWR|O_CREAT */, 0600) = -1 EACCES (Permission denied)',
             f'openat({CWD}, "n", 0 /* O_RDONLY */) = -1 EACCES (Permission denied)',
         )
         self.assertEqual((refused["path"], refused["create"]), ("/w/n~new~", True))
         self.assertEqual((later["path"], self.tree()["/w/n"]), ("/w/n", "reg"))
+
+    def test_what_file_modes_refuse_is_no_question_to_landlock(self) -> None:
+        calls = (
+            f'openat({CWD}, "f", 0 /* O_RDONLY */) = -1 EACCES (Permission denied)',
+            'mkdir("d/x", 0777) = -1 EACCES (Permission denied)',
+        )
+        self.assertEqual(self.convert(*calls), [])
+        self.assertEqual(self.unsaid(), ["EACCES by file modes, whatever a policy says"] * 2)
+        self.assertEqual([record["op"] for record in self.convert(CONFINED, *calls)],
+                         ["restrict", "open", "close", "mkdir"])
 
     def test_an_exchange_that_is_refused_says_that_both_are_there(self) -> None:
         exchange = self.one(
@@ -104,7 +75,7 @@ class Calls(unittest.TestCase):
             f'mkdirat({CWD}, "f", 0700) = 0',
             f'openat({CWD}, "f/x", 0x41 /* O_WRONLY|O_CREAT */, 0600) = 3</w/f/x>',
         )
-        self.assertEqual([record["path"] for record in trace], ["/w/f", "/w/f~new~", "/w/f~dir~/x~new~"])
+        self.assertEqual([record["path"] for record in trace], ["/w/f", "/w/f~new~", "/w/f~2~/x~new~"])
 
     def test_running_what_may_not_be_run_is_no_question_to_landlock(self) -> None:
         self.assertEqual(self.convert('execve("/w/text", ["text"], 0x1) = -1 EACCES (Permission denied)'), [])
@@ -163,6 +134,32 @@ class Calls(unittest.TestCase):
     def test_a_process_that_a_signal_ends_exits(self) -> None:
         trace = self.convert("fork() = 11", "--- SIGTERM {si_signo=SIGTERM} ---", "+++ killed by SIGTERM +++")
         self.assertEqual([(record["op"], record["pid"]) for record in trace], [("fork", 10), ("exit", 10)])
+
+    def test_a_file_in_memory_has_no_path(self) -> None:
+        opened = f'openat({CWD}, "/proc/self/fd/3", 0x2 /* O_RDWR */) = 4</memfd:x>(deleted)'
+        trace = self.convert(
+            'memfd_create("x", 0) = 3</memfd:x>(deleted)',
+            "fcntl(3</memfd:x>(deleted), 0 /* F_DUPFD */, 3) = 5</memfd:x>(deleted)",
+            opened,
+            "ftruncate(4</memfd:x>(deleted), 1) = 0",
+            'truncate("/proc/self/fd/3", 0) = 0',
+        )
+        self.assertEqual([bare(record) for record in trace],
+                         [{"op": "adopt", "fd": 4, "kind": "reg"}, {"op": "ftruncate", "fd": 4}])
+        self.assertEqual(self.unsaid(), ["a file without a path"])
+
+    def test_a_path_that_ends_in_no_name(self) -> None:
+        trace = self.convert(
+            'rmdir("d/..") = -1 ENOTEMPTY (Directory not empty)',
+            'rmdir("d/../") = -1 ENOTEMPTY (Directory not empty)',
+            'unlink("d/..") = -1 EISDIR (Is a directory)',
+            'mkdir("/", 0777) = -1 EEXIST (File exists)',
+            'rename("d/.", "e") = -1 EBUSY (Device or resource busy)',
+            'rename("d", "e/..") = -1 EBUSY (Device or resource busy)',
+            'link("f", "d/..") = -1 EEXIST (File exists)',
+        )
+        self.assertEqual(trace, [])
+        self.assertEqual(set(self.unsaid()), {"a path that ends in no name, before Landlock is asked"})
 
     def test_umount_and_its_like_are_mounts(self) -> None:
         trace = self.convert(

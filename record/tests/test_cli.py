@@ -37,7 +37,7 @@ class CommandLine(unittest.TestCase):
         self.assertEqual((str(arguments.out), arguments.watch), ("rec", ["/w"]))
 
     def test_each_subcommand_has_help_with_an_example(self) -> None:
-        for command in ("run", "convert", "policy", "audit", "compare", "suggest"):
+        for command in ("run", "convert", "apply", "audit", "compare", "suggest"):
             with self.subTest(command), contextlib.redirect_stdout(io.StringIO()) as out:
                 with self.assertRaises(SystemExit) as end:
                     cli.main([command, "--help"])
@@ -87,7 +87,7 @@ class CommandLine(unittest.TestCase):
                 self.assertIn("--abi: is given twice: give one ABI, or a range of them as N-M", error)
 
     def test_the_other_subcommands_take_one_abi(self) -> None:
-        for words in (["suggest", "rec", "--policy", "p"], ["policy", "p", "rec"], ["compare", "rec"]):
+        for words in (["suggest", "rec", "--policy", "p"], ["apply", "p", "rec"], ["compare", "rec"]):
             with self.subTest(words):
                 self.assertEqual(cli.parse(words).abi, 5)
                 self.assertEqual(cli.parse([*words, "--abi", "2"]).abi, 2)
@@ -113,10 +113,10 @@ class CommandLine(unittest.TestCase):
                 self.assertTrue(error.startswith(f"usage: landaudit-record {words[0]} "), error)
                 self.assertTrue(error.endswith(f": error: unrecognized arguments: {words[-1]}\n"), error)
 
-    def test_the_words_of_policy_in_another_order(self) -> None:
+    def test_the_words_of_apply_in_another_order(self) -> None:
         with tempfile.TemporaryDirectory() as folder:
             wanted = f"landaudit-record: cannot read {folder}: Is a directory\n"
-            self.assertEqual(said("policy", folder, "policy.toml"), (3, wanted))
+            self.assertEqual(said("apply", folder, "policy.toml"), (3, wanted))
 
     def test_a_command_that_is_not_found(self) -> None:
         self.assertEqual(

@@ -141,6 +141,7 @@ class Moves(KeptLogs):
                 ("/a/f", "/b/g", True),
                 ("/a/f", "/b/g", False),
                 ("/b/g", "/a/h~new~", False),
+                ("/b/#11092261", "/b/t~new~", False),
                 ("/b", "/c~new~", False),
             ],
         )
@@ -171,7 +172,43 @@ class Moves(KeptLogs):
 
     def test_what_cannot_be_said(self) -> None:
         self.convert("moves")
-        self.assertEqual(self.unsaid("moves"), ["EEXIST before Landlock is asked", "a link of a file that has no name"])
+        self.assertEqual(self.unsaid("moves"), ["EEXIST before Landlock is asked"])
+
+
+class Objects(KeptLogs):
+    """A program that replaces, moves, links and exchanges files and directories, and reads them then."""
+
+    def test_what_is_read_is_the_object_that_is_there(self) -> None:
+        opened = ops(self.convert("objects"), "open")
+        read = [record["path"] for record in opened if record["mode"] == "r" and record["path"].startswith(WORK)]
+        self.assertEqual(
+            [path.removeprefix(WORK) for path in read],
+            [
+                "/conf", "/conf~2~", "/conf~2~",
+                "/bak", "/hard",
+                "/dir~2~/in", "/old/in",
+                "/old~2~/in", "/else~2~/in",
+                "/named",
+                "/bak", "/bak", "/bak~2~",
+                "/none~new~/conf",
+            ],
+        )
+
+    def test_names_of_one_object_say_so(self) -> None:
+        folder = self.folder("objects")
+        converting.convert(folder, Ports())
+        listed = {line["path"].removeprefix(WORK): line for line in self.lines(folder, "tree.jsonl")}
+        same = {name: line["same"].removeprefix(WORK) for name, line in listed.items() if "same" in line}
+        self.assertEqual(
+            same,
+            {
+                "/bak": "/other", "/hard": "/other",
+                "/old": "/dir", "/old/in": "/dir/in", "/else~2~": "/dir", "/else~2~/in": "/dir/in",
+                "/old~2~": "/else", "/old~2~/in": "/else/in",
+            },
+        )
+        there = {name for name, line in listed.items() if line["path"].startswith(WORK) and "made" not in line}
+        self.assertEqual(there, {"", "/conf", "/other", "/dir", "/dir/in", "/else", "/else/in"})
 
 
 class Policies(KeptLogs):

@@ -262,6 +262,10 @@ class Reasons(unittest.TestCase):
         for path in ("/a", *AWKWARD, *ESCAPED):
             self.assertEqual(reason({"op": "add_path", "rs": 3, "path": path}, said), Reason((path,), said))
 
+    def test_a_ruleset_of_which_the_abi_has_no_right(self) -> None:
+        said = "left out, as this ABI supports none of the ruleset's rights"
+        self.assertEqual(reason({"op": "restrict", "rs": 3}, said), Reason(("ruleset 3",), said))
+
     def test_only_a_rule_can_be_left_out(self) -> None:
         said = "left out, as this ABI supports none of the rule's rights"
         for of in (OPEN, MOVE, MOUNT, BIND, CUT, {"op": "create", "rs": 3}, {"op": "restrict", "rs": 3}):

@@ -45,6 +45,22 @@ class Reading(unittest.TestCase):
         self.assertEqual(beneath.allowed_access.rights, {"read_file", "read_dir", "execute"})
         self.assertEqual((port.place, port.ports), ("net_port 1", (443,)))
 
+    def test_scopes_are_kept_in_a_layer_with_rights_and_alone(self) -> None:
+        scoped = 'scoped = ["signal", "abstract_unix_socket"]\n'
+        for text in (READING + scoped, "[[layer]]\n" + scoped):
+            with self.subTest(text):
+                self.assertEqual(read(text).layers[0].scoped, ("signal", "abstract_unix_socket"))
+        self.assertEqual(read(READING).layers[0].scoped, ())
+
+    def test_a_scope_that_there_is_not(self) -> None:
+        for value, said in (
+            ('["signals"]', "unknown scope 'signals', did you mean 'signal'"),
+            ('"signal"', "list of scopes"),
+            ("[1]", "unknown scope '1'"),
+        ):
+            with self.subTest(value), self.assertRaisesRegex(Problem, f"layer 1, scoped: .*{said}"):
+                read(f"{READING}scoped = {value}\n")
+
     def test_layers_and_rules_are_numbered_in_their_order(self) -> None:
         rule = '[[layer.path_beneath]]\nallowed_access = ["read_file"]\nparent = "/a"\n'
         layers = read(READING + rule + rule + READING + rule).layers

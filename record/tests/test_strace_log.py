@@ -8,13 +8,14 @@ from pathlib import Path
 
 from landaudit_record.recorder import strace_log
 from landaudit_record.recorder.strace_log import Call, Ended, Event, Superseded, Unread
+from landaudit_record.recorder.unsaid import NotUnderstood
 
 
 def read(*lines: str) -> list[Event]:
     with tempfile.TemporaryDirectory() as folder:
         log = Path(folder) / "strace.txt"
         log.write_text("".join(line + "\n" for line in lines), encoding="ascii")
-        return list(strace_log.events(log))
+        return list(strace_log.events(log, strace_log.births(log).ends))
 
 
 class Lines(unittest.TestCase):
@@ -61,13 +62,39 @@ class Lines(unittest.TestCase):
 
     def test_halves_are_put_together_where_the_call_ends(self) -> None:
         first, second = read(
-            "1  close(3</a> <unfinished ...>",
+            "1  fchdir(3</a> <unfinished ...>",
             "2  close(4</b>) = 0",
-            "1  <... close resumed>) = 0",
+            "1  <... fchdir resumed>) = 0",
         )
         assert isinstance(first, Call) and isinstance(second, Call)
         self.assertEqual((first.tid, first.line), (2, 2))
         self.assertEqual((second.tid, second.line, second.arguments), (1, 1, ["3</a>"]))
+
+    def test_a_close_takes_effect_where_it_begins(self) -> None:
+        first, second = read(
+            "1  close(3</a> <unfinished ...>",
+            '2  openat(-100, "/b", 0) = 3</b>',
+            "1  <... close resumed>) = 0",
+        )
+        assert isinstance(first, Call) and isinstance(second, Call)
+        self.assertEqual((first.tid, first.name, first.line, first.value), (1, "close", 1, 0))
+        self.assertEqual((second.tid, second.name), (2, "openat"))
+
+    def test_a_close_that_its_thread_did_not_live_to_end_took_effect(self) -> None:
+        close, end = read("1  close(3</a> <unfinished ...>", "1  +++ killed by SIGKILL +++")
+        assert isinstance(close, Call)
+        self.assertEqual((close.name, close.value, close.error), ("close", None, None))
+        self.assertEqual(end, Ended(2, 1))
+
+    def test_what_looks_up_a_number_does_so_where_it_begins_and_has_its_end_beside(self) -> None:
+        cut, close = read(
+            "1  ftruncate(3</a>, 0 <unfinished ...>",
+            "2  close(3</a>) = 0",
+            "1  <... ftruncate resumed>) = -1 EACCES (Permission denied)",
+        )
+        assert isinstance(cut, Call) and isinstance(close, Call)
+        self.assertEqual((cut.name, cut.line, cut.error, cut.arguments), ("ftruncate", 1, "EACCES", ["3</a>", "0"]))
+        self.assertEqual(close.name, "close")
 
     def test_a_call_that_is_restarted_has_no_value(self) -> None:
         (call,) = read('1  openat(-100, "p", 0) = ? ERESTARTSYS (To be restarted if SA_RESTART is set)')
@@ -86,6 +113,31 @@ class Lines(unittest.TestCase):
         self.assertEqual(taken, Superseded(2, 8, 9))
         assert isinstance(call, Call)
         self.assertEqual((call.tid, call.name, call.line), (8, "execve", 1))
+
+    def test_a_program_that_another_thread_runs_has_started_whatever_strace_writes(self) -> None:
+        taken, call, end = read(
+            '9  execve("/bin/true", ["true"], 0x1 /* 2 vars */ <pid changed to 8 ...>',
+            "8  +++ superseded by execve in pid 9 +++",
+            "8  <... execve resumed>)             = -1 (errno 18446744073709551359)",
+            "8  +++ exited with 0 +++",
+        )
+        self.assertEqual(taken, Superseded(2, 8, 9))
+        assert isinstance(call, Call)
+        self.assertEqual((call.tid, call.name, call.line, call.value, call.ok), (8, "execve", 1, 0, True))
+        self.assertEqual(end, Ended(4, 8))
+
+    def test_a_process_that_leaves_a_core_file(self) -> None:
+        self.assertEqual(read("7  +++ killed by SIGABRT (core dumped) +++"), [Ended(1, 7, dumped=True)])
+
+    def test_an_argument_that_is_missing_is_not_understood(self) -> None:
+        (call,) = read("1  openat(-100) = 3")
+        assert isinstance(call, Call)
+        with self.assertRaises(NotUnderstood):
+            call.arguments[1]
+
+    def test_numbers_that_c_does_not_write_are_no_call(self) -> None:
+        (line,) = read("1  close(3) = 09")
+        self.assertIsInstance(line, Unread)
 
     def test_what_is_no_line_of_strace(self) -> None:
         second = "<... close resumed>) = 0"
@@ -118,6 +170,18 @@ class Forks(unittest.TestCase):
         )
         self.assertEqual(births.next(5), strace_log.Birth(1, 1, 0x1200000 | 17))
         self.assertEqual(births.next(6), strace_log.Birth(2, 1, 0x10F00))
+
+    def test_children_in_a_namespace_go_by_the_numbers_of_the_log(self) -> None:
+        births = self.births(
+            "1  clone(child_stack=NULL, flags=0x11) = 2 /* 22556 in strace's PID NS */",
+            "1  vfork( <unfinished ...>",
+            "1  <... vfork resumed>) = 3 /* 22557 in strace's PID NS */",
+        )
+        self.assertEqual(births.next(22556), strace_log.Birth(1, 1, 0x11))
+        self.assertEqual(births.next(22557), strace_log.Birth(2, 1, 0))
+        (call,) = read("1  clone(child_stack=NULL, flags=0x11) = 2 /* 22556 in strace's PID NS */")
+        assert isinstance(call, Call)
+        self.assertEqual(call.value, 22556)
 
     def test_a_failed_fork_makes_nobody(self) -> None:
         self.assertEqual(self.births("1  fork() = -1 EAGAIN (Resource temporarily unavailable)").forks, {})

@@ -12,8 +12,8 @@ from pathlib import Path
 from landaudit_record import policies, suggestion_text
 from landaudit_record.jsonl import Record
 from landaudit_record.policies import Policy
-from landaudit_record.reading import Judged, judged
-from landaudit_record.rights import FS
+from landaudit_record.reading import Walk
+from landaudit_record.rights import FS, alone
 from landaudit_record.suggesting import Suggestion, suggest, with_rules
 from landaudit_record.trees import Tree
 from landaudit_record.wants import Rule
@@ -37,7 +37,15 @@ TREE = Tree(
         "/proc/7": "dir",
         "/proc/7/maps": "reg",
         "/tty": "char",
-    }
+        "/a/made": "dir",
+        "/a/made/t": "reg",
+        "/b/moved": "reg",
+        "/a/g~2~": "reg",
+    },
+    made={"/a/made", "/a/made/t", "/b/moved", "/a/g~2~"},
+    first={"/b/moved": "/a/f"},
+    others={"/a/f": ["/b/moved"]},
+    shown={"/a/g~2~": "/a/g"},
 )
 DENY = '[[layer]]\nhandled_access_fs = ["all"]\nhandled_access_net = ["all"]\n'
 EVERYTHING = list(FS.since)
@@ -72,13 +80,13 @@ def suggested(*rounds: list[Call], to: Policy | None = None, abi: int = 5) -> Su
     """What is suggested where the audits answer one after another as the rounds say, and then nothing is refused."""
     audits = iter(rounds)
 
-    def audit(_: Policy) -> Iterator[Judged]:
+    def audit(_: Policy) -> Iterator[Walk]:
         calls = next(audits, [])
         trace = records({"op": "nnp", "policy": {}}, *(record for record, _ in calls))
         with tempfile.TemporaryDirectory() as folder:
             answers = ["allowed", "allowed", *(answer for _, answer in calls)]
             report = write_report(Path(folder, "report.txt"), trace, answers)
-            yield from judged(write_lines(Path(folder, "trace.jsonl"), trace), report)
+            yield Walk(write_lines(Path(folder, "trace.jsonl"), trace), report, alone(abi))
 
     return suggest(TREE, to or policy(), abi, audit)
 
@@ -135,13 +143,14 @@ class Paths(unittest.TestCase):
         self.assertEqual(rules((make, refused("write_file, make_reg on /a"))), [("/a", ["make_reg", "write_file"], 1)])
 
     def test_what_the_run_makes_is_granted_on_the_directory_that_was_there(self) -> None:
-        record = {"op": "mkdir", "path": "/a/~new~", "shown": "/a/s", "call": 1, "kernel": "ok"}
-        make = (record, refused("make_dir on /a"))
-        self.assertEqual(rules(make, reading("/a/s/t", 2)), [("/a", ["make_dir", "read_file"], 2)])
+        self.assertEqual(rules(reading("/a/made/t", 2)), [("/a", ["read_file"], 1)])
 
-    def test_a_name_that_was_never_made_moves_nothing(self) -> None:
-        look = (opened("/a/~new~", call=1, shown="/a/f", kernel="ENOENT"), moot("/a/~new~ is not in the tree"))
-        self.assertEqual(rules(look, reading("/a/f", 2)), [("/a/f", ["read_file"], 1)])
+    def test_what_is_moved_is_granted_where_it_was(self) -> None:
+        self.assertEqual(rules(reading("/b/moved")), [("/a/f", ["read_file"], 1)])
+
+    def test_what_is_put_in_the_place_of_another_file_is_granted_on_the_directory(self) -> None:
+        (rule,) = suggested([*layer(), reading("/a/g~2~")]).rules[1]
+        self.assertEqual((rule.place, rule.instead_of), ("/a", ("/a/g",)))
 
     def test_files_of_a_process_are_granted_on_proc(self) -> None:
         self.assertEqual(rules(reading("/proc/7/maps")), [("/proc", ["read_file"], 1)])
@@ -272,6 +281,13 @@ class Text(unittest.TestCase):
                 rule = Rule(path, frozenset({"read_file"}), 1)
                 written = "\n".join(suggestion_text.lines(Suggestion({1: [rule]}, NONE, NONE, 1, True), policy()))
                 self.assertEqual(tomllib.loads(DENY + written)["layer"][0]["path_beneath"][0]["parent"], path)
+
+    def test_why_a_rule_on_the_file_would_not_do(self) -> None:
+        found = suggested([*layer(), reading("/a/g~2~")])
+        written = list(suggestion_text.lines(found, policy()))
+        why = '# (the run puts another object at "/a/g": a rule on that path stays with the first one)'
+        self.assertIn(why, written)
+        self.assertIn('parent = "/a"', written)
 
     def test_with_several_layers_each_is_named(self) -> None:
         rule = Rule("/a", frozenset({"read_file"}), 2)

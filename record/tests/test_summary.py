@@ -6,6 +6,7 @@ import json
 import os
 import tempfile
 import unittest
+from collections import Counter
 from collections.abc import Sequence
 from io import StringIO
 from pathlib import Path
@@ -14,7 +15,8 @@ from unittest import mock
 from landaudit_record import summary, summary_text
 from landaudit_record.jsonl import Record
 from landaudit_record.problems import Problem
-from landaudit_record.reading import judged
+from landaudit_record.reading import Walk, judged
+from landaudit_record.rights import alone
 from landaudit_record.summary import Summary
 from landaudit_record.summary_text import Style
 
@@ -36,17 +38,17 @@ Call = tuple[Record, str]
 
 
 def summed(
-    calls: Sequence[Call], abi: int = 5, unsaid: Sequence[Record] | None = None, *, tried: bool = False
+    calls: Sequence[Call], abi: int = 5, unsaid: Counter[str] | None = None, *, tried: bool = False
 ) -> Summary:
     """The summary of one process's calls, each with its answer."""
     trace = records(*(record for record, _ in calls))
     with tempfile.TemporaryDirectory() as name:
         folder = Path(name)
         report = write_report(folder / "report.txt", trace, ["allowed", *(answer for _, answer in calls)])
-        if unsaid is not None:
-            write_lines(folder / "unsaid.jsonl", unsaid)
-        found = judged(write_lines(folder / "trace.jsonl", trace), report)
-        return summary.summarize(found, abi, folder / "unsaid.jsonl", tried=tried)
+        found = summary.Summaries(alone(abi), tried=tried)
+        found.take(Walk(write_lines(folder / "trace.jsonl", trace), report, alone(abi)), alone(abi))
+        (one,) = found.done(unsaid or Counter(), [])
+        return one
 
 
 def rule(path: str, *rights: str, parent: str | None = None) -> Record:
@@ -237,11 +239,20 @@ class Warnings(unittest.TestCase):
         self.assertEqual(said, f"policy: layer 1, path_beneath 1, parent /a/f is refused with EINVAL: {condition}")
 
     def test_a_rule_on_what_the_run_makes(self) -> None:
-        added = (rule("/a/made", "read_file"), "allowed")
-        make = {**READ, "path": "/a/~new~", "shown": "/a/made", "create": True}
-        (said,) = self.warnings(added, (make, "allowed"))
-        self.assertIn("path_beneath 1, parent /a/made: the run makes /a/made itself", said)
-        self.assertEqual(self.warnings(added, ({**make, "kernel": "EACCES"}, "allowed")), [])
+        added = rule("/a/made", "read_file")
+        added |= {"path": "/~new~", "policy": {**added["policy"], "made": "/a"}}
+        found = summed([(added, moot("/~new~ is not in the tree"))], tried=True)
+        (said,) = found.warnings
+        self.assertIn("path_beneath 1, parent /a/made: the run makes it itself", said)
+        self.assertIn("grant it on /a", said)
+        self.assertEqual((found.records, found.moot), (1, {}))
+
+    def test_a_rule_on_what_the_run_replaces(self) -> None:
+        added = rule("/a/conf", "read_file")
+        added["policy"]["replaced"] = "/a"
+        (said,) = self.warnings((added, "allowed"))
+        self.assertIn("path_beneath 1, parent /a/conf: the run puts another object there", said)
+        self.assertIn("grant it on /a", said)
 
     def test_a_ruleset_of_the_program_that_an_older_abi_refuses(self) -> None:
         condition = "ABI 1 does not know refer"
@@ -278,7 +289,7 @@ class Warnings(unittest.TestCase):
 class Text(unittest.TestCase):
     def setUp(self) -> None:
         self.found = summed([NNP, *LAYER, RUN, (READ, REFUSED), ({"op": "close", "fd": 9}, NOT_OPEN)],
-                            unsaid=[{"class": "splice"}, {"class": "splice"}, {"class": "scopes"}])
+                            unsaid=Counter(splice=2, scopes=1))
 
     def test_totals(self) -> None:
         self.assertIn("7 records: 5 allowed, 1 refused, 1 moot", text(self.found))
@@ -321,8 +332,8 @@ class Data(unittest.TestCase):
         data = summary.as_data(summed([NNP, *LAYER, (READ, REFUSED), ({"op": "close", "fd": 9}, NOT_OPEN)]))
         self.assertEqual(
             sorted(data),
-            ["abi", "allowed", "moot", "moot_because", "moot_path_calls", "path_calls", "records", "refusals"]
-            + ["refused", "unsaid", "warnings"],
+            ["abi", "accepted", "allowed", "moot", "moot_because", "moot_path_calls", "not_judged", "path_calls", "records"]
+            + ["refusals", "refused", "unsaid", "warnings"],
         )
         self.assertEqual((data["records"], data["allowed"], data["refused"], data["moot"]), (6, 4, 1, 1))
         self.assertEqual(

@@ -5,6 +5,7 @@ from __future__ import annotations
 import tempfile
 import unittest
 from pathlib import Path
+from typing import Any
 
 from landaudit_record import trees
 from landaudit_record.problems import Problem
@@ -12,7 +13,7 @@ from landaudit_record.trees import LinkLoop, Tree
 
 from .recorded import write_lines
 
-LINES = [
+LINES: list[dict[str, Any]] = [
     {"path": "/usr", "kind": "dir"},
     {"path": "/usr/lib", "kind": "dir"},
     {"path": "/usr/lib/libc.so", "kind": "reg"},
@@ -24,7 +25,7 @@ LINES = [
 ]
 
 
-def listed(lines: list[dict[str, str]]) -> Tree:
+def listed(lines: list[dict[str, Any]]) -> Tree:
     """The tree of some lines."""
     with tempfile.TemporaryDirectory() as folder:
         return trees.read(write_lines(Path(folder, "tree.jsonl"), lines))
@@ -36,6 +37,34 @@ class Trees(unittest.TestCase):
 
     def test_the_root_is_there_without_a_line(self) -> None:
         self.assertEqual(listed([]).kind("/"), "dir")
+
+    def test_what_the_run_makes_moves_and_replaces(self) -> None:
+        tree = listed([
+            *LINES,
+            {"path": "/usr/new", "kind": "dir", "made": True},
+            {"path": "/usr/new/x", "kind": "reg", "made": True},
+            {"path": "/usr/lib/libc.so~2~", "kind": "reg", "made": True, "shown": "/usr/lib/libc.so"},
+            {"path": "/moved", "kind": "dir", "made": True, "same": "/usr/lib"},
+            {"path": "/moved/in", "kind": "reg", "made": True},
+            {"path": "/hard", "kind": "reg", "same": "/usr/lib/libc.so"},
+            {"path": "/link", "kind": "sym", "target": "usr", "made": True},
+        ])
+        self.assertEqual(tree.names("/moved"), ["/usr/lib", "/moved"])
+        self.assertEqual(tree.names("/hard"), ["/usr/lib/libc.so", "/hard"])
+        for path, before in (
+            ("/usr/lib", "/usr/lib"),
+            ("/usr/new/x", "/usr"),
+            ("/usr/lib/libc.so~2~", "/usr/lib"),
+            ("/moved", "/usr/lib"),
+            ("/moved/in", "/usr/lib"),
+        ):
+            with self.subTest(path=path):
+                self.assertEqual(tree.before(path), before)
+        self.assertTrue(tree.is_replaced("/usr/lib/libc.so"))
+        self.assertFalse(tree.is_replaced("/usr/new"))
+        self.assertEqual(tree.real("/usr/lib/libc.so~2~"), "/usr/lib/libc.so")
+        self.assertEqual(tree.resolved("/link/lib"), "/usr/lib")
+        self.assertEqual(tree.resolved("/link/lib", before_run=True), "/link/lib")
 
     def test_a_line_without_a_kind_lists_nothing(self) -> None:
         with self.assertRaisesRegex(Problem, "tree.jsonl line 2 lists no object"):

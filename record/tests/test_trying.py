@@ -1,4 +1,4 @@
-"""The subcommands policy, audit and suggest as they are called, with a landaudit whose reports are written by hand."""
+"""The subcommands apply, audit and suggest as they are called, with a landaudit whose reports are written by hand."""
 
 from __future__ import annotations
 
@@ -35,8 +35,9 @@ LANDAUDIT = """#!/usr/bin/env python3
 import json, sys
 from pathlib import Path
 sys.path.insert(0, {record!r})
-from tests.recorded import over_range
-_, word, *flags, tree, trace = sys.argv[1:]
+from tests.recorded import at_its_line, over_range
+_, word, *flags, workers, number, tree, trace = sys.argv[1:]
+assert workers == "--workers" and int(number) > 0
 assert Path(tree).read_text()
 with open({runs!r}, "a") as runs:
     print(word, *flags, file=runs)
@@ -46,7 +47,8 @@ lines = [json.loads(line) for line in Path(trace).read_text().splitlines()]
 known = json.loads(Path({answers!r}).read_text())
 answers = {{abi: known.get(f"{{abi}}: {{len(lines)}}") or known[str(len(lines))] for abi in abis}}
 for number, record in enumerate(lines, start=1):
-    print(number, record["pid"], record["op"], over_range({{abi: answers[abi][number - 1] for abi in abis}}))
+    answer = over_range({{abi: answers[abi][number - 1] for abi in abis}})
+    print(number, record["pid"], record["op"], at_its_line(lines, answer))
 for abi in abis:
     print("total", len(lines), *(["abi", abi] if len(abis) > 1 else []))
 sys.exit(1 if any("refused" in answer for abi in abis for answer in answers[abi]) else 0)
@@ -102,28 +104,28 @@ class Trying(unittest.TestCase):
         """The lines of the table by ABI."""
         return out.partition("by ABI")[2].splitlines()[1:]
 
-    def test_policy_writes_the_trace_to_standard_output(self) -> None:
-        status, out, errors = self.called("policy", self.policy, self.recording, "--abi", "3")
+    def test_apply_writes_the_trace_to_standard_output(self) -> None:
+        status, out, errors = self.called("apply", self.policy, self.recording, "--abi", "3")
         records: list[dict[str, Any]] = [json.loads(line) for line in out.splitlines()]
         self.assertEqual((status, [record["op"] for record in records]), (0, OPS))
         self.assertEqual([record["pid"] for record in records], [PID] * 8)
         self.assertEqual(errors, "")
 
-    def test_policy_writes_to_a_file_and_takes_the_trace_by_name(self) -> None:
+    def test_apply_writes_to_a_file_and_takes_the_trace_by_name(self) -> None:
         trace, out = self.recording / "trace.jsonl", self.folder / "tried.jsonl"
         tree = self.recording.joinpath("tree.jsonl").rename(self.folder / "t.jsonl")
-        status, _, _ = self.called("policy", self.policy, trace, "--tree", tree, "--out", out)
+        status, _, _ = self.called("apply", self.policy, trace, "--tree", tree, "--out", out)
         self.assertEqual((status, len(out.read_text().splitlines())), (0, 8))
 
-    def test_policy_never_writes_over_its_trace(self) -> None:
+    def test_apply_never_writes_over_its_trace(self) -> None:
         trace = self.recording / "trace.jsonl"
         before = trace.read_bytes()
-        status, _, errors = self.called("policy", self.policy, trace, "--out", trace)
+        status, _, errors = self.called("apply", self.policy, trace, "--out", trace)
         self.assertEqual((status, trace.read_bytes()), (2, before))
         self.assertIn("name another file", errors)
 
     def test_what_an_older_abi_drops_is_noted(self) -> None:
-        status, out, errors = self.called("policy", self.policy, self.recording, "--abi", "2")
+        status, out, errors = self.called("apply", self.policy, self.recording, "--abi", "2")
         self.assertEqual(status, 0)
         self.assertIn("note: layer 1, handled_access_fs: ABI 2 does not know truncate: dropped", errors)
         self.assertNotIn("truncate", out)
@@ -172,6 +174,46 @@ class Trying(unittest.TestCase):
         self.assertEqual(self.ran(), ["1-5 --best-effort --explain"])
         rows = [row.split() for row in self.table(out)[1:]]
         self.assertEqual(rows, [[str(abi), "3", "0", "0"] for abi in range(1, 6)])
+
+    def test_what_is_accepted_is_counted_apart(self) -> None:
+        accepted = '[[accepted]]\ncall = "open w"\npath = "/a"\nreason = "it is only tried"\n'
+        other = '[[accepted]]\ncall = "connect"\nport = 80\nreason = "no updates here"\n'
+        self.policy.write_text(POLICY + accepted)
+        beside = self.folder / "accepted.toml"
+        beside.write_text(other)
+        status, out, errors = self.audited("audit", self.recording, "--policy", self.policy, "--accepted", beside)
+        self.assertEqual(status, 0)
+        self.assertIn("8 records: 7 allowed, 1 refused (1 accepted), 0 moot\n", out)
+        self.assertRegex(out, r"refused and accepted \(1 kind\)\n.*\n +1  open w  /a +it is only tried\n")
+        self.assertNotIn("most frequent first", out)
+        self.assertIn("note: accepted and refused no more: connect port 80 (no updates here)\n", errors)
+        _, out, _ = self.audited("audit", self.recording, "--policy", self.policy, "--json")
+        data = json.loads(out)
+        wanted = [{"times": 1, "call": "open w", "place": "/a", "reason": "it is only tried"}]
+        self.assertEqual((data["refused"], data["refusals"], data["accepted"]), (1, [], wanted))
+
+    def test_what_is_not_accepted_is_refused_as_before(self) -> None:
+        self.policy.write_text(POLICY + '[[accepted]]\ncall = "open r"\npath = "/a"\nreason = "x"\n')
+        status, out, errors = self.audited("audit", self.recording, "--policy", self.policy)
+        self.assertEqual(status, 1)
+        self.assertIn("1 refused, 0 moot", out)
+        self.assertIn("accepted and refused no more: open r /a (x)", errors)
+
+    def test_an_acceptance_with_a_fault(self) -> None:
+        for text, wanted in (
+            ('path = "/a"\nreason = "x"', "accepted 1: call is missing"),
+            ('call = "exec"\npath = "/a"', "accepted 1: reason is missing"),
+            ('call = "exec"\npath = "/a"\nport = 1\nreason = "x"', "accepted 1: one place at most"),
+            ('call = "link"\nfrom = "/a"\nreason = "x"', "accepted 1: one place at most"),
+            ('call = "bind"\nport = -1\nreason = "x"', "accepted 1, port: -1 is no port"),
+            ('call = "exec"\npath = 1\nreason = "x"', "accepted 1, path: 1 is no text"),
+            ('call = "exec"\nwhy = 1\nreason = "x"', "accepted 1: unknown key 'why'"),
+        ):
+            with self.subTest(text):
+                self.policy.write_text(f"{POLICY}[[accepted]]\n{text}\n")
+                status, out, errors = self.audited("audit", self.recording, "--policy", self.policy)
+                self.assertEqual((status, out), (3, ""))
+                self.assertIn(wanted, errors)
 
     def test_audit_of_a_policy_at_a_range(self) -> None:
         status, out, errors = self.audited("audit", self.recording, "--policy", self.policy, abi="1-4")
@@ -261,6 +303,30 @@ class Trying(unittest.TestCase):
         self.assertEqual([(step["abi"], step["records"]) for step in data["abis"]], [(2, 7), (3, 8), (4, 8)])
         self.assertEqual(data["abis"][0]["breaks"], [{"call": "open w", "place": "/a", "error": "EACCES"}])
 
+    def test_what_is_not_judged_of_a_policy_is_noted(self) -> None:
+        self.policy.write_text('''[[layer]]
+handled_access_fs = ["write_file", "truncate", "read_dir"]
+scoped = ["signal"]
+[[layer.path_beneath]]
+allowed_access = ["truncate"]
+parent = "/tmp/*.txt"
+[[layer.path_beneath]]
+allowed_access = ["read_dir", "truncate"]
+parent = ["/none", "/a"]
+''')
+        answers = {"10": ["allowed"] * 10}
+        (self.folder / "answers.json").write_text(json.dumps(answers))
+        notes = [
+            "layer 1: scoped is kept and not judged: signal",
+            "layer 1, path_beneath 1, parent /tmp/*.txt: Landlock has no patterns: name the directory, or each file",
+            "layer 1, path_beneath 2, parent /none: not in the tree, so it is not known whether it is a directory: on "
+            "anything else the kernel refuses read_dir with EINVAL",
+        ]
+        for command in ("audit", "suggest"):
+            with self.subTest(command):
+                errors = self.audited(command, self.recording, "--policy", self.policy)[2]
+                self.assertEqual(errors.splitlines(), [f"landaudit-record: note: {note}" for note in notes])
+
     def test_suggest_audits_until_nothing_is_refused(self) -> None:
         status, out, _ = self.audited("suggest", self.recording, "--policy", self.policy)
         self.assertEqual(status, 0)
@@ -282,7 +348,7 @@ class Trying(unittest.TestCase):
         self.policy.write_text('[[layer]]\nhandled_access_fs = ["wirte"]\n')
         landaudit = ["--landaudit", self.landaudit]
         for words in (
-            ["policy", self.policy, self.recording],
+            ["apply", self.policy, self.recording],
             ["audit", self.recording, "--policy", self.policy, *landaudit],
             ["suggest", self.recording, "--policy", self.policy, *landaudit],
         ):

@@ -5,6 +5,7 @@ from __future__ import annotations
 import unittest
 
 from landaudit_record.recorder import values
+from landaudit_record.recorder.unsaid import NotUnderstood
 from landaudit_record.recorder.values import Descriptor
 
 
@@ -17,14 +18,24 @@ class Values(unittest.TestCase):
         self.assertEqual(values.number("NULL"), 0)
 
     def test_names_without_numbers_are_no_numbers(self) -> None:
-        with self.assertRaises(ValueError):
-            values.number("O_RDONLY|O_CLOEXEC")
+        for text in ("O_RDONLY|O_CLOEXEC", "", "08"):
+            with self.subTest(text), self.assertRaises(NotUnderstood):
+                values.number(text)
+
+    def test_processes_by_the_numbers_of_the_log(self) -> None:
+        self.assertEqual(values.pid("2 /* 22556 in strace's PID NS */"), 22556)
+        self.assertEqual(values.pid("11118"), 11118)
 
     def test_texts(self) -> None:
         self.assertEqual(values.text(r'"a\"b\\c\n\303\251\x41"'), 'a"b\\c\né' + "A")
         self.assertEqual(values.text(r'"\1\0"'), "\x01\x00")
         self.assertIsNone(values.text("0x7ffd"))
         self.assertIsNone(values.text('"cut"...'))
+
+    def test_escapes_that_strace_does_not_write(self) -> None:
+        for text in (r'"\x"', r'"\x4"', r'"\8"'):
+            with self.subTest(text), self.assertRaises(NotUnderstood):
+                values.text(text)
 
     def test_a_byte_that_is_not_utf_8_is_no_text_that_json_can_hold(self) -> None:
         with self.assertRaises(UnicodeEncodeError):

@@ -1,5 +1,5 @@
 """The subcommands, one module each: NAME, HELP, EXAMPLE, add_arguments(parser), run(arguments) -> status."""
 
-from . import audit, compare, convert, policy, run, suggest
+from . import apply, audit, compare, convert, run, suggest, tighten
 
-ALL = (run, convert, policy, audit, compare, suggest)
+ALL = (run, convert, apply, audit, compare, suggest, tighten)

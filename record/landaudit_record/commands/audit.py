@@ -6,21 +6,15 @@ import argparse
 import json
 import shlex
 import sys
-import tempfile
-from dataclasses import dataclass
 from pathlib import Path
 
-from .. import applying, by_abi, finished, fitting, landaudit, policies, summary_text, trees
-from ..applying import Plan
-from ..finished import Finished
-from ..jsonl import Record
+from .. import accepting, by_abi, finished, landaudit, policies, summary_text, trying
 from ..options import add_abis, add_as_recorded, add_landaudit, add_program, note
-from ..policies import Policy
-from ..reading import judged
-from ..rights import NEWEST_ABI, alone
-from ..summary import Summary, as_data, summarize
-from ..trees import Tree
-from ..wording import counted
+from ..problems import NOT_ALL_JUDGED
+from ..recorder.progress import Progress
+from ..rights import NEWEST_ABI
+from ..summary import Summaries, Summary, as_data
+from ..trying import Auditing
 
 NAME = "audit"
 HELP = "say what a policy would refuse, or without one what the program's own layers refuse"
@@ -33,7 +27,14 @@ def add_arguments(parser: argparse.ArgumentParser) -> None:
     parser.add_argument(
         "--policy",
         metavar="POLICY.toml",
-        help="a policy to try on the recording, in OUT/tried.jsonl (how to write one: landaudit-record policy --help)",
+        help="a policy to try on the recording, in OUT/tried.jsonl (how to write one: landaudit-record apply --help)",
+    )
+    parser.add_argument(
+        "--accepted",
+        metavar="FILE.toml",
+        type=Path,
+        help="refusals that are known and fine: [[accepted]] with call, path (or from and to, or port) and reason; the "
+        "policy's file may have them too",
     )
     add_program(parser)
     add_abis(parser)
@@ -43,86 +44,40 @@ def add_arguments(parser: argparse.ArgumentParser) -> None:
 
 
 def run(arguments: argparse.Namespace) -> int:
-    """Writes OUT/report.txt and prints the summary; the status is 1 if an ABI refuses something.
+    """Writes OUT/report.txt and prints the summary.
 
+    The status is 1 if an ABI refuses something, else 5 if not all that a policy may refuse could be judged.
     landaudit runs once for all ABIs that are judged by one trace; the files that stay are those of the newest.
     """
     program = landaudit.find(arguments.landaudit)
     recording = finished.opened(arguments.recording)
-    trying = None if arguments.policy is None else _trying(recording, arguments)
+    policy = None if arguments.policy is None else policies.read(Path(arguments.policy))
+    accepted = [*(accepting.read(policy.path, only=False) if policy else ()),
+                *(accepting.read(arguments.accepted) if arguments.accepted else ())]
+    tried = None if policy is None else trying.tried(recording, policy, arguments.program)
     best_effort = not arguments.as_recorded
-    summaries: list[Summary] = []
-    status = 0
-    with tempfile.TemporaryDirectory(prefix="audit-", dir=recording.folder) as folder:
-        files = Finished(Path(folder))
-        trace, parts = recording.trace, [arguments.abis]
-        if trying is not None:
-            trace, parts = files.tried, trying.parts(arguments.abis, best_effort=best_effort)
-            trying.note(arguments.abis)
-        for abis in parts:
-            if trying is not None:
-                trying.write(abis[-1], trace)
-            status |= landaudit.audit(program, abis, recording.tree, trace, files.report, best_effort=best_effort)
-            for abi in abis:
-                calls = judged(trace, files.report, abi)
-                summaries.append(summarize(calls, abi, recording.unsaid, tried=trying is not None))
-        if trying is not None:
-            files.tried.replace(recording.tried)
-        files.report.replace(recording.report)
+    found = Summaries(arguments.abis, tried=tried is not None)
+    with trying.folder_for(recording, NAME) as (folder, stays), Progress() as progress:
+        auditing = Auditing(program, recording, folder, best_effort, progress)
+        if tried is None:
+            steps = [arguments.abis]
+        else:
+            steps = tried.steps(arguments.abis, best_effort=best_effort)
+            trying.noted(tried, arguments.abis)
+        for abis in steps:
+            for walk in auditing.walks(abis, tried):
+                found.take(walk, abis)
+        if stays:
+            auditing.keep()
+    summaries = found.done(recording.unsaid, recording.missing)
+    if not stays:
+        note([f"{recording.folder} can't be written: report and tried trace are not kept"])
+    for one in accepting.set_apart(accepted, summaries):
+        note([f"accepted and refused no more: {one} ({one.reason})"])
     _print(summaries, arguments)
-    return status
-
-
-@dataclass(frozen=True)
-class _Trying:
-    """A policy, and where it goes in a trace."""
-
-    policy: Policy
-    trace: Path
-    tree: Tree
-    places: Plan
-
-    def note(self, abis: range) -> None:
-        """Prints notes on what of the policy the ABIs do not have: on the newest all, on each older one how many."""
-        for abi in abis:
-            _, notes = fitting.fit(self.policy, abi)
-            note(notes if abi == abis[-1] else _in_short(notes, abi))
-
-    def parts(self, abis: range, *, best_effort: bool) -> list[range]:
-        """The ABIs of a range in parts, the oldest first: each is judged by the trace of its newest."""
-        found = [alone(abis[-1])]
-        for abi in reversed(abis[:-1]):
-            inserted = self._inserted(found[0][-1])
-            if best_effort:
-                inserted = list(applying.at_best_effort(inserted, abi))
-            if inserted == self._inserted(abi):
-                found[0] = range(abi, found[0].stop)
-            else:
-                found.insert(0, alone(abi))
-        return found
-
-    def write(self, abi: int, tried: Path) -> None:
-        """Writes the trace with the policy's records as an ABI knows them."""
-        with open(tried, "wb") as out:
-            applying.write(self.trace, self.places, self._inserted(abi), out)
-
-    def _inserted(self, abi: int) -> list[Record]:
-        """The policy's records as an ABI knows them."""
-        layers, _ = fitting.fit(self.policy, abi)
-        return applying.records(self.policy, layers, self.tree, self.places.rs)
-
-
-def _trying(recording: Finished, arguments: argparse.Namespace) -> _Trying:
-    """The policy that is named, and where it goes in the recording."""
-    tree = trees.read(recording.tree)
-    policy = policies.read(Path(arguments.policy))
-    return _Trying(policy, recording.trace, tree, applying.plan(recording.trace, tree, arguments.program))
-
-
-def _in_short(notes: list[str], abi: int) -> list[str]:
-    """One note for all those on an ABI that is not described in full."""
-    note = f"ABI {abi} is missing rights of the policy: see --abi {abi} ({counted(len(notes), 'note')})"
-    return [note] if notes else []
+    if any(summary.others_refused for summary in summaries):
+        return 1
+    return NOT_ALL_JUDGED if recording.missing else 0
 
 
 def _print(summaries: list[Summary], arguments: argparse.Namespace) -> None:
@@ -139,6 +94,8 @@ def _print(summaries: list[Summary], arguments: argparse.Namespace) -> None:
     if any(layer.policy for refusal in newest.refusals for layer in refusal.layers):
         print(f"\nrules for these: {shlex.join(_suggesting(arguments, newest.abi))}")
     for line in summary_text.by_abi(steps, style) if len(steps) > 1 else ():
+        print(line)
+    for line in summary_text.ending(newest, style):
         print(line)
 
 

@@ -6,21 +6,21 @@ import argparse
 import json
 import os
 import tempfile
-from collections.abc import Iterable
+from collections.abc import Iterable, Iterator
 from pathlib import Path
 
 from .. import comparing, comparing_text, finished, jsonl, landaudit, trees
 from ..comparing import Classes, Difference, Tally
 from ..finished import Finished
 from ..kernel_calls import judged_calls
-from ..options import add_abi, add_landaudit
+from ..options import add_abi, add_landaudit, note
 from ..problems import WANTING, Problem
 from ..reading import judged
 from ..rights import alone
 
 NAME = "compare"
 HELP = "compare landaudit's answers with what the kernel did to a program that was under a layer"
-EXAMPLE = """landaudit-record run rec -- record/tests/sandboxer.py policy.toml -- sort /etc/passwd
+EXAMPLE = """landaudit-record run rec --policy policy.toml -- sort /etc/passwd
   landaudit-record compare rec"""
 
 
@@ -41,9 +41,8 @@ def run(arguments: argparse.Namespace) -> int:
     recording = finished.opened(arguments.recording)
     tally = Tally()
     with tempfile.TemporaryDirectory() as folder:
-        report = Path(folder) / "report.txt"
-        landaudit.audit(program, alone(arguments.abi), recording.tree, recording.trace, report, best_effort=False)
-        _keep(_differences(recording, report, arguments.abi, tally), arguments.differences)
+        _keep(_differences(program, recording, Path(folder), arguments.abi, tally), arguments.differences)
+    note(f"NOT ALL IS JUDGED: {text}" for text in recording.missing)
     if not tally.calls:
         raise Problem(f"{recording.folder} has no call under a layer: record a program that confines itself", WANTING)
     if arguments.json:
@@ -54,11 +53,15 @@ def run(arguments: argparse.Namespace) -> int:
     return 1 if tally.unnamed else 0
 
 
-def _differences(recording: Finished, report: Path, abi: int, tally: Tally) -> Iterable[Difference]:
-    """The calls that differ, as they are counted."""
-    tree = trees.read(recording.tree)
-    calls = judged_calls(judged(recording.trace, report), abi)
-    return comparing.compare(calls, Classes(tree, abi, _stat_of), tally)
+def _differences(
+    program: Path, recording: Finished, folder: Path, abi: int, tally: Tally
+) -> Iterator[Difference]:
+    """The calls that differ, as they are counted, part by part."""
+    classes = Classes(trees.read(*(part.tree for part in recording.parts)), abi, _stat_of)
+    report = folder / "report.txt"
+    for part in recording.parts:
+        landaudit.audit(program, alone(abi), part.tree, part.trace, report, best_effort=False)
+        yield from comparing.compare(judged_calls(judged(part.trace, report), abi), classes, tally)
 
 
 def _keep(differences: Iterable[Difference], file: Path | None) -> None:

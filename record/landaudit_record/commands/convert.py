@@ -3,11 +3,12 @@
 from __future__ import annotations
 
 import argparse
+import contextlib
 import sys
 from pathlib import Path
 
 from .. import policies
-from ..recorder import converting
+from ..recorder import converting, recordings
 from ..recorder.ports import Ports
 
 NAME = "convert"
@@ -27,7 +28,7 @@ def add_port_rules(parser: argparse.ArgumentParser) -> None:
         metavar="POLICY.toml",
         type=Path,
         help="the policy that the command puts on itself: what it says of ports, which strace before 6.7 does not"
-        " decode, is taken from here in its order",
+        " decode, is taken from here in its order (if it is left out, from the policy that 'run --policy' put in force)",
     )
 
 
@@ -39,16 +40,22 @@ def run(arguments: argparse.Namespace) -> int:
 
 def converted(folder: Path, port_rules: Path | None) -> None:
     """Converts a recording, and says what came of it and what to do next."""
-    ports = Ports(policies.read(port_rules) if port_rules is not None else None)
+    in_force = recordings.policy_of(folder)
+    named = port_rules if port_rules is not None else in_force
+    ports = Ports(policies.read(named) if named is not None else None)
     done = converting.convert(folder, ports)
     say(f"{done.records:,} records of {done.processes:,} processes on {done.objects:,} objects, in {folder}")
     if done.unsaid:
         say(f"not said, in {folder / 'unsaid.jsonl'}:")
         for reason, count in done.unsaid.most_common():
             say(f"  {count:>9,}  {reason}")
-    say(f"next: landaudit-record audit {folder} --policy POLICY.toml")
+    if in_force is None:
+        say(f"next: landaudit-record audit {folder} --policy POLICY.toml")
+    else:
+        say(f"next: landaudit-record compare {folder}")
 
 
 def say(text: str) -> None:
-    """A line for the user, apart from what the command wrote to standard output."""
-    print(f"landaudit-record: {text}", file=sys.stderr)
+    """A line for the user, apart from what the command wrote to standard output; a terminal that is gone gets none."""
+    with contextlib.suppress(OSError):
+        print(f"landaudit-record: {text}", file=sys.stderr, flush=True)

@@ -4,13 +4,21 @@ from __future__ import annotations
 
 import argparse
 import os
+import shlex
 import shutil
+import subprocess
+import sys
 import time
+from collections.abc import Iterator
+from contextlib import contextmanager
+from dataclasses import dataclass, replace
 from pathlib import Path
 
-from ..recorder import recordings, tracing
+from .. import PROGRAMS, RECORDER, confining, landaudit, policies
+from ..options import add_abi
 from ..problems import USAGE, WANTING, Problem
-from . import convert
+from ..recorder import recordings, tracing
+from . import audit, convert
 
 NAME = "run"
 HELP = "record a command: run it under strace, and write its tree and its trace"
@@ -19,7 +27,10 @@ BEHIND_DASHES = "give a command behind '--', as 'landaudit-record run rec -- ls'
 
 
 def add_arguments(parser: argparse.ArgumentParser) -> None:
-    parser.usage = "landaudit-record run [-h] OUT [--watch DIR].. [--port-rules POLICY.toml] -- COMMAND.."
+    parser.usage = (
+        "landaudit-record run [-h] OUT [--watch DIR].. [--policy POLICY.toml] [--abi N] [--port-rules POLICY.toml] "
+        "-- COMMAND.."
+    )
     parser.add_argument("out", metavar="OUT", type=Path, help="the folder to make for the recording")
     parser.add_argument(
         "--watch",
@@ -29,34 +40,101 @@ def add_arguments(parser: argparse.ArgumentParser) -> None:
         help="list DIR before the run, so that what the command overwrites, moves and removes there is known"
         " (the working directory is listed by itself; may be given several times)",
     )
+    parser.add_argument(
+        "--policy",
+        metavar="POLICY.toml",
+        type=Path,
+        help="run the command under this policy (landaudit-policy confine), keep the policy in OUT/policy.toml, and say"
+        " at the end what it refused",
+    )
+    add_abi(parser, "with --policy, the rights that it, or the kernel, does not have are dropped")
     convert.add_port_rules(parser)
 
 
 def run(arguments: argparse.Namespace) -> int:
-    """Records the command; the status is the command's."""
+    """Records the command, under a policy or without one; the status is the command's."""
     command = arguments.behind
     if not command:
         raise Problem(BEHIND_DASHES, USAGE)
     if shutil.which(command[0]) is None:
         raise Problem(f"{command[0]} is not found, or is no program", WANTING)
+    policy = None if arguments.policy is None else _InForce.of(arguments.policy, arguments.abi)
     strace = tracing.version()
     tracing.may_trace()
-    folder = _made(arguments.out)
-    watched, too_large = recordings.watch(folder, _directories(arguments.watch))
-    for directory in too_large:
-        convert.say(f"{directory} holds more than {recordings.MOST_WATCHED:,} objects and is not watched")
-    _about(command, watched, strace).write(folder)
-    status = tracing.run(folder / "strace.txt", command)
-    convert.converted(folder, arguments.port_rules)
-    return status
+    directories = _directories(arguments.watch)
+    with _made(arguments.out) as folder:
+        about = _about(command, _watched(folder, directories), strace)
+        about.write(folder)
+        if policy is not None:
+            command = confining.under(policy.kept_in(folder), policy.abi, command)
+    outcome = tracing.run(folder / "strace.txt", command)
+    if outcome.ended:
+        replace(about, ended=True).write(folder)
+    else:
+        convert.say("strace was ended, and what it traced with it: the recording is not whole")
+    _converted(folder, arguments)
+    if policy is not None:
+        policy.tell_refused(folder)
+    return outcome.status
 
 
-def _made(folder: Path) -> Path:
+@dataclass(frozen=True)
+class _InForce:
+    """A policy that a command is recorded under, and the ABI that it is in force at."""
+
+    policy: Path
+    abi: int
+
+    @classmethod
+    def of(cls, policy: Path, abi: int) -> _InForce:
+        """The policy, where all is there that it needs: it reads, the kernel has Landlock, and landaudit is built."""
+        policies.read(policy)
+        landaudit.find(None)
+        return cls(policy, confining.known_abi(abi))
+
+    def kept_in(self, folder: Path) -> Path:
+        """The policy's copy in a recording's folder, made here."""
+        return Path(shutil.copyfile(self.policy, folder / recordings.POLICY))
+
+    def tell_refused(self, folder: Path) -> None:
+        """Says what the policy refused of a recording, apart from what the command wrote to standard output."""
+        words = [sys.executable, str(PROGRAMS / RECORDER), audit.NAME, str(folder), "--abi", str(self.abi)]
+        subprocess.run(words, stdout=sys.stderr, check=False)
+
+
+def _converted(folder: Path, arguments: argparse.Namespace) -> None:
+    """Converts the log, which stays where that does not come to its end."""
+    try:
+        convert.converted(folder, arguments.port_rules)
+    except (KeyboardInterrupt, OSError):
+        ports = ["--port-rules", str(arguments.port_rules)] if arguments.port_rules is not None else []
+        words = ["landaudit-record", "convert", str(arguments.out), *ports]
+        convert.say(f"the log is kept and not converted; next: {shlex.join(words)}")
+        raise
+
+
+@contextmanager
+def _made(folder: Path) -> Iterator[Path]:
+    """A new folder; if what is to be in it before the run fails, it is removed."""
     try:
         folder.mkdir(parents=True)
     except FileExistsError:
         raise Problem(f"{folder} is there already: name a new folder", USAGE) from None
-    return folder.resolve()
+    try:
+        yield folder.resolve()
+    except BaseException:
+        shutil.rmtree(folder, ignore_errors=True)
+        raise
+
+
+def _watched(folder: Path, directories: list[str]) -> list[str]:
+    """Lists directories before the run, says of which parts that failed, and gives those that were listed."""
+    seen = recordings.watch(folder, directories)
+    for directory in seen.too_large:
+        convert.say(f"{directory} holds more than {recordings.MOST_WATCHED:,} objects and is not watched")
+    for directory in seen.unread:
+        convert.say(f"{directory} can't be read: what the command overwrites, moves and removes there is not known")
+    return seen.watched
 
 
 def _directories(named: list[str]) -> list[str]:
@@ -66,6 +144,8 @@ def _directories(named: list[str]) -> list[str]:
         path = os.path.realpath(name)
         if not os.path.isdir(path):
             raise Problem(f"--watch {name}: there is no such directory", USAGE)
+        if name in named and not os.access(path, os.R_OK | os.X_OK):
+            raise Problem(f"--watch {name}: it can't be read", USAGE)
         if path != "/" and path not in chosen:
             chosen.append(path)
     return chosen
@@ -82,4 +162,8 @@ def _about(command: list[str], watched: list[str], strace: str) -> recordings.Ab
         watched=watched,
         strace=strace,
         kernel=os.uname().release,
+        errata=recordings.errata(),
+        uid=recordings.user(),
+        groups=[os.getegid(), *os.getgroups()],
+        ended=False,
     )

@@ -3,16 +3,17 @@
 from __future__ import annotations
 
 import argparse
-import tempfile
 from collections.abc import Iterator
 from pathlib import Path
 
-from .. import applying, finished, fitting, landaudit, policies, suggestion_text, trees
+from .. import finished, landaudit, policies, suggestion_text, trying
 from ..options import add_abi, add_as_recorded, add_landaudit, add_program, note
 from ..policies import Policy
-from ..reading import Judged, judged
+from ..reading import Walk
+from ..recorder.progress import Progress
 from ..rights import alone
 from ..suggesting import suggest
+from ..trying import Auditing
 
 NAME = "suggest"
 HELP = "print the rules that would have let the refused calls pass, as TOML to paste"
@@ -33,22 +34,17 @@ def run(arguments: argparse.Namespace) -> int:
     """Prints the rules; the status is 1 if calls stay refused that no rule of the policy fixes."""
     program = landaudit.find(arguments.landaudit)
     recording = finished.opened(arguments.recording)
-    tree = trees.read(recording.tree)
     policy = policies.read(Path(arguments.policy))
-    places = applying.plan(recording.trace, tree, arguments.program)
-    note(fitting.fit(policy, arguments.abi)[1])
-    with tempfile.TemporaryDirectory(prefix="suggest-", dir=recording.folder) as folder:
-        tried, report = Path(folder, "tried.jsonl"), Path(folder, "report.txt")
+    tried = trying.tried(recording, policy, arguments.program)
+    trying.noted(tried, alone(arguments.abi))
+    with trying.folder_for(recording, NAME) as (folder, _), Progress() as progress:
+        auditing = Auditing(program, recording, folder, not arguments.as_recorded, progress)
 
-        def audit(extended: Policy) -> Iterator[Judged]:
-            layers, _ = fitting.fit(extended, arguments.abi)
-            with open(tried, "wb") as out:
-                applying.write(recording.trace, places, applying.records(extended, layers, tree, places.rs), out)
-            best_effort = not arguments.as_recorded
-            landaudit.audit(program, alone(arguments.abi), recording.tree, tried, report, best_effort=best_effort)
-            return judged(tried, report)
+        def audit(extended: Policy) -> Iterator[Walk]:
+            return auditing.walks(alone(arguments.abi), tried, extended)
 
-        suggestion = suggest(tree, policy, arguments.abi, audit)
+        suggestion = suggest(tried.tree, policy, arguments.abi, audit)
+    note(f"NOT ALL IS JUDGED: {text}" for text in recording.missing)
     for line in suggestion_text.lines(suggestion, policy):
         print(line)
     return 0 if suggestion.finished and not suggestion.unmended and not suggestion.of_program else 1

@@ -2,10 +2,9 @@
 
 from __future__ import annotations
 
-from collections import Counter
-from dataclasses import dataclass
 from pathlib import Path
 
+from ..finished import Converted
 from ..problems import Problem
 from . import disk, strace_log
 from .calls import HANDLERS
@@ -16,39 +15,32 @@ from .progress import Progress
 from .recordings import OBJECTS, About, read_about, read_before
 from .scene import Scene
 from .strace_log import Birth, Call, Ended, Event, Superseded, Unread
-from .writing import CannotSay, Recording
+from .unsaid import NOT_UNDERSTOOD, CannotSay
+from .writing import LIMITS, Limits, Recording, Tree
 
-NOT_UNDERSTOOD = "a line that is not understood"
-
-
-@dataclass(frozen=True)
-class Conversion:
-    """What a conversion gave: records, processes, objects with the root, and what was left out, by its class."""
-
-    records: int
-    processes: int
-    objects: int
-    unsaid: Counter[str]
+CORE_FILE = "a core file that the kernel was to write"
+NOT_SEEN_TO_START = "a process whose start was not seen"
 
 
-def convert(folder: Path, ports: Ports) -> Conversion:
-    """Writes the tree and the trace of a recording from its log."""
+def convert(folder: Path, ports: Ports, limits: Limits = LIMITS) -> Converted:
+    """Writes the trees and traces of a recording from its log; nothing is in place until all of it is."""
     about = read_about(folder)
     log = strace_log.find_log(folder)
     kept = disk.kept(folder / OBJECTS, about.started)
-    names = Names(kept, read_before(folder), about.watched)
-    with Recording(folder) as recording, Progress("records") as progress:
-        scene = Scene(names, kept, recording, strace_log.births(log), ports)
-        for event in strace_log.events(log):
+    names = Names(kept, read_before(folder), about.watched, about.whiteouts)
+    with Recording(folder, Tree(names), limits) as recording, Progress("records") as progress:
+        births = strace_log.births(log)
+        scene = Scene(names, kept, recording, births, ports, about.asker)
+        for event in strace_log.events(log, births.ends):
             _take(scene, about, event)
+            recording.commit()
             progress.show(recording.records)
-    if recording.unsaid[NOT_UNDERSTOOD] > recording.records:
-        raise Problem(f"{log} is no log that 'landaudit-record run' wrote: record the program by it")
-    if recording.records == 0:
-        raise Problem(f"{log} has no call of a program: record it again")
-    objects = scene.tree.write(folder / "tree.jsonl")
-    kept.keep(folder / OBJECTS)
-    return Conversion(recording.records, recording.processes, objects, recording.unsaid)
+        if recording.unsaid[NOT_UNDERSTOOD] > recording.records:
+            raise Problem(f"{log} is no log that 'landaudit-record run' wrote: record the program by it")
+        if recording.records == 0:
+            raise Problem(f"{log} has no call of a program: record it again")
+        kept.keep(folder / OBJECTS)
+        return recording.finish(about.ended and not scene.threads, scene.further_names())
 
 
 def _take(scene: Scene, about: About, event: Event) -> None:
@@ -60,21 +52,19 @@ def _take(scene: Scene, about: About, event: Event) -> None:
         case Superseded():
             _take_over(scene, event)
         case Unread():
-            scene.recording.leave_out(NOT_UNDERSTOOD, event.line, event.tid, event.text)
+            scene.recording.leave_out(NOT_UNDERSTOOD, event.line, event.tid, event.text, asks=True)
 
 
 def _take_call(scene: Scene, about: About, call: Call) -> None:
+    """A call, whose records are written whole or not at all."""
     handler = HANDLERS.get(call.name)
-    thread = scene.threads.get(call.tid)
     try:
-        if thread is None:
-            thread = _new_thread(scene, about, call)
+        thread = scene.threads.get(call.tid) or _new_thread(scene, about, call)
         if handler is not None:
-            handler(scene, thread, call)
+            with scene.recording.call():
+                handler(scene, thread, call)
     except CannotSay as reason:
-        scene.recording.leave_out(str(reason), call.line, call.tid, call.text)
-    except (ValueError, IndexError, KeyError):
-        scene.recording.leave_out(NOT_UNDERSTOOD, call.line, call.tid, call.text)
+        scene.recording.leave_out(str(reason), call.line, call.tid, call.text, asks=reason.asks)
 
 
 def _new_thread(scene: Scene, about: About, call: Call) -> Thread:
@@ -91,7 +81,8 @@ def _start(scene: Scene, about: About, call: Call) -> None:
     process = Process(call.tid)
     thread = Thread(call.tid, process, Place("/", about.directory))
     if scene.recording.records:
-        scene.leave_out(thread, call, "a process whose start was not seen")
+        process.confined = True
+        scene.leave_out(thread, call, NOT_SEEN_TO_START, asks=True)
     scene.start(thread, call, nnp=about.nnp, admin=about.admin)
     for number, known in about.descriptors.items():
         handle = Handle(known["path"], adopted=known["kind"] or "other")
@@ -100,10 +91,12 @@ def _start(scene: Scene, about: About, call: Call) -> None:
 
 
 def _take_end(scene: Scene, ended: Ended) -> None:
+    if ended.dumped and ended.tid in scene.processes:
+        scene.recording.leave_out(CORE_FILE, ended.line, ended.tid, "core dumped", asks=True)
     try:
         scene.end(ended.tid, ended.line)
     except CannotSay as reason:
-        scene.recording.leave_out(str(reason), ended.line, ended.tid, "exit")
+        scene.recording.leave_out(str(reason), ended.line, ended.tid, "exit", asks=reason.asks)
 
 
 def _take_over(scene: Scene, event: Superseded) -> None:

@@ -7,9 +7,12 @@ import os
 import stat
 from dataclasses import dataclass
 from pathlib import Path
-from typing import Literal
+from struct import Struct
+from sys import maxsize
+from typing import BinaryIO
 
 from .. import jsonl
+from .modes import Mode
 
 _KINDS = {
     stat.S_IFDIR: "dir",
@@ -26,24 +29,29 @@ _STATX_BTIME = 0x800
 _STATX_SIZE = 256
 _STATX_BTIME_AT = 80
 _SCRIPT_LINE = 256
-_ELF = b"\x7fELF"
-_PT_INTERP = 3
+#: A character device 0:0: which kind it is for Landlock the kernel says (docs/SEMANTICS.md, "Whiteouts").
+WHITEOUT = "whiteout"
 
 
 @dataclass(frozen=True, slots=True)
 class Seen:
-    """An object: its kind, a link's target, whether it was made after the run began, and whether a file may be run."""
+    """An object: its kind, a link's target, whether it was made after the run began, and whether a file may be run.
+
+    `inode` is there where the object has several names (hard links) and had them when the run began: those with one
+    `inode` are one object.
+    """
 
     kind: str
     target: str | None = None
     new: bool = False
     runs: bool = False
+    inode: str | None = None
 
 
 def kind_of(mode: int, device: int) -> str:
-    """The kind of an object by its mode; a whiteout (a character device 0:0) counts as a regular file."""
+    """The kind of an object by its mode and the number of its device."""
     kind = _KINDS.get(stat.S_IFMT(mode), "reg")
-    return "reg" if kind == "char" and device == 0 else kind
+    return WHITEOUT if kind == "char" and device == 0 else kind
 
 
 def look(path: str, since: float = 0.0) -> Seen | None:
@@ -55,7 +63,19 @@ def look(path: str, since: float = 0.0) -> Seen | None:
         return None
     born = _born(path) if since else None
     kind = kind_of(status.st_mode, status.st_rdev)
-    return Seen(kind, target, born is not None and born >= since, kind == "reg" and status.st_mode & 0o111 != 0)
+    linked = status.st_nlink > 1 and kind != "dir" and (not since or status.st_ctime < since)
+    inode = f"{status.st_dev}:{status.st_ino}" if linked else None
+    runs = kind == "reg" and status.st_mode & 0o111 != 0
+    return Seen(kind, target, born is not None and born >= since, runs, inode)
+
+
+def mode(path: str) -> Mode | None:
+    """The mode of what a path leads to."""
+    try:
+        status = os.stat(path)
+    except (OSError, ValueError):
+        return None
+    return Mode(stat.S_IMODE(status.st_mode), status.st_uid, status.st_gid)
 
 
 def _born(path: str) -> float | None:
@@ -83,42 +103,83 @@ def interpreter(path: str) -> str | None:
             head = program.read(_SCRIPT_LINE)
             if head.startswith(b"#!"):
                 words = head[2:].split(b"\n", 1)[0].split(None, 1)
-                return os.fsdecode(words[0]) if words else None
-            if head.startswith(_ELF):
-                return _loader(path)
-    except OSError:
+                return _text(words[0]) if words else None
+            layout = _LAYOUTS.get(head[:6])
+            return _loader(program, head, layout) if layout is not None else None
+    except (OSError, ValueError):
         return None
+
+
+def _text(written: bytes) -> str | None:
+    """A path that a file names, which ends at a NUL."""
+    return os.fsdecode(written.split(b"\0", 1)[0]) or None
+
+
+@dataclass(frozen=True)
+class _Layout:
+    """How ELF files of a width and an order of bytes are laid out (elf(5)): where what is asked for is.
+
+    `table` is in the file's header where its table of program headers begins and `counts` the size and number of
+    these; a program header says what it is, `at` which place of the file, and how long that is.
+    """
+
+    table: Struct
+    table_at: int
+    counts: Struct
+    counts_at: int
+    header: Struct
+
+
+_PT_INTERP = 3
+_LONGEST_INTERPRETER = 4096
+_LAYOUTS = {
+    b"\x7fELF" + bytes([width, order]): layout
+    for order, sign in ((1, "<"), (2, ">"))
+    for width, layout in (
+        (1, _Layout(Struct(sign + "I"), 28, Struct(sign + "HH"), 42, Struct(sign + "II8xI12x"))),
+        (2, _Layout(Struct(sign + "Q"), 32, Struct(sign + "HH"), 54, Struct(sign + "I4xQ16xQ16x"))),
+    )
+}
+
+
+def _loader(program: BinaryIO, head: bytes, layout: _Layout) -> str | None:
+    """The loader of an ELF file, by its program headers; a file that is none the kernel does not run."""
+    if len(head) < layout.counts_at + layout.counts.size:
+        return None
+    (table,) = layout.table.unpack_from(head, layout.table_at)
+    entry, number = layout.counts.unpack_from(head, layout.counts_at)
+    if entry != layout.header.size:
+        return None
+    headers = _read(program, table, entry * number)
+    for kind, place, length in layout.header.iter_unpack(headers[: len(headers) // entry * entry]):
+        if kind == _PT_INTERP:
+            return _text(_read(program, place, min(length, _LONGEST_INTERPRETER)))
     return None
 
 
-def _loader(path: str) -> str | None:
-    """The loader of an ELF file, by its program headers (elf(5))."""
-    with open(path, "rb") as program:
-        head = program.read(64)
-        wide = head[4] == 2
-        order: Literal["little", "big"] = "little" if head[5] == 1 else "big"
-        at, size, count = (32, 54, 56) if wide else (28, 42, 44)
-        table = int.from_bytes(head[at : at + (8 if wide else 4)], order)
-        entry = int.from_bytes(head[size : size + 2], order)
-        for number in range(int.from_bytes(head[count : count + 2], order)):
-            program.seek(table + number * entry)
-            header = program.read(entry)
-            if int.from_bytes(header[:4], order) == _PT_INTERP:
-                place, length, width = (8, 32, 8) if wide else (4, 16, 4)
-                program.seek(int.from_bytes(header[place : place + width], order))
-                text = program.read(int.from_bytes(header[length : length + width], order))
-                return os.fsdecode(text.rstrip(b"\0"))
-    return None
+def _read(program: BinaryIO, place: int, length: int) -> bytes:
+    """What is at a place of a file; nothing where no file has such a place."""
+    if place > maxsize:
+        return b""
+    program.seek(place)
+    return program.read(length)
 
 
 class Disk:
     """The disk as a recording sees it: each answer is kept, and a kept answer is never asked again."""
 
-    def __init__(self, since: float, kept: dict[str, Seen] | None = None, by: dict[str, str] | None = None) -> None:
+    def __init__(
+        self,
+        since: float,
+        kept: dict[str, Seen] | None = None,
+        by: dict[str, str] | None = None,
+        modes: dict[str, Mode] | None = None,
+    ) -> None:
         self._since = since
         self._live = kept is None
         self._seen: dict[str, Seen | None] = dict(kept or {})
         self._interpreters: dict[str, str | None] = dict(by or {})
+        self._modes: dict[str, Mode | None] = dict(modes or {})
 
     def look(self, path: str) -> Seen | None:
         """The object at a path after the run."""
@@ -128,10 +189,18 @@ class Disk:
 
     def interpreter(self, path: str) -> str | None:
         """What a file is run by, if it is still there and names something."""
-        self.look(path)
+        seen = self.look(path)
         if path not in self._interpreters:
-            self._interpreters[path] = interpreter(path) if self._live else None
+            runs = self._live and seen is not None and seen.kind == "reg"
+            self._interpreters[path] = interpreter(path) if runs else None
         return self._interpreters[path]
+
+    def mode(self, path: str) -> Mode | None:
+        """The mode of what a path leads to, if that is still there."""
+        self.look(path)
+        if path not in self._modes:
+            self._modes[path] = mode(path) if self._live else None
+        return self._modes[path]
 
     def keep(self, file: Path) -> None:
         """Writes what was asked, for a later conversion."""
@@ -145,6 +214,10 @@ class Disk:
             line["new"] = True
         if seen.runs:
             line["runs"] = True
+        if seen.inode is not None:
+            line["inode"] = seen.inode
+        if (of := self._modes.get(path)) is not None:
+            line["mode"] = [of.bits, of.uid, of.gid]
         if self._interpreters.get(path) is not None:
             line["interpreter"] = self._interpreters[path]
         return line
@@ -156,15 +229,22 @@ def kept(file: Path, since: float) -> Disk:
         return Disk(since)
     seen: dict[str, Seen] = {}
     loaders: dict[str, str] = {}
+    modes: dict[str, Mode] = {}
     for _, line in jsonl.numbered(file):
-        seen[line["path"]] = Seen(line["kind"], line.get("target"), line.get("new", False), line.get("runs", False))
+        new, runs = line.get("new", False), line.get("runs", False)
+        seen[line["path"]] = Seen(line["kind"], line.get("target"), new, runs, line.get("inode"))
         if "interpreter" in line:
             loaders[line["path"]] = line["interpreter"]
-    return Disk(since, seen, loaders)
+        if "mode" in line:
+            modes[line["path"]] = Mode(*line["mode"])
+    return Disk(since, seen, loaders, modes)
 
 
-def list_below(top: str, limit: int) -> list[tuple[str, Seen]] | None:
-    """Everything in a directory and below it, or None where it is more than the limit."""
+def list_below(top: str, limit: int, unread: list[str]) -> list[tuple[str, Seen]] | None:
+    """Everything in a directory and below it, or None where it is more than the limit.
+
+    Directories that can't be read are added to `unread`.
+    """
     found: list[tuple[str, Seen]] = []
     directories = [top]
     while directories:
@@ -181,5 +261,5 @@ def list_below(top: str, limit: int) -> list[tuple[str, Seen]] | None:
                     if seen.kind == "dir":
                         directories.append(entry.path)
         except OSError:
-            continue
+            unread.append(directory)
     return found

@@ -1,7 +1,7 @@
 """Names of objects in the making: the file system as the program met it, call after call.
 
-Every object is a node; what the run makes, removes and moves changes the nodes, and what it does not
-touch is as the listing before the run says, else as the disk says after it.
+Every object is a node for its whole life, under whatever names it goes. What the run makes, removes and moves
+changes the nodes, and what it does not touch is as the listing before the run says, else as the disk says after it.
 """
 
 from __future__ import annotations
@@ -12,7 +12,7 @@ from functools import lru_cache
 from typing import Protocol
 
 from . import values
-from .disk import Disk, Seen
+from .disk import WHITEOUT, Disk, Seen
 
 MOST_LINKS = 40
 #: Under this directory links lead elsewhere than their targets say (proc(5)).
@@ -21,12 +21,37 @@ PROC = ["proc"]
 
 @dataclass(slots=True, eq=False)
 class Node:
-    """An object: its kind, a link's target, the path where its further children are looked up, and those known."""
+    """An object: its kind, a link's target, the path where its further children are looked up, and those known.
+
+    `start` is its path when the run begins ("" for the root), None if it is not there then; `first` the name under
+    which the tree lists it first; `ruled` says that the program puts a rule on it; `over` and `name` are the
+    directory that it is in, or was in last, and its name there.
+    """
 
     kind: str
     target: str | None = None
     origin: str | None = None
     children: dict[str, "Node | None"] = field(default_factory=dict)
+    start: str | None = None
+    first: str | None = None
+    ruled: bool = False
+    over: "Node | None" = None
+    name: str = ""
+
+    @property
+    def shares(self) -> bool:
+        """Whether it is made by the run and no rule is on it: to Landlock it is like all others of its kind there."""
+        return self.start is None and not self.ruled
+
+    @property
+    def path(self) -> str:
+        """Where it is, or was last; of an object with several names, by the one that was given last."""
+        names: list[str] = []
+        node: Node | None = self
+        while node is not None and node.name:
+            names.append(node.name)
+            node = node.over
+        return join(names[::-1])
 
 
 @dataclass(slots=True)
@@ -56,6 +81,11 @@ def join(names: Sequence[str]) -> str:
     return "/" + "/".join(names)
 
 
+def _beneath(directory: Node, name: str) -> str | None:
+    """Where the children of a directory are looked up that is in another one."""
+    return None if directory.origin is None else f"{directory.origin}/{name}"
+
+
 @lru_cache(values.KEPT)
 def split(path: str) -> tuple[str, ...]:
     """The names of a path."""
@@ -65,21 +95,29 @@ def split(path: str) -> tuple[str, ...]:
 class Links(Protocol):
     """What a walk asks and tells of links."""
 
-    def magic(self, path: str) -> str | None:
-        """Where a link of /proc leads for the caller; None for any other path."""
+    def magic(self, path: str) -> "tuple[str, Node | None] | None":
+        """Where a link of /proc leads for the caller, and to what object if that is known; None for any other path."""
 
     def passed(self, path: str, node: Node) -> None:
         """A symbolic link was followed."""
 
 
 class Names:
-    """All objects that the run met, by their names at this moment."""
+    """All objects that the run met, by their names at this moment.
 
-    def __init__(self, disk: Disk, before: dict[str, Seen], watched: list[str]) -> None:
+    `turns` counts how often a directory of its own got or lost a name: what is beneath is listed otherwise since.
+    `whiteouts` is the kind of object as which the kernel guards whiteouts (docs/SEMANTICS.md).
+    """
+
+    def __init__(self, disk: Disk, before: dict[str, Seen], watched: list[str], whiteouts: str = "char") -> None:
+        self.whiteouts = whiteouts
         self._disk = disk
         self._before = before
         self._watched = [top.rstrip("/") + "/" for top in watched]
-        self.root = Node("dir", origin="")
+        self._linked: dict[str, Node] = {}
+        self.root = Node("dir", origin="", start="", first="/")
+        self._starts: dict[str, Node | None] = {"/": self.root}
+        self.turns = 0
 
     def child(self, node: Node, name: str) -> Node | None:
         """The object of a name in a directory."""
@@ -88,19 +126,55 @@ class Names:
         return node.children[name]
 
     def _initial(self, node: Node, name: str) -> Node | None:
+        """What a name is that the run did not touch yet."""
+        start = None if node.start is None else f"{node.start}/{name}"
+        seen = self._seen(node, name, start)
+        found = None
+        if seen is not None:
+            found = self._linked.get(seen.inode) if seen.inode is not None else None
+            if found is None:
+                origin = _beneath(node, name) if seen.kind == "dir" else None
+                found = Node(self.kind(seen.kind), seen.target, origin, start=start)
+            if seen.inode is not None:
+                self._linked[seen.inode] = found
+            found.over, found.name = node, name
+        if start is not None and (found is not None or self._is_watched(start)):
+            self._starts[start] = found
+        return found
+
+    def _seen(self, node: Node, name: str, start: str | None) -> Seen | None:
+        """What the listing before the run, else the disk after it, says of a name."""
+        if start is not None and self._is_watched(start):
+            return self._before.get(start)
         if node.origin is None:
             return None
-        path = f"{node.origin}/{name}"
-        if self._is_watched(path):
-            seen = self._before.get(path)
-        else:
-            seen = self._disk.look(path)
-            if seen is not None and seen.new:
-                return None
-        return None if seen is None else Node(seen.kind, seen.target, path if seen.kind == "dir" else None)
+        seen = self._disk.look(f"{node.origin}/{name}")
+        return None if seen is None or seen.new else seen
+
+    def kind(self, seen: str) -> str:
+        """The kind as which Landlock guards what was seen."""
+        return self.whiteouts if seen == WHITEOUT else seen
+
+    def knows(self, path: str) -> bool:
+        """Whether it is known what a name is, by a listing before the run or by a call since."""
+        over, _, name = path.rpartition("/")
+        directory = self.at(over or "/")
+        if directory is None or directory.start is None:
+            return directory is not None
+        start = f"{directory.start}/{name}"
+        return start in self._starts or self._is_watched(start)
 
     def _is_watched(self, path: str) -> bool:
         return any(path.startswith(top) for top in self._watched)
+
+    def at_start(self, path: str) -> Node | None:
+        """The object that is at a path when the run begins, as far as that is known."""
+        if path not in self._starts:
+            over, _, name = path.rpartition("/")
+            directory = self.at_start(over or "/")
+            if directory is not None and directory.kind == "dir" and name not in directory.children:
+                directory.children[name] = self._initial(directory, name)
+        return self._starts.get(path)
 
     def at(self, path: str) -> Node | None:
         """The object at a real path, one without links on its way."""
@@ -123,10 +197,38 @@ class Names:
             wanted = kind if count == len(names) else "dir"
             child = self.child(node, name)
             if child is None or (child.kind != wanted and (wanted == "dir" or child.kind in ("dir", "sym"))):
-                child = Node(wanted, origin=join(names[:count]) if wanted == "dir" else None)
-                node.children[name] = child
+                child = self._met(node, name, Node(wanted, origin=join(names[:count]) if wanted == "dir" else None))
             node = child
         return node
+
+    def _met(self, directory: Node, name: str, node: Node) -> Node:
+        """An object of which a call tells that it is there, though no listing does.
+
+        It was there when the run began, unless it is known that nothing was, or something else.
+        """
+        start = None if directory.start is None else f"{directory.start}/{name}"
+        if start is not None and not self._is_watched(start):
+            before = self._starts.get(start)
+            if start not in self._starts or (before is not None and before.first is None):
+                if before is not None:
+                    self._unmake(start, before)
+                node.start = start
+                self._starts[start] = node
+        self._name(directory, name, node)
+        self.turns += node.kind == "dir"
+        return node
+
+    def _unmake(self, path: str, node: Node) -> None:
+        """An object that was taken to be at a path when the run began was not."""
+        self._starts[path] = None
+        if node.start == path:
+            node.start = None
+
+    def _name(self, directory: Node, name: str, node: Node | None) -> None:
+        """Gives a name in a directory to an object, or to nothing."""
+        directory.children[name] = node
+        if node is not None:
+            node.over, node.name = directory, name
 
     def put(self, path: str, node: Node | None) -> None:
         """Puts an object under a name, or takes the name away."""
@@ -134,12 +236,31 @@ class Names:
         if not names:
             return
         directory = self.ensure(join(names[:-1]), "dir") if names[:-1] else self.root
-        directory.children[names[-1]] = node
+        before = self.child(directory, names[-1])
+        if directory.start is not None:
+            self._starts.setdefault(f"{directory.start}/{names[-1]}", None)
+        if any(one is not None and one.kind == "dir" and not one.shares for one in (before, node)):
+            self.turns += 1
+        self._name(directory, names[-1], node)
+
+    def never(self, path: str) -> None:
+        """Notes that nothing is at a path, of which nothing was known: it was not there when the run began either."""
+        self._starts.setdefault(path, None)
+
+    def gone(self, path: str) -> None:
+        """Takes a name away of which a call tells that nothing is there.
+
+        What no call has met yet was not there when the run began either.
+        """
+        node = self.at(path)
+        if node is not None and self._starts.get(path) is node and (node.first is None or node.start != path):
+            self._unmake(path, node)
+        self.put(path, None)
 
     def move(self, start: str, end: str) -> None:
         """Renames an object; what is in a directory is from then on looked up where it went."""
         node = self.at(start)
-        if node is not None and node.origin is not None and not self._is_watched(start):
+        if node is not None and node.origin is not None:
             node.origin = end
         self.put(start, None)
         self.put(end, node)
@@ -197,10 +318,14 @@ class _Walk:
 
     def _follow_magic(self, name: str) -> bool:
         """Follows a link of /proc, if the name is one."""
-        target = self._links.magic(join([*self._here, name]))
-        if target is not None:
-            self._turn_to(target, ())
-        return target is not None
+        led = self._links.magic(join([*self._here, name]))
+        if led is None:
+            return False
+        path, node = led
+        self._go_to(split(path))
+        if node is not None:
+            self._node = node
+        return True
 
     def _follow(self, link: Node, name: str) -> bool:
         """Follows a link; false where it leads nowhere, or where the links have no end."""

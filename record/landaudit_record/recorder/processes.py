@@ -4,6 +4,8 @@ from __future__ import annotations
 
 from dataclasses import dataclass, field
 
+from .names import Node
+
 FIRST_MADE_UP = 1_000_001
 
 
@@ -11,16 +13,21 @@ FIRST_MADE_UP = 1_000_001
 class Handle:
     """What a process knows of an open descriptor.
 
-    `in_trace` says whether a record opened or adopted it; `adopted` the kind as which it is adopted
-    when it is first needed; `ruleset` whether it is a Landlock ruleset; `tcp` whether it is a TCP socket.
+    `node` is the object that it is open on, if that has a path and is known. `in_trace` says whether a record opened
+    or adopted it; `adopted` the kind as which it is adopted when it is first needed; `ruleset` whether it is a
+    Landlock ruleset; `tcp` is the family of a TCP socket. `foreign` says that the process did not open it, so that
+    nobody knows what Landlock kept with it; `placeless` that it is in a mount that has no place in the tree.
     """
 
     path: str | None = None
+    node: Node | None = None
     in_trace: bool = False
     adopted: str = "other"
     close_on_exec: bool = False
     ruleset: bool = False
-    tcp: bool = False
+    tcp: int | None = None
+    foreign: bool = False
+    placeless: bool = False
 
 
 @dataclass(slots=True)
@@ -35,16 +42,18 @@ class Place:
 class Process:
     """A process as a trace has it: what shares one table of descriptors and one domain.
 
-    `in_trace` says whether the trace starts or forks it; `restricted` the rulesets of its restrictions.
+    `confined` says whether it has a layer, or may have one; `restricted` are the rulesets of its restrictions; `maker`
+    is the process that forked it.
     """
 
     pid: int
     program: str = ""
-    in_trace: bool = False
+    confined: bool = False
     table: dict[int, Handle] = field(default_factory=dict)
     threads: set[int] = field(default_factory=set)
     restricted: list[int] = field(default_factory=list)
     next_made_up: int = FIRST_MADE_UP
+    maker: Process | None = None
 
     def made_up(self) -> int:
         """A number that no descriptor of the process ever has."""

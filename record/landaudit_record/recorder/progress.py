@@ -11,9 +11,9 @@ EVERY = 0.5
 
 
 class Progress:
-    """A counter that is written over itself on standard error."""
+    """A line that is written over itself on standard error: a count, or a work that gives none."""
 
-    def __init__(self, what: str) -> None:
+    def __init__(self, what: str = "") -> None:
         self._what = what
         self._shows = sys.stderr.isatty()
         self._next = time.monotonic() + EVERY
@@ -22,12 +22,20 @@ class Progress:
     def __enter__(self) -> Self:
         return self
 
-    def show(self, count: int) -> None:
+    def show(self, count: int, what: str = "") -> None:
         """Shows the count, if it is a while since it was shown."""
         if self._shows and time.monotonic() >= self._next:
             self._next = time.monotonic() + EVERY
-            self._shown = True
-            print(f"\r{count:,} {self._what}", end="", file=sys.stderr, flush=True)
+            self._write(f"{count:,} {what or self._what}")
+
+    def say(self, text: str) -> None:
+        """Shows what is done now, for as long as nothing else is shown."""
+        if self._shows:
+            self._write(text)
+
+    def _write(self, text: str) -> None:
+        self._shown = True
+        print(f"\r\033[K{text}", end="", file=sys.stderr, flush=True)
 
     def __exit__(self, kind: type[BaseException] | None, error: BaseException | None, at: TracebackType | None) -> None:
         if self._shown:

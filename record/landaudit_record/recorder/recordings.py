@@ -2,6 +2,7 @@
 
 from __future__ import annotations
 
+import ctypes
 import json
 import os
 import stat
@@ -11,13 +12,17 @@ from pathlib import Path
 from .. import jsonl
 from . import disk
 from .disk import Seen
+from .modes import Asker
 from ..problems import Problem
 
 ABOUT = "recording.json"
 BEFORE = "before.jsonl"
 OBJECTS = "objects.jsonl"
+POLICY = "policy.toml"
 MOST_WATCHED = 100_000
 CAP_SYS_ADMIN = 21
+_SYS_LANDLOCK_CREATE_RULESET = 444
+_LANDLOCK_CREATE_RULESET_ERRATA = 2
 
 
 @dataclass
@@ -26,7 +31,10 @@ class About:
 
     `started` is the time at which the run began (seconds since 1970), `watched` the directories that
     were listed before it, `descriptors` those that the command was given, with the kind as which a
-    trace adopts each and its path, `admin` and `nnp` what the first process had.
+    trace adopts each and its path, `admin` and `nnp` what the first process had, `errata` the faults of
+    Landlock that the kernel says it has mended, the first as bit 0. `uid` and `groups` say as whom the command runs,
+    `uid` only if it has no privilege by which file modes would not count. `ended` says that the tracer ended by itself,
+    so that the log is whole; it is said after the run.
     """
 
     command: list[str]
@@ -38,6 +46,20 @@ class About:
     watched: list[str] = field(default_factory=list)
     strace: str = ""
     kernel: str = ""
+    ended: bool = True
+    errata: int = 0
+    uid: int | None = None
+    groups: list[int] = field(default_factory=list)
+
+    @property
+    def whiteouts(self) -> str:
+        """The kind of object as which the kernel guards whiteouts: erratum 4 is that they are character devices."""
+        return "reg" if self.errata & 8 else "char"
+
+    @property
+    def asker(self) -> Asker | None:
+        """As whom all processes ask for files: without privileges none can become another user (credentials(7))."""
+        return None if self.uid is None else Asker(self.uid, frozenset(self.groups))
 
     def write(self, folder: Path) -> None:
         (folder / ABOUT).write_text(json.dumps(asdict(self), indent=2) + "\n", encoding="utf-8")
@@ -52,6 +74,12 @@ def read_about(folder: Path) -> About:
         raise Problem(f"cannot read {file}: name a folder that 'landaudit-record run' made") from error
     except (ValueError, TypeError) as error:
         raise Problem(f"{file} is not what 'landaudit-record run' writes: {error}") from error
+
+
+def policy_of(folder: Path) -> Path | None:
+    """The policy that a recording was made under, if it was by `run --policy`."""
+    file = folder / POLICY
+    return file if file.is_file() else None
 
 
 def standard_descriptors() -> dict[str, dict[str, str | None]]:
@@ -69,28 +97,57 @@ def standard_descriptors() -> dict[str, dict[str, str | None]]:
     return found
 
 
+def errata() -> int:
+    """The errata of Landlock that this kernel has mended, as bits; 0 where it does not say."""
+    libc = ctypes.CDLL(None, use_errno=True)
+    mended: int = libc.syscall(_SYS_LANDLOCK_CREATE_RULESET, None, 0, _LANDLOCK_CREATE_RULESET_ERRATA)
+    return max(0, mended)
+
+
 def is_admin() -> bool:
-    """Whether this process has CAP_SYS_ADMIN (proc(5), capabilities(7))."""
+    """Whether this process has CAP_SYS_ADMIN."""
+    return bool(_capabilities() >> CAP_SYS_ADMIN & 1)
+
+
+def user() -> int | None:
+    """The number of this process's user, if the process has no capability: with some file modes would not count."""
+    return None if _capabilities() else os.geteuid()
+
+
+def _capabilities() -> int:
+    """The effective capabilities of this process, as bits (proc(5), capabilities(7))."""
     with open("/proc/self/status", encoding="ascii") as lines:
         effective = next(line for line in lines if line.startswith("CapEff:"))
-    return bool(int(effective.split()[1], 16) >> CAP_SYS_ADMIN & 1)
+    return int(effective.split()[1], 16)
 
 
-def watch(folder: Path, directories: list[str]) -> tuple[list[str], list[str]]:
-    """Lists directories before a run; gives those that were listed, and those that hold too much for it."""
+@dataclass
+class Watched:
+    """Directories before a run: those that were listed, those that hold too much, and what of them can't be read."""
+
+    watched: list[str] = field(default_factory=list)
+    too_large: list[str] = field(default_factory=list)
+    unread: list[str] = field(default_factory=list)
+
+
+def watch(folder: Path, directories: list[str]) -> Watched:
+    """Lists directories before a run."""
     listed: dict[str, Seen] = {}
-    watched: list[str] = []
-    too_large: list[str] = []
+    seen = Watched()
     for directory in directories:
-        found = disk.list_below(directory, MOST_WATCHED)
+        found = disk.list_below(directory, MOST_WATCHED, seen.unread)
         if found is None:
-            too_large.append(directory)
+            seen.too_large.append(directory)
         else:
             listed.update(found)
-            watched.append(directory)
-    lines = ({"path": path, "kind": seen.kind, "target": seen.target} for path, seen in listed.items())
-    jsonl.write(folder / BEFORE, lines)
-    return watched, too_large
+            seen.watched.append(directory)
+    jsonl.write(folder / BEFORE, (_line(path, one) for path, one in listed.items()))
+    return seen
+
+
+def _line(path: str, seen: Seen) -> jsonl.Record:
+    line: jsonl.Record = {"path": path, "kind": seen.kind, "target": seen.target}
+    return line if seen.inode is None else {**line, "inode": seen.inode}
 
 
 def read_before(folder: Path) -> dict[str, Seen]:
@@ -98,4 +155,5 @@ def read_before(folder: Path) -> dict[str, Seen]:
     file = folder / BEFORE
     if not file.is_file():
         return {}
-    return {line["path"]: Seen(line["kind"], line.get("target")) for _, line in jsonl.numbered(file)}
+    lines = (line for _, line in jsonl.numbered(file))
+    return {line["path"]: Seen(line["kind"], line.get("target"), inode=line.get("inode")) for line in lines}

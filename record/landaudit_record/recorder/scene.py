@@ -3,17 +3,19 @@
 from __future__ import annotations
 
 import re
+from contextlib import suppress
 from dataclasses import dataclass, replace
 from typing import Any
 
-from . import values
+from . import modes, values
 from .disk import Disk
 from .names import Found, Names, Node, join, split
 from .ports import Ports
 from .processes import Handle, Process, Thread
 from .strace_log import Birth, Births, Call
+from .unsaid import CannotSay, NotAsked
 from .values import Descriptor
-from .writing import ABSENT, CannotSay, Recording, Tree, checked_path
+from .writing import Recording, Tree
 
 AT_FDCWD = -100
 CLONE_FS = 0x200
@@ -22,21 +24,39 @@ CLONE_THREAD = 0x10000
 #: What /proc has of each process is what it has of the one that looks (proc(5)).
 OWN_FILES = "/proc/self"
 NO_PATH = "a file without a path"
+#: So it is where a process has no layer, and where the mode of what is asked for says so.
+BY_MODES = "EACCES by file modes, whatever a policy says"
 _OF_PROCESS = re.compile(r"/proc/(\d+)(?:/task/\d+)?/(fd/(\d+)|exe|cwd|root)")
 
 
-@dataclass(frozen=True, slots=True)
+@dataclass(slots=True)
 class Spot:
-    """What a path names at this moment: its text in the trace, the real path, the object if there is one.
+    """What a path names at this moment: the real path, and the object if there is one.
 
-    A name that is not there is written with `~new~` behind it, since the tree lists all objects that
-    are ever there; `in_directory` says whether its directory is there.
+    `broken` is how many names of the real path lead to the last directory on it, where the object is missing.
     """
 
-    path: str
+    tree: Tree
     real: str
     node: Node | None
-    in_directory: bool
+    broken: int = 0
+    _text: str | None = None
+
+    @property
+    def path(self) -> str:
+        """The text in the trace: the object's name in the tree, or one that nothing ever has."""
+        if self._text is None:
+            if self.node is not None:
+                self._text = self.tree.place(self.real, self.node)
+            else:
+                names = split(self.real)
+                self._text = self.tree.gap(join(names[: self.broken]), names[self.broken :])
+        return self._text
+
+    @property
+    def in_directory(self) -> bool:
+        """Whether the object is there, or is missing in a directory that is."""
+        return self.node is not None or self.broken == len(split(self.real)) - 1
 
     @property
     def shown(self) -> str | None:
@@ -45,18 +65,33 @@ class Spot:
 
 
 class Scene:
-    """The state of a conversion."""
+    """The state of a conversion.
 
-    def __init__(self, names: Names, disk: Disk, recording: Recording, births: Births, ports: Ports) -> None:
+    `asker` is as whom all processes ask for files, if file modes are known to count for them. `ruled` has each name on
+    which a record of the program puts a rule, with the object.
+    """
+
+    def __init__(
+        self,
+        names: Names,
+        disk: Disk,
+        recording: Recording,
+        births: Births,
+        ports: Ports,
+        asker: modes.Asker | None = None,
+    ) -> None:
         self.names = names
         self.disk = disk
         self.recording = recording
         self.births = births
         self.ports = ports
-        self.tree = Tree()
+        self.asker = asker
+        self.tree = recording.tree
         self.threads: dict[int, Thread] = {}
         self.processes: dict[int, Process] = {}
         self.begun: set[int] = set()
+        self.ruled: list[tuple[str, Node]] = []
+        self.handles: dict[str, str] = {}
         self._walked: set[tuple[str, str, str]] = set()
 
     # What is said
@@ -65,25 +100,43 @@ class Scene:
         """Writes a record of something that Landlock judges, with what the kernel answered."""
         if thread.layers < len(thread.process.restricted):
             raise CannotSay("a call of a thread with fewer layers than its process")
+        if call.error == "EACCES" and (not thread.process.confined or self._modes_refuse(call, op, members)):
+            raise NotAsked(BY_MODES)
         self.note(thread, call, op, call.error or "ok", **members)
+
+    def _modes_refuse(self, call: Call, op: str, members: dict[str, Any]) -> bool:
+        """Whether file modes refuse a call, as far as they are known."""
+        runs = call.name in ("execve", "execveat")
+        return self.asker is not None and modes.refuse(self.asker, self.disk.mode, op, members, runs)
 
     def note(self, thread: Thread, call: Call, op: str, kernel: str | None = None, **members: Any) -> None:
         """Writes a record that only keeps the books, where the kernel's answer is not said."""
-        if not thread.process.in_trace:
-            raise CannotSay("a call of a process that the trace has no room for")
         self.recording.write(op, thread.process.pid, call.line, kernel, **members)
 
-    def leave_out(self, thread: Thread, call: Call, reason: str) -> None:
-        """Counts something about a call that trace and tree can't hold."""
-        self.recording.leave_out(reason, call.line, thread.process.pid, call.text)
+    def leave_out(self, thread: Thread, call: Call, reason: str, *, asks: bool = False) -> None:
+        """Counts something about a call that trace and tree can't hold; `asks` as `Recording.leave_out` has it."""
+        self.recording.leave_out(reason, call.line, thread.process.pid, call.text, asks=asks)
+
+    def further_names(self) -> dict[str, list[str]]:
+        """The further names of each object on which the program puts a rule, by the one on which the record puts it."""
+        return {name: [other for other in self.tree.names_of(node) if other != name] for name, node in self.ruled}
 
     # Paths
 
     def spot(self, thread: Thread, base: Descriptor | None, path: str, follow: bool) -> Spot:
         """What a path names for a thread, from a directory's descriptor or its working directory."""
-        if path == "" and base is not None and base.path is not None:
-            path = base.path
+        if path == "" and base is not None:
+            return self.opened(thread, base)
         return self.written(self.find(thread, base, path, follow))
+
+    def opened(self, thread: Thread, of: Descriptor) -> Spot:
+        """What a descriptor is open on."""
+        if of.path is None:
+            raise NotAsked(NO_PATH)
+        handle = thread.process.table.get(of.number)
+        if handle is not None and handle.node is not None:
+            return self.there(of.path, handle.node)
+        return self.written(self.find(thread, of, of.path, True))
 
     def find(self, thread: Thread, base: Descriptor | None, path: str, follow: bool) -> Found:
         """Resolves a path for a thread, and lists the links on its way."""
@@ -98,37 +151,46 @@ class Scene:
         walk = (thread.place.root, "" if path.startswith("/") else directory, path)
         if walk not in self._walked:
             self._walked.add(walk)
-            self.find(thread, base, path, True)
+            with suppress(CannotSay):
+                self.find(thread, base, path, True)
 
     def written(self, found: Found) -> Spot:
         """What a resolved path names, as the trace writes it."""
-        if found.node is not None:
-            return self.there(found.path, found.node)
-        return self.absent(checked_path(found.path), found.broken or 0, found.in_directory)
+        return Spot(self.tree, found.path, found.node, found.broken or 0)
 
     def there(self, real: str, node: Node) -> Spot:
         """An object at a real path."""
-        return Spot(self.tree.place(checked_path(real), node.kind, node.target), real, node, True)
+        return Spot(self.tree, real, node)
 
-    def absent(self, real: str, count: int | None = None, in_directory: bool = True) -> Spot:
-        """A name that is not there; the object over it is at the first `count` names, all but the last if not said."""
-        names = split(real)
-        count = len(names) - 1 if count is None else count
-        over = join(names[:count])
-        node = self.names.at(over)
-        kind = node.kind if node is not None else "dir"
-        top = self.tree.place(checked_path(over), kind)
-        rest = [names[count] + ABSENT, *names[count + 1 :]]
-        path = checked_path((top if top != "/" else "") + join(rest))
-        return Spot(path, real, None, in_directory)
+    def absent(self, real: str) -> Spot:
+        """A name in a directory of which the kernel says that nothing is there, whatever was known before."""
+        self.names.gone(real)
+        return self.missing(real)
+
+    def missing(self, real: str) -> Spot:
+        """A name in a directory, at which nothing is."""
+        return Spot(self.tree, real, None, len(split(real)) - 1)
 
     def present(self, real: str, kind: str) -> Spot:
         """An object that is known to be there, whatever was known of it before."""
-        return self.there(real, self.names.ensure(checked_path(real), kind))
+        return self.there(real, self.names.ensure(real, kind))
 
     def as_missing(self, spot: Spot) -> Spot:
         """The same name, now that the kernel says that nothing is there."""
-        return self.absent(spot.real) if spot.node is not None and spot.real != "/" else spot
+        if spot.node is not None and spot.real != "/":
+            return self.absent(spot.real)
+        if spot.in_directory:
+            self.names.never(spot.real)
+        return spot
+
+    def moved(self, ways: dict[str, str]) -> None:
+        """Directories went from some paths to others: who works in one, and what is open in it, goes with it."""
+        places = {id(thread.place): thread.place for thread in self.threads.values()}
+        for place in places.values():
+            place.directory, place.root = (_went(path, ways) for path in (place.directory, place.root))
+        for process in self.processes.values():
+            for handle in process.table.values():
+                handle.path = _went(handle.path, ways) if handle.path is not None else None
 
     # Descriptors
 
@@ -139,12 +201,22 @@ class Scene:
             raise CannotSay("a descriptor that is not understood")
         return found
 
-    def handle(self, thread: Thread, of: Descriptor) -> Handle | None:
-        """What a process knows of a descriptor, if it is open."""
-        table = thread.process.table
-        if of.number not in table and of.behind is not None:
-            table[of.number] = Handle(of.path, adopted=self._kind(of))
-        return table.get(of.number)
+    def handle(self, thread: Thread, call: Call, of: Descriptor) -> Handle | None:
+        """What a process knows of a descriptor, if it is open.
+
+        A number that nothing is known of, or that stands for another kind of thing than what is known, came unseen:
+        from pipe(2) and its like, or from elsewhere.
+        """
+        known = thread.process.table.get(of.number)
+        if of.behind is None or (known is not None and (known.path is None) == (of.path is None)):
+            return known
+        return self.receive(thread, call, of, close_on_exec=False)
+
+    def receive(self, thread: Thread, call: Call, of: Descriptor, *, close_on_exec: bool) -> Handle:
+        """Puts a descriptor that came from elsewhere under its number, of the kind that it has."""
+        handle = Handle(of.path, adopted=self._kind(of), close_on_exec=close_on_exec, foreign=_is_foreign(of))
+        self.put(thread, call, of.number, handle)
+        return handle
 
     def _kind(self, of: Descriptor) -> str:
         if of.device is not None:
@@ -193,15 +265,20 @@ class Scene:
         if birth.flags & CLONE_THREAD:
             self._join(Thread(tid, maker.process, place, maker.layers))
             return
-        process = Process(tid, maker.process.program, restricted=list(maker.process.restricted))
+        process = Process(
+            tid,
+            maker.process.program,
+            confined=maker.process.confined,
+            restricted=list(maker.process.restricted),
+            maker=maker.process,
+        )
         process.table = {number: replace(handle) for number, handle in maker.process.table.items()}
         process.next_made_up = maker.process.next_made_up
         self._join(Thread(tid, process, place, maker.layers))
         self.processes[tid] = process
         if birth.flags & CLONE_FILES:
-            self.leave_out(maker, call, "a descriptor table that two processes share")
+            self.leave_out(maker, call, "a descriptor table that two processes share", asks=True)
         self.note(maker, call, "fork", child=tid)
-        process.in_trace = True
 
     def _join(self, thread: Thread) -> None:
         self.threads[thread.tid] = thread
@@ -216,7 +293,6 @@ class Scene:
         self._join(thread)
         self.processes[thread.process.pid] = thread.process
         self.recording.write("start", thread.process.pid, call.line, nnp=nnp, admin=admin)
-        thread.process.in_trace = True
 
     def end(self, tid: int, line: int) -> None:
         """A thread that ended, and its process with its last thread."""
@@ -227,8 +303,17 @@ class Scene:
         if not thread.process.threads and self.processes.get(thread.process.pid) is thread.process:
             del self.processes[thread.process.pid]
             self.names.put(f"/proc/{thread.process.pid}", None)
-            if thread.process.in_trace:
-                self.recording.write("exit", thread.process.pid, line)
+            self.recording.write("exit", thread.process.pid, line)
+
+
+def _is_foreign(of: Descriptor) -> bool:
+    """Whether what a number stands for has rights that Landlock gave it elsewhere: a socket, or a file that was opened.
+
+    A memfd, a pipe and their like are never refused (memfd_create(2), pipe(2)).
+    """
+    if of.path is not None:
+        return not of.path.startswith("/memfd:")
+    return of.behind is not None and of.behind.startswith("socket:")
 
 
 @dataclass(frozen=True)
@@ -240,30 +325,40 @@ class ThreadLinks:
 
     def passed(self, path: str, node: Node) -> None:
         """Lists a symbolic link that was followed."""
-        self.scene.tree.place(checked_path(path), node.kind, node.target)
+        self.scene.tree.place(path, node)
 
-    def magic(self, path: str) -> str | None:
-        """Where a link of /proc leads (proc(5))."""
+    def magic(self, path: str) -> tuple[str, Node | None] | None:
+        """Where a link of /proc leads, and to what object if that is known (proc(5))."""
         if not path.startswith("/proc/"):
             return None
         own = f"/proc/{self.thread.process.pid}"
         if path == "/proc/self":
-            return own
+            return own, None
         if path == "/proc/thread-self":
-            return f"{own}/task/{self.thread.tid}"
+            return f"{own}/task/{self.thread.tid}", None
         link = _OF_PROCESS.fullmatch(path)
         process = self.scene.processes.get(int(link[1])) if link else None
         return self._of_process(process, link[2], link[3]) if link and process else None
 
-    def _of_process(self, process: Process, name: str, number: str | None) -> str | None:
+    def _of_process(self, process: Process, name: str, number: str | None) -> tuple[str, Node | None] | None:
         match name:
             case "exe":
-                return process.program or None
+                return (process.program, None) if process.program else None
             case "cwd":
-                return self.thread.place.directory
+                return self.thread.place.directory, None
             case "root":
-                return self.thread.place.root
+                return self.thread.place.root, None
         handle = process.table.get(int(number or 0))
-        if handle is not None and handle.path is None:
-            raise CannotSay(NO_PATH)
-        return handle.path if handle is not None else None
+        if handle is None:
+            raise CannotSay("a file by a descriptor of which nothing is known")
+        if handle.path is None:
+            raise NotAsked(NO_PATH)
+        return (handle.path, None) if handle.node is None else (handle.node.path, handle.node)
+
+
+def _went(path: str, ways: dict[str, str]) -> str:
+    """A path, now that directories went from some paths to others."""
+    for start, end in ways.items():
+        if path == start or path.startswith(start + "/"):
+            return end + path[len(start) :]
+    return path

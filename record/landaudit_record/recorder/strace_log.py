@@ -1,25 +1,37 @@
-"""The log of strace: its lines as calls, in the order in which the calls ended.
+"""The log of strace: its lines as calls, in the order in which the calls took effect.
 
 A call that another process's line interrupts is written in two halves, "<unfinished ...>" and
-"<... resumed>", which are put together here. A child may run before its parent's fork has ended, so
-the children of all forks are looked up in a first reading.
+"<... resumed>", which are put together here. Most calls take effect where they end: what installs a
+number, say, is seen by nobody before. Those of AT_BEGINNING take effect where they begin: close(2) frees its
+number at once, and another thread may have it before the call has ended. So the ends of these calls are
+looked up in a first reading, and with them the children of all forks, since a child may run before its
+parent's fork has ended.
 """
 
 from __future__ import annotations
 
 import gzip
 import re
+import sys
 from collections import deque
-from collections.abc import Iterator, Sequence
+from collections.abc import Iterator, Mapping
 from dataclasses import dataclass, field
 from functools import lru_cache
 from pathlib import Path
-from typing import NamedTuple, TextIO
+from typing import NamedTuple, SupportsIndex, TextIO, overload
 
 from . import values
+from .unsaid import NotUnderstood
 from ..problems import Problem
 
+#: Calls that take effect where they begin: they free numbers, or look up what a number stands for.
+AT_BEGINNING = frozenset({"close", "close_range", "ftruncate", "ioctl"})
+#: How the first half of a call ends; the second where a thread that is not the leader runs a program.
 UNFINISHED = " <unfinished ...>"
+_PID_CHANGED = re.compile(r" <pid changed to \d+ \.\.\.>$")
+#: What strace may write where a close has no end, since its thread was ended.
+_NO_END = ") = ?"
+_DONE = ") = 0"
 
 _LINE = re.compile(r"(\d+) +(.*)")
 _NO_CALL = ("+++ ", "--- ", "<... ")
@@ -39,14 +51,36 @@ _USUAL_PARTS = (
 )
 _USUAL_CALL = re.compile(rf"(\w+)\(((?:{'|'.join(_USUAL_PARTS)})*+){_RESULT}")
 _FORKS = r"(?:clone3?|v?fork)"
-_FORK = re.compile(rf"(\d+) +(?:{_FORKS}\(.*|<\.\.\. {_FORKS} resumed>.*)\)\s*= (\d+)$")
+#: A process of another PID namespace has one number there, and one by which the log names it.
+_IN_OUR_NAMESPACE = re.compile(r" /\* (\d+) in strace's PID NS \*/")
+_FORK = re.compile(
+    rf"(\d+) +(?:{_FORKS}\(.*|<\.\.\. {_FORKS} resumed>.*)\)\s*= (\d+)(?:{_IN_OUR_NAMESPACE.pattern})?$"
+)
 _FORK_BEGINS = re.compile(rf"(\d+) +{_FORKS}\(.*<unfinished \.\.\.>$")
+_BEGINS = re.compile(rf"(\d+) +({'|'.join(sorted(AT_BEGINNING))})\(.* <unfinished \.\.\.>$")
+_ENDS = re.compile(rf"(\d+) +<\.\.\. (?:{'|'.join(sorted(AT_BEGINNING))}) resumed>(.*)$")
 _FLAGS = re.compile(r"flags=([^,}]+)")
+
+
+class Arguments(list[str]):
+    """The arguments of a call; one that is missing is a text that is not understood."""
+
+    @overload
+    def __getitem__(self, index: SupportsIndex) -> str: ...
+
+    @overload
+    def __getitem__(self, index: slice) -> list[str]: ...
+
+    def __getitem__(self, index: SupportsIndex | slice) -> str | list[str]:
+        try:
+            return super().__getitem__(index)
+        except IndexError:
+            raise NotUnderstood from None
 
 
 @dataclass(slots=True)
 class Call:
-    """A system call that ended: its thread, where it began, its arguments as strace wrote them, its result.
+    """A system call that took effect: its thread, where it began, its arguments as strace wrote them, its result.
 
     `value` is what the kernel returned (None where it returned nothing, as a call that is restarted),
     `error` the name of its error, `note` what strace says behind the result (the path of a descriptor).
@@ -55,7 +89,7 @@ class Call:
     line: int
     tid: int
     name: str
-    arguments: Sequence[str]
+    arguments: Arguments
     value: int | None
     error: str | None
     note: str
@@ -68,10 +102,11 @@ class Call:
 
 @dataclass(slots=True)
 class Ended:
-    """A thread that ended."""
+    """A thread that ended; `dumped` says that its process left a core file, or was to leave one (core(5))."""
 
     line: int
     tid: int
+    dumped: bool = False
 
 
 @dataclass(slots=True)
@@ -106,9 +141,13 @@ class Birth:
 
 @dataclass
 class Births:
-    """Who was started by whom: for each new thread the forks that made one of its number, in their order."""
+    """Who was started by whom: for each new thread the forks that made one of its number, in their order.
+
+    `ends` has the second halves of the calls that take effect where they begin, by the lines of these.
+    """
 
     forks: dict[int, deque[Birth]] = field(default_factory=dict)
+    ends: dict[int, str] = field(default_factory=dict)
 
     def next(self, tid: int) -> Birth | None:
         """The fork that makes the next thread of this number."""
@@ -132,21 +171,57 @@ def find_log(folder: Path) -> Path:
 
 
 def births(path: Path) -> Births:
-    """All forks of a log."""
+    """What a first reading of a log tells: all forks, and how the calls end that take effect where they begin."""
     found = Births()
-    begun: dict[int, tuple[int, int]] = {}
+    forks, ends = _Forks(found), _Ends(found)
     with open_log(path) as lines:
         for number, line in enumerate(lines, start=1):
-            if "clone" not in line and "fork" not in line:
-                continue
-            if begins := _FORK_BEGINS.match(line):
-                begun[int(begins[1])] = number, _clone_flags(line)
-            elif ends := _FORK.match(line):
-                maker, child = int(ends[1]), int(ends[2])
-                here = number, _clone_flags(line)
-                first, flags = begun.pop(maker, here) if "resumed>" in line else here
-                found.forks.setdefault(child, deque()).append(Birth(first, maker, flags))
+            if "clone" in line or "fork" in line:
+                forks.read(number, line)
+            if line.endswith("...>\n") or "resumed>" in line:
+                ends.read(number, line)
     return found
+
+
+class _Ends:
+    """The second halves of the calls that take effect where they begin."""
+
+    def __init__(self, found: Births) -> None:
+        self._found = found
+        self._begun: dict[str, int] = {}
+
+    def read(self, number: int, line: str) -> None:
+        """Takes up a line, if such a call begins or ends on it."""
+        if begins := _BEGINS.match(line):
+            self._begun[begins[1]] = number
+        elif ends := _ENDS.match(line):
+            first = self._begun.pop(ends[1], None)
+            if first is not None:
+                self._found.ends[first] = sys.intern(ends[2])
+
+
+class _Forks:
+    """The forks of a log, as its lines tell them."""
+
+    def __init__(self, found: Births) -> None:
+        self._found = found
+        self._begun: dict[int, tuple[int, int]] = {}
+
+    def read(self, number: int, line: str) -> None:
+        """Takes up a line, if a fork begins or ends on it; a fork that can't be read makes nobody that is known."""
+        try:
+            self._read(number, line)
+        except NotUnderstood:
+            return
+
+    def _read(self, number: int, line: str) -> None:
+        if begins := _FORK_BEGINS.match(line):
+            self._begun[int(begins[1])] = number, _clone_flags(line)
+        elif ends := _FORK.match(line):
+            maker, child = int(ends[1]), int(ends[3] or ends[2])
+            here = number, _clone_flags(line)
+            first, flags = self._begun.pop(maker, here) if "resumed>" in line else here
+            self._found.forks.setdefault(child, deque()).append(Birth(first, maker, flags))
 
 
 def _clone_flags(line: str) -> int:
@@ -154,48 +229,81 @@ def _clone_flags(line: str) -> int:
     return values.number(flags[1]) if flags else 0
 
 
-def events(path: Path) -> Iterator[Event]:
-    """What a log says, in the order in which the calls ended."""
-    pending: dict[int, tuple[int, str]] = {}
+def events(path: Path, ends: Mapping[int, str] | None = None) -> Iterator[Event]:
+    """What a log says, in the order in which the calls took effect; `ends` is what `births` found."""
+    reader = _Reader(ends or {})
     with open_log(path) as lines:
         for number, line in enumerate(lines, start=1):
             match = _LINE.match(line)
             if match is None:
                 yield Unread(number, 0, line.rstrip("\n"))
                 continue
-            event = _event(number, int(match[1]), match[2], pending)
+            event = reader.read(number, int(match[1]), match[2])
             if event is not None:
                 yield event
 
 
-def _event(number: int, tid: int, text: str, pending: dict[int, tuple[int, str]]) -> Event | None:
-    if text.endswith(UNFINISHED):
-        pending[tid] = (number, text[: -len(UNFINISHED)])
-        return None
-    if not text.startswith(_NO_CALL):
-        return _call(number, tid, text)
-    if text.startswith("+++ "):
-        return _end(number, tid, text, pending)
-    if text.startswith("--- "):
-        return None
-    resumed = _RESUMED.match(text)
-    if resumed is None:
-        return _call(number, tid, text)
-    begun = pending.pop(tid, None)
-    if begun is None:
-        return Unread(number, tid, text)
-    return _call(begun[0], tid, begun[1] + text[resumed.end() :])
+class _Reader:
+    """Reads line after line: of each thread it keeps the first half of the call that has not ended."""
 
+    def __init__(self, ends: Mapping[int, str]) -> None:
+        self._ends = ends
+        self._begun: dict[int, tuple[int, str]] = {}
+        self._told: set[int] = set()
+        self._superseding: set[int] = set()
 
-def _end(number: int, tid: int, text: str, pending: dict[int, tuple[int, str]]) -> Event:
-    superseded = _SUPERSEDED.search(text)
-    if superseded is None:
-        pending.pop(tid, None)
-        return Ended(number, tid)
-    by = int(superseded[1])
-    if by in pending:
-        pending[tid] = pending.pop(by)
-    return Superseded(number, tid, by)
+    def read(self, number: int, tid: int, text: str) -> Event | None:
+        """What a line tells, if it tells something by itself."""
+        if text.endswith("...>"):
+            first = _PID_CHANGED.sub("", text.removesuffix(UNFINISHED))
+            if first != text:
+                return self._begins(number, tid, first)
+        if not text.startswith(_NO_CALL):
+            return _call(number, tid, text)
+        if text.startswith("+++ "):
+            return self._end(number, tid, text)
+        if text.startswith("--- "):
+            return None
+        resumed = _RESUMED.match(text)
+        return _call(number, tid, text) if resumed is None else self._resumes(number, tid, text, resumed)
+
+    def _begins(self, number: int, tid: int, text: str) -> Event | None:
+        """The first half of a call: the whole call, if it takes effect here."""
+        name = _NAME.match(text)
+        end = self._ends.get(number, _NO_END if name is not None and name[1] == "close" else None)
+        if name is None or name[1] not in AT_BEGINNING or end is None:
+            self._begun[tid] = number, text
+            return None
+        self._told.add(tid)
+        return _call(number, tid, text + end)
+
+    def _resumes(self, number: int, tid: int, text: str, resumed: re.Match[str]) -> Event | None:
+        """The second half of a call, if it was not told where it began."""
+        if tid in self._told:
+            self._told.discard(tid)
+            return None
+        begun = self._begun.pop(tid, None)
+        if begun is None:
+            return Unread(number, tid, text)
+        end = _DONE if tid in self._superseding else text[resumed.end() :]
+        self._superseding.discard(tid)
+        return _call(begun[0], tid, begun[1] + end)
+
+    def _end(self, number: int, tid: int, text: str) -> Event:
+        """The end of a thread, or of the leader of a process whose other thread runs a program.
+
+        This has succeeded, whatever strace writes of it: the other threads end only when nothing can fail.
+        """
+        self._told.discard(tid)
+        superseded = _SUPERSEDED.search(text)
+        if superseded is None:
+            self._begun.pop(tid, None)
+            return Ended(number, tid, "(core dumped)" in text)
+        by = int(superseded[1])
+        if by in self._begun:
+            self._begun[tid] = self._begun.pop(by)
+            self._superseding.add(tid)
+        return Superseded(number, tid, by)
 
 
 def _call(number: int, tid: int, text: str) -> Event:
@@ -207,7 +315,7 @@ class _Said(NamedTuple):
     """What the text of a call says, as `Call` has it."""
 
     name: str
-    arguments: Sequence[str]
+    arguments: Arguments
     value: int | None
     error: str | None
     note: str
@@ -220,9 +328,14 @@ def _said(text: str) -> _Said | None:
     if parts is None:
         return None
     name, arguments, result, note = parts
-    value = None if result == "?" else values.written(result)
+    try:
+        value = None if result == "?" else values.written(result)
+    except NotUnderstood:
+        return None
+    ours = _IN_OUR_NAMESPACE.match(note)
     error = _ERROR.match(note) if value is None or value == -1 else None
-    return _Said(name, arguments, value, error[1] if error is not None else None, note)
+    value = int(ours[1]) if ours is not None else value
+    return _Said(name, Arguments(arguments), value, error[1] if error is not None else None, note)
 
 
 def _parts(text: str) -> tuple[str, list[str], str, str] | None:

@@ -2,15 +2,20 @@
 
 from __future__ import annotations
 
+import ctypes
+import os
 import re
 import shutil
 import signal
 import subprocess
-import time
+from collections.abc import Callable, Iterator
+from contextlib import contextmanager
+from dataclasses import dataclass
 from pathlib import Path
+from types import FrameType
 
 from ..problems import WANTING, Problem
-from .progress import Progress
+from ..stopping import SIGNALS
 
 OLDEST = (6, 1)
 
@@ -21,14 +26,27 @@ SETS_NO_NEW_PRIVS = True
 #: a signal ends only where it keeps the signal.
 HARMLESS_SIGNALS = ("SIGCHLD", "SIGCONT", "SIGURG", "SIGWINCH")
 
-#: The calls that a conversion reads; `?` before a name that an older strace may not know.
+#: The calls that a conversion reads; `?` before a name that a strace may not know.
 CALLS = """
-execve execveat clone clone3 fork vfork unshare chdir fchdir chroot
+execve execveat clone clone3 fork vfork unshare setns chdir fchdir chroot
 open openat ?openat2 creat close ?close_range dup dup2 dup3 fcntl socket bind connect ioctl ftruncate truncate
 mknod mknodat mkdir mkdirat symlink symlinkat unlink unlinkat rmdir rename renameat renameat2 link linkat
-mount umount2 pivot_root ?move_mount prctl
+mount umount2 pivot_root ?move_mount ?fsconfig ?fsmount ?open_tree ?open_tree_attr prctl
 ?landlock_create_ruleset ?landlock_add_rule ?landlock_restrict_self
+?io_uring_setup ?io_uring_enter name_to_handle_at open_by_handle_at swapon acct ?uselib fanotify_init ?bpf mq_open
+sendto sendmsg sendmmsg
+ptrace process_vm_readv process_vm_writev kcmp ?move_pages ?migrate_pages ?get_robust_list perf_event_open
+?process_madvise ?pidfd_getfd
 """.split()
+
+#: Calls of which nothing but flags is read: their data stay out of the log.
+UNDECODED = ("sendto", "sendmsg", "sendmmsg")
+
+#: How long a command that is to end may take before it is killed, in seconds.
+PATIENCE = 5.0
+#: How often those that are left are killed from then on.
+_AGAIN = 0.2
+_PR_SET_CHILD_SUBREAPER = 36
 
 
 def version() -> str:
@@ -58,7 +76,9 @@ def command_line(log: Path, command: list[str]) -> list[str]:
         "--seccomp-bpf",
         "--quiet=attach,personality",
         "--const-print-style=verbose",
-        "--decode-fds=path,dev",
+        "--decode-fds=path,dev,pidfd",
+        "--decode-pids=pidns",
+        f"--raw={','.join(UNDECODED)}",
         f"--signal=!{','.join(HARMLESS_SIGNALS)}",
         "--string-limit=4096",
         "--abbrev=execve,execveat",
@@ -69,18 +89,114 @@ def command_line(log: Path, command: list[str]) -> list[str]:
     ]
 
 
-def run(log: Path, command: list[str]) -> int:
-    """Runs a command under strace, and gives its status as a shell would.
+@dataclass(frozen=True)
+class Outcome:
+    """What came of a run: the command's status as a shell gives it, and whether the tracer ended by itself."""
 
-    An interrupt from the terminal goes to the command, which ends as it likes; what was recorded stays.
+    status: int
+    ended: bool
+
+
+def run(log: Path, command: list[str]) -> Outcome:
+    """Runs a command under strace.
+
+    An interrupt from the terminal goes to the command, which ends as it likes; other signals that ask for the end are
+    passed to all that strace traces, and what has not ended after a while is killed. Nothing is left running: what a
+    tracer leaves behind that was killed itself is killed, since most of its calls would fail.
     """
-    with Progress("bytes of log") as progress:
+    _adopt_orphans()
+    passing = _Passing()
+    with passing.installed():
         tracer = subprocess.Popen(command_line(log, command))
-        before = signal.signal(signal.SIGINT, signal.SIG_IGN)
+        passing.tracer = tracer.pid
+        tracer.returncode = _wait(tracer.pid)
+    left = _kill_children() if tracer.returncode < 0 else 0
+    return Outcome(tracer.returncode if tracer.returncode >= 0 else 128 - tracer.returncode, left == 0)
+
+
+def _adopt_orphans() -> None:
+    """Makes processes whose parent ends children of this one (prctl(2), PR_SET_CHILD_SUBREAPER)."""
+    ctypes.CDLL(None).prctl(_PR_SET_CHILD_SUBREAPER, ctypes.c_ulong(1), *[ctypes.c_ulong(0)] * 3)
+
+
+def _wait(tracer: int) -> int:
+    """Waits for the end of the tracer, and takes up orphans that end; gives the tracer's status."""
+    while True:
+        pid, status = os.waitpid(-1, 0)
+        if pid == tracer:
+            return os.waitstatus_to_exitcode(status)
+
+
+class _Passing:
+    """Passes signals that ask for the end to what the tracer traces; after a while, or at the second one, kills it."""
+
+    def __init__(self) -> None:
+        self.tracer: int | None = None
+        self._asked = False
+
+    @contextmanager
+    def installed(self) -> Iterator[None]:
+        """Takes the signals: by functions, since what is ignored here the command would ignore too (execve(2))."""
+        handlers: dict[int, Callable[[int, FrameType | None], None]] = {
+            signal.SIGINT: lambda *_: None,
+            signal.SIGALRM: self._kill,
+            **{number: self._pass for number in SIGNALS if signal.getsignal(number) is not signal.SIG_IGN},
+        }
+        before = {number: signal.signal(number, handler) for number, handler in handlers.items()}
         try:
-            while tracer.poll() is None:
-                time.sleep(0.05)
-                progress.show(log.stat().st_size if log.exists() else 0)
+            yield
         finally:
-            signal.signal(signal.SIGINT, before)
-    return tracer.returncode if tracer.returncode >= 0 else 128 - tracer.returncode
+            signal.setitimer(signal.ITIMER_REAL, 0)
+            for number, handler in before.items():
+                signal.signal(number, handler)
+
+    def _pass(self, number: int, frame: FrameType | None) -> None:
+        signal.setitimer(signal.ITIMER_REAL, _AGAIN if self._asked else PATIENCE, _AGAIN)
+        self._send(signal.SIGKILL if self._asked else number)
+        self._asked = True
+
+    def _kill(self, number: int, frame: FrameType | None) -> None:
+        self._send(signal.SIGKILL)
+
+    def _send(self, number: int) -> None:
+        if self.tracer is not None:
+            _send(_traced_by(self.tracer), number)
+
+
+def _send(pids: list[int], number: int) -> None:
+    for pid in pids:
+        try:
+            os.kill(pid, number)
+        except ProcessLookupError:
+            continue
+
+
+def _traced_by(tracer: int) -> list[int]:
+    """The processes that a tracer traces."""
+    return _processes("TracerPid", tracer)
+
+
+def _processes(field: str, value: int) -> list[int]:
+    """The processes of which the status says that a field is a number (proc(5))."""
+    found = []
+    for entry in os.scandir("/proc"):
+        try:
+            text = Path(entry.path, "status").read_text() if entry.name.isdecimal() else ""
+        except OSError:
+            continue
+        if re.search(rf"^{field}:\t{value}$", text, re.MULTILINE):
+            found.append(int(entry.name))
+    return found
+
+
+def _kill_children() -> int:
+    """Kills all processes that came from this one, and says how many there were that had not ended."""
+    killed = 0
+    while children := _processes("PPid", os.getpid()):
+        for child in children:
+            ended, _ = os.waitpid(child, os.WNOHANG)
+            if not ended:
+                os.kill(child, signal.SIGKILL)
+                os.waitpid(child, 0)
+                killed += 1
+    return killed

@@ -6,12 +6,15 @@ import re
 from dataclasses import dataclass, field
 from functools import lru_cache
 
+from .unsaid import NotUnderstood
+
 _ESCAPE = re.compile(rb"\\(x[0-9a-f]{2}|[0-7]{1,3}|.)", re.DOTALL)
 _LETTERS = {b"n": b"\n", b"t": b"\t", b"r": b"\r", b"v": b"\v", b"f": b"\f"}
 _COMMENT = re.compile(r"\s*/\*.*?\*/")
 #: Programs repeat themselves: this many different arguments are kept with what they say.
 KEPT = 16_384
 
+_OUR_PID = re.compile(r"/\* (\d+) in strace's PID NS \*/")
 _NUMBER = re.compile(r"\s*(-?0x[0-9a-f]+|-?\d+)")
 _DESCRIPTOR = re.compile(r"(-?\d+)(?: /\*[^*]*\*/)?(?:<((?:[^<>]|<[^<>]*>)*)>(\(deleted\))?)?")
 _DEVICE = re.compile(r"<(char|block) \d+:\d+>$")
@@ -37,10 +40,13 @@ class Descriptor:
 
 def _unescaped(match: re.Match[bytes]) -> bytes:
     code = match[1]
-    if code[:1] == b"x":
-        return bytes([int(code[1:], 16)])
-    if code[:1].isdigit():
-        return bytes([int(code, 8) & 0xFF])
+    try:
+        if code[:1] == b"x":
+            return bytes([int(code[1:], 16)])
+        if code[:1].isdigit():
+            return bytes([int(code, 8) & 0xFF])
+    except ValueError:
+        raise NotUnderstood from None
     return _LETTERS.get(code, code)
 
 
@@ -48,7 +54,17 @@ def unescaped(text: str) -> str:
     """The name that an escaped text stands for; a byte that is not UTF-8 becomes a lone surrogate."""
     if "\\" not in text:
         return text
-    return _ESCAPE.sub(_unescaped, text.encode("latin-1")).decode("utf-8", "surrogateescape")
+    return _bytes(text).decode("utf-8", "surrogateescape")
+
+
+def _bytes(text: str) -> bytes:
+    return _ESCAPE.sub(_unescaped, text.encode("latin-1"))
+
+
+def raw(argument: str) -> bytes | None:
+    """The bytes of a text in quotes; None where there is none."""
+    quoted = len(argument) >= 2 and argument[0] == '"' and argument.endswith('"')
+    return _bytes(argument[1:-1]) if quoted else None
 
 
 @lru_cache(KEPT)
@@ -61,7 +77,10 @@ def text(argument: str) -> str | None:
 
 def written(digits: str) -> int:
     """A number as C writes it: octal where it begins with 0."""
-    return int(digits, 8) if digits.startswith("0") and digits.isdigit() else int(digits, 0)
+    try:
+        return int(digits, 8) if digits.startswith("0") and digits.isdigit() else int(digits, 0)
+    except ValueError:
+        raise NotUnderstood from None
 
 
 @lru_cache(KEPT)
@@ -72,10 +91,16 @@ def number(argument: str) -> int:
         digits = _NUMBER.match(part)
         if digits is None:
             if part.strip() != "NULL":
-                raise ValueError(f"{argument} is no number")
+                raise NotUnderstood
             continue
         total |= written(digits[1])
     return total
+
+
+def pid(argument: str) -> int:
+    """The number of a process by which the log names it, where the process that names it may know another."""
+    ours = _OUR_PID.search(argument)
+    return int(ours[1]) if ours else number(argument)
 
 
 @lru_cache(KEPT)

@@ -2,87 +2,231 @@
 
 from __future__ import annotations
 
+import json
+import re
+import shutil
+import tempfile
 from collections import Counter
+from collections.abc import Container, Mapping, Sequence
+from dataclasses import dataclass
 from pathlib import Path
 from types import TracebackType
 from typing import Any, Self
 
 from .. import jsonl
-from .names import split
+from ..finished import CONVERTED, Converted, Part, Size, files_of_parts, numbered
+from ..living import Living, Members
+from ..trees import ROOT, directory_of, upwards
+from .names import Names, Node, join
+from .processes import FIRST_MADE_UP
+from .unsaid import CannotSay as CannotSay
+from .unsaid import NotUnderstood
 
 MOST_RECORDS = 1_000_000
 MOST_PROCESSES = 65_536
 MOST_OBJECTS = 65_536
+#: What a policy of sixteen layers of 1,000 rules takes: no_new_privs, and of each layer its rules and three more.
+POLICY_RECORDS = 1 + 16 * 1_003
+POLICY_OBJECTS = 16 * 1_000
 LONGEST_PATH = 4_096
 LONGEST_CALL = 200
 ABSENT = "~new~"
-
-
-class CannotSay(Exception):
-    """A call that trace and tree have no words for; its text is the class that is counted."""
+#: Before the name of a folder in which a conversion writes that is not done.
+UNDONE = ".converting-"
+#: What no path has: another beginning than a slash, an empty name, `.`, `..`, a NUL.
+_NO_PATH = re.compile(r"\A[^/]|\A\Z|/\.{0,2}(?:/|\Z)|\0")
 
 
 class Tree:
-    """The objects that the run met, each under one path with one kind.
+    """The names under which a recording lists objects; an object that is moved or linked has several.
 
-    A path at which first one kind of object is and later another lists the second one under a
-    name that tells its kind.
+    An object's name is its path, or where another object has that, the path with a number behind it. What was there
+    when the run began has names of its own, and so has what the program itself puts a rule on. All else that the run
+    makes at one path is alike to Landlock where it is of one kind, and shares a name: no rule is on it.
     """
 
-    def __init__(self) -> None:
-        self._kinds: dict[str, str] = {}
-        self._targets: dict[str, str] = {}
-        self._places: dict[tuple[str, str], str] = {}
+    def __init__(self, names: Names) -> None:
+        self._names = names
+        self._owners: dict[str, Node | str] = {"/": names.root}
+        self._given: dict[tuple[str, Node | str], str] = {}
+        self._several: dict[Node, list[str]] = {}
+        self._lines: dict[str, jsonl.Record] = {}
+        self._places: dict[tuple[str, Node], str] = {}
+        self._gaps: dict[str, str] = {}
+        self._lost: dict[str, Node] = {}
+        self._turns = 0
+        #: What was listed since this was last emptied.
+        self.fresh: list[str] = []
+
+    def __contains__(self, path: str) -> bool:
+        return path in self._lines
+
 
     def __len__(self) -> int:
         """How many objects there are, the root among them."""
-        return len(self._kinds) + 1
+        return len(self._lines) + 1
 
-    def place(self, path: str, kind: str, target: str | None = None) -> str:
-        """Lists an object and the directories over it, and gives the path that it has in the tree."""
-        known = self._places.get((path, kind))
-        if known is not None:
-            return known
-        here = ""
-        names = split(path)
-        for count, name in enumerate(names, start=1):
-            last = count == len(names)
-            here = self._listed(f"{here}/{name}", kind if last else "dir")
-        if target is not None:
-            self._targets.setdefault(here, target)
-        self._places[path, kind] = here or "/"
-        return here or "/"
+    def place(self, real: str, node: Node) -> str:
+        """Lists an object at a real path with the directories over it, and gives the name that it has there."""
+        if self._turns != self._names.turns:
+            self._turns = self._names.turns
+            self._places.clear()
+        text = self._places.get((real, node))
+        if text is None:
+            self._list_start(node)
+            text = self._places[real, node] = "/" if real == "/" else self._named(self._wanted(real), real, node)
+        return text
 
-    def _listed(self, path: str, kind: str) -> str:
-        if self._kinds.get(path, kind) != kind:
-            path = f"{path}~{kind}~"
-        if path not in self._kinds:
-            if len(self) >= MOST_OBJECTS:
-                raise CannotSay(f"an object past the tree's limit of {MOST_OBJECTS}")
-            self._kinds[path] = kind
-        return path
+    def rule(self, real: str, node: Node) -> str:
+        """The name of an object on which the program puts a rule: from now on no other object has this name."""
+        text = self.place(real, node)
+        if node.shares:
+            wanted = self._wanted(real)
+            del self._given[wanted, node.kind]
+            self._given[wanted, node] = text
+            self._owners[text] = node
+            self._several[node] = [text]
+            node.ruled, node.first = True, text
+            self._names.turns += 1
+        return text
 
-    def write(self, file: Path) -> int:
-        """Writes the tree, directories before what is in them, and says how many objects it has with the root."""
-        jsonl.write(file, (self._line(path) for path in self._kinds))
-        return len(self)
+    def names_of(self, node: Node) -> list[str]:
+        """The names that an object of its own has in the tree."""
+        return self._several.get(node, ["/"])
 
-    def _line(self, path: str) -> jsonl.Record:
-        line: jsonl.Record = {"path": path, "kind": self._kinds[path]}
-        if path in self._targets:
-            line["target"] = self._targets[path]
-        return line
+    def gap(self, over: str, names: Sequence[str]) -> str:
+        """The name of what is missing in an object: one that nothing ever has, with the names behind it.
+
+        The root is never missing: a log that says so is damaged.
+        """
+        if not names:
+            raise NotUnderstood
+        top = self._over(over, self._names.at(over))
+        wanted = f"{top}/{names[0]}{ABSENT}"
+        text = self._gaps.get(wanted)
+        if text is None:
+            text = wanted
+            while self._names.at_start(text) is not None:
+                text += ABSENT
+            self._gaps[wanted] = checked_path(text)
+        if len(names) == 1:
+            return text
+        behind = [name for name in names[1:] if name != ".."]
+        return checked_path(text + join(behind or [ABSENT]))
+
+    def _wanted(self, real: str) -> str:
+        """The name that an object at a path has if no other one has it."""
+        over, _, name = real.rpartition("/")
+        directory = self._names.at(over)
+        return f"{self._over(over, directory if directory is not None and directory.kind == 'dir' else None)}/{name}"
+
+    def _over(self, real: str, node: Node | None) -> str:
+        """The name of what is at a path, without the slash of the root; of what is gone by its path alone."""
+        if real in ("", "/"):
+            return ""
+        return self.place(real, node or self._lost.setdefault(real, Node("dir")))
+
+    def _list_start(self, node: Node) -> None:
+        """Lists what was there when the run began by the path that it had then, as the directories over it."""
+        path = node.start
+        if not path or path in self._lines:
+            return
+        directory = self._names.at_start(path.rpartition("/")[0] or "/")
+        if directory is not None:
+            self._list_start(directory)
+        self._named(path, path, node)
+
+    def _named(self, wanted: str, real: str, node: Node) -> str:
+        """The name of an object where one is wanted, listed."""
+        owner: Node | str = node.kind if node.shares else node
+        text = self._given.get((wanted, owner))
+        if text is None:
+            text = self._given[wanted, owner] = checked_path(self._free(wanted, owner))
+            self._owners[text] = owner
+            if owner is node:
+                self._several.setdefault(node, []).append(text)
+                node.first = node.first or text
+        if text not in self._lines:
+            self._list(text, real, node)
+        return text
+
+    def _free(self, wanted: str, owner: Node | str) -> str:
+        """The name that is wanted, or that with a number behind it, which nothing else has."""
+        text, count = wanted, 1
+        while not self._may_have(text, owner):
+            count += 1
+            text = f"{wanted}~{count}~"
+        return text
+
+    def _may_have(self, text: str, owner: Node | str) -> bool:
+        at_start = self._names.at_start(text)
+        if at_start is not None:
+            return at_start is owner
+        return text not in self._owners and not text.endswith(ABSENT)
+
+    def _list(self, text: str, real: str, node: Node) -> None:
+        line: jsonl.Record = {"path": text, "kind": node.kind}
+        if node.target is not None and _is_utf8(node.target):
+            line["target"] = node.target
+        if node.first not in (None, text):
+            line["same"] = node.first
+        if text != real:
+            line["shown"] = real
+        self._lines[text] = line
+        self.fresh.append(text)
+
+    def write(self, file: Path, chosen: Container[str]) -> int:
+        """Writes chosen objects, directories before what is in them, and says how many it wrote with the root."""
+        lines = (self._line(text, line) for text, line in self._lines.items() if text in chosen)
+        return 1 + jsonl.write(file, lines)
+
+    def _line(self, text: str, line: jsonl.Record) -> jsonl.Record:
+        """A line, with the mark of a name that was not there when the run began."""
+        return line if self._names.at_start(text) is self._owners[text] else {**line, "made": True}
+
+
+@dataclass(frozen=True)
+class Limits:
+    """How much a part holds before the next one begins, with room for a policy; `own` are records not written again."""
+
+    records: int = MOST_RECORDS - POLICY_RECORDS
+    processes: int = MOST_PROCESSES - 1
+    objects: int = MOST_OBJECTS - POLICY_OBJECTS
+    own: int = MOST_RECORDS
+
+
+LIMITS = Limits()
+#: A call has far less records: so many are kept free for the last one of a part.
+MOST_OF_A_CALL = 2_000
+_ADDS = b'{"op":"add_path"'
+_WITHOUT_PATH = ("start", "fork", "rename", "link")
+#: A record that waits for the rest of its call: operation, process, members, what the kernel answered, and the line.
+_Waiting = tuple[str, int, Members, str | None, str]
 
 
 class Recording:
-    """The trace and what could not be said, as they are written."""
+    """The tree, the trace in its parts, and what could not be said, as they are written.
 
-    def __init__(self, folder: Path) -> None:
-        self._trace = open(folder / "trace.jsonl", "w", encoding="utf-8")
-        self._unsaid = open(folder / "unsaid.jsonl", "w", encoding="utf-8")
-        self.records = 0
+    The records of a call wait until it is committed, so that no part ends within a call. All files have names of their
+    own until the conversion is done, so that what was converted before stays whole.
+    """
+
+    def __init__(self, folder: Path, tree: Tree, limits: Limits = LIMITS) -> None:
+        self._folder = folder
+        self.tree = tree
+        self._limits = limits
+        for left in folder.glob(f"{UNDONE}*"):
+            shutil.rmtree(left)
+        self._undone = Path(tempfile.mkdtemp(prefix=UNDONE, dir=folder))
+        self._unsaid = open(self._undone / "unsaid.jsonl", "w", encoding="utf-8")
+        self._committed = 0
         self.processes = 0
         self.unsaid: Counter[str] = Counter()
+        self._holes: Counter[str] = Counter()
+        self._living = Living()
+        self._call: list[_Waiting] = []
+        self._parts: list[_PartInMaking] = []
+        self._begin_part()
 
     def __enter__(self) -> Self:
         return self
@@ -90,42 +234,195 @@ class Recording:
     def __exit__(self, kind: type[BaseException] | None, error: BaseException | None, at: TracebackType | None) -> None:
         self._trace.close()
         self._unsaid.close()
+        shutil.rmtree(self._undone)
+
+    @property
+    def records(self) -> int:
+        """How many records there are, with those of the call that is not committed yet."""
+        return self._committed + len(self._call)
 
     def write(self, op: str, pid: int, call: int, kernel: str | None = None, **members: Any) -> None:
-        """Adds a record; members that are None or false are left out."""
-        if self.records >= MOST_RECORDS:
-            raise CannotSay(f"a record past the trace's limit of {MOST_RECORDS:,}")
-        if op in ("start", "fork"):
-            if self.processes >= MOST_PROCESSES:
-                raise CannotSay(f"a process past the trace's limit of {MOST_PROCESSES:,}")
-            self.processes += 1
+        """Adds a record to those of its call; members that are None or false are left out."""
         line = f'{{"op":"{op}","pid":{pid}'
         for name, value in members.items():
             if value is not None and value is not False:
-                line += f',"{name}":{jsonl.value(value)}'
-        line += f',"call":{call}'
-        if kernel is not None:
-            line += f',"kernel":"{kernel}"'
+                line += f',"{name}":{value if type(value) is int else jsonl.value(value)}'
+        line += f',"call":{call}' if kernel is None else f',"call":{call},"kernel":"{kernel}"'
         if op == "ioctl" and members["driver"] is False:
             line += ',"driver":false'
-        self._trace.write(line + "}\n")
-        self.records += 1
+        self._call.append((op, pid, members, kernel, line + "}\n"))
 
-    def leave_out(self, reason: str, line: int, pid: int, call: str) -> None:
-        """Counts a call that could not be said."""
+    def commit(self) -> None:
+        """Keeps the records of a call, in one part."""
+        call = self._call
+        if not call:
+            return
+        if self._in_part >= self._most or len(self._objects) > self._limits.objects:
+            self._end_part()
+            self._begin_part()
+        self._in_part += len(call)
+        self._committed += len(call)
+        objects, follow = self._objects, self._living.follow
+        for op, pid, members, kernel, line in call:
+            self._trace.write(line)
+            path = members.get("path")
+            if path is None:
+                if op in _WITHOUT_PATH:
+                    self._count(op, members)
+            elif path not in objects:
+                self._need(path)
+            follow(op, pid, members, kernel)
+        call.clear()
+        if self.tree.fresh:
+            self._list_fresh()
+
+    def call(self) -> _Call:
+        """Keeps the records of one call together, for a `with`.
+
+        Of a call that turns out not to be sayable none stays but those that keep the books on numbers of the process
+        itself, as the close of what a number stood for before.
+        """
+        return _Call(self._call, len(self._call))
+
+    def leave_out(self, reason: str, line: int, pid: int, call: str, *, asks: bool = False) -> None:
+        """Counts a call that could not be said; `asks` says that the kernel may refuse it by a policy."""
         self.unsaid[reason] += 1
-        entry = {"line": line, "pid": pid, "class": reason, "call": call[:LONGEST_CALL]}
+        entry: jsonl.Record = {"line": line, "pid": pid, "class": reason, "call": call[:LONGEST_CALL]}
+        if asks:
+            self._holes[reason] += 1
+            entry["asks"] = True
         self._unsaid.write(jsonl.line(entry))
+
+    def finish(self, ended: bool, further: Mapping[str, Sequence[str]] | None = None) -> Converted:
+        """Puts all files in place, and says last that the recording is whole.
+
+        `further` are the further names that objects have on which the program puts a rule: it is put on these too.
+        """
+        self.commit()
+        self._end_part()
+        self._unsaid.close()
+        for part in self._parts:
+            part.spread(further or {})
+        sizes = tuple(part.finish(self.tree) for part in self._parts)
+        done = Converted(sizes, self.processes, len(self.tree), self.unsaid, self._holes, ended)
+        (self._folder / CONVERTED).unlink(missing_ok=True)
+        for old in files_of_parts(self._folder):
+            old.unlink()
+        for made, place in zip(self._parts, numbered(self._folder, len(self._parts))):
+            made.part.tree.replace(place.tree)
+            made.part.trace.replace(place.trace)
+        (self._undone / "unsaid.jsonl").replace(self._folder / "unsaid.jsonl")
+        done.write(self._folder)
+        return done
+
+    def _begin_part(self) -> None:
+        """Begins a part, with what all living processes have."""
+        self._part = Part(self._undone, len(self._parts) + 1)
+        self._trace = open(self._part.trace, "w", encoding="utf-8")
+        self._objects: set[str] = set()
+        self._started = 0
+        again = self._living.again()
+        for record in again:
+            self._trace.write(jsonl.line(record))
+            self._need(record.get("path", "/"))
+            self._started += record["op"] in ("start", "fork")
+        self._again = self._in_part = len(again)
+        self._most = min(self._limits.records - MOST_OF_A_CALL, self._again + self._limits.own)
+
+    def _count(self, op: str, members: Members) -> None:
+        """Counts a process that begins, and the objects that a move names."""
+        if op in ("start", "fork"):
+            self._started += 1
+            self.processes += 1
+            if self._started >= self._limits.processes:
+                self._most = self._in_part
+        else:
+            self._need(members["from"])
+            self._need(members["to"])
+
+    def _list_fresh(self) -> None:
+        """Lists what the call had listed in the tree."""
+        for path in self.tree.fresh:
+            self._need(path)
+        self.tree.fresh.clear()
+
+    def _need(self, path: str) -> None:
+        """Lists an object in the tree of the part, if it is one, and the directories over it."""
+        while path not in self._objects and path != "/":
+            if path in self.tree:
+                self._objects.add(path)
+            path = directory_of(path)
+
+    def _end_part(self) -> None:
+        self._list_fresh()
+        self._trace.close()
+        self._parts.append(_PartInMaking(self._part, self._objects, self._in_part, self._again))
+
+
+@dataclass(slots=True)
+class _Call:
+    """The records of a call, which are those from a number on among those that wait."""
+
+    waiting: list[_Waiting]
+    first: int
+
+    def __enter__(self) -> None:
+        pass
+
+    def __exit__(self, kind: type[BaseException] | None, error: BaseException | None, at: TracebackType | None) -> None:
+        if kind is not None:
+            self.waiting[self.first :] = [one for one in self.waiting[self.first :] if not _is_judged(one)]
+
+
+def _is_judged(waiting: _Waiting) -> bool:
+    """Whether a record stands for a call that Landlock judges, or closes its number."""
+    op, _, members, kernel, _ = waiting
+    return kernel is not None or (op == "close" and int(members["fd"]) >= FIRST_MADE_UP)
+
+
+@dataclass
+class _PartInMaking:
+    """A part whose trace is written: the objects that it needs, its records, and those of them written again."""
+
+    part: Part
+    objects: set[str]
+    records: int
+    again: int
+
+    def spread(self, further: Mapping[str, Sequence[str]]) -> None:
+        """Puts rules on further names of their objects: behind a record, a copy for each name."""
+        if not further:
+            return
+        beside = self.part.trace.with_suffix(".new")
+        with open(self.part.trace, "rb") as lines, open(beside, "wb") as out:
+            for line in lines:
+                out.write(line)
+                for name in further.get(json.loads(line)["path"], ()) if line.startswith(_ADDS) else ():
+                    self.records += 1
+                    self.again += b'"again":true' in line
+                    self.objects.update(over for over in upwards(name) if over != ROOT)
+                    out.write(jsonl.line({**json.loads(line), "path": name}).encode())
+        beside.replace(self.part.trace)
+
+    def finish(self, tree: Tree) -> Size:
+        """Writes the tree, and says how large the part is."""
+        objects = tree.write(self.part.tree, self.objects)
+        return Size(self.records, self.again, objects, self.part.trace.stat().st_size)
+
+
+def _is_utf8(text: str) -> bool:
+    """Whether a text can be written, which a name of other bytes can't."""
+    return text.isascii() or not any("\ud800" <= letter <= "\udfff" for letter in text)
 
 
 def checked_path(path: str) -> str:
-    """A path that a trace can hold."""
-    if path.isascii() and len(path) <= LONGEST_PATH:
-        return path
+    """A path that landaudit reads (docs/FORMATS.md, "Paths")."""
     try:
         length = len(path.encode())
     except UnicodeEncodeError:
         raise CannotSay("a name that is not UTF-8") from None
     if length > LONGEST_PATH:
         raise CannotSay(f"a path of more than {LONGEST_PATH} bytes")
+    if path != "/" and _NO_PATH.search(path):
+        raise CannotSay("a path that landaudit does not read")
     return path

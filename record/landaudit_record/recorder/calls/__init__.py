@@ -7,15 +7,25 @@ from collections.abc import Callable, Mapping
 from ..processes import Thread
 from ..scene import Scene
 from ..strace_log import Call
-from . import descriptors, files, landlock, moves, opening, programs
+from . import beyond, descriptors, files, landlock, mounts, moves, opening, others, programs
 
 Handler = Callable[[Scene, Thread, Call], None]
 
+
+def _opening(name: str, base: int | None, path: int) -> Handler:
+    """The handler of a call that opens files, some of which a trace has no words for."""
+    return mounts.from_a_place(others.opening(opening.HANDLERS[name], base, path), base)
+
+
 HANDLERS: Mapping[str, Handler] = {
+    **beyond.HANDLERS,
     **descriptors.HANDLERS,
     **files.HANDLERS,
     **landlock.HANDLERS,
+    **mounts.HANDLERS,
     **moves.HANDLERS,
     **opening.HANDLERS,
+    **others.HANDLERS,
     **programs.HANDLERS,
+    **{name: _opening(name, *given) for name, given in opening.GIVEN.items()},
 }

@@ -4,10 +4,10 @@ from __future__ import annotations
 
 from .. import values
 from ..processes import Thread
-from ..scene import Scene, Spot
+from ..scene import NO_PATH, Scene, Spot
 from ..strace_log import Call
 from ..values import Descriptor
-from ..writing import CannotSay
+from ..unsaid import CannotSay, NotAsked
 
 AT_EMPTY_PATH = 0x1000
 AT_SYMLINK_FOLLOW = 0x400
@@ -36,8 +36,20 @@ def number_at(call: Call, index: int) -> int:
 def spot_at(scene: Scene, thread: Thread, call: Call, base: int | None, path: int, follow: bool) -> Spot:
     """What a path argument names, from the directory that the argument `base` is a descriptor of."""
     if call.error in BEFORE_PATHS:
-        raise CannotSay(f"{call.error} before Landlock is asked")
+        raise NotAsked(f"{call.error} before Landlock is asked")
     return scene.spot(thread, descriptor_at(scene, call, base), path_at(call, path), follow)
+
+
+def name_at(scene: Scene, thread: Thread, call: Call, base: int | None, path: int) -> Spot:
+    """What a path argument names of a call that makes, moves or removes a name: a link there is not followed.
+
+    A path that ends in no name, as `x/..`, ends such a call before Landlock is asked (`LAST_NORM` in the kernel's
+    fs/namei.c).
+    """
+    spot = spot_at(scene, thread, call, base, path, False)
+    if path_at(call, path).rstrip("/").rpartition("/")[2] in ("", ".", ".."):
+        raise NotAsked("a path that ends in no name, before Landlock is asked")
+    return spot
 
 
 def object_at(scene: Scene, call: Call, spot: Spot, kind: str) -> Spot:
@@ -46,11 +58,18 @@ def object_at(scene: Scene, call: Call, spot: Spot, kind: str) -> Spot:
     The kernel looks for the object before it asks Landlock: so where it says anything else than that
     nothing is there, something is.
     """
+    if in_memory(spot.real):
+        raise NotAsked(NO_PATH)
     if call.error == "ENOENT":
         return scene.as_missing(spot)
     if spot.node is None and spot.in_directory and call.error not in NOT_REACHED:
         return scene.present(spot.real, kind)
     return spot
+
+
+def in_memory(path: str) -> bool:
+    """Whether strace shows a path for a file that has none, and that the kernel lets be opened whatever the policy."""
+    return path.startswith("/memfd:")
 
 
 def descriptor_at(scene: Scene, call: Call, index: int | None) -> Descriptor | None:

@@ -1,4 +1,11 @@
-"""Descriptors: duplicates, closing, what open(2) did not make, and calls on open files."""
+"""Descriptors: duplicates, closing, what open(2) did not make, and calls on open files.
+
+When each takes effect, while other threads act: closing where the call begins, since its number is free from then
+on; what installs a number (dup(2), F_DUPFD, socket(2), open(2), accept(2), pipe(2)) where it ends, since nobody
+knows the number before; what looks up a number (ftruncate(2), ioctl(2)) where it begins. dup2(2) and dup3(2)
+replace what a number stands for in one step, which leaves the number taken: where they end. An exec closes numbers
+when no other thread is left: where it ends.
+"""
 
 from __future__ import annotations
 
@@ -9,16 +16,16 @@ from .. import values
 from ..processes import Handle, Thread
 from ..scene import Scene
 from ..strace_log import Call
-from ..writing import CannotSay
+from ..unsaid import CannotSay, NotAsked
 from . import arguments, files, opening
 
 F_DUPFD = 0
 F_SETFD = 2
 F_DUPFD_CLOEXEC = 1030
 FD_CLOEXEC = 1
-CLOSE_RANGE_CLOEXEC = 4
+CLOSE_RANGE_UNSHARE, CLOSE_RANGE_CLOEXEC = 2, 4
 SOCK_CLOEXEC = 0o2000000
-AF_INET, AF_INET6 = 2, 10
+AF_UNSPEC, AF_INET, AF_INET6 = 0, 2, 10
 SOCK_STREAM, SOCK_TYPE = 1, 0xF
 IPPROTO_TCP = 6
 TIOCGPTPEER = 0x5441
@@ -43,6 +50,10 @@ LET_THROUGH = frozenset(
     }
 )
 _PORT = re.compile(r"htons\((\d+)\)")
+_PORT_AND_ADDRESS = 6
+OWN_TABLE = "a thread with a descriptor table of its own"
+OTHER_FAMILY = "an address of another family than the socket's"
+FOREIGN = "a descriptor that came from elsewhere: what Landlock kept with it is not known"
 
 
 def _close(scene: Scene, thread: Thread, call: Call) -> None:
@@ -53,6 +64,8 @@ def _close(scene: Scene, thread: Thread, call: Call) -> None:
 def _close_range(scene: Scene, thread: Thread, call: Call) -> None:
     if not call.ok:
         return
+    if arguments.number_at(call, 2) & CLOSE_RANGE_UNSHARE and len(thread.process.threads) > 1:
+        raise CannotSay(OWN_TABLE)
     first, last = arguments.number_at(call, 0), arguments.number_at(call, 1)
     chosen = [number for number in thread.process.table if first <= number <= last]
     for number in sorted(chosen):
@@ -74,7 +87,7 @@ def _duplicated(scene: Scene, thread: Thread, call: Call, close_on_exec: bool) -
     if not call.ok or call.value is None:
         return
     of = scene.descriptor(call.arguments[0])
-    handle = scene.handle(thread, of)
+    handle = scene.handle(thread, call, of)
     if handle is None or of.number == call.value:
         return
     table = thread.process.table
@@ -94,7 +107,7 @@ def _fcntl(scene: Scene, thread: Thread, call: Call) -> None:
     if command in (F_DUPFD, F_DUPFD_CLOEXEC):
         _duplicated(scene, thread, call, command == F_DUPFD_CLOEXEC)
     elif command == F_SETFD and call.ok:
-        handle = scene.handle(thread, scene.descriptor(call.arguments[0]))
+        handle = scene.handle(thread, call, scene.descriptor(call.arguments[0]))
         if handle is not None:
             handle.close_on_exec = bool(arguments.number_at(call, 2) & FD_CLOEXEC)
 
@@ -104,39 +117,74 @@ def _socket(scene: Scene, thread: Thread, call: Call) -> None:
         return
     domain, kind, protocol = (arguments.number_at(call, index) for index in range(3))
     tcp = domain in (AF_INET, AF_INET6) and kind & SOCK_TYPE == SOCK_STREAM and protocol in (0, IPPROTO_TCP)
-    scene.put(thread, call, call.value, Handle(close_on_exec=bool(kind & SOCK_CLOEXEC), tcp=tcp))
+    handle = Handle(close_on_exec=bool(kind & SOCK_CLOEXEC), tcp=domain if tcp else None)
+    scene.put(thread, call, call.value, handle)
 
 
 def _bind(scene: Scene, thread: Thread, call: Call) -> None:
-    if _family(call) == files.AF_UNIX:
-        files.bound(scene, thread, call)
-    else:
+    if _family(call) != files.AF_UNIX:
         _on_port(scene, thread, call, "bind")
+    elif call.error == "EAFNOSUPPORT":
+        raise NotAsked(OTHER_FAMILY)
+    else:
+        files.bound(scene, thread, call)
 
 
 def _connect(scene: Scene, thread: Thread, call: Call) -> None:
-    _on_port(scene, thread, call, "connect")
+    if _family(call) != files.AF_UNIX:
+        _on_port(scene, thread, call, "connect")
 
 
 def _family(call: Call) -> int:
     family = values.member(call.arguments[1], "sa_family")
-    return values.number(family) if family is not None else 0
+    return values.number(family) if family is not None else AF_UNSPEC
 
 
 def _on_port(scene: Scene, thread: Thread, call: Call, op: str) -> None:
     """A call on a port, if the socket is one of TCP over IPv4 or IPv6."""
-    handle = scene.handle(thread, scene.descriptor(call.arguments[0]))
+    handle = scene.handle(thread, call, scene.descriptor(call.arguments[0]))
+    if handle is None or call.error == "EBADF":
+        return
+    if handle.foreign and _family(call) in (AF_INET, AF_INET6):
+        raise CannotSay("a port of a socket that came from elsewhere")
+    if handle.tcp is not None:
+        port = _port(call, handle.tcp, op)
+        if port is not None:
+            scene.say(thread, call, op, port=port)
+
+
+def _port(call: Call, family: int, op: str) -> int | None:
+    """The port that Landlock is asked for; None where it is not asked (bind(2), connect(2), ip(7)).
+
+    An address of another family than the socket's is EINVAL or EAFNOSUPPORT first. An address of no family dissolves
+    a connection, which is always allowed; bind(2) takes it for one of IPv4 if it is that of all interfaces.
+    """
+    named = _family(call)
+    if named == AF_UNSPEC and op == "bind" and family == AF_INET:
+        return _port_without_family(call.arguments[1])
     port = _PORT.search(call.arguments[1])
-    if handle is not None and handle.tcp and _family(call) in (AF_INET, AF_INET6) and port is not None:
-        scene.say(thread, call, op, port=int(port[1]))
+    if named != family or port is None:
+        raise NotAsked(OTHER_FAMILY)
+    return int(port[1])
+
+
+def _port_without_family(address: str) -> int:
+    """The port of an address of all interfaces whose family is not said: port and address are the first six bytes."""
+    data = values.member(address, "sa_data")
+    text = values.raw(data) if data is not None else None
+    if text is None or len(text) < _PORT_AND_ADDRESS or any(text[2:_PORT_AND_ADDRESS]):
+        raise NotAsked(OTHER_FAMILY)
+    return int.from_bytes(text[:2], "big")
 
 
 def _ioctl(scene: Scene, thread: Thread, call: Call) -> None:
     of = scene.descriptor(call.arguments[0])
-    handle = scene.handle(thread, of)
+    handle = scene.handle(thread, call, of)
     if handle is None or call.error == "EBADF" or (not handle.in_trace and handle.adopted == "other"):
         return
     command = arguments.number_at(call, 1) & 0xFFFFFFFF
+    if handle.foreign and handle.adopted == "device" and command not in LET_THROUGH:
+        raise CannotSay(FOREIGN)
     scene.adopt(thread, call, of.number, handle)
     scene.say(thread, call, "ioctl", fd=of.number, driver=command not in LET_THROUGH)
     if command == TIOCGPTPEER and call.ok:
@@ -153,10 +201,13 @@ def _opened_peer(scene: Scene, thread: Thread, call: Call) -> None:
 
 def _ftruncate(scene: Scene, thread: Thread, call: Call) -> None:
     of = scene.descriptor(call.arguments[0])
-    handle = scene.handle(thread, of)
-    if handle is not None and call.error != "EBADF":
-        scene.adopt(thread, call, of.number, handle)
-        scene.say(thread, call, "ftruncate", fd=of.number)
+    handle = scene.handle(thread, call, of)
+    if handle is None or call.error == "EBADF":
+        return
+    if handle.foreign and handle.adopted == "reg":
+        raise CannotSay(FOREIGN)
+    scene.adopt(thread, call, of.number, handle)
+    scene.say(thread, call, "ftruncate", fd=of.number)
 
 
 HANDLERS = {

@@ -10,7 +10,7 @@ from ..names import Node
 from ..processes import Thread
 from ..scene import Scene, Spot
 from ..strace_log import Call
-from ..writing import CannotSay
+from ..unsaid import NotAsked
 from . import arguments
 
 AT_REMOVEDIR = 0x200
@@ -29,36 +29,36 @@ def _made(scene: Scene, thread: Thread, call: Call, op: str, spot: Spot, node: N
 
 
 def _mkdir(scene: Scene, thread: Thread, call: Call) -> None:
-    _made(scene, thread, call, "mkdir", arguments.spot_at(scene, thread, call, None, 0, False), Node("dir"))
+    _made(scene, thread, call, "mkdir", arguments.name_at(scene, thread, call, None, 0), Node("dir"))
 
 
 def _mkdirat(scene: Scene, thread: Thread, call: Call) -> None:
-    _made(scene, thread, call, "mkdir", arguments.spot_at(scene, thread, call, 0, 1, False), Node("dir"))
+    _made(scene, thread, call, "mkdir", arguments.name_at(scene, thread, call, 0, 1), Node("dir"))
 
 
 def _mknod(scene: Scene, thread: Thread, call: Call) -> None:
-    _made_node(scene, thread, call, arguments.spot_at(scene, thread, call, None, 0, False), 1)
+    _made_node(scene, thread, call, arguments.name_at(scene, thread, call, None, 0), 1)
 
 
 def _mknodat(scene: Scene, thread: Thread, call: Call) -> None:
-    _made_node(scene, thread, call, arguments.spot_at(scene, thread, call, 0, 1, False), 2)
+    _made_node(scene, thread, call, arguments.name_at(scene, thread, call, 0, 1), 2)
 
 
 def _made_node(scene: Scene, thread: Thread, call: Call, spot: Spot, mode: int) -> None:
     wanted = stat.S_IFMT(arguments.number_at(call, mode)) or stat.S_IFREG
     if wanted == stat.S_IFDIR:
-        raise CannotSay("mknod of a directory")
+        raise NotAsked("mknod of a directory")
     device = call.arguments[mode + 1] if mode + 1 < len(call.arguments) else "0"
-    kind = kind_of(wanted, 0 if device.split(" ", 1)[0] in ("0", "0x0") else 1)
+    kind = scene.names.kind(kind_of(wanted, 0 if device.split(" ", 1)[0] in ("0", "0x0") else 1))
     _made(scene, thread, call, "mknod", spot, Node(kind), kind=kind)
 
 
 def _symlink(scene: Scene, thread: Thread, call: Call) -> None:
-    _made_link(scene, thread, call, arguments.spot_at(scene, thread, call, None, 1, False))
+    _made_link(scene, thread, call, arguments.name_at(scene, thread, call, None, 1))
 
 
 def _symlinkat(scene: Scene, thread: Thread, call: Call) -> None:
-    _made_link(scene, thread, call, arguments.spot_at(scene, thread, call, 1, 2, False))
+    _made_link(scene, thread, call, arguments.name_at(scene, thread, call, 1, 2))
 
 
 def _made_link(scene: Scene, thread: Thread, call: Call, spot: Spot) -> None:
@@ -74,16 +74,16 @@ def bound(scene: Scene, thread: Thread, call: Call) -> None:
 
 
 def _unlink(scene: Scene, thread: Thread, call: Call) -> None:
-    _removed(scene, thread, call, "unlink", arguments.spot_at(scene, thread, call, None, 0, False))
+    _removed(scene, thread, call, "unlink", arguments.name_at(scene, thread, call, None, 0))
 
 
 def _rmdir(scene: Scene, thread: Thread, call: Call) -> None:
-    _removed(scene, thread, call, "rmdir", arguments.spot_at(scene, thread, call, None, 0, False))
+    _removed(scene, thread, call, "rmdir", arguments.name_at(scene, thread, call, None, 0))
 
 
 def _unlinkat(scene: Scene, thread: Thread, call: Call) -> None:
     op = "rmdir" if arguments.number_at(call, 2) & AT_REMOVEDIR else "unlink"
-    _removed(scene, thread, call, op, arguments.spot_at(scene, thread, call, 0, 1, False))
+    _removed(scene, thread, call, op, arguments.name_at(scene, thread, call, 0, 1))
 
 
 def _removed(scene: Scene, thread: Thread, call: Call, op: str, spot: Spot) -> None:
@@ -114,12 +114,6 @@ def _chroot(scene: Scene, thread: Thread, call: Call) -> None:
         thread.place.root = arguments.spot_at(scene, thread, call, None, 0, True).real
 
 
-def _mount(scene: Scene, thread: Thread, call: Call) -> None:
-    scene.say(thread, call, "mount")
-    if call.ok:
-        scene.leave_out(thread, call, "a mount that changes the tree")
-
-
 HANDLERS = {
     "mkdir": _mkdir,
     "mkdirat": _mkdirat,
@@ -134,8 +128,4 @@ HANDLERS = {
     "chdir": _chdir,
     "fchdir": _fchdir,
     "chroot": _chroot,
-    "mount": _mount,
-    "umount2": _mount,
-    "pivot_root": _mount,
-    "move_mount": _mount,
 }

@@ -3,12 +3,11 @@
 from __future__ import annotations
 
 from .. import values
-from ..names import Node
 from ..processes import Handle, Thread
 from ...rights import FS, NET, Family
 from ..scene import Scene
 from ..strace_log import Call
-from ..writing import CannotSay
+from ..unsaid import CannotSay, NotAsked
 from . import arguments
 
 PR_SET_NO_NEW_PRIVS = 38
@@ -39,7 +38,7 @@ def _handled(scene: Scene, thread: Thread, call: Call) -> tuple[list[str] | None
         return named(files, FS), named(ports, NET), scoped != 0
     of_policy = scene.ports.handled()
     if of_policy is None:
-        scene.leave_out(thread, call, "what a ruleset handles beside files" + NOT_DECODED)
+        scene.leave_out(thread, call, "what a ruleset handles beside files" + NOT_DECODED, asks=True)
     return named(files, FS), of_policy or None, False
 
 
@@ -52,7 +51,7 @@ def _create_ruleset(scene: Scene, thread: Thread, call: Call) -> None:
     if arguments.number_at(call, 2) or call.error in ("EFAULT", "EOPNOTSUPP", "ENOSYS"):
         return
     if arguments.number_at(call, 1) not in SIZES or not call.arguments[0].startswith("{"):
-        raise CannotSay("a ruleset whose structure has no size that is known")
+        raise _unsaid(call, "a ruleset whose structure has no size that is known")
     files, ports, scoped = _handled(scene, thread, call)
     can_be_said = bool(files or ports) or not call.ok
     number = thread.process.made_up()
@@ -65,10 +64,15 @@ def _create_ruleset(scene: Scene, thread: Thread, call: Call) -> None:
         scene.say(thread, call, "create", rs=number, fs=files, net=ports)
 
 
+def _unsaid(call: Call, reason: str) -> CannotSay:
+    """The fault of a call that can't be said: one that failed changes nothing that Landlock is asked about."""
+    return CannotSay(reason) if call.ok else NotAsked(reason)
+
+
 def _ruleset(scene: Scene, thread: Thread, call: Call, flags: int) -> int:
     """The number of the ruleset that a call is about, of a call without flags; one that names none has its own."""
     if arguments.number_at(call, flags):
-        raise CannotSay("a call of Landlock's with flags")
+        raise _unsaid(call, "a call of Landlock's with flags")
     number = scene.descriptor(call.arguments[0]).number
     return number if number >= 0 else thread.process.made_up()
 
@@ -83,19 +87,22 @@ def _add_rule(scene: Scene, thread: Thread, call: Call) -> None:
     elif kind == RULE_NET_PORT:
         _add_port(scene, thread, call, number)
     else:
-        raise CannotSay("a rule of a kind that is not known")
+        raise _unsaid(call, "a rule of a kind that is not known")
 
 
 def _add_path(scene: Scene, thread: Thread, call: Call, number: int) -> None:
     parent = values.member(call.arguments[2], "parent_fd")
     allowed = values.member(call.arguments[2], "allowed_access")
-    path = scene.descriptor(parent).path if parent is not None else None
-    if path is None or allowed is None:
-        raise CannotSay("a rule under what has no path")
-    node = scene.names.at(path) or Node("dir")
-    spot = scene.present(path, node.kind)
+    of = scene.descriptor(parent) if parent is not None else None
+    if of is None or of.path is None or allowed is None:
+        raise NotAsked("a rule under what has no path")
+    spot = scene.opened(thread, of)
+    node = spot.node or scene.names.ensure(of.path, "dir")
+    spot = scene.there(of.path, node)
+    path = scene.tree.rule(spot.real, node)
     granted = named(values.number(allowed), FS)
-    scene.say(thread, call, "add_path", rs=number, path=spot.path, fs=granted, **arguments.shown(spot))
+    scene.say(thread, call, "add_path", rs=number, path=path, fs=granted, **arguments.shown(spot))
+    scene.ruled.append((path, node))
 
 
 def _add_port(scene: Scene, thread: Thread, call: Call, number: int) -> None:
@@ -105,12 +112,13 @@ def _add_port(scene: Scene, thread: Thread, call: Call, number: int) -> None:
     else:
         rule = scene.ports.rule()
         if rule is None:
-            raise CannotSay("a rule on a port" + NOT_DECODED)
+            raise NotAsked("a rule on a port" + NOT_DECODED)
         granted, on = rule
     scene.say(thread, call, "add_port", rs=number, port=on, net=granted)
 
 
 def _restrict_self(scene: Scene, thread: Thread, call: Call) -> None:
+    thread.process.confined |= call.ok
     number = _ruleset(scene, thread, call, 1)
     restricted = thread.process.restricted
     if call.ok and thread.layers < len(restricted):

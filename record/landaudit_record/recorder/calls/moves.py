@@ -6,7 +6,7 @@ from ..names import Node
 from ..processes import Thread
 from ..scene import Scene, Spot
 from ..strace_log import Call
-from ..writing import CannotSay
+from ..unsaid import CannotSay, NotAsked
 from . import arguments
 
 RENAME_NOREPLACE = 1
@@ -30,26 +30,48 @@ Argument = tuple[int | None, int]
 
 
 def _renamed(scene: Scene, thread: Thread, call: Call, start: Argument, end: Argument, flags: int) -> None:
-    if flags & RENAME_WHITEOUT:
-        raise CannotSay("a rename that leaves a whiteout")
     exchange = bool(flags & RENAME_EXCHANGE)
     if call.error == "EEXIST" and flags & RENAME_NOREPLACE:
-        raise CannotSay("EEXIST before Landlock is asked")
-    moved = arguments.spot_at(scene, thread, call, *start, False)
-    target = arguments.spot_at(scene, thread, call, *end, False)
-    moved = _source(scene, call, moved, target)
+        raise NotAsked("EEXIST before Landlock is asked")
+    moved = arguments.name_at(scene, thread, call, *start)
+    target = arguments.name_at(scene, thread, call, *end)
+    moved = _source(scene, call, moved, target, exchange)
     if exchange and call.error != "ENOENT":
         target = arguments.object_at(scene, call, target, "reg")
-    elif call.ok and flags & RENAME_NOREPLACE and target.node is not None:
+    elif call.ok and flags & RENAME_NOREPLACE:
         target = scene.absent(target.real)
+    elif call.ok and target.node is None and moved.node is not None and not scene.names.knows(target.real):
+        target = scene.present(target.real, moved.node.kind)
+    if flags & RENAME_WHITEOUT and scene.names.whiteouts == "reg":
+        _say_whiteout(scene, thread, call, moved)
     _say_move(scene, thread, call, "rename", moved, target, exchange)
-    if call.ok and moved.real != target.real:
-        (scene.names.exchange if exchange else scene.names.move)(moved.real, target.real)
+    if call.ok and moved.node is not target.node:
+        _take_place(scene, moved, target, exchange)
+    if call.ok and flags & RENAME_WHITEOUT:
+        scene.names.put(moved.real, Node(scene.names.whiteouts))
 
 
-def _source(scene: Scene, call: Call, source: Spot, target: Spot) -> Spot:
-    """What is moved or linked. ENOENT is about it where the directory of the new name is there."""
-    if call.error == "ENOENT" and target.node is None and not target.in_directory:
+def _say_whiteout(scene: Scene, thread: Thread, call: Call, moved: Spot) -> None:
+    """The whiteout that a rename leaves: a kernel that guards whiteouts as files asks to make one where it was."""
+    gap = scene.missing(moved.real)
+    scene.say(thread, call, "mknod", path=gap.path, kind="reg", **arguments.shown(gap))
+
+
+def _take_place(scene: Scene, moved: Spot, target: Spot, exchange: bool) -> None:
+    """What has another name now; what is open in a directory, and who works in it, goes with it."""
+    ways = {moved.real: target.real}
+    if exchange:
+        scene.names.exchange(moved.real, target.real)
+        ways[target.real] = moved.real
+    else:
+        scene.names.move(moved.real, target.real)
+    if "dir" in [one.node.kind for one in (moved, target) if one.node is not None]:
+        scene.moved(ways)
+
+
+def _source(scene: Scene, call: Call, source: Spot, target: Spot, exchange: bool) -> Spot:
+    """What is moved or linked. ENOENT is about it where what else the call needs is there."""
+    if call.error == "ENOENT" and target.node is None and (exchange or not target.in_directory):
         return source
     return arguments.object_at(scene, call, source, "reg")
 
@@ -71,11 +93,11 @@ def _linkat(scene: Scene, thread: Thread, call: Call) -> None:
 def _linked(scene: Scene, thread: Thread, call: Call, start: Argument, end: Argument, flags: int) -> None:
     follow = bool(flags & arguments.AT_SYMLINK_FOLLOW)
     source = arguments.spot_at(scene, thread, call, *start, follow)
-    target = arguments.spot_at(scene, thread, call, *end, False)
+    target = arguments.name_at(scene, thread, call, *end)
     if call.ok and source.node is None and (follow or flags & arguments.AT_EMPTY_PATH):
         scene.names.put(target.real, Node("reg"))
         raise CannotSay("a link of a file that has no name")
-    source = _source(scene, call, source, target)
+    source = _source(scene, call, source, target, False)
     if call.ok and target.node is not None:
         target = scene.absent(target.real)
     elif call.error == "EEXIST" and target.node is None and target.in_directory:

@@ -2,13 +2,15 @@
 
 from __future__ import annotations
 
+from contextlib import suppress
+
 from .. import values
 from ..names import Node, join, split
 from ..processes import Handle, Thread
 from ..scene import Scene, Spot
 from ..strace_log import Call
+from ..unsaid import CannotSay, NotAsked
 from ..values import Descriptor
-from ..writing import ABSENT, CannotSay
 from . import arguments
 
 O_CREAT = 0o100
@@ -24,7 +26,7 @@ ACCESS_MODE = 0o3
 #: The errors by which the `resolve` flags of openat2(2) end a call before Landlock is asked.
 RESOLVE_ERRORS = frozenset({"EAGAIN", "ELOOP", "EXDEV"})
 #: The name of a file that O_TMPFILE would have made, had it been allowed.
-UNNAMED = f"tmpfile{ABSENT}"
+UNNAMED = "#tmpfile"
 
 
 def _open(scene: Scene, thread: Thread, call: Call) -> None:
@@ -38,7 +40,7 @@ def _openat(scene: Scene, thread: Thread, call: Call) -> None:
 def _openat2(scene: Scene, thread: Thread, call: Call) -> None:
     flags, resolve = (values.member(call.arguments[2], name) for name in ("flags", "resolve"))
     if call.error in RESOLVE_ERRORS and resolve is not None and values.number(resolve):
-        raise CannotSay("a path that openat2 may not resolve so")
+        raise NotAsked("a path that openat2 may not resolve so")
     _opened(scene, thread, call, 0, 1, values.number(flags) if flags else 0)
 
 
@@ -50,37 +52,51 @@ def _opened(scene: Scene, thread: Thread, call: Call, base: int | None, path: in
     if call.ok:
         result = scene.descriptor(f"{call.value}{call.note}")
         scene.put(thread, call, result.number, Handle(result.path, close_on_exec=bool(flags & O_CLOEXEC)))
-        if result.path is not None and not flags & O_PATH:
-            _list_links(scene, thread, call, base, path, result.path)
-        succeeded(scene, thread, call, result, flags)
+        gone = None
+        if result.path is not None and not arguments.in_memory(result.path):
+            if result.deleted and flags & O_TMPFILE != O_TMPFILE:
+                gone = _gone(scene, thread, call, base, path)
+            elif not flags & O_PATH:
+                _list_links(scene, thread, call, base, path, result.path)
+        succeeded(scene, thread, call, result, flags, gone)
     elif not flags & O_PATH:
         _failed(scene, thread, call, base, path, flags)
 
 
-def succeeded(scene: Scene, thread: Thread, call: Call, result: Descriptor, flags: int) -> None:
-    """A descriptor that is open now: a record, or what is needed to adopt it where Landlock was not asked."""
+def succeeded(
+    scene: Scene, thread: Thread, call: Call, result: Descriptor, flags: int, gone: Node | None = None
+) -> None:
+    """A descriptor that is open now: a record, or what is needed to adopt it where Landlock was not asked.
+
+    `gone` is the object if it has no name any more.
+    """
     handle = thread.process.table[result.number]
     if result.path is None or flags & O_PATH:
         handle.adopted = "device" if result.device and not flags & O_PATH else "other"
+        handle.node = gone or (scene.names.at(result.path) if result.path is not None else None)
+        return
+    if arguments.in_memory(result.path):
+        handle.adopted = "reg"
         return
     if flags & ACCESS_MODE == ACCESS_MODE:
         handle.adopted = "device" if result.device else "other"
-        raise CannotSay("an open for ioctl alone (access mode 3)")
-    spot, made = _opened_spot(scene, result, flags)
+        raise NotAsked("an open for ioctl alone (access mode 3)")
+    spot, made = (scene.there(result.path, gone), False) if gone else _opened_spot(scene, result.path, result, flags)
     _say_open(scene, thread, call, spot, result.number, flags, made)
     handle.in_trace = True
+    handle.node = spot.node
     if made:
-        scene.names.put(result.path, Node("reg"))
+        handle.node = Node("reg")
+        scene.names.put(result.path, handle.node)
 
 
-def _opened_spot(scene: Scene, result: Descriptor, flags: int) -> tuple[Spot, bool]:
+def _opened_spot(scene: Scene, path: str, result: Descriptor, flags: int) -> tuple[Spot, bool]:
     """What was opened, and whether the call made it."""
-    path = result.path or "/"
     node = scene.names.at(path)
     if flags & O_TMPFILE == O_TMPFILE:
         return _without_name(scene, path), False
     if flags & O_CREAT and (node is None or flags & O_EXCL):
-        return scene.absent(path), True
+        return (scene.missing(path) if node is None else scene.absent(path)), True
     if result.device is not None:
         return scene.present(path, result.device), False
     if flags & O_DIRECTORY:
@@ -90,15 +106,25 @@ def _opened_spot(scene: Scene, result: Descriptor, flags: int) -> tuple[Spot, bo
     return scene.present(path, _kind_after(scene, path)), False
 
 
+def _gone(scene: Scene, thread: Thread, call: Call, base: int | None, path: int) -> Node:
+    """What was opened though it has no name any more, as by /proc/self/fd; an object of its own if it is not known."""
+    with suppress(CannotSay):
+        found = scene.find(thread, arguments.descriptor_at(scene, call, base), arguments.path_at(call, path), True)
+        if found.node is not None:
+            return found.node
+    return Node("reg")
+
+
 def _without_name(scene: Scene, path: str) -> Spot:
     """A file that O_TMPFILE makes: Landlock is asked for the open file alone, which has a path but no name."""
-    return Spot(scene.tree.place(path, "reg"), path, Node("reg"), True)
+    directory, _, name = path.rpartition("/")
+    return scene.there(path, Node("reg", over=scene.names.at(directory or "/"), name=name))
 
 
 def _kind_after(scene: Scene, path: str) -> str:
     """The kind of an object that nothing was known of: what the disk says after the run, else a regular file."""
     seen = scene.disk.look(path)
-    return seen.kind if seen is not None and seen.kind != "sym" else "reg"
+    return scene.names.kind(seen.kind) if seen is not None and seen.kind != "sym" else "reg"
 
 
 def _list_links(scene: Scene, thread: Thread, call: Call, base: int | None, path: int, opened: str) -> None:
@@ -110,11 +136,11 @@ def _list_links(scene: Scene, thread: Thread, call: Call, base: int | None, path
 
 def _failed(scene: Scene, thread: Thread, call: Call, base: int | None, path: int, flags: int) -> None:
     if flags & ACCESS_MODE == ACCESS_MODE:
-        raise CannotSay("an open for ioctl alone (access mode 3)")
+        raise NotAsked("an open for ioctl alone (access mode 3)")
     exclusive = bool(flags & O_CREAT and flags & O_EXCL)
     spot = arguments.spot_at(scene, thread, call, base, path, not flags & O_NOFOLLOW and not exclusive)
     if call.error == "EEXIST":
-        raise CannotSay("EEXIST before Landlock is asked")
+        raise NotAsked("EEXIST before Landlock is asked")
     spot = _after_failure(scene, call, spot, flags)
     made = spot.node is None and bool(flags & O_CREAT) and call.error != "ELOOP"
     create = made or (call.error == "EISDIR" and bool(flags & O_CREAT))
@@ -126,11 +152,11 @@ def _failed(scene: Scene, thread: Thread, call: Call, base: int | None, path: in
 
 def _after_failure(scene: Scene, call: Call, spot: Spot, flags: int) -> Spot:
     """What an open that failed was about, after what the kernel answered."""
-    if flags & O_TMPFILE == O_TMPFILE:
-        there = spot.node is not None and call.error not in ("ENOENT", "ENOTDIR")
-        return _without_name(scene, join([*split(spot.real), UNNAMED])) if there else scene.as_missing(spot)
     if call.error == "ENOTDIR" and flags & O_DIRECTORY:
-        return scene.as_missing(spot)
+        return scene.missing(spot.real) if spot.node is not None and spot.real != "/" else spot
+    if flags & O_TMPFILE == O_TMPFILE:
+        there = spot.node is not None and call.error != "ENOENT"
+        return _without_name(scene, join([*split(spot.real), UNNAMED])) if there else scene.as_missing(spot)
     if flags & O_CREAT:
         return scene.as_missing(spot) if call.error == "ENOENT" else spot
     return arguments.object_at(scene, call, spot, "dir" if flags & O_DIRECTORY else "reg")
@@ -149,5 +175,8 @@ def _say_open(scene: Scene, thread: Thread, call: Call, spot: Spot, number: int,
         **arguments.shown(spot),
     )
 
+
+#: Where each call has the descriptor of a directory, if it has one, and its path.
+GIVEN: dict[str, tuple[int | None, int]] = {"open": (None, 0), "openat": (0, 1), "openat2": (0, 1), "creat": (None, 0)}
 
 HANDLERS = {"open": _open, "openat": _openat, "openat2": _openat2, "creat": _creat}

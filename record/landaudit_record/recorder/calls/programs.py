@@ -5,10 +5,11 @@ from __future__ import annotations
 from dataclasses import replace
 
 from ..processes import Thread
-from ..scene import CLONE_FILES, CLONE_FS, NO_PATH, Scene, Spot
+from ..scene import CLONE_FILES, CLONE_FS, Scene, Spot
 from ..strace_log import Call
-from ..writing import CannotSay
+from ..unsaid import NotAsked
 from . import arguments
+from .descriptors import OWN_TABLE
 
 #: The kernel follows this many interpreters of interpreters (execve(2)).
 MOST_INTERPRETERS = 5
@@ -25,17 +26,18 @@ def _execveat(scene: Scene, thread: Thread, call: Call) -> None:
 
 
 def _run(scene: Scene, thread: Thread, call: Call, spot: Spot) -> None:
-    """A program that is run: what the kernel opens for it, then what closes with it."""
-    if spot.real.startswith("/memfd:"):
-        raise CannotSay(NO_PATH)
-    if call.error != "ENOENT":
+    """A program that is run: what the kernel opens for it, then what closes with it.
+
+    A program that is in memory alone (memfd_create(2)) is not asked about, but its loader is.
+    """
+    in_memory = spot.real.startswith("/memfd:")
+    if call.error != "ENOENT" and not in_memory:
         spot = arguments.object_at(scene, call, spot, "reg")
     if call.error == "EACCES" and _may_not_run(scene, spot):
-        raise CannotSay("EACCES of what is no file that may be run")
-    made_up = [_run_one(scene, thread, call, spot, None)]
-    if spot.node is not None:
-        interpreters = _interpreters(scene, thread, call, spot)
-        made_up += [_run_one(scene, thread, call, one, "interpreter") for one in interpreters]
+        raise NotAsked("EACCES of what is no file that may be run")
+    interpreters = _interpreters(scene, thread, call, spot) if spot.node is not None or in_memory else []
+    files = [(one, "interpreter") for one in interpreters]
+    made_up = [_run_one(scene, thread, call, *file) for file in ([] if in_memory else [(spot, None)]) + files]
     for number in made_up:
         if number is not None:
             scene.note(thread, call, "close", fd=number)
@@ -103,7 +105,7 @@ def _unshared(scene: Scene, thread: Thread, call: Call) -> None:
     if call.ok and flags & CLONE_FS:
         thread.place = replace(thread.place)
     if call.ok and flags & CLONE_FILES and len(thread.process.threads) > 1:
-        scene.leave_out(thread, call, "a thread with a descriptor table of its own")
+        scene.leave_out(thread, call, OWN_TABLE, asks=True)
 
 
 HANDLERS = {

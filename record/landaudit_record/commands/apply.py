@@ -6,13 +6,13 @@ import argparse
 import sys
 from pathlib import Path
 
-from .. import applying, fitting, policies, trees
+from .. import applying, finished, fitting, policies, trees
 from ..options import add_abi, add_program, note
 from ..problems import USAGE, Problem
 
-NAME = "policy"
+NAME = "apply"
 HELP = "write a trace in which the recorded program starts under a policy"
-EXAMPLE = "landaudit-record policy policy.toml rec --out tried.jsonl"
+EXAMPLE = "landaudit-record apply policy.toml rec --out tried.jsonl"
 POLICIES = """
 A policy is TOML: each [[layer]] has handled_access_fs, handled_access_net, and
 rules, [[layer.path_beneath]] with allowed_access and parent (one or several)
@@ -36,12 +36,26 @@ def add_arguments(parser: argparse.ArgumentParser) -> None:
     add_abi(parser)
 
 
+def _only_trace(folder: Path) -> Path:
+    """The trace of a recording that is in one part; of one in several, each is named by itself."""
+    parts = finished.opened(str(folder)).parts
+    if len(parts) > 1:
+        raise Problem(f"{folder} is kept in {len(parts)} parts: name one of its traces, as {parts[0].trace}", USAGE)
+    return parts[0].trace
+
+
+def _tree_beside(trace: Path) -> Path:
+    """The tree of a part, which is beside its trace and named alike."""
+    name = trace.name.replace("trace", "tree", 1)
+    return trace.with_name(name if name.startswith("tree") else "tree.jsonl")
+
+
 def run(arguments: argparse.Namespace) -> int:
     """Writes the trace; notes on what the ABI drops go to standard error."""
     policy = policies.read(Path(arguments.policy))
     named = Path(arguments.trace)
-    trace = named / "trace.jsonl" if named.is_dir() else named
-    tree = trees.read(Path(arguments.tree) if arguments.tree else trace.with_name("tree.jsonl"))
+    trace = _only_trace(named) if named.is_dir() else named
+    tree = trees.read(Path(arguments.tree) if arguments.tree else _tree_beside(trace))
     layers, notes = fitting.fit(policy, arguments.abi)
     places = applying.plan(trace, tree, arguments.program)
     inserted = applying.records(policy, layers, tree, places.rs)

@@ -1,0 +1,157 @@
+"""Calls by which the kernel asks Landlock in ways that a trace has no words for, or few.
+
+What can be said of them is said: the file that the kernel opens for swapon(2) or acct(2), and a file that is opened by
+a handle whose path was seen. What can't be said is counted.
+"""
+
+from __future__ import annotations
+
+from .. import values
+from ..processes import Handle, Thread
+from ..scene import Scene, Spot
+from ..strace_log import Call
+from ..unsaid import CannotSay, NotAsked
+from ..values import Descriptor
+from . import arguments, opening
+
+IORING_SETUP_SQPOLL = 2
+SWAP_FLAGS = 0x7FFFF
+BPF_OBJ_PIN = 6
+MSG_FASTOPEN = 0x20000000
+FAN_REPORT_FID, FAN_REPORT_DIR_FID = 0x200, 0x400
+
+BY_IO_URING = "calls that io_uring makes"
+BY_HANDLE = "a file that is opened by its handle"
+BY_FANOTIFY = "files that fanotify opens for its events"
+BY_SENDING = "a connection that a send opens (MSG_FASTOPEN)"
+QUEUE = "a message queue that mq_open opens"
+PINNED = "an object that bpf gives a name"
+LIBRARY = "a library that uselib loads"
+
+#: Errors by which open_by_handle_at(2) ends before it opens something.
+BEFORE_OPENING = frozenset({"EBADF", "EFAULT", "EINVAL", "ELOOP", "EOPNOTSUPP", "EOVERFLOW", "EPERM", "ESTALE"})
+
+
+def _io_uring_setup(scene: Scene, thread: Thread, call: Call) -> None:
+    """With a thread of its own the kernel takes calls without being told of them."""
+    flags = values.member(call.arguments[1], "flags")
+    if call.ok and flags is not None and values.number(flags) & IORING_SETUP_SQPOLL:
+        raise CannotSay(BY_IO_URING)
+
+
+def _io_uring_enter(scene: Scene, thread: Thread, call: Call) -> None:
+    if call.ok and arguments.number_at(call, 1):
+        raise CannotSay(BY_IO_URING)
+
+
+def _name_to_handle_at(scene: Scene, thread: Thread, call: Call) -> None:
+    """Keeps which path a handle is of."""
+    handle = values.member(call.arguments[2], "f_handle")
+    if call.ok and handle is not None:
+        follow = bool(arguments.number_at(call, 4) & arguments.AT_SYMLINK_FOLLOW)
+        scene.handles[handle] = arguments.spot_at(scene, thread, call, 0, 1, follow).real
+
+
+def _open_by_handle_at(scene: Scene, thread: Thread, call: Call) -> None:
+    if call.error in BEFORE_OPENING:
+        raise NotAsked(f"{call.error} before Landlock is asked")
+    if call.ok and call.value is not None:
+        scene.close(thread, call, call.value)
+    handle = values.member(call.arguments[1], "f_handle")
+    path = scene.handles.get(handle) if handle is not None else None
+    node = scene.names.at(path) if path is not None else None
+    if path is None or node is None:
+        raise CannotSay(BY_HANDLE)
+    flags = arguments.number_at(call, 2)
+    if call.ok and call.value is not None:
+        device = node.kind if node.kind in ("char", "block") else None
+        handle_at = Handle(path, close_on_exec=bool(flags & opening.O_CLOEXEC))
+        scene.put(thread, call, call.value, handle_at)
+        opening.succeeded(scene, thread, call, Descriptor(call.value, path, device), flags)
+    elif not flags & opening.O_PATH and flags & opening.ACCESS_MODE < len(opening.MODES):
+        mode = opening.MODES[flags & opening.ACCESS_MODE]
+        _opened_and_closed(scene, thread, call, scene.there(path, node), mode)
+
+
+def _opened_and_closed(scene: Scene, thread: Thread, call: Call, spot: Spot, mode: str) -> None:
+    """A file that is opened by a number that the process never has."""
+    number = thread.process.made_up()
+    scene.say(thread, call, "open", path=spot.path, fd=number, mode=mode, **arguments.shown(spot))
+    if spot.node is not None:
+        scene.note(thread, call, "close", fd=number)
+
+
+def _swapon(scene: Scene, thread: Thread, call: Call) -> None:
+    """The kernel opens what it swaps to, for reading and writing."""
+    if call.error == "EPERM" or (call.error == "EINVAL" and arguments.number_at(call, 1) & ~SWAP_FLAGS):
+        raise NotAsked(f"{call.error} before Landlock is asked")
+    _opened_inside(scene, thread, call, "rw")
+
+
+def _acct(scene: Scene, thread: Thread, call: Call) -> None:
+    """The kernel opens the file that it is to write to; without one it stops writing."""
+    if call.arguments[0] == "NULL":
+        return
+    if call.error == "EPERM":
+        raise NotAsked(f"{call.error} before Landlock is asked")
+    _opened_inside(scene, thread, call, "w")
+
+
+def _opened_inside(scene: Scene, thread: Thread, call: Call, mode: str) -> None:
+    spot = scene.spot(thread, None, arguments.path_at(call, 0), True)
+    _opened_and_closed(scene, thread, call, arguments.object_at(scene, call, spot, "reg"), mode)
+
+
+def _fanotify_init(scene: Scene, thread: Thread, call: Call) -> None:
+    """Reading an event opens the file that it is about, unless events name files by handles."""
+    if call.ok and not arguments.number_at(call, 0) & (FAN_REPORT_FID | FAN_REPORT_DIR_FID):
+        raise CannotSay(BY_FANOTIFY)
+
+
+def _mq_open(scene: Scene, thread: Thread, call: Call) -> None:
+    """Queues are in a file system of their own, which rules on the directories of others do not reach."""
+    if call.ok or call.error == "EACCES":
+        raise CannotSay(QUEUE)
+
+
+def _bpf(scene: Scene, thread: Thread, call: Call) -> None:
+    if arguments.number_at(call, 0) == BPF_OBJ_PIN and (call.ok or call.error == "EACCES"):
+        raise CannotSay(PINNED)
+
+
+def _uselib(scene: Scene, thread: Thread, call: Call) -> None:
+    if call.error != "ENOSYS":
+        raise CannotSay(LIBRARY)
+
+
+def _sent(scene: Scene, thread: Thread, call: Call, flags: int) -> None:
+    if not arguments.number_at(call, flags) & MSG_FASTOPEN:
+        return
+    handle = thread.process.table.get(arguments.number_at(call, 0))
+    if handle is None or handle.foreign or handle.tcp is not None:
+        raise CannotSay(BY_SENDING)
+
+
+def _sendto(scene: Scene, thread: Thread, call: Call) -> None:
+    _sent(scene, thread, call, 3)
+
+
+def _sendmsg(scene: Scene, thread: Thread, call: Call) -> None:
+    _sent(scene, thread, call, 2)
+
+
+HANDLERS = {
+    "io_uring_setup": _io_uring_setup,
+    "io_uring_enter": _io_uring_enter,
+    "name_to_handle_at": _name_to_handle_at,
+    "open_by_handle_at": _open_by_handle_at,
+    "swapon": _swapon,
+    "acct": _acct,
+    "fanotify_init": _fanotify_init,
+    "mq_open": _mq_open,
+    "bpf": _bpf,
+    "uselib": _uselib,
+    "sendto": _sendto,
+    "sendmsg": _sendmsg,
+    "sendmmsg": _sendto,
+}

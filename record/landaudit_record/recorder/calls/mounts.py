@@ -1,0 +1,128 @@
+"""Mounts: mount(2), umount2(2), pivot_root(2), move_mount(2), and a file system that fsconfig(2) sets up anew.
+
+Landlock refuses all of them alike, once the kernel has looked at what a call names. What it looks at before is here.
+"""
+
+from __future__ import annotations
+
+from collections.abc import Callable
+
+from ..processes import Handle, Thread
+from ..scene import Scene
+from ..strace_log import Call
+from ..unsaid import CannotSay, NotAsked
+from . import arguments, others
+
+MS_NOUSER = 1 << 31
+MNT_EXPIRE = 4
+MOVE_MOUNT_FLAGS = 0x377
+FSCONFIG_CMD_RECONFIGURE = 7
+OPEN_TREE_CLONE, FSMOUNT_CLOEXEC = 1, 1
+O_CLOEXEC = 0o2000000
+CLONE_NEWNS = 0x20000
+
+CHANGES_THE_TREE = "a mount that changes the tree"
+WITHOUT_PLACE = "a mount that has no place in the tree"
+OTHER_NAMESPACE = "a process that goes to another mount namespace"
+Handler = Callable[[Scene, Thread, Call], None]
+
+#: Errors by which a call ends while it looks for the objects that it names.
+LOOKING = frozenset({"EBADF", "EFAULT", "ENAMETOOLONG", "ENOENT", "ENOTDIR"})
+#: A context of fsopen(2) or fspick(2), as strace names what is behind a descriptor.
+CONTEXT = "anon_inode:[fscontext]"
+
+
+def _mount(scene: Scene, thread: Thread, call: Call) -> None:
+    """The target is looked up before, the source after."""
+    before = call.error == "EFAULT" or (call.error in LOOKING and not _is_target_there(scene, thread, call))
+    _said(scene, thread, call, asked=not before and not (call.error == "EINVAL" and _has(call, 3, MS_NOUSER)))
+
+
+def _is_target_there(scene: Scene, thread: Thread, call: Call) -> bool:
+    return scene.find(thread, None, arguments.path_at(call, 1), True).node is not None
+
+
+def _umount(scene: Scene, thread: Thread, call: Call) -> None:
+    before = call.error in LOOKING or (call.error == "EINVAL" and not _has(call, 1, MNT_EXPIRE))
+    _said(scene, thread, call, asked=not before)
+
+
+def _pivot_root(scene: Scene, thread: Thread, call: Call) -> None:
+    _said(scene, thread, call, asked=call.error not in LOOKING)
+
+
+def _move_mount(scene: Scene, thread: Thread, call: Call) -> None:
+    before = call.error in LOOKING or (call.error == "EINVAL" and _has(call, 4, ~MOVE_MOUNT_FLAGS))
+    _said(scene, thread, call, asked=not before)
+
+
+def _fsconfig(scene: Scene, thread: Thread, call: Call) -> None:
+    """Of its commands the kernel asks Landlock about one alone, if the descriptor is a context."""
+    if arguments.number_at(call, 1) != FSCONFIG_CMD_RECONFIGURE:
+        return
+    is_context = scene.descriptor(call.arguments[0]).behind == CONTEXT
+    _said(scene, thread, call, asked=is_context and call.error not in ("EBADF", "EBUSY", "EOPNOTSUPP"))
+
+
+def _has(call: Call, index: int, flags: int) -> bool:
+    return bool(arguments.number_at(call, index) & flags)
+
+
+def _said(scene: Scene, thread: Thread, call: Call, *, asked: bool) -> None:
+    if not asked:
+        raise NotAsked(f"{call.error} of a mount call before Landlock is asked")
+    scene.say(thread, call, "mount")
+    if call.ok and call.name != "fsconfig":
+        scene.leave_out(thread, call, CHANGES_THE_TREE, asks=True)
+
+
+def _open_tree(scene: Scene, thread: Thread, call: Call) -> None:
+    """A copy of a mount, in which no rule counts that is on a directory over it."""
+    if call.ok and _has(call, 2, OPEN_TREE_CLONE):
+        _is_placeless(scene, thread, call, close_on_exec=_has(call, 2, O_CLOEXEC))
+
+
+def _fsmount(scene: Scene, thread: Thread, call: Call) -> None:
+    if call.ok:
+        _is_placeless(scene, thread, call, close_on_exec=_has(call, 1, FSMOUNT_CLOEXEC))
+
+
+def _is_placeless(scene: Scene, thread: Thread, call: Call, *, close_on_exec: bool) -> None:
+    """What a call opened is in a mount without a place, and so is what is opened from there."""
+    if call.ok and call.value is not None:
+        scene.put(thread, call, call.value, Handle("/", close_on_exec=close_on_exec, placeless=True))
+    raise CannotSay(WITHOUT_PLACE)
+
+
+def from_a_place(handler: Handler, base: int | None) -> Handler:
+    """The handler of a call that opens files, which leaves out those that it opens in a mount without a place."""
+
+    def opened(scene: Scene, thread: Thread, call: Call) -> None:
+        directory = arguments.descriptor_at(scene, call, base)
+        handle = thread.process.table.get(directory.number) if directory is not None else None
+        if handle is not None and handle.placeless:
+            _is_placeless(scene, thread, call, close_on_exec=False)
+        handler(scene, thread, call)
+
+    return opened
+
+
+def _setns(scene: Scene, thread: Thread, call: Call) -> None:
+    """Another mount namespace has other objects under the same names; other kinds of namespaces change no path."""
+    behind = scene.descriptor(call.arguments[0]).behind or ""
+    others.by_pidfd(scene, thread, call)
+    if call.ok and (behind.startswith("mnt:") or _has(call, 1, CLONE_NEWNS)):
+        raise CannotSay(OTHER_NAMESPACE)
+
+
+HANDLERS = {
+    "mount": _mount,
+    "umount2": _umount,
+    "pivot_root": _pivot_root,
+    "move_mount": _move_mount,
+    "fsconfig": _fsconfig,
+    "open_tree": _open_tree,
+    "open_tree_attr": _open_tree,
+    "fsmount": _fsmount,
+    "setns": _setns,
+}

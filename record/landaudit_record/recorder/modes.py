@@ -1,0 +1,59 @@
+"""What the kernel refuses by file modes, whatever a policy says (inode(7), path_resolution(7), credentials(7))."""
+
+from __future__ import annotations
+
+from collections.abc import Callable, Iterator
+from dataclasses import dataclass
+from typing import Any
+
+from ..trees import ROOT, directory_of, upwards
+
+READ, WRITE, RUN = 4, 2, 1
+_OF_MODE = {"r": READ, "w": WRITE, "rw": READ | WRITE}
+
+
+@dataclass(frozen=True, slots=True)
+class Mode:
+    """The mode of an object, and whose it is."""
+
+    bits: int
+    uid: int
+    gid: int
+
+
+@dataclass(frozen=True, slots=True)
+class Asker:
+    """As whom a process without privileges asks for files."""
+
+    uid: int
+    groups: frozenset[int]
+
+    def may(self, mode: Mode | None, wanted: int) -> bool:
+        """Whether a mode lets it do what it wants; where nothing is known of an object, it may."""
+        if mode is None:
+            return True
+        shift = 6 if mode.uid == self.uid else 3 if mode.gid in self.groups else 0
+        return mode.bits >> shift & wanted == wanted
+
+
+def refuse(asker: Asker, mode_of: Callable[[str], Mode | None], op: str, members: dict[str, Any], runs: bool) -> bool:
+    """Whether modes refuse a call on paths; `runs` says that a file is opened to be run."""
+    for path, wanted in _wanted(op, members, runs):
+        if not asker.may(mode_of(path), wanted):
+            return True
+        if path != ROOT and any(not asker.may(mode_of(over), RUN) for over in upwards(directory_of(path))):
+            return True
+    return False
+
+
+def _wanted(op: str, members: dict[str, Any], runs: bool) -> Iterator[tuple[str, int]]:
+    """The objects that a call looks at, each with what its mode must let be done."""
+    path: str | None = members.get("shown") or members.get("path") or members.get("from")
+    target: str | None = members.get("shown_to") or members.get("to")
+    match op:
+        case "open" | "exec" | "truncate" if path and not members.get("create"):
+            yield path, RUN if runs else _OF_MODE.get(members.get("mode", ""), WRITE)
+        case "open" | "mknod" | "mkdir" | "symlink" | "unlink" | "rmdir" | "rename" if path:
+            yield directory_of(path), WRITE | RUN
+    if target:
+        yield directory_of(target), WRITE | RUN

@@ -1,0 +1,66 @@
+"""All answers to a recording, in however many parts it is, with or without a policy."""
+
+from __future__ import annotations
+
+import re
+import tempfile
+from collections.abc import Iterator
+from pathlib import Path
+
+from landaudit_record import finished, landaudit, trying
+from landaudit_record.finished import Finished
+from landaudit_record.policies import Policy
+from landaudit_record.problems import Problem
+from landaudit_record.recorder.progress import Progress
+from landaudit_record.trying import Auditing
+
+ABIS = range(1, 6)
+_LINE = re.compile(rb"\(line \d+\)|opened at line \d+")
+_HEAD = re.compile(rb"\d+ ")
+
+
+def wanting() -> str | None:
+    """Why landaudit can't answer here, if it can't."""
+    try:
+        landaudit.find(None)
+    except Problem as problem:
+        return str(problem)
+    return None
+
+
+def answers(
+    folder: Path, policy: Policy | None = None, program: str | None = None, *, best_effort: bool = True
+) -> list[bytes]:
+    """What each record is answered at all ABIs and why, in the order of the trace, without the numbers of lines.
+
+    Records that are written again are none of the recording's, nor is the policy that is put in with them.
+    """
+    recording = finished.opened(str(folder))
+    tried = None if policy is None else trying.tried(recording, policy, program)
+    found: list[bytes] = []
+    steps = [ABIS] if tried is None else tried.steps(ABIS, best_effort=best_effort)
+    with tempfile.TemporaryDirectory() as name, Progress() as progress:
+        auditing = Auditing(landaudit.find(None), recording, Path(name), best_effort, progress)
+        for abis in steps:
+            for walk in auditing.walks(abis, tried):
+                found += _answers(*walk.files)
+    return found
+
+
+def _answers(trace: Path, report: Path) -> Iterator[bytes]:
+    again = [b'"again":true' in line for line in trace.read_bytes().splitlines()]
+    shown = False
+    for line in report.read_bytes().splitlines():
+        if line.startswith(b"total "):
+            continue
+        if not line.startswith(b"    "):
+            shown = not again[int(line.split(b" ", 1)[0]) - 1]
+            line = _HEAD.sub(b"", line, count=1)
+        if shown:
+            yield _LINE.sub(b"(line)", line)
+
+
+def parts(folder: Path) -> int:
+    """In how many parts a recording is kept."""
+    found: Finished = finished.opened(str(folder))
+    return len(found.parts)

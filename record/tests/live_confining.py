@@ -1,0 +1,103 @@
+"""landaudit-policy confine and landaudit-record run --policy on a running kernel."""
+
+from __future__ import annotations
+
+import json
+import os
+import subprocess
+import tempfile
+import unittest
+from pathlib import Path
+
+from landaudit_record import confining, landlock_calls
+
+from .live_actor import CONFINER, PYTHON, RECORDER, wanting
+
+READ_SYSTEM = """[[layer]]
+handled_access_fs = ["all"]
+handled_access_net = ["all"]
+[[layer.path_beneath]]
+allowed_access = ["read", "execute"]
+parent = ["/usr", "/lib", "/lib64", "/bin", "/proc", "/etc/ld.so.cache"]
+"""
+#: What a program inherits: signals that are ignored, its environment, its open descriptors and its own status.
+INHERITED = "grep SigIgn /proc/self/status; env | grep -v ^_=; ls /proc/self/fd; exit 7"
+
+
+@unittest.skipIf(wanting() is not None, wanting() or "")
+class LiveConfining(unittest.TestCase):
+    def setUp(self) -> None:
+        self.folder = Path(self.enterContext(tempfile.TemporaryDirectory())).resolve()
+        self.policy = self.folder / "P.toml"
+        self.policy.write_text(READ_SYSTEM)
+        (self.folder / "secret").write_text("secret\n")
+
+    def said(self, *words: str | Path, **variables: str) -> subprocess.CompletedProcess[str]:
+        environment = {"PATH": os.environ["PATH"], **variables}
+        return subprocess.run(words, cwd=self.folder, capture_output=True, text=True, env=environment, check=False)
+
+    def confined(self, *command: str | Path, **variables: str) -> subprocess.CompletedProcess[str]:
+        return self.said(PYTHON, CONFINER, "confine", self.policy, "--", *command, **variables)
+
+    def test_a_program_inherits_what_it_would_without_a_policy(self) -> None:
+        for variables in ({}, {"LC_ALL": "C"}, {"LC_CTYPE": "C.UTF-8", "X": "a=b\nc"}):
+            with self.subTest(variables):
+                bare = self.said("sh", "-c", INHERITED, **variables)
+                self.assertEqual(bare.returncode, 7)
+                confined = self.confined("sh", "-c", INHERITED, **variables)
+                self.assertEqual((confined.returncode, confined.stdout), (7, bare.stdout), confined.stderr)
+
+    def test_what_the_policy_does_not_allow_is_refused(self) -> None:
+        run = self.confined("cat", "secret")
+        self.assertEqual((run.returncode, run.stdout), (1, ""))
+        self.assertIn("Permission denied", run.stderr)
+
+    def test_a_command_that_the_policy_does_not_let_run(self) -> None:
+        self.policy.write_text('[[layer]]\nhandled_access_fs = ["execute"]\n')
+        run = self.confined("true")
+        why = "Permission denied: does the policy let it, its interpreter or loader be read and executed?"
+        self.assertEqual((run.returncode, run.stderr), (4, f"landaudit-policy: true: {why}\n"))
+
+    def test_scopes(self) -> None:
+        if landlock_calls.kernel_abi() < confining.ABI_OF_SCOPES:
+            self.skipTest("this kernel has no scopes")
+        kill = ("sh", "-c", f"kill -0 {os.getpid()}")
+        self.policy.write_text('[[layer]]\nhandled_access_fs = ["make_sock"]\n')
+        self.assertEqual(self.confined(*kill).returncode, 0)
+        self.policy.write_text('[[layer]]\nscoped = ["signal"]\n')
+        run = self.confined(*kill)
+        self.assertEqual(run.returncode, 1)
+        self.assertIn("not permitted", run.stderr)
+
+    def test_a_right_of_directories_on_a_file_is_a_fault_of_the_policy(self) -> None:
+        rule = '[[layer.path_beneath]]\nallowed_access = ["read_dir"]\nparent = "/etc/passwd"\n'
+        self.policy.write_text(f'[[layer]]\nhandled_access_fs = ["all"]\n{rule}')
+        run = self.confined("true")
+        self.assertEqual(run.returncode, 3)
+        self.assertIn("layer 1, path_beneath 1, parent /etc/passwd: it is not a directory", run.stderr)
+
+    def test_a_recording_under_a_policy(self) -> None:
+        self.policy.write_text(READ_SYSTEM + '[[layer.net_port]]\nallowed_access = ["connect_tcp"]\nport = 443\n')
+        recording = self.folder / "rec"
+        ports = "import socket\nfor port in (443, 80):\n s = socket.socket()\n print(s.connect_ex(('127.0.0.1', port)))"
+        command = ("sh", "-c", f'cat secret; {PYTHON} -c "{ports}"')
+        run = self.said(PYTHON, RECORDER, "run", recording, "--policy", self.policy, "--", *command)
+        self.assertEqual((run.returncode, run.stdout), (0, "111\n13\n"), run.stderr)
+        self.assertRegex(run.stderr, rf"\n +1  open r +{self.folder}/secret +EACCES +")
+        self.assertRegex(run.stderr, r"\n +1  connect +port 80 +EACCES +")
+        self.assertEqual((recording / "policy.toml").read_text(), self.policy.read_text())
+        self.assertEqual(self.said(PYTHON, RECORDER, "convert", recording).returncode, 0)
+        compared = self.said(PYTHON, RECORDER, "compare", recording, "--json")
+        self.assertEqual(compared.returncode, 0, compared.stdout)
+        found = json.loads(compared.stdout)
+        self.assertEqual((found["differences"], found["calls"]), ([], found["agree"]))
+
+    def test_a_policy_that_does_not_read_leaves_no_recording(self) -> None:
+        self.policy.write_text("[[layer]]\n")
+        run = self.said(PYTHON, RECORDER, "run", self.folder / "rec", "--policy", self.policy, "--", "true")
+        self.assertEqual(run.returncode, 3)
+        self.assertFalse((self.folder / "rec").exists())
+
+
+if __name__ == "__main__":
+    unittest.main()

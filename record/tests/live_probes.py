@@ -1,0 +1,155 @@
+"""Each probe, recorded bare and under a policy: what the kernel refuses is foretold, or counted as what may be refused.
+
+What is expected of each probe was seen on Linux 6.18; a refusal that a kernel adds makes a test fail.
+"""
+
+from __future__ import annotations
+
+import json
+import shutil
+import subprocess
+import tempfile
+import unittest
+from dataclasses import dataclass
+from pathlib import Path
+from typing import Any
+
+from landaudit_record.jsonl import numbered
+from landaudit_record.recorder.calls import beyond, descriptors, mounts, others
+from landaudit_record.recorder.converting import CORE_FILE
+
+from .live_actor import CONFINER, HERE, POLICIES, PYTHON, RECORDER, wanting
+
+WORK = "/tmp/landaudit-probes"
+"""The folder that the policy names; here a temporary one stands for it."""
+
+REFUSALS = frozenset({"EACCES", "EPERM", "EXDEV"})
+
+
+@dataclass(frozen=True)
+class Expected:
+    """What a probe meets: the steps that the policy refuses, how the bare recording's audit foretells them (by the
+    kinds of its refused calls), and the classes in which it counts calls that may be refused.
+    """
+
+    met: frozenset[str] = frozenset()
+    foretold: frozenset[str] = frozenset()
+    holes: frozenset[str] = frozenset()
+
+
+def _of(met: str = "", foretold: str = "", holes: tuple[str, ...] = ()) -> Expected:
+    split = (frozenset(filter(None, text.split(", "))) for text in (met, foretold))
+    return Expected(*split, frozenset(holes))
+
+
+EXPECTED = {
+    "io_uring": _of("io_uring 18, io_uring 37, io_uring 16", holes=(beyond.BY_IO_URING,)),
+    "handles": _of("open_by_handle_at", "open"),
+    "inside": _of("swapon, acct", "open"),
+    "mounts": _of("mount, pivot_root, fsconfig", "mount"),
+    "detached": _of("open in a new mount", holes=(mounts.WITHOUT_PLACE,)),
+    "namespaces": _of("open given", "open"),
+    "received": _of(holes=(descriptors.FOREIGN,)),
+    "others": _of("open mem, open ns, open through root, kcmp", holes=(others.INTO_ANOTHER,)),
+    "queue": _of("mq_open", holes=(beyond.QUEUE,)),
+    "events": _of("read an event", holes=(beyond.BY_FANOTIFY,)),
+    "families": _of(
+        "bind 2 on 2 18302, bind 10 on 10 18302, bind 0 on 2 18302, connect 2 on 2 18302, connect 10 on 10 18302",
+        "bind, connect",
+    ),
+    "sending": _of(holes=(beyond.BY_SENDING,)),
+    "threads": _of(foretold="open"),
+    "thread_runs": _of(),
+    "memory": _of(),
+    "core": _of("core file", holes=(CORE_FILE,)),
+    "many_closed": _of(),
+}
+
+
+@unittest.skipIf(wanting() is not None, wanting() or "")
+class LiveProbes(unittest.TestCase):
+    def setUp(self) -> None:
+        self.folder = Path(self.enterContext(tempfile.TemporaryDirectory())).resolve()
+        self.work = self.folder / "work"
+        self.policy = self.folder / "policy.toml"
+        text = (POLICIES / "probes" / "read-all.toml").read_text()
+        self.policy.write_text(text.replace(WORK, str(self.work)))
+        self.confine = (PYTHON, str(CONFINER), "confine", str(self.policy), "--")
+
+    def fill(self) -> None:
+        """The folder that a probe works in."""
+        shutil.rmtree(self.work, ignore_errors=True)
+        for name in ("out", "kept"):
+            (self.work / name).mkdir(parents=True)
+        for name in ("given", "closed"):
+            (self.work / name).write_text(f"{name}\n")
+        shutil.copy(HERE / "probes.py", self.work)
+
+    def run_recorded(self, out: str, *command: str) -> subprocess.CompletedProcess[str]:
+        """Records a command."""
+        words = [str(RECORDER), "run", str(self.folder / out), "--port-rules", str(self.policy), "--", *command]
+        return subprocess.run(words, cwd=self.work, capture_output=True, text=True, check=False)
+
+    def record(self, name: str, out: str, *by: str) -> dict[str, list[str]]:
+        """Records a probe, and gives what it said of its steps."""
+        self.fill()
+        run = self.run_recorded(out, *by, PYTHON, "-S", "probes.py", name)
+        if run.returncode == 4:
+            self.skipTest(f"this kernel does not let {name} begin: {run.stdout}{run.stderr}")
+        self.assertEqual(run.returncode, 0, run.stdout + run.stderr)
+        steps: dict[str, list[str]] = {}
+        for line in run.stdout.splitlines():
+            step, _, answer = line.rpartition(" ")
+            steps.setdefault(step, []).append(answer)
+        return steps
+
+    def said(self, *words: str, status: tuple[int, ...] = (0, 1, 5)) -> dict[str, Any]:
+        run = subprocess.run([str(RECORDER), *words, "--json"], capture_output=True, text=True, check=False)
+        self.assertIn(run.returncode, status, run.stdout + run.stderr)
+        return json.loads(run.stdout)  # type: ignore[no-any-return]
+
+    def test_what_is_refused_is_foretold_or_counted(self) -> None:
+        for name, expected in EXPECTED.items():
+            with self.subTest(name):
+                shutil.rmtree(self.folder / "bare", ignore_errors=True)
+                shutil.rmtree(self.folder / "confined", ignore_errors=True)
+                bare = self.record(name, "bare")
+                self.fill()
+                audit = self.said("audit", str(self.folder / "bare"), "--policy", str(self.policy), "--abi", "5")
+                confined = self.record(name, "confined", *self.confine)
+                self.assertEqual(self.met(bare, confined), expected.met)
+                ops = {refusal["call"].split(" ")[0] for refusal in audit["refusals"]}
+                self.assertLessEqual(expected.foretold, ops)
+                self.assertEqual(self.holes("bare"), expected.holes)
+                compared = self.said("compare", str(self.folder / "confined"))
+                self.assertEqual([one for one in compared["differences"] if not one["named"]], [])
+
+    @unittest.skipIf(shutil.which("gcc") is None, "gcc is not installed")
+    def test_numbers_that_go_from_thread_to_thread(self) -> None:
+        self.fill()
+        program = self.work / "threads"
+        subprocess.run(["gcc", "-O1", "-pthread", "-o", program, HERE / "threads.c"], check=True)
+        run = self.run_recorded("confined", *self.confine, str(program))
+        self.assertEqual(run.returncode, 0, run.stderr)
+        compared = self.said("compare", str(self.folder / "confined"))
+        self.assertGreater(compared["calls"], 5000)
+        self.assertEqual(compared["differences"], [])
+        trace = [record for _, record in numbered(self.folder / "confined" / "trace.jsonl")]
+        cut = {record["kernel"] for record in trace if record["op"] == "ftruncate"}
+        self.assertEqual(cut, {"EACCES"})
+        interrupted = (self.folder / "confined" / "strace.txt").read_text("latin-1").count("<... close resumed>")
+        self.assertGreater(interrupted, 100)
+
+    def met(self, bare: dict[str, list[str]], confined: dict[str, list[str]]) -> frozenset[str]:
+        """The steps that a policy refused, and nothing else did."""
+        refused = (step for step, answers in confined.items() if answers != bare.get(step))
+        return frozenset(step for step in refused if REFUSALS & set(confined[step]) or confined[step] == ["none"])
+
+    def holes(self, out: str) -> frozenset[str]:
+        """The classes in which a recording counts calls that may be refused."""
+        lines = numbered(self.folder / out / "unsaid.jsonl")
+        return frozenset(line["class"] for _, line in lines if line.get("asks"))
+
+
+if __name__ == "__main__":
+    unittest.main()

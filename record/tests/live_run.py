@@ -1,0 +1,139 @@
+"""`landaudit-record run` under strace: signals end what it traces, and its terminal is the program's alone."""
+
+from __future__ import annotations
+
+import contextlib
+import json
+import os
+import pty
+import re
+import shutil
+import signal
+import subprocess
+import sys
+import tempfile
+import time
+import unittest
+from collections.abc import Callable
+from pathlib import Path
+
+RECORDER = Path(__file__).resolve().parents[1] / "landaudit-record"
+SOON = 20.0
+SLEEPS = "sleep 1000.25"
+STUBBORN = "import signal, time; signal.signal(signal.SIGTERM, signal.SIG_IGN); print('ready', flush=True); time.sleep(99)"
+
+
+def until(said: Callable[[], bool], what: str) -> None:
+    """Waits for something that comes soon."""
+    end = time.monotonic() + SOON
+    while not said():
+        if time.monotonic() > end:
+            raise AssertionError(f"waited for {what}")
+        time.sleep(0.05)
+
+
+def running(pattern: str) -> list[int]:
+    """The processes whose command line a pattern matches, but for recorders and tracers."""
+    found = []
+    for entry in Path("/proc").iterdir():
+        if entry.name.isdecimal():
+            with contextlib.suppress(OSError):
+                words = (entry / "cmdline").read_bytes().replace(b"\0", b" ").decode("latin-1")
+                if re.match(pattern, words):
+                    found.append(int(entry.name))
+    return found
+
+
+@unittest.skipIf(shutil.which("strace") is None, "strace is not installed")
+class LiveRun(unittest.TestCase):
+    def setUp(self) -> None:
+        self.folder = Path(self.enterContext(tempfile.TemporaryDirectory())).resolve()
+        self.out = self.folder / "rec"
+
+    def begin(self, *command: str) -> subprocess.Popen[str]:
+        """Starts to record a command."""
+        words = [sys.executable, str(RECORDER), "run", str(self.out), "--", *command]
+        return subprocess.Popen(
+            words, cwd=self.folder, stdout=subprocess.PIPE, stderr=subprocess.PIPE, text=True, start_new_session=True
+        )
+
+    def recording(self) -> dict[str, object]:
+        return json.loads((self.out / "recording.json").read_text())  # type: ignore[no-any-return]
+
+    def last_record(self) -> dict[str, object]:
+        return json.loads((self.out / "trace.jsonl").read_text().splitlines()[-1])  # type: ignore[no-any-return]
+
+    def test_signals_end_what_is_traced_and_the_log_is_converted(self) -> None:
+        for number in (signal.SIGTERM, signal.SIGHUP, signal.SIGQUIT):
+            with self.subTest(number.name):
+                shutil.rmtree(self.out, ignore_errors=True)
+                run = self.begin("sh", "-c", f"setsid {SLEEPS} & {SLEEPS}; exit 3")
+                until(lambda: len(running(SLEEPS)) == 2, "two that sleep")
+                run.send_signal(number)
+                _, error = run.communicate(timeout=SOON)
+                self.assertEqual((run.returncode, running(SLEEPS)), (128 + number, []), error)
+                self.assertIn(f"next: landaudit-record audit {self.out} --policy POLICY.toml", error)
+                self.assertEqual(self.last_record()["op"], "exit")
+                self.assertIs(self.recording()["ended"], True)
+
+    def test_what_does_not_end_by_a_signal_is_killed_after_a_while(self) -> None:
+        run = self.begin(sys.executable, "-c", STUBBORN)
+        assert run.stdout is not None
+        self.assertEqual(run.stdout.readline(), "ready\n")
+        run.terminate()
+        _, error = run.communicate(timeout=SOON)
+        self.assertEqual(run.returncode, 128 + signal.SIGKILL, error)
+        self.assertEqual(self.last_record()["op"], "exit")
+
+    def test_a_tracer_that_is_killed_leaves_nothing_running_and_a_recording_that_is_not_whole(self) -> None:
+        run = self.begin("sh", "-c", f"setsid {SLEEPS} & {SLEEPS}")
+        until(lambda: len(running(SLEEPS)) == 2, "two that sleep")
+        (tracer,) = running(rf"strace .*--output={self.out}/")
+        os.kill(tracer, signal.SIGKILL)
+        _, error = run.communicate(timeout=SOON)
+        self.assertEqual((run.returncode, running(SLEEPS)), (128 + signal.SIGKILL, []), error)
+        self.assertIn("the recording is not whole", error)
+        self.assertIs(self.recording()["ended"], False)
+
+    def test_a_run_that_is_ended_while_it_converts_names_what_is_next(self) -> None:
+        """The log is made long by hand, so that its conversion takes long enough to be met."""
+        (self.folder / "bin").mkdir()
+        stand_in = self.folder / "bin" / "strace"
+        stand_in.write_text(
+            "#!/bin/sh\ncase \"$*\" in *--version*|*/dev/null*) exec /usr/bin/strace \"$@\";; esac\n"
+            "for word; do case $word in --output=*) out=${word#--output=};; esac; done\n"
+            "{ echo '7 execve(\"/bin/true\", [\"true\"], 0x1) = 0'; yes '7 chdir(\"/\") = 0' | head -3000000; } > $out\n"
+        )
+        stand_in.chmod(0o755)
+        environment = {**os.environ, "PATH": f"{stand_in.parent}:{os.environ['PATH']}"}
+        words = [sys.executable, str(RECORDER), "run", str(self.out), "--", "true"]
+        run = subprocess.Popen(words, cwd=self.folder, env=environment, stderr=subprocess.PIPE, text=True)
+        until(lambda: (self.out / "trace.jsonl").exists(), "the conversion")
+        run.send_signal(signal.SIGTERM)
+        _, error = run.communicate(timeout=SOON)
+        self.assertEqual(run.returncode, 128 + signal.SIGTERM, error)
+        self.assertIn(f"next: landaudit-record convert {self.out}\n", error)
+        self.assertIn("landaudit-record: ended by SIGTERM\n", error)
+
+    def test_nothing_is_written_over_the_programs_terminal(self) -> None:
+        script = "printf 'Password: '; sleep 1.5; printf 'thanks\\n'"
+        words = [sys.executable, str(RECORDER), "run", str(self.out), "--", "sh", "-c", script]
+        terminal, other = pty.openpty()
+        run = subprocess.Popen(words, cwd=self.folder, stdin=other, stdout=other, stderr=other)
+        os.close(other)
+        said = b"".join(iter(lambda: _read(terminal), b""))
+        os.close(terminal)
+        self.assertEqual(run.wait(SOON), 0)
+        self.assertTrue(said.startswith(b"Password: thanks\r\n"), said)
+
+
+def _read(terminal: int) -> bytes:
+    """What a terminal shows next; nothing when nobody has it open any more."""
+    try:
+        return os.read(terminal, 4096)
+    except OSError:
+        return b""
+
+
+if __name__ == "__main__":
+    unittest.main()

@@ -1,0 +1,123 @@
+"""Cases: what reads, and which line says what is wrong with one that doesn't."""
+
+from __future__ import annotations
+
+import os
+import tempfile
+import unittest
+from pathlib import Path
+
+from landaudit_record import cases
+from landaudit_record.cases import Cases
+from landaudit_record.problems import UNREADABLE, Problem
+
+
+class Reading(unittest.TestCase):
+    def setUp(self) -> None:
+        self.folder = Path(self.enterContext(tempfile.TemporaryDirectory())).resolve()
+        (self.folder / "dir").mkdir()
+        (self.folder / "file").touch()
+        os.symlink("file", self.folder / "link")
+        os.symlink("dir", self.folder / "way")
+        os.mkfifo(self.folder / "fifo")
+
+    def read(self, text: str) -> Cases:
+        """The cases of a text, in which `@` is the folder."""
+        file = self.folder / "cases.toml"
+        file.write_text(text.replace("@", str(self.folder)))
+        return cases.read(file)
+
+    def case(self, text: str) -> list[dict[str, object]]:
+        """The records of one case, with `@` for the folder."""
+        (case,) = self.read(f"[[refused]]\n{text}").cases
+        return [
+            {key: it.replace(str(self.folder), "@") if isinstance(it, str) else it for key, it in record.items()}
+            for record in case.question
+        ]
+
+    def test_calls_on_what_is_there(self) -> None:
+        for call, path, wanted in (
+            ("open r", "@/file", [{"op": "open", "path": "@/file", "mode": "r"}]),
+            ("open rw create trunc", "@/file",
+             [{"op": "open", "path": "@/file", "mode": "rw", "create": True, "trunc": True}]),
+            ("open r", "@/link", [{"op": "open", "path": "@/file", "mode": "r"}]),
+            ("exec", "@/way/../link", [{"op": "exec", "path": "@/file"}]),
+            ("unlink", "@/way/../link", [{"op": "unlink", "path": "@/link"}]),
+            ("rmdir", "@/dir/", [{"op": "rmdir", "path": "@/dir"}]),
+            ("ftruncate", "@/file", [{"op": "open", "path": "@/file", "mode": "w"}, {"op": "ftruncate"}]),
+            ("ioctl r", "/dev/null", [{"op": "open", "path": "/dev/null", "mode": "r"}, {"op": "ioctl", "driver": True}]),
+        ):
+            with self.subTest(call=call, path=path):
+                self.assertEqual(self.case(f'call = "{call}"\npath = "{path}"'), wanted)
+
+    def test_what_a_call_makes_is_not_there(self) -> None:
+        for call, wanted in (
+            ("mkdir", {"op": "mkdir", "path": "@/dir/x~new~"}),
+            ("mknod fifo", {"op": "mknod", "path": "@/dir/x~new~", "kind": "fifo"}),
+            ("symlink", {"op": "symlink", "path": "@/dir/x~new~"}),
+            ("open w create", {"op": "open", "path": "@/dir/x~new~", "mode": "w", "create": True}),
+        ):
+            with self.subTest(call):
+                self.assertEqual(self.case(f'call = "{call}"\npath = "@/way/x"'), [wanted])
+
+    def test_moves(self) -> None:
+        self.assertEqual(
+            self.case('call = "rename"\nfrom = "@/file"\nto = "@/way/x"'),
+            [{"op": "rename", "from": "@/file", "to": "@/dir/x~new~"}],
+        )
+        self.assertEqual(
+            self.case('call = "exchange"\nfrom = "@/file"\nto = "@/fifo"'),
+            [{"op": "rename", "from": "@/file", "to": "@/fifo", "exchange": True}],
+        )
+
+    def test_a_kind_for_what_is_not_on_this_machine(self) -> None:
+        found = self.read('[[allowed]]\ncall = "ioctl rw"\npath = "@/nowhere/tty"\nkind = "char"')
+        kinds = {path.replace(str(self.folder), "@"): kind for path, kind in found.tree.kinds.items() if "nowhere" in path}
+        self.assertEqual(kinds, {"@/nowhere": "dir", "@/nowhere/tty": "char"})
+
+    def test_ports_mounts_and_abis(self) -> None:
+        found = self.read(
+            '[[allowed]]\ncall = "connect"\nport = 443\nabi = "4-5"\n[[refused]]\ncall = "mount"\n'
+            '[[allowed]]\ncall = "bind"\nport = 0\nabi = 4\n'
+        )
+        self.assertEqual(
+            [(case.refused, case.text, list(case.abis), case.question) for case in found.cases],
+            [
+                (True, "mount", [1, 2, 3, 4, 5], ({"op": "mount"},)),
+                (False, "connect port 443", [4, 5], ({"op": "connect", "port": 443},)),
+                (False, "bind port 0", [4], ({"op": "bind", "port": 0},)),
+            ],
+        )
+
+    def test_what_does_not_read(self) -> None:
+        for text, wanted in (
+            ("", "no case: write one as [[refused]] or [[allowed]] with a call and its path or port"),
+            ("[[denied]]", "unknown key 'denied': use refused, allowed"),
+            ("refused = 1", "refused must be tables: write each as [[refused]]"),
+            ("[[refused]]", "refused 1: call is missing"),
+            ('[[refused]]\ncall = "opne r"\npath = "/"', "refused 1, call: unknown call 'opne r', did you mean 'open r'?"),
+            ('[[refused]]\ncall = "open r"', "refused 1: path is missing: 'open r' needs it"),
+            ('[[refused]]\ncall = "open r"\npath = "file"', "refused 1, path: 'file' is no absolute path"),
+            ('[[refused]]\ncall = "mount"\npath = "/"', "refused 1: unknown key 'path'"),
+            ('[[refused]]\ncall = "bind"\nport = 65536', "refused 1, port: 65536 is no port"),
+            ('[[refused]]\ncall = "bind"\nport = true', "refused 1, port: True is no port"),
+            ('[[refused]]\ncall = "mount"\nabi = "0-3"', "refused 1, abi: '0-3' is no ABI"),
+            ('[[allowed]]\ncall = "exec"\npath = "@/none"', 'path: @/none is not on this machine: give its kind, as kind'),
+            ('[[allowed]]\ncall = "exec"\npath = "@/none"\nkind = "file"', "kind: unknown kind 'file'"),
+            ('[[allowed]]\ncall = "open r"\npath = "@/file"\nkind = "dir"', "kind: @/file is here of kind 'reg': leave kind"),
+            ('[[allowed]]\ncall = "open r"\npath = "@/n"\nkind = "dir"\n[[allowed]]\ncall = "exec"\npath = "@/n"\nkind = "reg"',
+             "allowed 2, path: @/n is of kind 'dir' by another case, and here of kind 'reg'"),
+            ('[[allowed]]\ncall = "open r"\npath = "@/file/x"\nkind = "reg"\n[[allowed]]\ncall = "exec"\npath = "@/file"',
+             "allowed 2, path: @/file is of kind 'dir' by another case"),
+        ):
+            with self.subTest(text), self.assertRaises(Problem) as caught:
+                self.read(text)
+            self.assertEqual(caught.exception.status, UNREADABLE)
+            said = str(caught.exception).replace(str(self.folder), "@")
+            self.assertTrue(said.startswith("@/cases.toml: "), said)
+            self.assertIn(wanted, said)
+            self.assertNotIn("\n", said)
+
+
+if __name__ == "__main__":
+    unittest.main()

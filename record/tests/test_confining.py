@@ -1,0 +1,193 @@
+"""A policy in force: which calls of Landlock are made, in which order, and what is told. No process is confined here."""
+
+from __future__ import annotations
+
+import contextlib
+import errno
+import io
+import os
+import tempfile
+import unittest
+from collections.abc import Collection
+from pathlib import Path
+from unittest import mock
+
+from landaudit_record import cli, confining, policies
+from landaudit_record.policies import Policy
+from landaudit_record.problems import UNREADABLE, WANTING, Problem
+
+LAYERS = """[[layer]]
+handled_access_fs = ["read", "refer"]
+handled_access_net = ["connect_tcp"]
+[[layer.path_beneath]]
+allowed_access = ["read"]
+parent = ["{folder}", "{folder}/file", "{folder}/missing"]
+[[layer.net_port]]
+allowed_access = ["connect_tcp"]
+port = [443, 80]
+[[layer]]
+handled_access_fs = ["execute"]
+"""
+
+
+class Kernel:
+    """Stands for the kernel: keeps what it is asked, and refuses what it is told to refuse."""
+
+    def __init__(self, abi: int, refused: dict[str, int] | None = None) -> None:
+        self.abi = abi
+        self.refused = refused or {}
+        self.calls: list[tuple[object, ...]] = []
+
+    def kernel_abi(self) -> int:
+        self._refuse("version")
+        return self.abi
+
+    def set_no_new_privs(self) -> None:
+        self.calls.append(("nnp",))
+
+    def create_ruleset(
+        self, fs: Collection[str], net: Collection[str] | None = None, scoped: Collection[str] = ()
+    ) -> int:
+        self.calls.append(("create", sorted(fs), None if net is None else sorted(net), *scoped))
+        return os.open(os.devnull, os.O_RDONLY)
+
+    def add_path_beneath(self, ruleset: int, parent: int, allowed: Collection[str]) -> None:
+        self.calls.append(("path", os.readlink(f"/proc/self/fd/{parent}"), sorted(allowed)))
+        self._refuse("path")
+
+    def add_net_port(self, ruleset: int, port: int, allowed: Collection[str]) -> None:
+        self.calls.append(("port", port, sorted(allowed)))
+
+    def restrict_self(self, ruleset: int) -> None:
+        self.calls.append(("restrict",))
+        self._refuse("restrict")
+
+    def _refuse(self, call: str) -> None:
+        if call in self.refused:
+            raise OSError(self.refused[call], os.strerror(self.refused[call]))
+
+
+class Confining(unittest.TestCase):
+    def setUp(self) -> None:
+        self.folder = Path(self.enterContext(tempfile.TemporaryDirectory())).resolve()
+        (self.folder / "file").touch()
+
+    def policy(self, text: str) -> Policy:
+        file = self.folder / "P.toml"
+        file.write_text(text.replace("{folder}", str(self.folder)))
+        return policies.read(file)
+
+    def confined(self, text: str, kernel: Kernel, abi: int) -> list[str]:
+        """The notes of a policy that is put in force."""
+        policy = self.policy(text)
+        with mock.patch.object(confining, "landlock", kernel):
+            return confining.confine(policy, abi)
+
+    def fault(self, text: str, kernel: Kernel) -> Problem:
+        with self.assertRaises(Problem) as caught:
+            self.confined(text, kernel, 5)
+        return caught.exception
+
+    def test_layers_come_in_their_order_each_with_its_rules(self) -> None:
+        kernel = Kernel(5)
+        notes = self.confined(LAYERS, kernel, 5)
+        self.assertEqual(
+            kernel.calls,
+            [
+                ("nnp",),
+                ("create", ["read_dir", "read_file", "refer"], ["connect_tcp"]),
+                ("path", str(self.folder), ["read_dir", "read_file"]),
+                ("path", str(self.folder / "file"), ["read_file"]),
+                ("port", 443, ["connect_tcp"]),
+                ("port", 80, ["connect_tcp"]),
+                ("restrict",),
+                ("create", ["execute"], []),
+                ("restrict",),
+            ],
+        )
+        missing = f"layer 1, path_beneath 1: no rule on {self.folder}/missing: No such file or directory"
+        self.assertEqual(notes, [missing])
+
+    def test_an_older_abi_gets_what_it_has_in_the_structure_that_it_knows(self) -> None:
+        kernel = Kernel(1)
+        notes = self.confined(LAYERS, kernel, 1)
+        created = [call for call in kernel.calls if call[0] == "create"]
+        self.assertEqual(created, [("create", ["read_dir", "read_file"], None), ("create", ["execute"], None)])
+        self.assertNotIn("port", [call[0] for call in kernel.calls])
+        self.assertIn("layer 1, handled_access_fs: ABI 1 does not know refer: dropped", notes)
+
+    def test_scopes_where_the_kernel_has_them(self) -> None:
+        text = '[[layer]]\nhandled_access_fs = ["refer"]\nscoped = ["signal"]\n[[layer]]\nscoped = ["abstract_unix_socket"]\n'
+        newer, older = Kernel(6), Kernel(5)
+        notes = self.confined(text, newer, 5)
+        created = [call for call in newer.calls if call[0] == "create"]
+        self.assertEqual(created, [("create", ["refer"], [], "signal"), ("create", [], [], "abstract_unix_socket")])
+        self.assertFalse(any("scopes" in note for note in notes))
+        notes = self.confined(text, older, 5)
+        self.assertEqual([call for call in older.calls if call[0] == "create"], [("create", ["refer"], [])])
+        self.assertIn("layer 2: the kernel does not know scopes, which need ABI 6: dropped", notes)
+
+    def test_descriptors_are_closed_again(self) -> None:
+        before = len(os.listdir("/proc/self/fd"))
+        self.confined(LAYERS, Kernel(5), 5)
+        self.assertEqual(len(os.listdir("/proc/self/fd")), before)
+
+    def test_a_right_of_directories_on_a_file(self) -> None:
+        text = LAYERS.replace('allowed_access = ["read"]', 'allowed_access = ["read_dir"]')
+        problem = self.fault(text.replace('"{folder}", ', ""), Kernel(5, {"path": errno.EINVAL}))
+        self.assertEqual(problem.status, UNREADABLE)
+        where = f"{self.folder}/P.toml: layer 1, path_beneath 1, parent {self.folder}/file"
+        why = "it is not a directory, and only directories have read_dir: leave that out, or name a group"
+        self.assertEqual(str(problem), f"{where}: {why}")
+
+    def test_too_many_layers(self) -> None:
+        problem = self.fault(LAYERS, Kernel(5, {"restrict": errno.E2BIG}))
+        self.assertEqual(problem.status, WANTING)
+        self.assertIn("layer 1 can't be put in force: a process has sixteen layers at most", str(problem))
+
+
+class Known(unittest.TestCase):
+    def known(self, kernel: Kernel, asked: int) -> int:
+        with mock.patch.object(confining, "landlock", kernel):
+            return confining.known_abi(asked)
+
+    def test_the_older_of_the_two_counts(self) -> None:
+        self.assertEqual(self.known(Kernel(3), 5), 3)
+        self.assertEqual(self.known(Kernel(7), 4), 4)
+
+    def test_a_kernel_without_landlock_is_one_line_and_status_4(self) -> None:
+        for number, wanted in ((errno.ENOSYS, "older than Linux 5.13"), (errno.EOPNOTSUPP, "boot parameter lsm=")):
+            with self.subTest(number), self.assertRaises(Problem) as caught:
+                self.known(Kernel(0, {"version": number}), 5)
+            self.assertEqual(caught.exception.status, WANTING)
+            self.assertRegex(str(caught.exception), rf"\Athis kernel has no Landlock: .*{wanted}[^\n]*\Z")
+
+
+class Words(unittest.TestCase):
+    """The subcommand before anything is confined."""
+
+    def said(self, *words: str) -> tuple[int, str]:
+        error = io.StringIO()
+        with contextlib.redirect_stderr(error), mock.patch.object(confining, "confine") as confine:
+            status = cli.main(words, cli.POLICY)
+        confine.assert_not_called()
+        return status, error.getvalue()
+
+    def test_no_command(self) -> None:
+        hint = "landaudit-policy: give a command behind '--', as 'landaudit-policy confine policy.toml -- ls'\n"
+        self.assertEqual(self.said("confine", "P.toml"), (2, hint))
+
+    def test_no_policy(self) -> None:
+        told = (3, "landaudit-policy: cannot read /nowhere/P.toml: No such file or directory\n")
+        self.assertEqual(self.said("confine", "/nowhere/P.toml", "--", "true"), told)
+
+    def test_no_such_program(self) -> None:
+        with tempfile.TemporaryDirectory() as folder, mock.patch.object(confining, "known_abi", lambda asked: asked):
+            policy = Path(folder, "P.toml")
+            policy.write_text('[[layer]]\nhandled_access_fs = ["all"]\n')
+            told = (4, "landaudit-policy: no-such-command is not found, or is no program\n")
+            self.assertEqual(self.said("confine", str(policy), "--", "no-such-command"), told)
+
+
+if __name__ == "__main__":
+    unittest.main()

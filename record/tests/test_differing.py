@@ -1,0 +1,168 @@
+"""Policies compared on every tree: regions in words, the command as it is called, and random policies by random calls."""
+
+from __future__ import annotations
+
+import contextlib
+import io
+import tempfile
+import unittest
+from pathlib import Path
+
+from landaudit_record import cli, policies
+from landaudit_record.landaudit import BUILT
+from landaudit_record.regions import RULED_KINDS, Region, Regions, as_named, phrases
+
+from . import brute
+
+OLD = """[[layer]]
+handled_access_fs = ["all"]
+handled_access_net = ["connect_tcp"]
+[[layer.path_beneath]]
+allowed_access = ["read"]
+parent = ["/srv", "/data/shared"]
+[[layer.path_beneath]]
+allowed_access = ["read", "write"]
+parent = "/data/in"
+[[layer.path_beneath]]
+allowed_access = ["read", "write", "execute"]
+parent = "/data/out"
+"""
+
+
+class InRegions(unittest.TestCase):
+    regions = Regions(("/", "/a", "/a/b", "/a/b/c", "/a/d"), (80,), "~try~")
+
+    def said(self, differing: set[Region], of_files: bool = False) -> list[str]:
+        return list(phrases(self.regions, differing, of_files))
+
+    def test_a_region_is_named_with_what_is_not_as_it(self) -> None:
+        self.assertEqual(self.said({Region("/a"), Region("/a/d")}), ["under /a, but for /a/b"])
+        self.assertEqual(
+            self.said({Region("/"), Region("/a/b"), Region("/a/b/c")}), ["under /, but for /a", "under /a/b"]
+        )
+
+    def test_a_path_that_is_a_file(self) -> None:
+        alone = Region("/a/d", as_file=True)
+        self.assertEqual(self.said({alone}, of_files=True), ["on /a/d as a file"])
+        self.assertEqual(self.said({Region("/a/d"), alone}, of_files=True), ["under /a/d"])
+        self.assertEqual(self.said({Region("/a/d")}, of_files=True), ["under /a/d, but for /a/d as a file"])
+
+    def test_of_policies(self) -> None:
+        with tempfile.TemporaryDirectory() as folder:
+            file = Path(folder, "P.toml")
+            file.write_text(OLD.replace("/srv", "/srv//x/../~try~"))
+            found = Regions.of([policies.read(file)])
+        self.assertEqual(found.paths, ("/", "/data/in", "/data/out", "/data/shared", "/srv/~try~"))
+        self.assertEqual((found.word, found.ports, found.other_port), ("~try~~", (), 0))
+        kinds = found.kinds()
+        self.assertEqual({kinds[found.as_file("/data/in", kind)] for kind in RULED_KINDS}, set(RULED_KINDS))
+        self.assertEqual((kinds["/data"], kinds["/data/in"], kinds[found.child("/", "sock")]), ("dir", "dir", "sock"))
+
+    def test_each_region_has_an_object_in_a_directory_that_is_listed(self) -> None:
+        kinds = self.regions.kinds()
+        for path in kinds:
+            self.assertTrue(path == "/" or kinds[path.rpartition("/")[0] or "/"] == "dir", path)
+
+    def test_names_follow_no_link(self) -> None:
+        self.assertEqual(as_named("/lib/./x//../y/"), "/lib/y")
+
+    def test_the_port_that_stands_for_all_without_a_rule(self) -> None:
+        self.assertEqual(Regions(("/",), (0, 1, 3), "").other_port, 2)
+
+
+@unittest.skipUnless(BUILT.exists(), f"{BUILT} is not built")
+class Differing(unittest.TestCase):
+    def setUp(self) -> None:
+        self.folder = Path(self.enterContext(tempfile.TemporaryDirectory())).resolve()
+
+    def said(self, old: str, new: str, *words: str) -> tuple[int, list[str], str]:
+        """The status, the lines and the errors of a comparison."""
+        for name, text in (("old", old), ("new", new)):
+            (self.folder / name).write_text(text)
+        paths = [str(self.folder / name) for name in ("old", "new")]
+        with contextlib.redirect_stdout(io.StringIO()) as out, contextlib.redirect_stderr(io.StringIO()) as errors:
+            status = cli.main(["diff", *paths, *words], cli.POLICY)
+        said = [it.getvalue().replace(f"{self.folder}/", "") for it in (out, errors)]
+        return status, said[0].splitlines(), said[1]
+
+    def test_the_same_policy(self) -> None:
+        status, lines, _ = self.said(OLD, OLD)
+        self.assertEqual((status, len(lines)), (0, 1))
+        self.assertRegex(lines[0], r"\Ano call differs: \d+ calls tried under each, at ABI 1-5\Z")
+
+    def test_a_policy_in_other_words(self) -> None:
+        """Rules that are split, written twice, or beneath one that grants as much; a layer that is there twice."""
+        other = OLD + '[[layer.path_beneath]]\nallowed_access = ["read_dir"]\nparent = ["/srv/x", "/srv"]\n'
+        self.assertEqual(self.said(OLD, other + OLD)[0], 0)
+
+    def test_rights_by_region_ports_and_moves(self) -> None:
+        new = OLD.replace('parent = ["/srv", "/data/shared"]', 'parent = ["/srv", "/data"]').replace(
+            '"read", "write"]', '"read", "write", "execute"]') + '[[layer.net_port]]\nallowed_access = ["connect_tcp"]\nport = 443\n'
+        status, lines, _ = self.said(OLD, new, "--abi", "4-5")
+        self.assertEqual(status, 1)
+        self.assertEqual(lines[0], "new lets pass what old refuses:")
+        self.assertEqual(
+            set(lines[1:-2]),
+            {
+                "  execute under /data/in",
+                "  read_file, read_dir under /data, but for /data/in, /data/out, /data/shared",
+                "  connect_tcp on port 443",
+                "  moves of objects of every kind from under /data/in to under /data/out",
+            },
+        )
+        self.assertEqual(lines[-2], "old lets nothing pass that new refuses")
+
+    def test_less_is_no_fault(self) -> None:
+        status, lines, _ = self.said(OLD, OLD + "[[layer]]\nhandled_access_fs = [\"read_dir\"]\n")
+        self.assertEqual((status, lines[0], lines[1]), (0, "new lets nothing pass that old refuses", "old lets pass what new refuses:"))
+        self.assertIn("  read_dir under /data/in", lines)
+
+    def test_mounts_and_ports_without_a_rule(self) -> None:
+        nothing = '[[layer]]\nhandled_access_net = ["bind_tcp"]\n'
+        files = '[[layer]]\nhandled_access_fs = ["make_sym"]\n'
+        status, lines, _ = self.said(files, nothing, "--abi", "5")
+        self.assertEqual(status, 1)
+        self.assertIn("  mounts", lines)
+        self.assertIn("  bind_tcp on every other port", lines)
+        self.assertIn("  make_sym under /", lines)
+
+    def test_a_right_that_came_later(self) -> None:
+        more = '[[layer]]\nhandled_access_fs = ["make_sym"]\n'
+        status, lines, _ = self.said(more.replace("make_sym", "truncate"), more.replace('"]', '", "truncate"]'))
+        self.assertEqual((status, lines[0]), (0, "new lets nothing pass that old refuses"))
+        self.assertIn("  make_sym under /", lines)
+        # Before ABI 3 the old policy handles nothing, and so leaves what is mounted to anyone.
+        self.assertIn("  mounts (at ABI 1-2)", lines)
+        status, lines, _ = self.said(more.replace('"]', '", "truncate"]'), more)
+        self.assertEqual((status, lines[1]), (1, "  truncate under / (at ABI 3-5)"))
+
+    def test_a_right_of_directories_that_a_file_can_t_have(self) -> None:
+        """By its name such a right makes the kernel refuse the whole rule on a file; by a group it doesn't."""
+        rule = '[[layer]]\nhandled_access_fs = ["read"]\n[[layer.path_beneath]]\nparent = "/x"\nallowed_access = '
+        status, lines, _ = self.said(rule + '["read_file", "read_dir"]', rule + '["read"]')
+        self.assertEqual((status, lines[1]), (1, "  read_file on /x as a file"))
+
+    def test_a_path_that_is_a_link_here_is_told(self) -> None:
+        (self.folder / "link").symlink_to("/usr")
+        rule = f'[[layer.path_beneath]]\nallowed_access = ["read"]\nparent = "{self.folder}/link"\n'
+        status, _, errors = self.said(OLD, OLD + rule)
+        self.assertEqual(status, 1)
+        told = "landaudit-policy: note: new: layer 1, path_beneath 4: link leads to /usr here, and is compared by its name"
+        self.assertTrue(errors.startswith(told), errors)
+
+    def test_what_does_not_read(self) -> None:
+        self.assertEqual(self.said("[[layer]]", OLD)[0], 3)
+
+    def test_random_policies_by_random_calls(self) -> None:
+        program = BUILT
+        differ = 0
+        for seed in range(4):
+            calls, some, unnamed = brute.tried(program, seed, 150)
+            self.assertEqual(unnamed, [])
+            self.assertGreater(calls, 100)
+            differ += some
+        self.assertGreater(differ, 20)
+
+
+if __name__ == "__main__":
+    unittest.main()

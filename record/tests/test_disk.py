@@ -1,0 +1,113 @@
+"""What is read of programs on a disk: any bytes are safe (elf(5), execve(2))."""
+
+from __future__ import annotations
+
+import os
+import random
+import tempfile
+import unittest
+from pathlib import Path
+from struct import pack
+
+from landaudit_record.recorder import disk
+
+LOADER = b"/lib/ld.so\0"
+
+
+def elf(loader: bytes = LOADER, *, wide: bool = True, order: str = "<", kind: int = 3) -> bytes:
+    """A file with one program header, which names a loader."""
+    magic = b"\x7fELF" + bytes([2 if wide else 1, 1 if order == "<" else 2]) + bytes(10)
+    if wide:
+        head = pack(order + "HHIQQQIHHHHHH", 2, 62, 1, 0, 64, 0, 0, 64, 56, 1, 0, 0, 0)
+        header = pack(order + "IIQQQQQQ", kind, 4, 120, 0, 0, len(loader), len(loader), 1)
+    else:
+        head = pack(order + "HHIIIIIHHHHHH", 2, 3, 1, 0, 52, 0, 0, 52, 32, 1, 0, 0, 0)
+        header = pack(order + "IIIIIIII", kind, 84, 0, 0, len(loader), len(loader), 4, 1)
+    return magic + head + header + loader
+
+
+class Links(unittest.TestCase):
+    def setUp(self) -> None:
+        folder = tempfile.TemporaryDirectory()
+        self.addCleanup(folder.cleanup)
+        self.one, self.other = Path(folder.name, "one"), Path(folder.name, "other")
+        self.one.touch()
+
+    def test_names_of_one_file(self) -> None:
+        self.assertEqual(disk.look(str(self.one)), disk.Seen("reg"))
+        os.link(self.one, self.other)
+        self.assertEqual(disk.look(str(self.one)), disk.look(str(self.other)))
+        self.assertIsNotNone(getattr(disk.look(str(self.one)), "inode"))
+
+    def test_links_that_the_run_may_have_made_tell_nothing(self) -> None:
+        os.link(self.one, self.other)
+        changed = self.one.stat().st_ctime
+        for since, told in ((changed + 1, True), (changed, False)):
+            self.assertEqual(getattr(disk.look(str(self.one), since), "inode") is not None, told)
+
+    def test_what_is_kept_is_read_again(self) -> None:
+        os.link(self.one, self.other)
+        kept = self.one.with_name("kept")
+        seen = disk.Disk(0.0)
+        seen.look(str(self.one))
+        seen.keep(kept)
+        self.assertEqual(disk.kept(kept, 0.0).look(str(self.one)), disk.look(str(self.one)))
+
+
+class Interpreters(unittest.TestCase):
+    def setUp(self) -> None:
+        folder = tempfile.TemporaryDirectory()
+        self.addCleanup(folder.cleanup)
+        self.file = Path(folder.name, "program")
+
+    def of(self, content: bytes) -> str | None:
+        """What a file of some bytes is run by."""
+        self.file.write_bytes(content)
+        return disk.interpreter(str(self.file))
+
+    def test_the_loader_of_each_width_and_order(self) -> None:
+        for wide in (True, False):
+            for order in ("<", ">"):
+                with self.subTest(wide=wide, order=order):
+                    self.assertEqual(self.of(elf(wide=wide, order=order)), "/lib/ld.so")
+
+    def test_a_program_without_a_loader(self) -> None:
+        self.assertIsNone(self.of(elf(kind=1)))
+
+    def test_the_program_of_a_script(self) -> None:
+        self.assertEqual(self.of(b"#! /bin/sh -e\necho"), "/bin/sh")
+        self.assertEqual(self.of(b"#!/bin/\xff"), "/bin/\udcff")
+        self.assertEqual(self.of(b"#!/bin/sh\0x"), "/bin/sh")
+        for empty in (b"#!", b"#! \n", b"#!\0"):
+            self.assertIsNone(self.of(empty))
+
+    def test_a_file_that_ends_anywhere(self) -> None:
+        whole = elf()
+        for end in range(len(whole) - len(LOADER)):
+            self.assertIsNone(self.of(whole[:end]))
+
+    def test_a_table_that_is_in_no_file(self) -> None:
+        far = bytearray(elf())
+        far[32:40] = b"\xff" * 8
+        self.assertIsNone(self.of(bytes(far)))
+        long = bytearray(elf())
+        long[64 + 32 : 64 + 40] = b"\xff" * 8
+        self.assertEqual(self.of(bytes(long)), "/lib/ld.so")
+
+    def test_random_bytes(self) -> None:
+        chosen = random.Random(42)
+        for _ in range(400):
+            broken = bytearray(elf(wide=chosen.random() < 0.5, order=chosen.choice("<>")))
+            for _ in range(chosen.randrange(1, 12)):
+                broken[chosen.randrange(6, len(broken))] = chosen.randrange(256)
+            found = self.of(bytes(broken))
+            self.assertTrue(found is None or "\0" not in found)
+
+    def test_what_is_no_file(self) -> None:
+        self.assertIsNone(disk.interpreter("/nothere"))
+        self.assertIsNone(disk.interpreter("/a\0b"))
+        self.assertIsNone(disk.Disk(0.0).interpreter("/dev/null"))
+
+
+if __name__ == "__main__":
+    unittest.main()

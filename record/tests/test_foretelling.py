@@ -1,0 +1,64 @@
+"""What a bare recording foretold, against refusals written by hand."""
+
+from __future__ import annotations
+
+import unittest
+from pathlib import Path
+from typing import Any
+from unittest import mock
+
+from . import foretelling
+from .foretelling import Asked, Refusal
+
+BARE, CONFINED, POLICY = Path("bare"), Path("confined"), Path("policy.toml")
+
+
+def refused(*refusals: tuple[str, str, str]) -> dict[str, Any]:
+    """An audit with refusals by a layer: call, place and error of each."""
+    keys = ("call", "place", "error")
+    return {"refusals": [{**dict(zip(keys, one)), "layers": [{"number": 1}]} for one in refusals]}
+
+
+def audits(*, said: dict[str, Any], met: dict[str, Any], bare: dict[str, Any], confined: dict[str, Any]) -> Any:
+    """Audits by recording and policy, as `foretelling` asks for them: nothing is asked of descriptors."""
+    answers = {
+        (BARE, POLICY): said,
+        (CONFINED, None): met,
+        (BARE, foretelling.DENYING[0]): bare,
+        (CONFINED, foretelling.DENYING[0]): confined,
+    }
+    return mock.patch.object(foretelling, "_audit", lambda *asked: answers.get(asked[:2], refused()))
+
+
+class Foretelling(unittest.TestCase):
+    def test_a_refusal_is_foretold_behind_another_or_missed(self) -> None:
+        known, behind, missed = (("open r", f"/{name}", "EACCES") for name in ("known", "behind", "missed"))
+        with audits(
+            said=refused(known),
+            met=refused(known, behind, missed),
+            bare=refused(known, missed),
+            confined=refused(known, behind, missed),
+        ):
+            told = foretelling.compared(BARE, CONFINED, POLICY, 5)
+        self.assertEqual(told.foretold, {Refusal(Asked("open r", "/known"), "EACCES")})
+        self.assertEqual(told.behind, {Refusal(Asked("open r", "/behind"), "EACCES")})
+        self.assertEqual(told.missed, {Refusal(Asked("open r", "/missed"), "EACCES")})
+        self.assertEqual(list(foretelling.details(told)), ["missed: open r /missed EACCES"])
+
+    def test_what_was_foretold_and_passes_is_a_false_alarm_and_what_was_never_asked_is_none(self) -> None:
+        passes, unasked = ("mkdir", "/passes", "EACCES"), ("mkdir", "/unasked", "EACCES")
+        with audits(
+            said=refused(passes, unasked), met=refused(), bare=refused(passes, unasked), confined=refused(passes)
+        ):
+            told = foretelling.compared(BARE, CONFINED, POLICY, 5)
+        self.assertEqual(told.false_alarms, {Refusal(Asked("mkdir", "/passes"), "EACCES")})
+        self.assertTrue(told.is_wrong)
+
+    def test_names_that_are_made_up_are_alike(self) -> None:
+        self.assertEqual(foretelling.alike("/tmp/sortQx7aB2"), foretelling.alike("/tmp/sort9pLmZa"))
+        self.assertEqual(foretelling.alike("/proc/123/fd"), foretelling.alike("/proc/4567/fd"))
+        self.assertEqual(foretelling.alike("/usr/lib/locale"), "/usr/lib/locale")
+
+
+if __name__ == "__main__":
+    unittest.main()

@@ -1,0 +1,146 @@
+"""When a call takes effect, while other threads act: by begin or by end, as the kernel does it."""
+
+from __future__ import annotations
+
+import unittest
+
+from .written_logs import CWD, THREAD, WrittenLogs, told
+
+OPENED = f'openat({CWD}, "f", 0 /* O_RDONLY */) = 3</w/f>'
+MADE = f"10  {THREAD} = 11"
+
+
+class Moments(WrittenLogs):
+    def test_a_number_is_free_where_its_close_begins(self) -> None:
+        trace = self.convert(
+            MADE,
+            OPENED,
+            "10  close(3</w/f> <unfinished ...>",
+            f'11  openat({CWD}, "g", 0x2 /* O_RDWR */) = 3</w/g>',
+            "10  <... close resumed>) = 0",
+            "11  ftruncate(3</w/g>, 0) = 0",
+        )
+        self.assertEqual(
+            told(trace, "op", "fd", "path"),
+            [("open", 3, "/w/f"), ("close", 3, None), ("open", 3, "/w/g"), ("ftruncate", 3, None)],
+        )
+
+    def test_a_number_is_taken_where_its_open_ends(self) -> None:
+        trace = self.convert(
+            MADE,
+            f'10  openat({CWD}, "g", 0 /* O_RDONLY */ <unfinished ...>',
+            f'11  openat({CWD}, "f", 0 /* O_RDONLY */) = 3</w/f>',
+            "11  close(3</w/f>) = 0",
+            "10  <... openat resumed>) = 3</w/g>",
+        )
+        self.assertEqual(
+            told(trace, "op", "fd", "path"), [("open", 3, "/w/f"), ("close", 3, None), ("open", 3, "/w/g")]
+        )
+
+    def test_a_range_of_numbers_is_free_where_close_range_begins(self) -> None:
+        trace = self.convert(
+            MADE,
+            OPENED,
+            "10  close_range(3, 4294967295, 0 <unfinished ...>",
+            f'11  openat({CWD}, "g", 0 /* O_RDONLY */) = 3</w/g>',
+            "10  <... close_range resumed>) = 0",
+            "11  close(3</w/g>) = 0",
+        )
+        self.assertEqual([record["op"] for record in trace], ["open", "close", "open", "close"])
+
+    def test_a_close_range_that_fails_closes_nothing(self) -> None:
+        trace = self.convert(
+            MADE,
+            OPENED,
+            "10  close_range(3, 4294967295, 0x80 <unfinished ...>",
+            "11  fchdir(3</w>) = 0",
+            "10  <... close_range resumed>) = -1 EINVAL (Invalid argument)",
+        )
+        self.assertEqual([record["op"] for record in trace], ["open"])
+
+    def test_what_is_cut_is_what_the_number_stood_for_when_the_call_began(self) -> None:
+        trace = self.confined(
+            MADE,
+            f'openat({CWD}, "f", 0x2 /* O_RDWR */) = 3</w/f>',
+            "10  ftruncate(3</w/f>, 0 <unfinished ...>",
+            "11  close(3</w/f>) = 0",
+            "10  <... ftruncate resumed>) = -1 EACCES (Permission denied)",
+        )
+        self.assertEqual(
+            told(trace, "op", "fd", "kernel"), [("open", 3, "ok"), ("ftruncate", 3, "EACCES"), ("close", 3, None)]
+        )
+
+    def test_dup2_replaces_in_one_step_where_it_ends(self) -> None:
+        trace = self.convert(
+            MADE,
+            OPENED,
+            f'openat({CWD}, "g", 0 /* O_RDONLY */) = 4</w/g>',
+            "10  dup2(3</w/f>, 4</w/g> <unfinished ...>",
+            "11  fchdir(4</w/g>) = -1 ENOTDIR (Not a directory)",
+            "10  <... dup2 resumed>) = 4</w/f>",
+        )
+        self.assertEqual(told(trace, "op", "fd", "to")[2:], [("dup", 3, 4)])
+
+    def test_a_close_in_a_thread_that_is_ended_took_effect(self) -> None:
+        trace = self.convert(
+            MADE,
+            OPENED,
+            "11  close(3</w/f> <unfinished ...>",
+            "11  +++ exited with 0 +++",
+            f'openat({CWD}, "g", 0 /* O_RDONLY */) = 3</w/g>',
+        )
+        self.assertEqual(told(trace, "op", "path"), [("open", "/w/f"), ("close", None), ("open", "/w/g")])
+
+    def test_a_thread_beside_the_leader_runs_a_program(self) -> None:
+        trace = self.convert(
+            MADE,
+            f'11  openat({CWD}, "f", 0x80000 /* O_RDONLY|O_CLOEXEC */) = 3</w/f>',
+            '11  execve("/nothere", ["x"], 0x1 /* 2 vars */) = -1 ENOENT (No such file or directory)',
+            '11  execve("/w/p", ["p"], 0x1 /* 2 vars */ <pid changed to 10 ...>',
+            "10  +++ superseded by execve in pid 11 +++",
+            "10  <... execve resumed>) = -1 (errno 18446744073709551359)",
+            f'10  openat({CWD}, "g", 0 /* O_RDONLY */) = 3</w/g>',
+            "10  +++ exited with 0 +++",
+        )
+        self.assertEqual({record["pid"] for record in trace}, {10})
+        runs = [record for record in trace if record["op"] == "exec"]
+        self.assertEqual(told(runs, "path", "kernel"), [("/nothere~new~", "ENOENT"), ("/w/p", "ok")])
+        self.assertEqual(told(trace[-4:], "op", "fd"), [("close", 1_000_002), ("close", 3), ("open", 3), ("exit", None)])
+        self.assertEqual(self.unsaid(), [])
+
+
+class Namespaces(WrittenLogs):
+    def test_a_child_in_another_pid_namespace_is_forked(self) -> None:
+        trace = self.convert(
+            "unshare(0x20000000 /* CLONE_NEWPID */) = 0",
+            "clone(child_stack=NULL, flags=0x11 /* SIGCHLD */) = 22",
+            "22  clone(child_stack=NULL, flags=0x11 /* SIGCHLD */) = 2 /* 23 in strace's PID NS */",
+            f'23  openat({CWD}, "f", 0 /* O_RDONLY */) = 3</w/f>',
+            "23  +++ exited with 0 +++",
+            "22  +++ exited with 0 +++",
+        )
+        self.assertEqual(
+            told(trace, "op", "pid", "child"),
+            [("fork", 10, 22), ("fork", 22, 23), ("open", 23, None), ("exit", 23, None), ("exit", 22, None)],
+        )
+        self.assertEqual(self.unsaid(), [])
+
+    def test_a_process_that_nothing_tells_of_is_counted(self) -> None:
+        self.convert(f'77  openat({CWD}, "f", 0 /* O_RDONLY */) = 3</w/f>')
+        self.assertEqual(self.unsaid(), [("a process whose start was not seen", True)])
+
+
+class Ends(WrittenLogs):
+    def test_a_log_that_tells_the_end_of_every_thread_is_whole(self) -> None:
+        self.assertTrue(self.conversion("fork() = 11", "11  +++ exited with 0 +++", "+++ exited with 0 +++").ended)
+
+    def test_a_log_in_which_a_process_goes_on_is_cut(self) -> None:
+        self.assertFalse(self.conversion("fork() = 11", "+++ exited with 0 +++").ended)
+
+    def test_a_core_file_may_be_refused(self) -> None:
+        self.convert("fork() = 11", "11  +++ killed by SIGABRT (core dumped) +++")
+        self.assertEqual(self.unsaid(), [("a core file that the kernel was to write", True)])
+
+
+if __name__ == "__main__":
+    unittest.main()

@@ -1,0 +1,112 @@
+"""`landaudit-record run` before and after the program itself: folders, watched directories, signals."""
+
+from __future__ import annotations
+
+import os
+import signal
+import tempfile
+import unittest
+from pathlib import Path
+from unittest import mock
+
+from landaudit_record import jsonl, stopping
+from landaudit_record.recorder import recordings, tracing
+from landaudit_record.recorder.tracing import Outcome
+
+from .kept_logs import LOGS
+from .test_cli import said
+
+
+class Running(unittest.TestCase):
+    def setUp(self) -> None:
+        self.folder = Path(self.enterContext(tempfile.TemporaryDirectory())).resolve()
+        self.out = self.folder / "rec"
+        self.enterContext(mock.patch.object(tracing, "version", return_value="6.1"))
+        self.enterContext(mock.patch.object(tracing, "may_trace"))
+
+    def test_a_directory_that_is_not_there_leaves_no_folder(self) -> None:
+        status, error = said("run", str(self.out), "--watch", str(self.folder / "nope"), "--", "ls")
+        self.assertEqual((status, self.out.exists()), (2, False))
+        self.assertIn("there is no such directory", error)
+
+    def test_a_directory_that_cannot_be_read_is_an_error(self) -> None:
+        with mock.patch.object(os, "access", side_effect=lambda path, _: str(path) != str(self.folder)):
+            status, error = said("run", str(self.out), "--watch", str(self.folder), "--", "ls")
+        self.assertEqual((status, self.out.exists()), (2, False))
+        self.assertEqual(error, f"landaudit-record: --watch {self.folder}: it can't be read\n")
+
+    def test_a_run_that_ends_before_the_program_leaves_no_folder(self) -> None:
+        with mock.patch.object(recordings, "watch", side_effect=KeyboardInterrupt):
+            status, _ = said("run", str(self.out), "--", "ls")
+        self.assertEqual((status, self.out.exists()), (130, False))
+
+    def test_what_cannot_be_read_below_a_watched_directory_is_told(self) -> None:
+        closed = self.folder / "closed"
+        closed.mkdir()
+        scandir = os.scandir
+
+        def some(path: str) -> object:
+            if path == str(closed):
+                raise PermissionError
+            return scandir(path)
+
+        self.out.mkdir()
+        with mock.patch.object(os, "scandir", side_effect=some):
+            seen = recordings.watch(self.out, [str(self.folder)])
+        self.assertEqual((seen.watched, seen.unread), ([str(self.folder)], [str(closed)]))
+        listed = [line["path"] for _, line in jsonl.numbered(self.out / recordings.BEFORE)]
+        self.assertIn(str(closed), listed)
+
+    def test_a_recording_says_that_its_tracer_ended_by_itself(self) -> None:
+        for ended in (True, False):
+            with self.subTest(ended=ended):
+                out = self.folder / str(ended)
+
+                def traced(log: Path, command: list[str]) -> Outcome:
+                    self.assertIs(recordings.read_about(log.parent).ended, False)
+                    log.write_bytes((LOGS / "forks" / "strace.txt").read_bytes())
+                    return Outcome(7, ended)
+
+                with mock.patch.object(tracing, "run", side_effect=traced):
+                    status, error = said("run", str(out), "--", "ls")
+                self.assertEqual((status, recordings.read_about(out).ended), (7, ended))
+                self.assertEqual("is not whole" in error, not ended)
+
+    def test_a_recording_of_before_is_taken_to_be_whole(self) -> None:
+        self.assertTrue(recordings.read_about(LOGS / "forks").ended)
+
+
+class Signals(unittest.TestCase):
+    def test_a_signal_ends_a_command_in_order_and_only_once(self) -> None:
+        def ended(_: object) -> int:
+            os.kill(os.getpid(), signal.SIGTERM)
+            raise AssertionError("the signal came too late")
+
+        with mock.patch("landaudit_record.commands.convert.run", side_effect=ended) as convert:
+            status, error = said("convert", "rec")
+        self.assertEqual((status, error), (128 + signal.SIGTERM, "landaudit-record: ended by SIGTERM\n"))
+        self.assertEqual(convert.call_count, 1)
+        self.assertEqual([signal.getsignal(number) for number in stopping.SIGNALS], [signal.SIG_DFL] * 3)
+
+    def test_a_second_signal_does_not_disturb_the_end(self) -> None:
+        with self.assertRaises(stopping.Stopped) as raised, stopping.in_order():
+            try:
+                os.kill(os.getpid(), signal.SIGHUP)
+            finally:
+                os.kill(os.getpid(), signal.SIGTERM)
+        self.assertEqual(stopping.number_of(raised.exception), signal.SIGHUP)
+
+    def test_a_signal_that_is_ignored_stays_ignored(self) -> None:
+        before = signal.signal(signal.SIGHUP, signal.SIG_IGN)
+        self.addCleanup(signal.signal, signal.SIGHUP, before)
+        with stopping.in_order():
+            self.assertIs(signal.getsignal(signal.SIGHUP), signal.SIG_IGN)
+            self.assertIsNot(signal.getsignal(signal.SIGTERM), signal.SIG_DFL)
+
+    def test_an_interrupt_is_one(self) -> None:
+        with mock.patch("landaudit_record.commands.convert.run", side_effect=KeyboardInterrupt):
+            self.assertEqual(said("convert", "rec"), (130, "landaudit-record: ended by SIGINT\n"))
+
+
+if __name__ == "__main__":
+    unittest.main()
