@@ -1,14 +1,16 @@
 """Tries a policy on a recording: writes its records into a trace before programs are run.
 
-The records say what a sandboxer does before it runs a program: no_new_privs is
-set, then each layer's ruleset is made, filled, and restricts the process.
+The records say what landaudit-policy confine does before it runs a program:
+no_new_privs is set, then each layer's ruleset is made, filled, and restricts
+the process.
 """
 
 from __future__ import annotations
 
 import difflib
 import json
-from collections.abc import Iterable, Iterator
+from collections import deque
+from collections.abc import Iterable, Iterator, Sequence
 from dataclasses import dataclass, field
 from pathlib import Path
 from typing import Any, BinaryIO
@@ -20,49 +22,120 @@ from .policies import Policy
 from .problems import Problem
 from .processes import program_run
 from .rights import FS, NET
-from .trees import LinkLoop, Tree
+from .trees import LinkLoop, Tree, upwards
 
 MOST_PROGRAMS_SHOWN = 8
 MOST_RECORDS = 1_000_000
+MOST_LINES_OF_A_CALL = 1_000
+#: How lines begin that say nothing of programs, processes and rulesets, as landaudit-record writes them.
+_KNOWN = len(b'{"op":"nnp"')
+_TELL_NOTHING = frozenset(
+    f'{{"op":"{op}"'[:_KNOWN].encode()
+    for op in ("fork", "nnp", "add_path", "close_rs", "restrict", "open", "adopt", "dup", "close", "ftruncate",
+               "truncate", "mknod", "mkdir", "symlink", "unlink", "rmdir", "rename", "link", "mount", "bind", "connect",
+               "ioctl")
+)
+_AGAIN = b'"again":true'
+_BLANKS = b" \t\r\n"
+#: A path that nothing has, for the record of a rule that is on nothing.
+NOWHERE = "/~new~"
 
 
 @dataclass(frozen=True)
 class Plan:
-    """Where a policy goes: the process before each of the trace's lines, and a ruleset's number that it never uses."""
+    """Where a policy goes in a trace.
+
+    `before` are the lines before which it goes, each with the process; `behind` those behind which it goes, since they
+    give once more to a process what it had when it ran a program. `rs` is a ruleset's number that the trace never uses,
+    `lines` how many it has, `programs` those that it runs.
+    """
 
     before: dict[int, int]
     rs: int
     lines: int
+    behind: dict[int, list[int]] = field(default_factory=dict)
+    programs: frozenset[str] = frozenset()
+
+    @property
+    def times(self) -> int:
+        """How often the policy goes in."""
+        return len(self.before) + sum(map(len, self.behind.values()))
+
+    def records(self, inserted: list[Record]) -> int:
+        """How many records the trace has with the policy's."""
+        return self.lines + self.times * len(inserted)
 
 
-@dataclass
-class _Seen:
-    """What has been read of a trace: where each process's system call began, and who has run no program yet."""
+class _Planning:
+    """A walk over a trace that finds where a policy goes; lines of which nothing depends are not taken apart.
 
-    groups: dict[int, tuple[Any, int]] = field(default_factory=dict)
-    starting: set[int] = field(default_factory=set)
-    programs: set[str] = field(default_factory=set)
-    highest_rs: int = 0
+    Who has run no program yet of those that the recording starts is in `_starting`, and the last lines are kept, among
+    which the records of a system call are looked for that come before its last.
+    """
 
-    def first_line(self, line: int, pid: int, call: Any) -> int:
-        """The line at which the records of a process's system call begin, of which this line has one."""
-        known, first = self.groups.get(pid, (None, line))
-        if call is not None and call == known:
-            return first
-        self.groups[pid] = (call, line)
-        return line
+    def __init__(self, trace: Path, tree: Tree, program: str | None) -> None:
+        self._trace = trace
+        self._tree = tree
+        self._program = program
+        self._named = None if program is None else _paths_of(program, tree)
+        self._starting: set[int] = set()
+        self._last: deque[tuple[int, bytes]] = deque(maxlen=MOST_LINES_OF_A_CALL)
+        self._programs: set[str] = set()
+        self._before: dict[int, int] = {}
+        self._behind: dict[int, list[int]] = {}
+        self._rs = 0
 
-    def follow(self, op: Any, pid: int) -> None:
-        """Keeps account of who was started; an exit ends that, and so does a program that is run.
+    def found(self) -> Plan:
+        """Where the policy goes."""
+        number, again = 0, True
+        with open(self._trace, "rb") as lines:
+            for number, line in enumerate(lines, start=1):
+                again = again and _AGAIN in line
+                if again or (line[:_KNOWN] not in _TELL_NOTHING and line.strip(_BLANKS)):
+                    self._take(number, line)
+                self._last.append((number, line))
+        return Plan(self._before, self._rs + 1, number, self._behind, frozenset(self._programs))
+
+    def _take(self, number: int, line: bytes) -> None:
+        record = jsonl.read(self._trace, number, line)
+        pid = _number(self._trace, number, record, "pid")
+        if "rs" in record:
+            self._rs = max(self._rs, _number(self._trace, number, record, "rs"))
+        about = record.get("child", pid)
+        if (record.get("op") == "start" and "again" not in record) or "starting" in record:
+            self._starting.add(about)
+        elif record.get("op") == "exit":
+            self._starting.discard(pid)
+        for ran in record.get("ran", ()):
+            if "first" in ran if self._named is None else self._is_named(ran["path"]):
+                self._behind.setdefault(number, []).append(about)
+        path = program_run(record)
+        if path is not None:
+            self._programs.add(self._tree.real(path))
+            if pid in self._starting if self._named is None else self._is_named(path):
+                self._before[self._first_line(number, pid, record.get("call"))] = pid
+            self._starting.discard(pid)
+
+    def _is_named(self, path: str) -> bool:
+        real = self._tree.real(path)
+        return self._named is not None and (real in self._named or _last_name(real) == self._program)
+
+    def _first_line(self, first: int, pid: int, call: Any) -> int:
+        """The line at which the records of a process's system call begin, of which this line has the last.
 
         What a process is started with comes before its first call, whatever that shares with it.
         """
-        if op == "start":
-            self.starting.add(pid)
-        elif op == "exit":
-            self.starting.discard(pid)
-        if op in ("start", "adopt"):
-            self.groups.pop(pid, None)
+        for number, line in reversed(self._last) if call is not None else ():
+            if not line.strip(_BLANKS):
+                continue
+            record = jsonl.read(self._trace, number, line)
+            if record.get("op") == "fork" and record.get("child") == pid:
+                break
+            if record.get("pid") == pid:
+                if record.get("op") in ("start", "adopt") or record.get("call") != call:
+                    break
+                first = number
+        return first
 
 
 def plan(trace: Path, tree: Tree, program: str | None) -> Plan:
@@ -72,26 +145,20 @@ def plan(trace: Path, tree: Tree, program: str | None) -> Plan:
     program is named, before each run of that program; in front of the first of
     the records that stand for the same system call.
     """
-    named = None if program is None else _paths_of(program, tree)
-    seen = _Seen()
-    before: dict[int, int] = {}
-    line = 0
-    for line, record in jsonl.numbered(trace):
-        pid = _number(trace, line, record, "pid")
-        if "rs" in record:
-            seen.highest_rs = max(seen.highest_rs, _number(trace, line, record, "rs"))
-        first = seen.first_line(line, pid, record.get("call"))
-        seen.follow(record.get("op"), pid)
-        path = program_run(record)
-        if path is None:
-            continue
-        seen.programs.add(path)
-        if pid in seen.starting if named is None else path in named or _last_name(path) == program:
-            before[first] = pid
-        seen.starting.discard(pid)
-    if not before:
-        raise Problem(_nowhere(trace, program, sorted(seen.programs)))
-    return Plan(before, seen.highest_rs + 1, line)
+    return plans([trace], tree, program)[0]
+
+
+def plans(traces: Sequence[Path], tree: Tree, program: str | None) -> list[Plan]:
+    """Where a policy goes in the traces of a recording's parts, as `plan` says; somewhere, it goes."""
+    found = [places(trace, tree, program) for trace in traces]
+    if not any(one.times for one in found):
+        raise Problem(_nowhere(traces[0], program, sorted(set().union(*(one.programs for one in found)))))
+    return found
+
+
+def places(trace: Path, tree: Tree, program: str | None) -> Plan:
+    """Where a policy goes in a trace, if it goes anywhere."""
+    return _Planning(trace, tree, program).found()
 
 
 def _number(trace: Path, line: int, record: Record, member: str) -> int:
@@ -124,9 +191,9 @@ def _nowhere(trace: Path, program: str | None, programs: list[str]) -> str:
     return f"{trace} never runs {program}{meant} it runs {shown}{f' and {left} more' if left > 0 else ''}"
 
 
-def _resolved(tree: Tree, path: str, place: str) -> str:
+def _resolved(tree: Tree, path: str, place: str, *, before_run: bool = False) -> str:
     try:
-        return tree.resolved(path)
+        return tree.resolved(path, before_run=before_run)
     except LinkLoop as loop:
         raise Problem(f"{place}: {path} is a loop of symbolic links in the tree: name another path") from loop
 
@@ -144,15 +211,40 @@ def _of_layer(policy: Policy, layer: FittedLayer, tree: Tree, rs: int) -> Iterat
     yield {"op": "create", "rs": rs, "fs": layer.handled_fs, "net": layer.handled_net, "policy": origin}
     for rule in layer.path_rules:
         for parent in rule.parents:
-            path = _resolved(tree, parent, f"{policy.path}: layer {layer.number}, {rule.place}, parent")
+            place = f"{policy.path}: layer {layer.number}, {rule.place}, parent"
+            path = _resolved(tree, parent, place, before_run=True)
             of_rule: dict[str, Any] = {**origin, "rule": rule.place, "parent": parent}
-            yield {"op": "add_path", "rs": rs, "path": path, "fs": rule.on(tree.kind(path)), "policy": of_rule}
+            for name, about in _on(tree, path):
+                yield {
+                    "op": "add_path",
+                    "rs": rs,
+                    "path": name,
+                    "fs": rule.on(tree.kind(path)),
+                    "policy": {**of_rule, **about},
+                }
     for port_rule in layer.port_rules:
         for port in port_rule.ports:
             of_rule = {**origin, "rule": port_rule.place, "port": port}
             yield {"op": "add_port", "rs": rs, "port": port, "net": port_rule.on_port, "policy": of_rule}
     yield {"op": "restrict", "rs": rs, "policy": origin}
     yield {"op": "close_rs", "rs": rs, "policy": origin}
+
+
+def _on(tree: Tree, path: str) -> Iterator[tuple[str, dict[str, Any]]]:
+    """The names on which the records of a rule are, each with what is to be told of it.
+
+    A rule is on an object, so it is on all names of that. What the run makes has none, since nobody can open it before
+    the run: the record is on a name that nothing has, and moot; `made` says where a rule would be. `replaced` says so
+    where another object is at the path later in the run.
+    """
+    made = next((over for over in upwards(path) if over in tree.made), None)
+    if made is None and path not in tree.kinds:
+        made = tree.put.get(path)
+    if made is not None:
+        yield NOWHERE, {"made": tree.before(made)}
+        return
+    for name in tree.names(path):
+        yield name, {"replaced": tree.before(tree.put[path])} if name == path and tree.is_replaced(path) else {}
 
 
 def at_best_effort(inserted: Iterable[Record], abi: int) -> Iterator[Record]:
@@ -172,9 +264,9 @@ def at_best_effort(inserted: Iterable[Record], abi: int) -> Iterator[Record]:
 
 def write(trace: Path, places: Plan, inserted: list[Record], out: BinaryIO) -> None:
     """Writes a trace with records put in by a plan; the trace's own lines stay as they are."""
-    total = places.lines + len(places.before) * len(inserted)
+    total = places.records(inserted)
     if total > MOST_RECORDS:
-        raise Problem(f"with the policy put in {len(places.before)} times {trace} has {total:,} records, and landaudit "
+        raise Problem(f"with the policy put in {places.times} times {trace} has {total:,} records, and landaudit "
                       f"reads {MOST_RECORDS:,}: name another program by --program, or record less")
     with open(trace, "rb") as lines:
         for number, line in enumerate(lines, start=1):
@@ -182,6 +274,8 @@ def write(trace: Path, places: Plan, inserted: list[Record], out: BinaryIO) -> N
             if pid is not None:
                 out.writelines(_line({**record, "pid": pid}) for record in inserted)
             out.write(line)
+            for again in places.behind.get(number, ()):
+                out.writelines(_line({**record, "pid": again, "again": True}) for record in inserted)
 
 
 def _line(record: Record) -> bytes:

@@ -1,36 +1,57 @@
-"""The command line of landaudit-record."""
+"""The command lines of landaudit-record and landaudit-policy."""
 
 from __future__ import annotations
 
 import argparse
+import contextlib
 import os
 import shlex
 import signal
 import sys
 from collections.abc import Sequence
+from dataclasses import dataclass
+from types import ModuleType
 
-from . import VERSION, commands
-from .commands import run
-from .commands.run import BEHIND_DASHES
+from . import POLICIES, RECORDER, VERSION, commands, policy_commands, stopping
 from .problems import Problem
 
-DESCRIPTION = "Record a program, try a Landlock policy on the recording, and read what breaks."
-EPILOG = """example:
-  landaudit-record run rec -- sort /etc/passwd
-  landaudit-record audit rec --policy policy.toml --abi 4"""
+
+@dataclass(frozen=True)
+class Program:
+    """A program of this package: its name, what its help says, and its subcommands, a module each."""
+
+    name: str
+    description: str
+    example: str
+    commands: Sequence[ModuleType]
 
 
-def parser() -> argparse.ArgumentParser:
-    """The parser of the whole command line, one subcommand for each module of `commands`."""
+RECORD = Program(
+    RECORDER,
+    "Record a program, try a Landlock policy on the recording, and read what breaks.",
+    """landaudit-record run rec -- sort /etc/passwd
+  landaudit-record audit rec --policy policy.toml --abi 4""",
+    commands.ALL,
+)
+POLICY = Program(
+    POLICIES,
+    "Put a Landlock policy in force, and see what it lets through where no program was recorded.",
+    "landaudit-policy confine policy.toml -- sort /etc/passwd",
+    policy_commands.ALL,
+)
+
+
+def parser(program: Program = RECORD) -> argparse.ArgumentParser:
+    """The parser of a program's whole command line, with a subcommand for each module of its commands."""
     top = argparse.ArgumentParser(
-        prog="landaudit-record",
-        description=DESCRIPTION,
-        epilog=EPILOG,
+        prog=program.name,
+        description=program.description,
+        epilog="example:\n  " + program.example,
         formatter_class=argparse.RawDescriptionHelpFormatter,
     )
-    top.add_argument("-V", "--version", action="version", version=f"landaudit-record {VERSION}")
+    top.add_argument("-V", "--version", action="version", version=f"{program.name} {VERSION}")
     subcommands = top.add_subparsers(dest="command", required=True, metavar="SUBCOMMAND")
-    for command in commands.ALL:
+    for command in program.commands:
         sub = subcommands.add_parser(
             command.NAME,
             help=command.HELP,
@@ -39,36 +60,39 @@ def parser() -> argparse.ArgumentParser:
             formatter_class=argparse.RawDescriptionHelpFormatter,
         )
         command.add_arguments(sub)
-        sub.set_defaults(run=command.run, fault=sub.error)
+        hint = getattr(command, "BEHIND_DASHES", None)
+        sub.set_defaults(run=command.run, fault=sub.error, hint=f" ({hint})" if hint else "")
     return top
 
 
-def parse(words: Sequence[str]) -> argparse.Namespace:
+def parse(words: Sequence[str], program: Program = RECORD) -> argparse.Namespace:
     """The arguments of a subcommand; what is behind the first `--` is a command of its own, in `behind`."""
     end = words.index("--") if "--" in words else len(words)
-    arguments, left = parser().parse_known_args(words[:end])
+    arguments, left = parser(program).parse_known_args(words[:end])
     if left:
-        hint = f" ({BEHIND_DASHES})" if arguments.command == run.NAME else ""
-        arguments.fault(f"unrecognized arguments: {shlex.join(left)}{hint}")
+        arguments.fault(f"unrecognized arguments: {shlex.join(left)}{arguments.hint}")
     arguments.behind = list(words[end + 1 :])
     return arguments
 
 
-def main(words: Sequence[str] | None = None) -> int:
-    """Runs one subcommand and gives the status of the program."""
-    arguments = parse(sys.argv[1:] if words is None else words)
+def main(words: Sequence[str] | None = None, program: Program = RECORD) -> int:
+    """Runs one subcommand of a program and gives the status that it ends with."""
+    arguments = parse(sys.argv[1:] if words is None else words, program)
     try:
-        return int(arguments.run(arguments))
+        with stopping.in_order():
+            return int(arguments.run(arguments))
     except Problem as problem:
-        print(f"landaudit-record: {problem}", file=sys.stderr)
+        print(f"{program.name}: {problem}", file=sys.stderr)
         return problem.status
     except BrokenPipeError:
         os.dup2(os.open(os.devnull, os.O_WRONLY), sys.stdout.fileno())
         return 128 + signal.SIGPIPE
-    except KeyboardInterrupt:
-        print("landaudit-record: interrupted", file=sys.stderr)
-        return 128 + signal.SIGINT
+    except KeyboardInterrupt as interrupt:
+        number = stopping.number_of(interrupt)
+        with contextlib.suppress(OSError):
+            print(f"{program.name}: ended by {signal.Signals(number).name}", file=sys.stderr, flush=True)
+        return 128 + number
     except OSError as error:
         where = f"{error.filename}: " if error.filename else ""
-        print(f"landaudit-record: {where}{error.strerror}", file=sys.stderr)
+        print(f"{program.name}: {where}{error.strerror}", file=sys.stderr)
         return 4

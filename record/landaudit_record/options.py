@@ -5,8 +5,10 @@ from __future__ import annotations
 import argparse
 import sys
 from collections.abc import Iterable
+from pathlib import Path
 from typing import Any
 
+from . import RECORDER
 from .rights import NEWEST_ABI, OLDEST_ABI
 
 
@@ -63,7 +65,13 @@ class _Once(argparse.Action):
         setattr(namespace, self.dest, values)
 
 
-def add_abis(parser: argparse.ArgumentParser) -> None:
+OF_SUMMARY = (
+    "Landlock's ABI, or a range of them ({all} if it is left out): the newest is described in full, after it comes what "
+    "breaks at each; of the policy, rights that an ABI does not have are dropped"
+)
+
+
+def add_abis(parser: argparse.ArgumentParser, text: str = OF_SUMMARY) -> None:
     """The ABIs by which calls are judged; the policy is written by each of them."""
     parser.add_argument(
         "--abi",
@@ -72,9 +80,7 @@ def add_abis(parser: argparse.ArgumentParser) -> None:
         type=abis,
         action=_Once,
         default=range(OLDEST_ABI, NEWEST_ABI + 1),
-        help=f"Landlock's ABI, or a range of them ({OLDEST_ABI}-{NEWEST_ABI} if it is left out): the newest is "
-        "described in full, after it comes what breaks at each; of the policy, rights that an ABI does not have are "
-        "dropped",
+        help=text.format(all=f"{OLDEST_ABI}-{NEWEST_ABI}"),
     )
 
 
@@ -85,6 +91,16 @@ def add_as_recorded(parser: argparse.ArgumentParser) -> None:
         action="store_true",
         help="judge the rulesets that the program makes itself as they were recorded (if it is left out, as a program "
         "makes them that drops the rights which the ABI does not have)",
+    )
+
+
+def add_policy(parser: argparse.ArgumentParser) -> None:
+    """The policy that a subcommand is about."""
+    parser.add_argument(
+        "policy",
+        metavar="POLICY.toml",
+        type=Path,
+        help="the policy (how to write one: landaudit-record apply --help)",
     )
 
 
@@ -108,7 +124,7 @@ def add_landaudit(parser: argparse.ArgumentParser) -> None:
     )
 
 
-def note(notes: Iterable[str]) -> None:
-    """Prints notes to standard error, one a line."""
+def note(notes: Iterable[str], program: str = RECORDER) -> None:
+    """Prints a program's notes to standard error, one a line."""
     for text in notes:
-        print(f"landaudit-record: note: {text}", file=sys.stderr)
+        print(f"{program}: note: {text}", file=sys.stderr)

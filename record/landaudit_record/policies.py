@@ -20,18 +20,21 @@ its rights that the layer handles.
 
 from __future__ import annotations
 
-import difflib
-import tomllib
-from collections.abc import Callable, Iterable, Mapping
+from collections.abc import Callable, Mapping
 from dataclasses import dataclass
 from pathlib import Path
-from typing import Any, NoReturn, TypeVar
+from typing import Any, TypeVar
 
-from .problems import Problem
+from . import documents
+from .documents import Place, check_keys, listed, one_or_several, tables, unknown
 from .rights import FS, NET, NONE, Family, Rights
+
+ACCEPTED = "accepted"
+"""The key of what is no part of a policy: refusals that are known and fine, which `accepting` reads."""
 
 MOST_LAYERS = 16
 HIGHEST_PORT = 65535
+SCOPES = ("abstract_unix_socket", "signal")
 LONGEST_PATH = 4096
 
 T = TypeVar("T")
@@ -70,13 +73,17 @@ class PortRule:
 
 @dataclass(frozen=True)
 class Layer:
-    """One layer: what it handles, and its rules. Layers are numbered from 1."""
+    """One layer: what it handles, its rules, and its scopes (ABI 6), which are kept and not judged.
+
+    Layers are numbered from 1.
+    """
 
     number: int
     handled_access_fs: Access
     handled_access_net: Access
     path_beneath: tuple[PathRule, ...]
     net_port: tuple[PortRule, ...]
+    scoped: tuple[str, ...] = ()
 
 
 @dataclass(frozen=True)
@@ -87,50 +94,28 @@ class Policy:
     layers: tuple[Layer, ...]
 
 
-@dataclass(frozen=True)
-class _Place:
-    """Where in a policy's file something is, so that a fault can name it."""
-
-    path: Path
-    steps: tuple[str, ...] = ()
-
-    def __truediv__(self, step: str) -> _Place:
-        return _Place(self.path, (*self.steps, step))
-
-    def fault(self, text: str) -> NoReturn:
-        """Says what is wrong here."""
-        where = ", ".join(self.steps)
-        raise Problem(f"{self.path}: {where}: {text}" if where else f"{self.path}: {text}")
-
-
 def read(path: Path) -> Policy:
     """The policy in a file; whatever is wrong with it is a Problem that names where it is and what would be right."""
-    try:
-        with open(path, "rb") as file:
-            document = tomllib.load(file)
-    except OSError as error:
-        raise Problem(f"cannot read {path}: {error.strerror}") from error
-    except (tomllib.TOMLDecodeError, UnicodeDecodeError, RecursionError) as error:
-        raise Problem(f"{path}: no TOML: {error}") from error
-    return _policy(document, _Place(path))
+    return _policy(documents.read(path), Place(path))
 
 
-def _policy(document: Mapping[str, Any], place: _Place) -> Policy:
-    _check_keys(document, ("layer",), place)
-    tables = _tables(document.get("layer", []), "layer", place)
-    if not tables:
+def _policy(document: Mapping[str, Any], place: Place) -> Policy:
+    check_keys(document, ("layer", ACCEPTED), place)
+    found = tables(document.get("layer", []), "layer", place)
+    if not found:
         place.fault("no layer: write one as [[layer]] with handled_access_fs")
-    if len(tables) > MOST_LAYERS:
-        place.fault(f"{len(tables)} layers: the kernel takes at most {MOST_LAYERS}")
-    layers = (_layer(table, number, place / f"layer {number}") for number, table in enumerate(tables, start=1))
+    if len(found) > MOST_LAYERS:
+        place.fault(f"{len(found)} layers: the kernel takes at most {MOST_LAYERS}")
+    layers = (_layer(table, number, place / f"layer {number}") for number, table in enumerate(found, start=1))
     return Policy(place.path, tuple(layers))
 
 
-def _layer(table: Mapping[str, Any], number: int, place: _Place) -> Layer:
-    _check_keys(table, ("handled_access_fs", "handled_access_net", "path_beneath", "net_port"), place)
+def _layer(table: Mapping[str, Any], number: int, place: Place) -> Layer:
+    check_keys(table, ("handled_access_fs", "handled_access_net", "path_beneath", "net_port", "scoped"), place)
     fs = _access(table.get("handled_access_fs", []), FS, place / "handled_access_fs")
     net = _access(table.get("handled_access_net", []), NET, place / "handled_access_net")
-    if not fs.rights and not net.rights:
+    scoped = _scopes(table.get("scoped", []), place / "scoped")
+    if not fs.rights and not net.rights and not scoped:
         place.fault('handles nothing: give handled_access_fs or handled_access_net rights, as ["all"]')
     return Layer(
         number,
@@ -138,61 +123,72 @@ def _layer(table: Mapping[str, Any], number: int, place: _Place) -> Layer:
         net,
         _rules(table, "path_beneath", place, lambda rule, name, where: _path_rule(rule, name, fs.rights, where)),
         _rules(table, "net_port", place, lambda rule, name, where: _port_rule(rule, name, net.rights, where)),
+        scoped,
     )
 
 
+def _scopes(value: Any, place: Place) -> tuple[str, ...]:
+    """The scopes of a layer, by the names of the kernel's constants (landlock_create_ruleset(2))."""
+    if not isinstance(value, list):
+        place.fault(f"must be a list of scopes, of {listed(SCOPES)}")
+    for word in value:
+        if word not in SCOPES:
+            place.fault(f"unknown scope {unknown(str(word), SCOPES)}")
+    return tuple(value)
+
+
 def _rules(
-    layer: Mapping[str, Any], kind: str, place: _Place, rule: Callable[[Mapping[str, Any], str, _Place], T]
+    layer: Mapping[str, Any], kind: str, place: Place, rule: Callable[[Mapping[str, Any], str, Place], T]
 ) -> tuple[T, ...]:
     """The rules of one kind, each named by the kind and its number from 1."""
-    tables = _tables(layer.get(kind, []), f"layer.{kind}", place)
-    names = (f"{kind} {number}" for number in range(1, len(tables) + 1))
-    return tuple(rule(table, name, place / name) for name, table in zip(names, tables))
+    found = tables(layer.get(kind, []), f"layer.{kind}", place)
+    names = (f"{kind} {number}" for number in range(1, len(found) + 1))
+    return tuple(rule(table, name, place / name) for name, table in zip(names, found))
 
 
-def _path_rule(table: Mapping[str, Any], name: str, handled: Rights, place: _Place) -> PathRule:
-    _check_keys(table, ("allowed_access", "parent"), place, all_needed=True)
+def _path_rule(table: Mapping[str, Any], name: str, handled: Rights, place: Place) -> PathRule:
+    check_keys(table, ("allowed_access", "parent"), place, all_needed=True)
     access = _allowed(table["allowed_access"], FS, handled, "handled_access_fs", place / "allowed_access")
-    return PathRule(name, access, _one_or_several(table["parent"], _parent, place / "parent"))
+    return PathRule(name, access, one_or_several(table["parent"], _parent, place / "parent"))
 
 
-def _port_rule(table: Mapping[str, Any], name: str, handled: Rights, place: _Place) -> PortRule:
-    _check_keys(table, ("allowed_access", "port"), place, all_needed=True)
+def _port_rule(table: Mapping[str, Any], name: str, handled: Rights, place: Place) -> PortRule:
+    check_keys(table, ("allowed_access", "port"), place, all_needed=True)
     access = _allowed(table["allowed_access"], NET, handled, "handled_access_net", place / "allowed_access")
-    return PortRule(name, access, _one_or_several(table["port"], _port, place / "port"))
+    return PortRule(name, access, one_or_several(table["port"], _port, place / "port"))
 
 
-def _allowed(value: Any, family: Family, handled: Rights, handled_key: str, place: _Place) -> Access:
+def _allowed(value: Any, family: Family, handled: Rights, handled_key: str, place: Place) -> Access:
     """What a rule allows. A right that is named and not handled would make the kernel refuse the rule."""
     access = _access(value, family, place)
     if not access.rights:
-        place.fault(f"is empty: a rule allows a right {family.what} at least, as {_listed(family.words())}")
+        place.fault(f"is empty: a rule allows a right {family.what} at least, as {listed(family.words())}")
     unhandled = family.ordered(access.outright - handled)
     if unhandled:
-        place.fault(f"the layer does not handle {_listed(unhandled)}: name it in {handled_key}, or leave it out here")
+        place.fault(f"the layer does not handle {listed(unhandled)}: name it in {handled_key}, or leave it out here")
     if not access.rights & handled:
-        place.fault(f"the layer handles none of these: it handles {_listed(family.ordered(handled)) or 'nothing'}")
+        place.fault(f"the layer handles none of these: it handles {listed(family.ordered(handled)) or 'nothing'}")
     return access
 
 
-def _access(value: Any, family: Family, place: _Place) -> Access:
+def _access(value: Any, family: Family, place: Place) -> Access:
     if not isinstance(value, list):
-        place.fault(f"must be a list of rights {family.what}, of {_listed(family.words())}")
+        place.fault(f"must be a list of rights {family.what}, of {listed(family.words())}")
     outright: set[str] = set()
     grouped: set[str] = set()
     for word in value:
         if not isinstance(word, str):
-            place.fault(f"{word!r} is no name of a right: use {_listed(family.words())}")
+            place.fault(f"{word!r} is no name of a right: use {listed(family.words())}")
         elif word in family.groups:
             grouped |= family.groups[word]
         elif word in family.since:
             outright.add(word)
         else:
-            place.fault(f"unknown right {family.what} {_unknown(word, family.words())}")
+            place.fault(f"unknown right {family.what} {unknown(word, family.words())}")
     return Access(frozenset(outright), frozenset(grouped))
 
 
-def _parent(value: Any, place: _Place) -> str:
+def _parent(value: Any, place: Place) -> str:
     if not isinstance(value, str):
         place.fault(f"{value!r} is no path: write it as a text, as \"/usr\"")
     if not value.startswith("/"):
@@ -204,42 +200,7 @@ def _parent(value: Any, place: _Place) -> str:
     return value
 
 
-def _port(value: Any, place: _Place) -> int:
+def _port(value: Any, place: Place) -> int:
     if type(value) is not int or not 0 <= value <= HIGHEST_PORT:
         place.fault(f"{value!r} is no port: write a number from 0 to {HIGHEST_PORT}")
     return value
-
-
-def _one_or_several(value: Any, one: Callable[[Any, _Place], T], place: _Place) -> tuple[T, ...]:
-    if not isinstance(value, list):
-        return (one(value, place),)
-    if not value:
-        place.fault("is empty: give one or several")
-    return tuple(one(item, place) for item in value)
-
-
-def _tables(value: Any, key: str, place: _Place) -> list[Mapping[str, Any]]:
-    if not isinstance(value, list) or not all(isinstance(item, dict) for item in value):
-        place.fault(f"{key} must be tables: write each as [[{key}]]")
-    return value
-
-
-def _check_keys(table: Mapping[str, Any], known: tuple[str, ...], place: _Place, all_needed: bool = False) -> None:
-    for key in table:
-        if key not in known:
-            place.fault(f"unknown key {_unknown(key, known)}")
-    for key in known if all_needed else ():
-        if key not in table:
-            place.fault(f"{key} is missing")
-
-
-def _unknown(word: str, known: Iterable[str]) -> str:
-    """An unknown word with what would be right: a near name where one is near, and all names."""
-    names = list(known)
-    near = difflib.get_close_matches(word, names, n=1)
-    meant = f", did you mean {near[0]!r}?" if near else ":"
-    return f"{word!r}{meant} use {_listed(names)}"
-
-
-def _listed(words: Iterable[str]) -> str:
-    return ", ".join(words)

@@ -1,0 +1,138 @@
+"""Asks landaudit about calls that no program made: a tree and a trace are written for them, and its report is read.
+
+A question is one or several records of a process, as the opening of a device and an ioctl on it. The policy lets it
+pass if landaudit allows each of them.
+"""
+
+from __future__ import annotations
+
+import tempfile
+from collections.abc import Iterator, Mapping, Sequence
+from dataclasses import dataclass
+from pathlib import Path
+from typing import Any
+
+from . import applying, explanations, fitting, jsonl, landaudit
+from .explanations import Objection
+from .jsonl import Record
+from .landaudit import Answer
+from .policies import Policy
+from .problems import Problem
+from .trees import ROOT, Tree
+
+Question = tuple[Record, ...]
+RULESET = 1
+"""The number of each ruleset: it is closed before the next one is made."""
+
+FIRST_DESCRIPTOR = 3
+
+
+@dataclass(frozen=True)
+class Found:
+    """What landaudit answers a question: the answer to the record that decides it, its first that is not allowed."""
+
+    record: Record
+    answer: Answer
+
+    @property
+    def passes(self) -> bool:
+        """Whether the policy lets all of the question pass."""
+        return self.answer.verdict == "allowed"
+
+    @property
+    def objections(self) -> dict[int, tuple[Objection, ...]]:
+        """What each layer that refuses objects to, by the layer's number."""
+        return {it.layer: it.objections for it in explanations.refusing(self.record, self.answer)}
+
+    @property
+    def reason(self) -> str:
+        """Why the policy is not asked, where it isn't."""
+        return " ".join(self.answer.explanation)
+
+
+def opening(path: str, mode: str, **flags: bool) -> Record:
+    """A record that opens a path, by the next free number."""
+    return {"op": "open", "path": path, "mode": mode, **flags}
+
+
+def under(policy: Policy, abi: int, tree: Tree) -> list[Record]:
+    """The records by which a process confines itself by a policy; those of a rule say which."""
+    layers, _ = fitting.fit(policy, abi)
+    return applying.records(policy, layers, tree, RULESET)
+
+
+def ask(
+    program: Path, abis: range, tree: Tree, confined: Sequence[Sequence[Record]], questions: Sequence[Sequence[Question]]
+) -> list[dict[int, list[Found]]]:
+    """What landaudit answers to the questions of each process, by ABI.
+
+    Each process confines itself first by its own records; a rule of these that the kernel would refuse is a Problem.
+    """
+    with tempfile.TemporaryDirectory(prefix="landaudit-") as folder:
+        files = _Files(Path(folder))
+        write_tree(files.tree, tree.kinds)
+        jsonl.write(files.trace, _trace(confined, questions))
+        landaudit.audit(program, abis, files.tree, files.trace, files.report, best_effort=True)
+        by_abi = {abi: _answers(files, abi) for abi in abis}
+    found: list[dict[int, list[Found]]] = [{} for _ in confined]
+    for abi, answers in by_abi.items():
+        for process, (own, asked) in enumerate(zip(confined, questions)):
+            next(answers)
+            for _ in own:
+                _see_rule(*next(answers))
+            found[process][abi] = [_decided([next(answers) for _ in question]) for question in asked]
+    return found
+
+
+@dataclass(frozen=True)
+class _Files:
+    """The files of one run."""
+
+    folder: Path
+
+    @property
+    def tree(self) -> Path:
+        return self.folder / "tree.jsonl"
+
+    @property
+    def trace(self) -> Path:
+        return self.folder / "trace.jsonl"
+
+    @property
+    def report(self) -> Path:
+        return self.folder / "report.txt"
+
+
+def write_tree(file: Path, kinds: Mapping[str, str]) -> None:
+    """Writes the objects of a tree, each after its directory; the root has no line."""
+    jsonl.write(file, ({"path": path, "kind": kinds[path]} for path in sorted(kinds) if path != ROOT))
+
+
+def _trace(confined: Sequence[Sequence[Record]], questions: Sequence[Sequence[Question]]) -> Iterator[Record]:
+    """The records of all processes, one process after another. What a question opens gets a number of its own."""
+    for pid, (own, asked) in enumerate(zip(confined, questions), start=1):
+        yield {"op": "start", "pid": pid}
+        yield from ({**record, "pid": pid} for record in own)
+        for fd, question in enumerate(asked, start=FIRST_DESCRIPTOR):
+            for record in question:
+                numbered: dict[str, Any] = {"fd": fd} if record["op"] in ("open", "ftruncate", "ioctl") else {}
+                yield {**record, "pid": pid, **numbered}
+
+
+def _answers(files: _Files, abi: int) -> Iterator[tuple[Record, Answer]]:
+    """Each record with its answer at an ABI."""
+    records = (record for _, record in jsonl.numbered(files.trace))
+    return iter(list(zip(records, landaudit.answers(files.report, abi), strict=True)))
+
+
+def _see_rule(record: Record, answer: Answer) -> None:
+    """Sees that a policy's own record is not refused."""
+    if answer.refused:
+        origin = record.get("policy", {})
+        parts = [f"layer {origin['layer']}" if "layer" in origin else "the policy", *filter(None, [origin.get("rule")])]
+        raise Problem(f"{', '.join(parts)}: the kernel refuses it with {answer.error}: {' '.join(answer.explanation)}")
+
+
+def _decided(answers: Sequence[tuple[Record, Answer]]) -> Found:
+    """The answer that decides a question: the first that is not allowed, or else the last."""
+    return Found(*next((it for it in answers if it[1].verdict != "allowed"), answers[-1]))

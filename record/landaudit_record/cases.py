@@ -1,0 +1,226 @@
+"""What a policy must allow and what it must refuse: a TOML file of cases, in the words of a trace.
+
+    [[refused]]
+    call = "open r"
+    path = "/home/me/.ssh/id_ed25519"
+    [[allowed]]
+    call = "connect"
+    port = 443
+    abi = "4-5"
+
+A path has the kind that it has on this machine; of one that is not there the case says it, by `kind`. What a call
+makes is not there beforehand. Without `abi` a case is about every ABI.
+"""
+
+from __future__ import annotations
+
+import argparse
+import os
+from collections.abc import Mapping
+from dataclasses import dataclass, field
+from pathlib import Path
+from typing import Any
+
+from . import documents, options
+from .asking import Question, opening
+from .documents import Place, check_keys, tables, unknown
+from .policies import HIGHEST_PORT, LONGEST_PATH
+from .recorder import disk
+from .rights import NEWEST_ABI, OLDEST_ABI
+from .trees import ROOT, Tree, directory_of, joined
+
+ALL_ABIS = range(OLDEST_ABI, NEWEST_ABI + 1)
+KINDS = ("reg", "dir", "sym", "char", "block", "fifo", "sock")
+MODES = ("r", "w", "rw")
+MADE = ("reg", "char", "block", "fifo", "sock")
+#: The calls on a path that is there; those of the first follow a link at its end.
+FOLLOWING = ("truncate", "exec")
+ON_LINKS = ("unlink", "rmdir")
+MAKING = ("mkdir", "symlink")
+MOVES = ("rename", "exchange", "link")
+PORTS = ("bind", "connect")
+CALLS = (
+    *(f"open {mode}{flags}" for mode in MODES for flags in ("", " create", " trunc", " create trunc")),
+    *FOLLOWING,
+    "ftruncate",
+    *(f"ioctl {mode}" for mode in MODES),
+    *ON_LINKS,
+    *MAKING,
+    *(f"mknod {kind}" for kind in MADE),
+    *MOVES,
+    *PORTS,
+    "mount",
+)
+KEYS = ("call", "path", "kind", "from", "to", "to_kind", "port", "abi")
+NEW_NAME = "~new~"
+
+
+@dataclass(frozen=True)
+class Case:
+    """One case: whether its call must be refused, at which ABIs, the call in words, and what is asked."""
+
+    refused: bool
+    abis: range
+    text: str
+    question: Question
+
+
+@dataclass
+class Cases:
+    """The cases of a file, in its order, those that must be refused first; and the objects that they name."""
+
+    path: Path
+    cases: list[Case] = field(default_factory=list)
+    tree: Tree = field(default_factory=Tree)
+
+
+def read(path: Path) -> Cases:
+    """The cases in a file; whatever is wrong with it is a Problem that names where it is and what would be right."""
+    document, place = documents.read(path), Place(path)
+    check_keys(document, ("refused", "allowed"), place)
+    found = Cases(path)
+    for key in ("refused", "allowed"):
+        for number, table in enumerate(tables(document.get(key, []), key, place), start=1):
+            reader = _Reader(found.tree, table, place / f"{key} {number}")
+            found.cases.append(reader.case(refused=key == "refused"))
+    if not found.cases:
+        place.fault("no case: write one as [[refused]] or [[allowed]] with a call and its path or port")
+    return found
+
+
+@dataclass(frozen=True)
+class _Reader:
+    """Reads one case, and lists what it names in the tree."""
+
+    tree: Tree
+    table: Mapping[str, Any]
+    place: Place
+
+    def case(self, *, refused: bool) -> Case:
+        """The case."""
+        check_keys(self.table, KEYS, self.place)
+        call = self._call()
+        members = self._members(call)
+        question = self._question(call, members)
+        shown = " -> ".join(str(self.table[key]) for key in members if key in ("path", "from", "to"))
+        about = f"port {self.table['port']}" if "port" in members else shown
+        return Case(refused, self._abis(), f"{call} {about}".rstrip(), question)
+
+    def _call(self) -> str:
+        call = self.table.get("call")
+        if call is None:
+            self.place.fault("call is missing")
+        text = " ".join(call.split()) if isinstance(call, str) else call
+        if text not in CALLS:
+            (self.place / "call").fault(f"unknown call {unknown(str(text), CALLS)}")
+        return str(text)
+
+    def _members(self, call: str) -> tuple[str, ...]:
+        """The members that a call has besides its name; others are a fault."""
+        op = call.split()[0]
+        needed: tuple[str, ...] = ("path",)
+        if op in MOVES:
+            needed = ("from", "to")
+        elif op in PORTS:
+            needed = ("port",)
+        elif op == "mount":
+            needed = ()
+        kinds = {"path": ("kind",), "from": ("kind", "to_kind")}.get(needed[0] if needed else "", ())
+        check_keys(self.table, ("call", *needed, *kinds, "abi"), self.place)
+        for key in needed:
+            if key not in self.table:
+                self.place.fault(f"{key} is missing: {call!r} needs it")
+        return needed
+
+    def _abis(self) -> range:
+        given = self.table.get("abi", f"{OLDEST_ABI}-{NEWEST_ABI}")
+        try:
+            return options.abis(str(given))
+        except argparse.ArgumentTypeError as error:
+            (self.place / "abi").fault(str(error))
+
+    def _question(self, call: str, members: tuple[str, ...]) -> Question:
+        """The records that ask for the call."""
+        op, *words = call.split()
+        if members == ("path",):
+            return self._on_path(op, words)
+        if members == ("from", "to"):
+            return self._move(op)
+        if members == ("port",):
+            return ({"op": op, "port": self._port()},)
+        return ({"op": op},)
+
+    def _port(self) -> int:
+        port = self.table["port"]
+        if type(port) is not int or not 0 <= port <= HIGHEST_PORT:
+            (self.place / "port").fault(f"{port!r} is no port: write a number from 0 to {HIGHEST_PORT}")
+        return port
+
+    def _on_path(self, op: str, words: list[str]) -> Question:
+        if op in MAKING:
+            return ({"op": op, "path": self._new("path")},)
+        if op == "mknod":
+            return ({"op": op, "path": self._new("path"), "kind": words[0]},)
+        if op == "open":
+            mode, *flags = words
+            makes = "create" in flags
+            path = self._there("path", "kind", follows=True, or_new=makes)
+            return (opening(path, mode, **{flag: True for flag in flags}),)
+        path = self._there("path", "kind", follows=op not in ON_LINKS)
+        if op == "ftruncate":
+            return opening(path, "w"), {"op": op}
+        if op == "ioctl":
+            return opening(path, words[0]), {"op": op, "driver": True}
+        return ({"op": op, "path": path},)
+
+    def _move(self, op: str) -> Question:
+        moved = self._there("from", "kind", follows=False)
+        there = self._there("to", "to_kind", follows=False, or_new=op != "exchange")
+        if op == "exchange":
+            return ({"op": "rename", "from": moved, "to": there, "exchange": True},)
+        return ({"op": op, "from": moved, "to": there},)
+
+    def _there(self, key: str, kind_key: str, *, follows: bool, or_new: bool = False) -> str:
+        """The path of an object that is there, which is then listed; or of a new one, where the call makes it."""
+        path = self._real(key, follows=follows)
+        given, seen = self.table.get(kind_key), disk.look(path)
+        if given is not None and given not in KINDS:
+            (self.place / kind_key).fault(f"unknown kind {unknown(str(given), KINDS)}")
+        if given is not None and seen is not None and given != seen.kind:
+            (self.place / kind_key).fault(f"{path} is here of kind {seen.kind!r}: leave {kind_key} out")
+        kind = given if seen is None else seen.kind
+        if kind is None and or_new:
+            return self._new(key)
+        if kind is None:
+            (self.place / key).fault(f'{path} is not on this machine: give its kind, as {kind_key} = "reg"')
+        self._list(path, kind, key)
+        return path
+
+    def _new(self, key: str) -> str:
+        """The path of an object that a call makes: Landlock judges it by its directory alone, so the name is a new one."""
+        path = self._real(key, follows=False)
+        directory = directory_of(path)
+        self._list(directory, "dir", key)
+        return joined(directory, path.rpartition("/")[2] + NEW_NAME)
+
+    def _real(self, key: str, *, follows: bool) -> str:
+        """A path without links, as the kernel walks it."""
+        path = self.table[key]
+        if not isinstance(path, str) or not path.startswith("/") or "\0" in path or len(path.encode()) > LONGEST_PATH:
+            (self.place / key).fault(f"{path!r} is no absolute path: write it as \"/usr\"")
+        if follows:
+            return os.path.realpath(path)
+        directory, _, name = path.rstrip("/").rpartition("/")
+        if name in ("", ".", ".."):
+            return os.path.realpath(path)
+        return joined(os.path.realpath(directory or ROOT), name)
+
+    def _list(self, path: str, kind: str, key: str) -> None:
+        """Lists an object and the directories over it; one path has one kind in all cases."""
+        while True:
+            known = self.tree.kinds.setdefault(path, kind)
+            if known != kind:
+                (self.place / key).fault(f"{path} is of kind {known!r} by another case, and here of kind {kind!r}")
+            if path == ROOT:
+                return
+            path, kind = directory_of(path), "dir"

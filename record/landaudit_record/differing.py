@@ -1,0 +1,310 @@
+"""What one policy lets pass and another refuses, for every call on every tree.
+
+landaudit is asked about one object, directory and port of each region (`regions`), with single rights, and about moves
+between each two regions. The rest follows by laws of the crate `ll_regions`: a set of rights is refused where one of
+them is (`rights_are_refused_one_by_one`), a rename is let through where the link and the removal are, and an exchange
+where both renames are (`moves_made_of_others`).
+"""
+
+from __future__ import annotations
+
+import json
+import re
+import tempfile
+from collections.abc import Iterable, Iterator, Sequence
+from dataclasses import dataclass, field
+from pathlib import Path
+
+from . import applying, asking, fitting, landaudit
+from .asking import RULESET
+from .fitting import FittedLayer, FittedPathRule
+from .jsonl import Record
+from .jsonl import value as json_of
+from .policies import Policy
+from .problems import Problem
+from .regions import RULED_KINDS, Region, Regions, as_named
+from .rights import NEWEST_ABI
+from .trees import ROOT, Tree, upwards
+
+MOST_RECORDS = 900_000
+"""How many records a trace is given at most; landaudit reads some more."""
+
+MOST_OBJECTS = 65_536
+PROCESSES = 4
+"""Among how many processes the questions of a policy are spread, so that several workers judge them."""
+
+MOUNT = "mount"
+_MAKING = {"reg": "make_reg", "sym": "make_sym", "char": "make_char", "block": "make_block", "fifo": "make_fifo",
+           "sock": "make_sock", "dir": "make_dir"}
+_ANSWER = re.compile(r"(?:([0-9]+)(?:-([0-9]+))? )?(allowed|moot|refused)")
+Abis = frozenset[int]
+_NONE: Abis = frozenset()
+
+
+@dataclass(frozen=True)
+class About:
+    """What a question is about: a right, in a region or on a port, or a mount."""
+
+    right: str
+    region: Region | None = None
+    port: int | None = None
+
+
+@dataclass(frozen=True)
+class Move:
+    """A move: of an object of a kind, beneath a path or that path itself, to what is under another path."""
+
+    kind: str
+    source: str
+    itself: bool
+    to: str
+
+
+Subject = About | Move
+
+
+@dataclass
+class Differences:
+    """What one policy lets pass and another refuses, by the ABIs at which it does, and how many calls were tried."""
+
+    more: dict[Subject, Abis] = field(default_factory=dict)
+    less: dict[Subject, Abis] = field(default_factory=dict)
+    tried: int = 0
+
+    def add(self, subject: Subject, old: _Passes, new: _Passes) -> None:
+        """Notes where one policy lets a call pass and the other refuses it, which both let be tried."""
+        self.tried += 1
+        both = old.reached & new.reached
+        for found, one, other in ((self.more, new, old), (self.less, old, new)):
+            alone = (one.whole - other.whole) & both
+            if alone:
+                found[subject] = found.get(subject, _NONE) | alone
+
+
+@dataclass(frozen=True)
+class _Question:
+    """Records of one process, without its pid: the last one is asked about, where those before it are allowed."""
+
+    subject: Subject
+    records: tuple[str, ...]
+
+
+@dataclass(frozen=True)
+class _Passes:
+    """At which ABIs a policy allows all records of a question but the last, and at which all of them."""
+
+    reached: Abis
+    whole: Abis
+
+
+def differences(program: Path, old: Policy, new: Policy, abis: range) -> Differences:
+    """All in which two policies differ at some ABIs."""
+    regions = Regions.of((old, new))
+    kinds = regions.kinds()
+    if len(kinds) > MOST_OBJECTS:
+        raise Problem(f"{old.path} and {new.path} have rules on {len(regions.paths):,} paths, and a tree for that many is "
+                      f"more than landaudit reads ({MOST_OBJECTS:,} objects): compare parts of them")
+    found = Differences()
+    making: dict[str, set[str]] = {}
+    with tempfile.TemporaryDirectory(prefix="landaudit-") as folder:
+        asker = _Asker(program, Path(folder), abis, [_confined(policy, regions) for policy in (old, new)])
+        asking.write_tree(asker.tree, kinds)
+        for question, passes in asker.asked(_rights(regions)):
+            found.add(question.subject, *passes)
+            subject = question.subject
+            if isinstance(subject, About) and subject.region is not None and any(one.whole for one in passes):
+                making.setdefault(subject.region.path, set()).add(subject.right)
+        for question, passes in asker.asked(_moves(regions, making)):
+            found.add(question.subject, *passes)
+    return found
+
+
+# ---- the policies
+
+
+def _confined(policy: Policy, regions: Regions) -> list[Record]:
+    """The records by which a process confines itself, with each path's rule also on what stands for it as a file."""
+    layers, _ = fitting.fit(policy, NEWEST_ABI)
+    files = tuple(_with_files(layer, regions) for layer in layers)
+    return applying.records(policy, files, Tree(regions.kinds()), RULESET)
+
+
+def _with_files(layer: FittedLayer, regions: Regions) -> FittedLayer:
+    """A layer with the rules on files that stand for its paths."""
+    rules = []
+    for rule in layer.path_rules:
+        named = [as_named(parent) for parent in rule.parents]
+        files = [regions.as_file(path, kind) for path in named if path != ROOT for kind in RULED_KINDS]
+        rules.append(FittedPathRule(rule.place, (*named, *files), rule.on_directory, rule.on_file))
+    return FittedLayer(layer.number, layer.handled_fs, layer.handled_net, tuple(rules), layer.port_rules)
+
+
+# ---- the questions
+
+
+def _record(op: str, **members: object) -> str:
+    """A record without a pid, as it is written behind one."""
+    return "".join([f'"op":"{op}"', *(f',"{key}":{json_of(of)}' for key, of in members.items())])
+
+
+def _rights(regions: Regions) -> Iterator[_Question]:
+    """Single rights in each region, on each port, and a mount."""
+    fds = iter(range(asking.FIRST_DESCRIPTOR, 1 << 62))
+    for path in regions.paths:
+        under = Region(path)
+        yield from _on_files(under, regions.child(path, "reg"), regions.child(path, "char"), fds)
+        yield _Question(About("read_dir", under), (_record("open", path=path, mode="r", fd=next(fds)),))
+        new = regions.child(path, "new")
+        yield _Question(About("make_dir", under), (_record("mkdir", path=new),))
+        yield _Question(About("make_sym", under), (_record("symlink", path=new),))
+        for kind in RULED_KINDS:
+            yield _Question(About(_MAKING[kind], under), (_record("mknod", path=new, kind=kind),))
+        yield _Question(About("remove_file", under), (_record("unlink", path=regions.child(path, "reg")),))
+        yield _Question(About("remove_dir", under), (_record("rmdir", path=regions.child(path, "dir")),))
+    for path in regions.ruled:
+        as_file = Region(path, as_file=True)
+        yield from _on_files(as_file, regions.as_file(path, "reg"), regions.as_file(path, "char"), fds)
+    for port in (*regions.ports, regions.other_port):
+        named = port if port in regions.ports else None
+        for op in ("bind", "connect"):
+            yield _Question(About(f"{op}_tcp", port=named), (_record(op, port=port),))
+    yield _Question(About(MOUNT), (_record(MOUNT),))
+
+
+def _on_files(region: Region, file: str, device: str, fds: Iterator[int]) -> Iterator[_Question]:
+    """The rights on files, each by itself; an ioctl needs a device that is open, by whichever mode."""
+    yield _Question(About("read_file", region), (_record("open", path=file, mode="r", fd=next(fds)),))
+    yield _Question(About("write_file", region), (_record("open", path=file, mode="w", fd=next(fds)),))
+    yield _Question(About("execute", region), (_record("exec", path=file),))
+    yield _Question(About("truncate", region), (_record("truncate", path=file),))
+    for mode in ("r", "w", "rw"):
+        fd = next(fds)
+        opened, asked = _record("open", path=device, mode=mode, fd=fd), _record("ioctl", fd=fd, driver=True)
+        yield _Question(About("ioctl_dev", region), (opened, asked))
+
+
+def _moves(regions: Regions, making: dict[str, set[str]]) -> Iterator[_Question]:
+    """Links of files and renames of directories from each region to each other place.
+
+    A directory in which neither policy lets an object of a kind be made lets none come: it isn't asked about.
+    """
+    for to in regions.paths:
+        new = json_of(regions.child(regions.child(to, "to"), "new"))
+        makes = making.get(to, set())
+        for kind in (kind for kind, right in _MAKING.items() if right in makes):
+            op = '"op":"rename"' if kind == "dir" else '"op":"link"'
+            for move, moved in _moved(regions, kind, to):
+                yield _Question(move, (f'{op},"from":{json_of(moved)},"to":{new}',))
+
+
+def _moved(regions: Regions, kind: str, to: str) -> Iterator[tuple[Move, str]]:
+    """The objects of a kind that can come under a path: one beneath each path, and each path with a rule itself."""
+    for source in regions.paths:
+        yield Move(kind, source, False, to), regions.child(source, kind)
+    if kind == "dir":
+        over = set(upwards(to))
+        yield from ((Move(kind, path, True, to), path) for path in regions.ruled if path not in over)
+    elif kind in RULED_KINDS:
+        yield from ((Move(kind, path, True, to), regions.as_file(path, kind)) for path in regions.ruled)
+
+
+# ---- asking
+
+
+@dataclass(frozen=True)
+class _Asker:
+    """Asks two policies the same questions, at several ABIs."""
+
+    program: Path
+    folder: Path
+    abis: range
+    confined: Sequence[list[Record]]
+
+    @property
+    def tree(self) -> Path:
+        """The tree that the questions are about."""
+        return self.folder / "tree.jsonl"
+
+    def asked(self, questions: Iterable[_Question]) -> Iterator[tuple[_Question, tuple[_Passes, _Passes]]]:
+        """Each question with where the first policy lets it pass, and where the other does."""
+        spent = PROCESSES * sum(len(own) + 1 for own in self.confined)
+        batch: list[_Question] = []
+        records = 0
+        for question in questions:
+            batch.append(question)
+            records += len(self.confined) * len(question.records)
+            if records + spent > MOST_RECORDS:
+                yield from self._answered(batch)
+                batch, records = [], 0
+        if batch:
+            yield from self._answered(batch)
+
+    def _answered(self, questions: list[_Question]) -> Iterator[tuple[_Question, tuple[_Passes, _Passes]]]:
+        """The answers to as many questions as one trace can have."""
+        trace, report = self.folder / "trace.jsonl", self.folder / "report.txt"
+        parts = [questions[first::PROCESSES] for first in range(PROCESSES)]
+        jobs = [(own, part) for own in self.confined for part in parts]
+        with open(trace, "w", encoding="utf-8") as out:
+            for pid, (own, part) in enumerate(jobs, start=1):
+                out.writelines(_lines(pid, own, part))
+        landaudit.audit(self.program, self.abis, self.tree, trace, report, best_effort=True, explain=False)
+        with open(report, encoding="utf-8") as lines:
+            reader = _Reader(lines, self.abis)
+            answers = [reader.process(own, part) for own, part in jobs]
+        old, new = answers[:PROCESSES], answers[PROCESSES:]
+        for number, question in enumerate(questions):
+            process, index = number % PROCESSES, number // PROCESSES
+            yield question, (old[process][index], new[process][index])
+
+
+def _lines(pid: int, own: Iterable[Record], questions: Iterable[_Question]) -> Iterator[str]:
+    """The lines of one process."""
+    head = f'{{"pid":{pid},'
+    yield f'{head}"op":"start"}}\n'
+    for record in own:
+        yield json.dumps({"pid": pid, **record}, ensure_ascii=False, separators=(",", ":")) + "\n"
+    for question in questions:
+        yield from (f"{head}{asked}}}\n" for asked in question.records)
+
+
+class _Reader:
+    """Reads a report line by line, process after process."""
+
+    def __init__(self, lines: Iterator[str], abis: range) -> None:
+        self._lines = lines
+        self._all = frozenset(abis)
+        self._known: dict[str, dict[str, Abis]] = {}
+
+    def process(self, own: Sequence[Record], questions: Sequence[_Question]) -> list[_Passes]:
+        """Where each question of a process passes."""
+        self._next()
+        for record in own:
+            refused = self._next().get("refused")
+            if refused and record["op"] != "add_path":
+                raise Problem(f"the policy can't be tried: landaudit refuses its {record['op']}")
+        return [self._passes(question) for question in questions]
+
+    def _passes(self, question: _Question) -> _Passes:
+        """Where the records of a question are allowed. What is moot is so for one that was refused before it."""
+        reached = passes = self._all
+        for _ in question.records:
+            reached, answers = passes, self._next()
+            if answers.get("moot", _NONE) & reached:
+                raise Problem(f"landaudit says that the policy is not asked about {' '.join(question.records)}")
+            passes = reached & answers.get("allowed", _NONE)
+        return _Passes(reached, passes)
+
+    def _next(self) -> dict[str, Abis]:
+        """What the next line answers at which ABIs."""
+        text = next(self._lines).split(" ", 3)[3]
+        known = self._known.get(text)
+        if known is None:
+            known = self._known[text] = self._read(text)
+        return known
+
+    def _read(self, text: str) -> dict[str, Abis]:
+        answers: dict[str, Abis] = {}
+        for first, last, verdict in _ANSWER.findall(text):
+            abis = frozenset(range(int(first), int(last or first) + 1)) if first else self._all
+            answers[verdict] = answers.get(verdict, _NONE) | abis
+        return answers

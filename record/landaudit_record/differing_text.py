@@ -1,0 +1,114 @@
+"""What two policies differ in, in words: rights by region, ports, mounts, and moves by where from and where to."""
+
+from __future__ import annotations
+
+from collections import defaultdict
+from collections.abc import Iterator, Mapping
+
+from .differing import MOUNT, Abis, About, Differences, Move, Subject
+from .policies import Policy
+from .regions import Region, Regions, phrases
+from .rights import FILE_RIGHTS, FS, NET
+from .wording import printable, span
+
+_KINDS = {
+    "reg": "regular files",
+    "dir": "directories",
+    "sym": "symbolic links",
+    "char": "character devices",
+    "block": "block devices",
+    "fifo": "named pipes",
+    "sock": "sockets",
+}
+
+
+def lines(found: Differences, old: Policy, new: Policy, abis: range) -> Iterator[str]:
+    """The lines of a comparison, each without its line feed."""
+    regions = Regions.of((old, new))
+    tried = f"{found.tried:,} calls tried under each, at ABI {span(abis)}"
+    if not found.more and not found.less:
+        yield f"no call differs: {tried}"
+        return
+    for one, differing, other in ((new, found.more, old), (old, found.less, new)):
+        if differing:
+            yield f"{one.path} lets pass what {other.path} refuses:"
+            yield from (f"  {printable(line)}" for line in _of_one(differing, regions, frozenset(abis)))
+        else:
+            yield f"{one.path} lets nothing pass that {other.path} refuses"
+    yield tried
+
+
+def _of_one(differing: Mapping[Subject, Abis], regions: Regions, abis: Abis) -> Iterator[str]:
+    """What one policy alone lets pass."""
+    by_abis: defaultdict[Abis, list[Subject]] = defaultdict(list)
+    for subject, at in differing.items():
+        by_abis[at].append(subject)
+    for at, subjects in sorted(by_abis.items(), key=lambda it: sorted(it[0])):
+        behind = "" if at == abis else f" (at ABI {_abis(at)})"
+        rights = [subject for subject in subjects if isinstance(subject, About)]
+        moves = [subject for subject in subjects if isinstance(subject, Move)]
+        for text in (*_rights(rights, regions), *_ports(rights), *_mounts(rights), *_moves(moves, regions)):
+            yield text + behind
+
+
+def _abis(abis: Abis) -> str:
+    """Some ABIs, neighbours together."""
+    parts: list[range] = []
+    for abi in sorted(abis):
+        if parts and parts[-1].stop == abi:
+            parts[-1] = range(parts[-1].start, abi + 1)
+        else:
+            parts.append(range(abi, abi + 1))
+    return ", ".join(span(part) for part in parts)
+
+
+def _rights(subjects: list[About], regions: Regions) -> Iterator[str]:
+    """Rights for files, those of the same regions together."""
+    by_right: defaultdict[str, set[Region]] = defaultdict(set)
+    for subject in subjects:
+        if subject.region is not None:
+            by_right[subject.right].add(subject.region)
+    by_place: dict[str, list[str]] = {}
+    for right in FS.ordered(by_right):
+        for place in phrases(regions, by_right[right], of_files=right in FILE_RIGHTS):
+            by_place.setdefault(place, []).append(right)
+    yield from (f"{', '.join(rights)} {place}" for place, rights in by_place.items())
+
+
+def _ports(subjects: list[About]) -> Iterator[str]:
+    """Rights for ports, those of the same ports together."""
+    by_right: defaultdict[str, list[str]] = defaultdict(list)
+    for subject in subjects:
+        if subject.right in NET.since:
+            by_right[subject.right].append("every other port" if subject.port is None else f"port {subject.port}")
+    by_ports: dict[str, list[str]] = {}
+    for right in NET.ordered(by_right):
+        by_ports.setdefault(", ".join(by_right[right]), []).append(right)
+    yield from (f"{', '.join(rights)} on {ports}" for ports, rights in by_ports.items())
+
+
+def _mounts(subjects: list[About]) -> Iterator[str]:
+    if any(subject.right == MOUNT for subject in subjects):
+        yield "mounts"
+
+
+def _moves(moves: list[Move], regions: Regions) -> Iterator[str]:
+    """Moves of the same kinds, from the same places to the same places, together."""
+    kinds: defaultdict[tuple[str, bool, str], list[str]] = defaultdict(list)
+    for move in moves:
+        kinds[move.source, move.itself, move.to].append(move.kind)
+    sources: defaultdict[tuple[str, tuple[str, ...]], set[tuple[str, bool]]] = defaultdict(set)
+    for (source, itself, to), of in kinds.items():
+        sources[to, tuple(of)].add((source, itself))
+    targets: defaultdict[tuple[frozenset[tuple[str, bool]], tuple[str, ...]], set[Region]] = defaultdict(set)
+    for (to, of_kinds), places in sources.items():
+        targets[frozenset(places), of_kinds].add(Region(to))
+    for (places_from, of_kinds), to_regions in targets.items():
+        what = "objects of every kind" if len(of_kinds) == len(_KINDS) else ", ".join(_KINDS[kind] for kind in of_kinds)
+        beneath = {Region(path) for path, itself in places_from if not itself}
+        under = list(phrases(regions, beneath, of_files=False))
+        alone = sorted(path for path, itself in places_from if itself)
+        as_what = "itself" if "dir" in of_kinds else "as a file"
+        where = "; ".join([*(f"from {place}" for place in under), *(f"{path} {as_what}" for path in alone)])
+        to_text = "; ".join(f"to {place}" for place in phrases(regions, to_regions, of_files=False))
+        yield f"moves of {what} {where} {to_text}"

@@ -1,0 +1,102 @@
+"""Which rules of a policy let a call pass.
+
+landaudit is asked again, once for each layer by itself without its rules, and once for each of its rules alone: a rule
+grants what the layer lacks without rules and no longer lacks with this one.
+"""
+
+from __future__ import annotations
+
+from collections.abc import Iterator, Sequence
+from dataclasses import dataclass, replace
+from pathlib import Path
+
+from . import asking
+from .asking import Found, Question
+from .explanations import Closed, Kept, Missing
+from .policies import Layer, PathRule, Policy, PortRule
+from .rights import NEWEST_ABI, alone
+from .trees import Tree, upwards
+
+
+@dataclass(frozen=True)
+class Grant:
+    """What a rule grants of a call: rights, on a path or a port."""
+
+    layer: int
+    rule: str
+    on: str
+    rights: tuple[str, ...]
+
+    def __str__(self) -> str:
+        return f"layer {self.layer}: {self.rule} on {self.on} grants {', '.join(self.rights)}"
+
+
+@dataclass(frozen=True)
+class _Alone:
+    """One layer with one of its rules on one object or port, or with none."""
+
+    layer: Layer
+    rule: PathRule | PortRule | None = None
+
+    @property
+    def on(self) -> str:
+        """What the rule is on."""
+        if isinstance(self.rule, PathRule):
+            return self.rule.parents[0]
+        return f"port {self.rule.ports[0]}" if self.rule is not None else ""
+
+    def policy(self, path: Path) -> Policy:
+        """The policy that is this layer."""
+        rule = self.rule
+        paths, ports = (rule,) if isinstance(rule, PathRule) else (), (rule,) if isinstance(rule, PortRule) else ()
+        return Policy(path, (replace(self.layer, path_beneath=paths, net_port=ports),))
+
+    def concerns(self, question: Question) -> bool:
+        """Whether the rule is on what a question names or above it; a layer without rules concerns all."""
+        if self.rule is None:
+            return True
+        if isinstance(self.rule, PortRule):
+            return any(record.get("port") in self.rule.ports for record in question)
+        paths = [str(record[key]) for record in question for key in ("path", "from", "to") if key in record]
+        return any(self.rule.parents[0] in upwards(path) for path in paths)
+
+
+def _parts(policy: Policy) -> Iterator[_Alone]:
+    """Each layer without rules, then with each of its rules on each of its objects or ports."""
+    for layer in policy.layers:
+        yield _Alone(layer)
+        for rule in layer.path_beneath:
+            yield from (_Alone(layer, replace(rule, parents=(parent,))) for parent in rule.parents)
+        for port_rule in layer.net_port:
+            yield from (_Alone(layer, replace(port_rule, ports=(port,))) for port in port_rule.ports)
+
+
+def grants(program: Path, policy: Policy, tree: Tree, questions: Sequence[Question]) -> list[list[Grant]]:
+    """For each question, what which rule of the policy grants of it, at the newest ABI."""
+    parts = [(part, [n for n, it in enumerate(questions) if part.concerns(it)]) for part in _parts(policy)]
+    parts = [(part, concerned) for part, concerned in parts if concerned]
+    confined = [asking.under(part.policy(policy.path), NEWEST_ABI, tree) for part, _ in parts]
+    asked = [[questions[number] for number in concerned] for _, concerned in parts]
+    answers = asking.ask(program, alone(NEWEST_ABI), tree, confined, asked)
+    found: list[list[Grant]] = [[] for _ in questions]
+    bare: dict[tuple[int, int], set[tuple[str, str]]] = {}
+    for (part, concerned), by_abi in zip(parts, answers):
+        for number, answer in zip(concerned, by_abi[NEWEST_ABI]):
+            lacking = _lacking(answer)
+            if part.rule is None:
+                bare[part.layer.number, number] = lacking
+            elif granted := bare[part.layer.number, number] - lacking:
+                rights = tuple(dict.fromkeys(right for right, _ in sorted(granted)))
+                found[number].append(Grant(part.layer.number, part.rule.place, part.on, rights))
+    return found
+
+
+def _lacking(answer: Found) -> set[tuple[str, str]]:
+    """The rights that a layer lacks, each with what it lacks it on."""
+    objections = [it for layer in answer.objections.values() for it in layer] if answer.answer.refused else []
+    return {
+        (right, str(it.port if isinstance(it, Closed) else it.path))
+        for it in objections
+        if isinstance(it, (Missing, Closed, Kept))
+        for right in it.rights
+    }

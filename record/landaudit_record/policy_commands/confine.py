@@ -1,0 +1,36 @@
+"""Runs a command under a policy."""
+
+from __future__ import annotations
+
+import argparse
+import shutil
+
+from .. import POLICIES, confining, policies
+from ..options import add_abi, add_policy, note
+from ..problems import USAGE, WANTING, Problem
+
+NAME = "confine"
+HELP = "run a command under a policy"
+EXAMPLE = "landaudit-policy confine policy.toml -- sort /etc/passwd"
+BEHIND_DASHES = "give a command behind '--', as 'landaudit-policy confine policy.toml -- ls'"
+
+
+def add_arguments(parser: argparse.ArgumentParser) -> None:
+    """Names the words of the subcommand."""
+    parser.usage = "landaudit-policy confine [-h] POLICY.toml [--abi N] -- COMMAND.."
+    add_policy(parser)
+    add_abi(parser, "rights that it, or the kernel, does not have are dropped")
+
+
+def run(arguments: argparse.Namespace) -> int:
+    """Restricts this process by the policy and becomes the command, whose status is then the program's."""
+    command = arguments.behind
+    if not command:
+        raise Problem(BEHIND_DASHES, USAGE)
+    policy = policies.read(arguments.policy)
+    abi = confining.known_abi(arguments.abi)
+    if shutil.which(command[0]) is None:
+        raise Problem(f"{command[0]} is not found, or is no program", WANTING)
+    environment = confining.given_environment()
+    note(confining.confine(policy, abi), POLICIES)
+    confining.become(command, environment)

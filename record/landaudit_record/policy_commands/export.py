@@ -1,0 +1,32 @@
+"""Prints a policy as code."""
+
+from __future__ import annotations
+
+import argparse
+
+from .. import comments, exporting, policies
+from ..options import add_policy
+
+NAME = "export"
+HELP = "print a policy as a function in C that puts it in force"
+EXAMPLE = "landaudit-policy export policy.toml --c > confine_by_policy.c"
+
+
+def add_arguments(parser: argparse.ArgumentParser) -> None:
+    """Names the words of the subcommand."""
+    add_policy(parser)
+    parser.add_argument(
+        "--c",
+        action="store_true",
+        required=True,
+        help="print C99: int confine_by_policy(void), which gives 0 or an errno, and needs the kernel's headers alone",
+    )
+
+
+def run(arguments: argparse.Namespace) -> int:
+    """Prints the code."""
+    policy = policies.read(arguments.policy)
+    written = comments.read(arguments.policy.read_text(encoding="utf-8"))
+    for line in exporting.c_code(policy, written):
+        print(line)
+    return 0

@@ -1,0 +1,116 @@
+"""The regions of two policies, and one object, directory, port and move of each to try.
+
+What a policy answers depends on a path only through the rules on it and on what is above it. So of all paths that
+have the same rules above them one is enough: the root stands for all that has none but its own, and each path with a
+rule for all beneath it that has no other. These are laws of the crate `ll_regions`: `one_answer_in_a_region`,
+`one_object_in_each_region`, `one_port_in_each_region`, `one_move_of_each_form`.
+
+A path with a rule is tried as a directory. As a file it has a rule with other rights, since a file can't have them
+all, and nothing beneath it: so it is tried under a name beside it, with that rule on it. Names of what is tried are
+made by a word that no path with a rule has.
+"""
+
+from __future__ import annotations
+
+from collections.abc import Iterator, Sequence
+from dataclasses import dataclass
+
+from .policies import HIGHEST_PORT, Policy
+from .trees import ROOT, Tree, joined, upwards
+
+#: The kinds of objects that are no directories; a rule on a link is on what the link leads to.
+FILE_KINDS = ("reg", "sym", "char", "block", "fifo", "sock")
+RULED_KINDS = ("reg", "char", "block", "fifo", "sock")
+
+
+@dataclass(frozen=True)
+class Regions:
+    """The paths and ports that two policies have rules on, and a word that is in no such path.
+
+    Of the paths the root is the first, whether it has a rule or not, and each is behind all that are above it.
+    """
+
+    paths: tuple[str, ...]
+    ports: tuple[int, ...]
+    word: str
+
+    @classmethod
+    def of(cls, policies: Sequence[Policy]) -> Regions:
+        """The regions of policies together."""
+        layers = [layer for policy in policies for layer in policy.layers]
+        rules = [rule for layer in layers for rule in layer.path_beneath]
+        paths = {as_named(parent) for rule in rules for parent in rule.parents}
+        ports = {port for layer in layers for rule in layer.net_port for port in rule.ports}
+        word = "~try~"
+        while any(word in path for path in paths):
+            word += "~"
+        return cls(tuple(sorted(paths | {ROOT})), tuple(sorted(ports)), word)
+
+    @property
+    def ruled(self) -> tuple[str, ...]:
+        """The paths but the root: what may be a file, and be moved."""
+        return self.paths[1:]
+
+    @property
+    def other_port(self) -> int:
+        """A port without a rule, which stands for all of these."""
+        return next((port for port in range(HIGHEST_PORT + 1) if port not in self.ports), HIGHEST_PORT)
+
+    def child(self, directory: str, name: str) -> str:
+        """What is tried in a directory."""
+        return joined(directory, self.word + name)
+
+    def as_file(self, path: str, kind: str) -> str:
+        """What stands for a path where it is a file of a kind."""
+        return path + self.word + kind
+
+    def above(self, path: str) -> str | None:
+        """The region that a path's region is in, None for the root."""
+        known = set(self.paths)
+        return next((over for over in list(upwards(path))[1:] if over in known), None)
+
+    def kinds(self) -> dict[str, str]:
+        """The tree: each path as a directory and as files, and in each region an object of each kind."""
+        kinds = {over: "dir" for path in self.paths for over in upwards(path)}
+        for path in self.ruled:
+            kinds |= {self.as_file(path, kind): kind for kind in RULED_KINDS}
+        for path in self.paths:
+            kinds |= {self.child(path, kind): kind for kind in FILE_KINDS}
+            kinds |= {self.child(path, "dir"): "dir", self.child(path, "to"): "dir"}
+        return kinds
+
+
+def as_named(path: str) -> str:
+    """A policy's path as it names it: without doubled slashes, `.` and `..`. No link is followed: on every tree."""
+    return Tree().resolved(path)
+
+
+@dataclass(frozen=True)
+class Region:
+    """Where a right or a move differs: what is under a path, or the path itself where it is a file."""
+
+    path: str
+    as_file: bool = False
+
+
+def phrases(regions: Regions, differing: set[Region], of_files: bool) -> Iterator[str]:
+    """A set of regions in words, as `under /etc, but for /etc/ssl`.
+
+    `of_files` says that files can be asked about too, so that a path which is one is told where it isn't as the rest.
+    """
+    under = {region.path for region in differing if not region.as_file}
+    alone = {region.path for region in differing if region.as_file}
+    over = {path: regions.above(path) for path in regions.paths}
+    top = {path: path for path in under if over[path] not in under}
+    for path in regions.paths:
+        if path in under and path not in top:
+            top[path] = top[over[path] or ROOT]
+    for first in (path for path in regions.paths if top.get(path) == path):
+        inside = [path for path in regions.paths if top.get(path) == first]
+        out = [path for path in regions.paths if path not in under and over[path] in inside]
+        if of_files:
+            out += [f"{path} as a file" for path in inside if path != ROOT and path not in alone]
+        yield f"under {first}, but for {', '.join(out)}" if out else f"under {first}"
+    if of_files:
+        yield from (f"on {path} as a file" for path in sorted(alone - under))
+

@@ -1,0 +1,207 @@
+"""A recording that is audited, part by part, as it is or with a policy that is tried on it."""
+
+from __future__ import annotations
+
+import errno
+import tempfile
+from collections.abc import Iterable, Iterator
+from contextlib import contextmanager
+from dataclasses import dataclass
+from pathlib import Path
+from typing import NamedTuple
+
+from . import applying, cutting, fitting, jsonl, landaudit, trees
+from .applying import Plan
+from .finished import Finished, Part
+from .jsonl import Record
+from .options import note
+from .policies import Policy
+from .reading import Walk
+from .recorder.progress import Progress
+from .rights import FILE_RIGHTS, FS, alone
+from .trees import ROOT, Tree, upwards
+from .wording import counted, span
+
+#: What a shell's pattern has.
+GLOB = "*?["
+#: How the kernel says that nothing can be made in a folder.
+_READ_ONLY = (errno.EACCES, errno.EPERM, errno.EROFS)
+
+
+def tree_of(recording: Finished) -> Tree:
+    """All objects of a recording, whichever parts have them."""
+    return trees.read(*(part.tree for part in recording.parts))
+
+
+class Files(NamedTuple):
+    """What landaudit reads, and where it writes its report."""
+
+    tree: Path
+    trace: Path
+    report: Path
+
+
+@dataclass(frozen=True)
+class Tried:
+    """A policy on a recording: before which program, where it goes in each part, and the tree of the whole."""
+
+    recording: Finished
+    policy: Policy
+    program: str | None
+    tree: Tree
+    places: list[Plan]
+
+    def steps(self, abis: range, *, best_effort: bool) -> list[range]:
+        """The ABIs of a range in steps, the oldest first: each is judged by the traces of its newest."""
+        found = [alone(abis[-1])]
+        for abi in reversed(abis[:-1]):
+            inserted = self._inserted(self.policy, found[0][-1])
+            if best_effort:
+                inserted = list(applying.at_best_effort(inserted, abi))
+            if inserted == self._inserted(self.policy, abi):
+                found[0] = range(abi, found[0].stop)
+            else:
+                found.insert(0, alone(abi))
+        return found
+
+    def write(self, policy: Policy, abi: int, number: int, into: Part) -> Iterator[Files]:
+        """Writes a part with a policy as an ABI knows it, and gives the tree and the trace that are to be judged.
+
+        Where they would be more records than landaudit reads, the part is cut into pieces, one after another.
+        """
+        part, places, inserted = self.recording.parts[number], self.places[number], self._inserted(policy, abi)
+        tree = part.tree
+        if len(self.recording.parts) > 1:
+            tree = into.tree
+            _write_tree(part.tree, self.tree, inserted, tree)
+        if places.records(inserted) <= applying.MOST_RECORDS:
+            _write_trace(part.trace, places, inserted, into.tried)
+            yield Files(tree, into.tried, into.report)
+            return
+        weights = {line: 1 + len(inserted) for line in places.before}
+        for piece in cutting.cut(part.trace, into.folder, weights):
+            again = applying.places(piece, self.tree, self.program)
+            _write_trace(piece, again, inserted, piece.with_suffix(".tried"))
+            yield Files(tree, piece.with_suffix(".tried"), piece.with_suffix(".report"))
+
+    def _inserted(self, policy: Policy, abi: int) -> list[Record]:
+        """The policy's records as an ABI knows them."""
+        layers, _ = fitting.fit(policy, abi)
+        return applying.records(policy, layers, self.tree, max(places.rs for places in self.places))
+
+
+def _write_trace(trace: Path, places: Plan, inserted: list[Record], tried: Path) -> None:
+    with open(tried, "wb") as out:
+        applying.write(trace, places, inserted, out)
+
+
+def _write_tree(part: Path, tree: Tree, inserted: Iterable[Record], out: Path) -> None:
+    """Writes the tree of a part with what rules are on, which the part may not have met."""
+    lines = [line for _, line in jsonl.numbered(part)]
+    listed = {ROOT, *(line["path"] for line in lines)}
+    for record in inserted:
+        path = record.get("path", ROOT)
+        for over in reversed(list(upwards(path)) if path in tree.kinds else []):
+            if over not in listed:
+                listed.add(over)
+                lines.append({"path": over, "kind": tree.kinds[over]})
+    jsonl.write(out, lines)
+
+
+def tried(recording: Finished, policy: Policy, program: str | None) -> Tried:
+    """A policy on a recording, before the first program of each process that it starts or before each run of one."""
+    tree = tree_of(recording)
+    places = applying.plans([part.trace for part in recording.parts], tree, program)
+    return Tried(recording, policy, program, tree, places)
+
+
+@contextmanager
+def folder_for(recording: Finished, name: str) -> Iterator[tuple[Path, bool]]:
+    """A folder to work in, which is gone behind it, and whether what is in it can stay in the recording's folder."""
+    try:
+        made = tempfile.TemporaryDirectory(prefix=f"{name}-", dir=recording.folder)
+    except OSError as error:
+        if error.errno not in _READ_ONLY:
+            raise
+        with tempfile.TemporaryDirectory(prefix=f"landaudit-{name}-") as elsewhere:
+            yield Path(elsewhere), False
+        return
+    with made as folder:
+        yield Path(folder), True
+
+
+@dataclass
+class Auditing:
+    """How a recording is audited: by which landaudit, in which folder, and whether at best effort.
+
+    `progress` shows how far it is; `status` is 1 once an ABI has refused something.
+    """
+
+    program: Path
+    recording: Finished
+    folder: Path
+    best_effort: bool
+    progress: Progress
+    status: int = 0
+
+    def walks(self, abis: range, tried: Tried | None, policy: Policy | None = None) -> Iterator[Walk]:
+        """Judges each part at some ABIs, and gives a walk over its answers.
+
+        Where something is tried, `policy` is what it has in the place of the policy, with more rules.
+        """
+        for number, own in enumerate(self.recording.parts):
+            part = Part(self.folder, own.number)
+            if tried is None:
+                judged: Iterable[Files] = [Files(own.tree, own.trace, part.report)]
+            else:
+                judged = tried.write(policy or tried.policy, abis[-1], number, part)
+            for files in judged:
+                self.progress.say(f"judging at ABI {span(abis)}{self._of_all(own)}")
+                self.status |= landaudit.audit(self.program, abis, *files, best_effort=self.best_effort)
+                yield Walk(files.trace, files.report, abis, self.progress)
+
+    def _of_all(self, part: Part) -> str:
+        return "" if part.number is None else f", part {part.number} of {len(self.recording.parts)}"
+
+    def keep(self) -> None:
+        """Puts the last tried traces and reports into the recording's folder."""
+        for own in self.recording.parts:
+            files = Part(self.folder, own.number)
+            for made, place in ((files.tried, own.tried), (files.report, own.report)):
+                if made.exists():
+                    made.replace(place)
+
+
+def noted(tried: Tried, abis: range) -> None:
+    """Prints notes on what of a policy is not judged, and what of it the ABIs do not have.
+
+    Of the newest ABI all is said, of each older one how many notes there are.
+    """
+    note(_notes(tried.policy, tried.tree))
+    for abi in abis:
+        _, notes = fitting.fit(tried.policy, abi)
+        if abi != abis[-1] and notes:
+            notes = [f"ABI {abi} is missing rights of the policy: see --abi {abi} ({counted(len(notes), 'note')})"]
+        note(notes)
+
+
+def _notes(policy: Policy, tree: Tree) -> Iterator[str]:
+    """What no ABI here judges of a policy, and rules that the kernel may understand otherwise than their author."""
+    for layer in policy.layers:
+        if layer.scoped:
+            yield f"layer {layer.number}: scoped is kept and not judged: {', '.join(layer.scoped)}"
+        for rule in layer.path_beneath:
+            named = FS.ordered(rule.allowed_access.outright - FILE_RIGHTS)
+            for parent in rule.parents:
+                if tree.kind(tree.resolved(parent, before_run=True)) is None:
+                    where = f"layer {layer.number}, {rule.place}, parent {parent}"
+                    yield from _notes_on_absent(where, parent, named)
+
+
+def _notes_on_absent(where: str, parent: str, named: list[str]) -> Iterator[str]:
+    """What to know of a rule on a path that the recording did not meet."""
+    if any(letter in parent for letter in GLOB):
+        yield f"{where}: Landlock has no patterns: name the directory, or each file"
+    elif named:
+        yield (f"{where}: not in the tree, so it is not known whether it is a directory: on anything else the kernel "
+               f"refuses {', '.join(named)} with EINVAL")
