@@ -5,6 +5,9 @@ UNIT_TESTS = python3 -m unittest discover -s $(1)/tests -t $(1)
 # The proved program.
 PROGRAM := crates/landaudit/out/landaudit
 
+# What the check of landaudit said, as `make landaudit` keeps it.
+CHECK := $(CURDIR)/crates/landaudit/out/check.txt
+
 # What `make example` audits: `make example TREE=.. TRACE=.. ABI=..` takes your own files.
 TREE := examples/first-path/tree.jsonl
 TRACE := examples/first-path/trace.jsonl
@@ -13,11 +16,11 @@ ABI := 4
 # Where `make install` puts what it installs, under DESTDIR if that is set.
 PREFIX := /usr/local
 ROOT := $(DESTDIR)$(PREFIX)
-INSTALLED := bin/landaudit bin/landaudit-record \
-	share/man/man1/landaudit.1 share/man/man1/landaudit-record.1 share/man/man5/landaudit.5 \
-	share/bash-completion/completions/landaudit share/bash-completion/completions/landaudit-record \
-	share/zsh/site-functions/_landaudit share/zsh/site-functions/_landaudit-record \
-	share/fish/vendor_completions.d/landaudit.fish share/fish/vendor_completions.d/landaudit-record.fish
+SCRIPTS := landaudit-record landaudit-policy
+COMMANDS := landaudit $(SCRIPTS)
+INSTALLED := share/man/man5/landaudit.5 $(foreach command,$(COMMANDS),bin/$(command) share/man/man1/$(command).1 \
+	share/bash-completion/completions/$(command) share/zsh/site-functions/_$(command) \
+	share/fish/vendor_completions.d/$(command).fish)
 
 .PHONY: example landaudit install uninstall test live
 
@@ -31,32 +34,31 @@ example:
 # Proves landaudit and builds it, at crates/landaudit/out/landaudit.
 landaudit:
 	@echo 'proving each crate after those that it depends on, and building landaudit: 20 minutes or more'
-	@cd crates/landaudit && ../../packaging/progress rt run -- --help
+	@cd crates/landaudit && ../../packaging/progress --keep '$(CHECK)' rt run -- --help
 	@echo '$(PROGRAM) is there; sudo make install puts it into $(PREFIX)'
 
-# landaudit-record and its modules stay together in share/landaudit; it finds landaudit beside it in bin.
+# The scripts and their modules stay together in share/landaudit; they find landaudit beside them in bin.
 install:
 	$(if $(wildcard $(PROGRAM)),,$(error landaudit is not built: run 'make landaudit' first))
 	@rm -rf '$(ROOT)/share/landaudit'
-	@for file in landaudit-record $$(cd record && find landaudit_record -name '*.py'); do \
+	@for file in $(SCRIPTS) $$(cd record && find landaudit_record -name '*.py'); do \
 	install -D -m 644 record/$$file '$(ROOT)'/share/landaudit/$$file || exit 1; done
-	@chmod 755 '$(ROOT)/share/landaudit/landaudit-record'
 	@cd '$(ROOT)' && mkdir -p $(sort $(dir $(INSTALLED)))
-	@ln -sf ../share/landaudit/landaudit-record '$(ROOT)/bin/landaudit-record'
+	@for script in $(SCRIPTS); do chmod 755 '$(ROOT)'/share/landaudit/$$script && \
+	ln -sf ../share/landaudit/$$script '$(ROOT)'/bin/$$script || exit 1; done
 	@install -m 755 $(PROGRAM) '$(ROOT)/bin/landaudit'
-	@install -m 644 man/landaudit.1 man/landaudit-record.1 '$(ROOT)/share/man/man1'
 	@install -m 644 man/landaudit.5 '$(ROOT)/share/man/man5'
-	@for command in landaudit landaudit-record; do \
-	install -m 644 completions/$$command.bash '$(ROOT)'/share/bash-completion/completions/$$command || exit 1; done
-	@install -m 644 completions/_landaudit completions/_landaudit-record '$(ROOT)/share/zsh/site-functions'
-	@install -m 644 completions/landaudit.fish completions/landaudit-record.fish \
-	'$(ROOT)/share/fish/vendor_completions.d'
-	@echo 'landaudit and landaudit-record are in $(ROOT)/bin'
+	@for command in $(COMMANDS); do \
+	install -m 644 man/$$command.1 '$(ROOT)/share/man/man1' && \
+	install -m 644 completions/$$command.bash '$(ROOT)'/share/bash-completion/completions/$$command && \
+	install -m 644 completions/_$$command '$(ROOT)/share/zsh/site-functions' && \
+	install -m 644 completions/$$command.fish '$(ROOT)/share/fish/vendor_completions.d' || exit 1; done
+	@echo '$(COMMANDS) are in $(ROOT)/bin'
 
 uninstall:
 	@rm -f $(foreach file,$(INSTALLED),'$(ROOT)/$(file)')
 	@rm -rf '$(ROOT)/share/landaudit'
-	@echo 'landaudit and landaudit-record are gone from $(ROOT)'
+	@echo '$(COMMANDS) are gone from $(ROOT)'
 
 # Tests the recorder and the packaging, proves everything and runs every test; then refuses the built program, and
 # the tests made for it, each of their requests for memory, and drives the program through faults of the system

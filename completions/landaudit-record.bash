@@ -3,13 +3,14 @@
 # The options of a subcommand, or what can come instead of one.
 _landaudit_record_words() {
     case $1 in
-        run) echo '-h --help --watch --port-rules --' ;;
+        run) echo '-h --help --watch --policy --abi --port-rules --' ;;
         convert) echo '-h --help --port-rules' ;;
-        policy) echo '-h --help --out --tree --program --abi' ;;
-        audit) echo '-h --help --policy --program --abi --as-recorded --json --landaudit' ;;
+        apply) echo '-h --help --out --tree --program --abi' ;;
+        audit) echo '-h --help --policy --accepted --program --abi --as-recorded --json --landaudit' ;;
         compare) echo '-h --help --abi --json --differences --landaudit' ;;
+        tighten) echo '-h --help --policy --list --program --abi --as-recorded --landaudit' ;;
         suggest) echo '-h --help --policy --program --abi --as-recorded --landaudit' ;;
-        *) echo 'run convert policy audit compare suggest -h --help -V --version' ;;
+        *) echo 'run convert apply audit compare suggest tighten -h --help -V --version' ;;
     esac
 }
 
@@ -48,7 +49,7 @@ _landaudit_record() {
     case $prev in
         --abi) mapfile -t COMPREPLY < <(compgen -W "$(_landaudit_record_abis "$sub")" -- "$cur") ;;
         --program) mapfile -t COMPREPLY < <(compgen -c -- "$cur") ;;
-        --policy | --port-rules)
+        --policy | --port-rules | --accepted)
             compopt -o filenames 2> /dev/null
             mapfile -t COMPREPLY < <(compgen -f -X '!*.toml' -- "$cur"; compgen -d -- "$cur")
             ;;

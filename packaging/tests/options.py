@@ -1,4 +1,4 @@
-"""The options of both programs, as the programs themselves have them."""
+"""The options of all programs, as the programs themselves have them."""
 
 from __future__ import annotations
 
@@ -12,6 +12,8 @@ from .places import TOP
 COMMAND = TOP / "crates" / "ll_command" / "src" / "command.rt"
 #: A function that makes an argument of the command from a name, and its text.
 MAKER = re.compile(r"^fn (\w+)<'a>\([^)]*\bname: &'a str\b(.*?)^}", re.MULTILINE | re.DOTALL)
+#: The programs that have subcommands.
+SCRIPTS = (cli.RECORD, cli.POLICY)
 #: clap adds these by itself, the latter where the command has a version.
 OWN = {"-h", "--help"}
 OF_VERSION = {"-V", "--version"}
@@ -36,16 +38,16 @@ def _makers_of_options(source: str) -> set[str]:
     return makers | {name for name, text in texts.items() if called.search(text)}
 
 
-def subcommands() -> dict[str, set[str]]:
-    """The subcommands of landaudit-record, and the options of each."""
-    top = cli.parser()
+def subcommands(script: cli.Program) -> dict[str, set[str]]:
+    """The subcommands of a script, and the options of each."""
+    top = cli.parser(script)
     action = next(action for action in top._actions if isinstance(action, argparse._SubParsersAction))
     return {name: _of(parser) for name, parser in action.choices.items()}
 
 
-def of_landaudit_record() -> set[str]:
-    """The options of landaudit-record before a subcommand."""
-    return _of(cli.parser())
+def before_a_subcommand(script: cli.Program) -> set[str]:
+    """The options of a script before a subcommand."""
+    return _of(cli.parser(script))
 
 
 def _of(parser: argparse.ArgumentParser) -> set[str]:

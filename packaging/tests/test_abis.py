@@ -10,7 +10,7 @@ from landaudit_record.rights import NEWEST_ABI, OLDEST_ABI
 from .places import MAN, TOP
 
 VERSIONS = TOP / "crates" / "ll_rights" / "src" / "abi.rt"
-PAGES = (MAN / "landaudit.1", MAN / "landaudit-record.1", TOP / "docs" / "FORMATS.md", TOP / "docs" / "GLOSSARY.md")
+PAGES = (*MAN.glob("*.1"), TOP / "docs" / "FORMATS.md", TOP / "docs" / "GLOSSARY.md")
 
 
 class Versions(unittest.TestCase):

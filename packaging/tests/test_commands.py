@@ -21,13 +21,15 @@ DOCUMENTS = [TOP / "README.md", TOP / "CONTRIBUTING.md", *(TOP / "docs").glob("*
 #: What is behind a prompt: one command, or a pipe of several.
 PROMPTED = re.compile(r"\$ ([^\n]*)")
 #: A command of a pipe; where its output goes is no part of it.
-SHOWN = re.compile(r"(?:^|\| )(landaudit(?:-record)? [^|>]*)")
+SHOWN = re.compile(r"(?:^|\| )(landaudit(?:-record|-policy)? [^|>]*)")
 #: Code in a sentence.
 SPAN = re.compile(r"`([^`\n]+)`")
 #: A file or folder of this repository, from its top or, where it is a crate's, from `crates`.
 PLACE = re.compile(r"(?:bench|completions|crates|docs|examples|man|packaging|record|ll_\w+)/[\w./-]*\Z")
 #: A script with its words, in a sentence or a block.
 SCRIPT = re.compile(r"(?:^ {4}|`)((?:bench|packaging|record)/[\w./-]+)( [^`#>\n]*)?", re.MULTILINE)
+SCRIPTS = {script.name: script for script in options.SCRIPTS}
+LANDAUDIT = options.of_landaudit()
 TARGET = re.compile(r"(?:^ {4}|`)make ([a-z]+)", re.MULTILINE)
 
 
@@ -53,17 +55,17 @@ def asked(words: list[str]) -> set[str]:
 
 
 class Commands(unittest.TestCase):
-    def test_of_landaudit_record(self) -> None:
+    def test_of_the_scripts(self) -> None:
         for document, (program, *words) in commands():
-            if program == "landaudit-record":
+            if program in SCRIPTS:
                 with self.subTest(f"{document.name}: {shlex.join(words)}"):
-                    self.assertEqual(cli.parse(words).command, words[0])
+                    self.assertEqual(cli.parse(words, SCRIPTS[program]).command, words[0])
 
     def test_of_landaudit(self) -> None:
         for document, (program, *words) in commands():
             if program == "landaudit":
                 with self.subTest(f"{document.name}: {shlex.join(words)}"):
-                    self.assertLessEqual(asked(words), options.of_landaudit())
+                    self.assertLessEqual(asked(words), LANDAUDIT)
 
     def test_in_sentences(self) -> None:
         """They may be cut short, as in `landaudit-record audit`."""
@@ -71,7 +73,7 @@ class Commands(unittest.TestCase):
             for shown in SHOWN.findall(span):
                 program, *words = shlex.split(shown)
                 with self.subTest(f"{document.name}: {span}"):
-                    having = options.of_landaudit() if program == "landaudit" else options.subcommands()[words[0]]
+                    having = options.subcommands(SCRIPTS[program])[words[0]] if program in SCRIPTS else LANDAUDIT
                     self.assertLessEqual(asked(words), having)
 
     def test_the_synopsis_of_the_formats(self) -> None:

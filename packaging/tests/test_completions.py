@@ -12,6 +12,7 @@ import subprocess
 import unittest
 from pathlib import Path
 
+from landaudit_record import cli
 from landaudit_record.rights import NEWEST_ABI, OLDEST_ABI
 
 from . import options
@@ -26,6 +27,7 @@ RANGES = {
 BASH = """
 source "$1/landaudit.bash"
 source "$1/landaudit-record.bash"
+source "$1/landaudit-policy.bash"
 read -ra COMP_WORDS <<< "$2"
 [[ $2 == *' ' ]] && COMP_WORDS+=('')
 COMP_CWORD=$((${#COMP_WORDS[@]} - 1))
@@ -111,24 +113,29 @@ class Asked:
         self.assert_offers("landaudit --abi ", ABIS | RANGES)
 
     def test_the_subcommands(self) -> None:
-        self.assert_offers("landaudit-record ", set(options.subcommands()))
+        for script in options.SCRIPTS:
+            self.assert_offers(f"{script.name} ", set(options.subcommands(script)))
 
     def test_the_options_before_a_subcommand(self) -> None:
-        self.assert_offers("landaudit-record -", options.of_landaudit_record())
+        for script in options.SCRIPTS:
+            self.assert_offers(f"{script.name} -", options.before_a_subcommand(script))
 
     def test_the_options_of_each_subcommand(self) -> None:
-        for name, having in options.subcommands().items():
-            self.assert_offers(f"landaudit-record {name} -", having)
+        for script in options.SCRIPTS:
+            for name, having in options.subcommands(script).items():
+                self.assert_offers(f"{script.name} {name} -", having)
 
     def test_a_folder_named_as_a_subcommand(self) -> None:
-        self.assert_offers("landaudit-record convert run -", options.subcommands()["convert"])
+        self.assert_offers("landaudit-record convert run -", options.subcommands(cli.RECORD)["convert"])
 
-    def test_the_abis_of_landaudit_record(self) -> None:
-        for words in ("suggest rec", "policy p.toml rec", "compare rec"):
-            self.assert_offers(f"landaudit-record {words} --abi ", ABIS)
+    def test_the_abis_of_one_kernel(self) -> None:
+        for words in ("record suggest rec", "record apply p.toml rec", "record compare rec", "record run rec",
+                      "policy confine p.toml"):
+            self.assert_offers(f"landaudit-{words} --abi ", ABIS)
 
-    def test_the_ranges_of_abis_that_an_audit_takes(self) -> None:
-        self.assert_offers("landaudit-record audit rec --abi ", ABIS | RANGES)
+    def test_the_ranges_of_abis_that_an_audit_and_a_comparison_take(self) -> None:
+        for words in ("record audit rec", "policy diff old.toml new.toml"):
+            self.assert_offers(f"landaudit-{words} --abi ", ABIS | RANGES)
 
 
 @unittest.skipUnless(shutil.which("bash"), "bash is not installed")
@@ -143,8 +150,9 @@ class OfBash(Asked, unittest.TestCase):
         self.assertEqual(bash("landaudit --abi = 4"), {"4", "4-5"})
 
     def test_a_command_behind_the_dashes(self) -> None:
-        self.assertIn("bash", bash("landaudit-record run rec -- bas"))
-        self.assertEqual(bash("landaudit-record run rec -- bash --watch"), set())
+        for words in ("record run rec", "policy confine p.toml"):
+            self.assertIn("bash", bash(f"landaudit-{words} -- bas"))
+            self.assertEqual(bash(f"landaudit-{words} -- bash --abi"), set())
 
 
 @unittest.skipUnless(shutil.which("fish"), "fish is not installed")
@@ -154,8 +162,9 @@ class OfFish(Asked, unittest.TestCase):
             self.assertEqual(fish(line), wanted)
 
     def test_a_command_behind_the_dashes(self) -> None:
-        self.assertIn("bash", fish("landaudit-record run rec -- bas"))
-        self.assertNotIn("--watch", fish("landaudit-record run rec -- bash --w"))
+        for words in ("record run rec", "policy confine p.toml"):
+            self.assertIn("bash", fish(f"landaudit-{words} -- bas"))
+            self.assertNotIn("--abi", fish(f"landaudit-{words} -- bash --a"))
 
 
 @unittest.skipUnless(shutil.which("zsh"), "zsh is not installed")
@@ -172,8 +181,9 @@ class OfZsh(Asked, unittest.TestCase):
             self.assertEqual(self.zsh(line), wanted)
 
     def test_a_command_behind_the_dashes(self) -> None:
-        self.assertIn("bash", self.zsh("landaudit-record run rec -- bas"))
-        self.assertNotIn("--watch", self.zsh("landaudit-record run rec -- bash --w"))
+        for words in ("record run rec", "policy confine p.toml"):
+            self.assertIn("bash", self.zsh(f"landaudit-{words} -- bas"))
+            self.assertNotIn("--abi", self.zsh(f"landaudit-{words} -- bash --a"))
 
 
 if __name__ == "__main__":

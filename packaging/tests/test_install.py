@@ -18,6 +18,7 @@ from .test_completions import Zsh
 STAND_IN = '#!/bin/sh\necho "landaudit: a stand-in at $0" >&2\nexit 4\n'
 #: A kept log of strace, which converts without strace.
 LOG = TOP / "record" / "tests" / "logs" / "forks"
+COMMANDS = ("landaudit", "landaudit-record", "landaudit-policy")
 BASH_COMPLETION = Path("/usr/share/bash-completion/bash_completion")
 
 
@@ -55,16 +56,22 @@ class Install(unittest.TestCase):
             {
                 "bin/landaudit",
                 "bin/landaudit-record",
+                "bin/landaudit-policy",
                 "share/landaudit/landaudit-record",
+                "share/landaudit/landaudit-policy",
                 "share/man/man1/landaudit.1",
                 "share/man/man1/landaudit-record.1",
+                "share/man/man1/landaudit-policy.1",
                 "share/man/man5/landaudit.5",
                 "share/bash-completion/completions/landaudit",
                 "share/bash-completion/completions/landaudit-record",
+                "share/bash-completion/completions/landaudit-policy",
                 "share/zsh/site-functions/_landaudit",
                 "share/zsh/site-functions/_landaudit-record",
+                "share/zsh/site-functions/_landaudit-policy",
                 "share/fish/vendor_completions.d/landaudit.fish",
                 "share/fish/vendor_completions.d/landaudit-record.fish",
+                "share/fish/vendor_completions.d/landaudit-policy.fish",
                 *(f"share/landaudit/{module}" for module in modules),
             },
         )
@@ -77,6 +84,7 @@ class Install(unittest.TestCase):
         recorder = self.prefix / "bin" / "landaudit-record"
         self.assertEqual(self.said(recorder, "--version"), (0, f"landaudit-record {VERSION}\n"))
         self.assertEqual(self.said(recorder, "--help")[0], 0)
+        self.assertEqual(self.said(self.prefix / "bin" / "landaudit-policy", "--version")[0], 0)
         recording = shutil.copytree(LOG, self.root / "recording")
         self.assertEqual(self.said(recorder, "convert", recording)[0], 0)
         status, text = self.said(recorder, "audit", recording)
@@ -95,7 +103,7 @@ class Install(unittest.TestCase):
     @unittest.skipUnless(shutil.which("man"), "man is not installed")
     def test_man_finds_the_pages(self) -> None:
         self.make("install")
-        for number, name in (("1", "landaudit"), ("1", "landaudit-record"), ("5", "landaudit")):
+        for number, name in (("1", "landaudit"), ("1", "landaudit-record"), ("1", "landaudit-policy"), ("5", "landaudit")):
             with self.subTest(name):
                 found = self.said("man", "-M", self.prefix / "share" / "man", "-w", number, name)
                 self.assertEqual(found, (0, f"{self.prefix}/share/man/man{number}/{name}.{number}\n"))
@@ -103,10 +111,11 @@ class Install(unittest.TestCase):
     @unittest.skipUnless(BASH_COMPLETION.exists(), "bash-completion is not installed")
     def test_bash_finds_the_completions(self) -> None:
         self.make("install")
-        code = f". {BASH_COMPLETION}; for c in landaudit landaudit-record; do _completion_loader $c; complete -p $c; done"
+        code = f". {BASH_COMPLETION}; for c in {' '.join(COMMANDS)}; do _completion_loader $c; complete -p $c; done"
         status, text = self.said("bash", "--norc", "-c", code, XDG_DATA_DIRS=f"{self.prefix}/share")
         self.assertEqual(status, 0)
-        self.assertRegex(text, r"\A.* -F _landaudit landaudit\n.* -F _landaudit_record landaudit-record\n\Z")
+        wanted = (f".* -F _{command.replace('-', '_')} {command}\n" for command in COMMANDS)
+        self.assertRegex(text, rf"\A{''.join(wanted)}\Z")
 
     @unittest.skipUnless(shutil.which("fish"), "fish is not installed")
     def test_fish_finds_the_completions(self) -> None:
@@ -114,6 +123,7 @@ class Install(unittest.TestCase):
         places = {"XDG_DATA_DIRS": f"{self.prefix}/share", "PATH": f"{self.prefix}/bin:{os.environ['PATH']}"}
         self.assertIn("--grain\t", self.said("fish", "-c", "complete -C 'landaudit --'", **places)[1])
         self.assertIn("suggest\t", self.said("fish", "-c", "complete -C 'landaudit-record '", **places)[1])
+        self.assertIn("confine\t", self.said("fish", "-c", "complete -C 'landaudit-policy '", **places)[1])
 
     @unittest.skipUnless(shutil.which("zsh"), "zsh is not installed")
     def test_zsh_finds_the_completions(self) -> None:
@@ -122,6 +132,7 @@ class Install(unittest.TestCase):
         self.addCleanup(zsh.close)
         self.assertIn("--grain", zsh("landaudit --"))
         self.assertIn("suggest", zsh("landaudit-record "))
+        self.assertIn("confine", zsh("landaudit-policy "))
 
     def test_nothing_is_left(self) -> None:
         for folder in ("bin", "share/man/man1"):

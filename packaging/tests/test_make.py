@@ -72,15 +72,17 @@ class Example(Make):
 class Landaudit(Make):
     def test_a_line_for_each_crate(self) -> None:
         lines = ("crate ll_rights: modules loaded=0", "logic=proved functions=62 sum=0", "Usage: landaudit")
-        run = self.make("\n".join(f"echo '{line}'" for line in lines), "landaudit")
+        check = self.folder / "check.txt"
+        run = self.make("\n".join(f"echo '{line}'" for line in lines), "landaudit", f"CHECK={check}")
         self.assertEqual((run.returncode, run.stderr), (0, ""))
+        self.assertEqual(check.read_text(encoding="utf-8").splitlines()[-2:], list(lines[:2]))
         lines = run.stdout.splitlines()
         self.assertRegex(lines[1], r"\All_rights     62 functions proved in (\d+ min )?\d+ s\Z")
         self.assertEqual(len(lines), 4)
         self.assertIn("crates/landaudit/out/landaudit is there", lines[3])
 
     def test_a_crate_that_is_not_proved(self) -> None:
-        run = self.make("echo 'logic=unproved'; exit 1", "landaudit")
+        run = self.make("echo 'logic=unproved'; exit 1", "landaudit", f"CHECK={self.folder}/check.txt")
         self.assertEqual(run.returncode, 2)
         self.assertIn("a stand-in for rt, in landaudit: run -- --help\nlogic=unproved\n", run.stderr)
         self.assertNotIn("is there", run.stdout)

@@ -5,6 +5,9 @@ from __future__ import annotations
 import re
 import subprocess
 import unittest
+from collections.abc import Iterator
+
+from landaudit_record import cli
 
 from . import options
 from .places import BUILT, MAN
@@ -53,22 +56,30 @@ class Landaudit(unittest.TestCase):
         self.assertEqual(set(re.findall(r"(?<![\w-])--?\w[\w-]*", text)), options.of_landaudit())
 
 
-class LandauditRecord(unittest.TestCase):
-    def setUp(self) -> None:
-        self.page = (MAN / "landaudit-record.1").read_text(encoding="utf-8")
+class Scripts(unittest.TestCase):
+    """The programs that have subcommands, each with its page."""
+
+    def pages(self) -> Iterator[tuple[cli.Program, str]]:
+        for script in options.SCRIPTS:
+            with self.subTest(script.name):
+                yield script, (MAN / f"{script.name}.1").read_text(encoding="utf-8")
 
     def test_each_option_has_an_item(self) -> None:
-        having = options.of_landaudit_record().union(*options.subcommands().values())
-        self.assertEqual(items(self.page), having)
+        for script, page in self.pages():
+            having = options.before_a_subcommand(script).union(*options.subcommands(script).values())
+            self.assertEqual(items(page), having)
 
     def test_each_subcommand_has_an_item(self) -> None:
-        self.assertEqual(set(re.findall(r"^\.It Cm (\w+)$", self.page, re.MULTILINE)), set(options.subcommands()))
+        for script, page in self.pages():
+            found = re.findall(r"^\.It Cm (\w+)$", page, re.MULTILINE)
+            self.assertEqual(set(found), set(options.subcommands(script)))
 
     def test_the_synopsis_of_each_subcommand(self) -> None:
-        blocks = section(self.page, "SYNOPSIS").split(".Nm\n")
-        shown = {words[1]: flags(block) for block in blocks if (words := re.match(r"\.Cm (\w+)\n", block))}
-        wanted = {name: having - {"-h", "--help"} for name, having in options.subcommands().items()}
-        self.assertEqual(shown, wanted)
+        for script, page in self.pages():
+            blocks = section(page, "SYNOPSIS").split(".Nm\n")
+            shown = {words[1]: flags(block) for block in blocks if (words := re.match(r"\.Cm (\w+)\n", block))}
+            wanted = {name: having - {"-h", "--help"} for name, having in options.subcommands(script).items()}
+            self.assertEqual(shown, wanted)
 
 
 if __name__ == "__main__":

@@ -5,8 +5,10 @@ from __future__ import annotations
 import io
 import subprocess
 import sys
+import tempfile
 import unittest
 from contextlib import redirect_stdout
+from pathlib import Path
 from unittest import mock
 
 from .places import TOP, script
@@ -55,9 +57,9 @@ class Shown(unittest.TestCase):
 
 
 class Command(unittest.TestCase):
-    def run_on(self, text: str, status: int) -> subprocess.CompletedProcess[str]:
+    def run_on(self, text: str, status: int, *options: str) -> subprocess.CompletedProcess[str]:
         code = f"import sys; print({text!r}); sys.exit({status})"
-        words = [TOP / "packaging" / "progress", sys.executable, "-c", code]
+        words = [TOP / "packaging" / "progress", *options, sys.executable, "-c", code]
         return subprocess.run(words, capture_output=True, text=True, check=False)
 
     def test_a_failure_prints_what_rt_said_since_the_last_crate(self) -> None:
@@ -68,6 +70,16 @@ class Command(unittest.TestCase):
         run = self.run_on("", 0)
         self.assertEqual((run.returncode, run.stderr), (0, ""))
         self.assertRegex(run.stdout, r"\Aall in (\d+ min )?\d+ s\n\Z")
+
+    def test_what_was_said_of_the_last_crate_is_kept(self) -> None:
+        with tempfile.TemporaryDirectory() as folder:
+            file = Path(folder) / "check.txt"
+            self.run_on("".join(LINES), 3, "--keep", str(file))
+            self.assertFalse(file.exists(), "the command failed")
+            self.run_on("".join(LINES), 0, "--keep", str(file))
+            self.assertEqual(file.read_text(encoding="utf-8"), "".join(LINES[-2:]))
+            self.run_on("nothing was proved", 0, "--keep", str(file))
+            self.assertEqual(file.read_text(encoding="utf-8"), "".join(LINES[-2:]))
 
     def test_a_command_that_is_not_there(self) -> None:
         with redirect_stdout(io.StringIO()), mock.patch.object(sys, "stderr", io.StringIO()) as error:
