@@ -1,4 +1,4 @@
-"""The program and the README name one toolchain."""
+"""The program and docs/ASSURANCE.md name one toolchain."""
 
 from __future__ import annotations
 
@@ -16,7 +16,7 @@ def named(file: str) -> list[str]:
 
 
 class Toolchain(unittest.TestCase):
-    def test_the_version_names_the_toolchain_of_the_readme(self) -> None:
-        trusted = named("README.md")
+    def test_the_version_names_the_toolchain_that_is_trusted(self) -> None:
+        trusted = named("docs/ASSURANCE.md")
         self.assertEqual(len(trusted), 1)
         self.assertEqual(named("crates/ll_command/src/command.rt"), trusted)

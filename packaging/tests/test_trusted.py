@@ -1,4 +1,4 @@
-"""The README lists all that the check of landaudit rests on, as the check itself names it."""
+"""docs/ASSURANCE.md lists all that the check of landaudit rests on, as the check itself names it."""
 
 from __future__ import annotations
 
@@ -9,9 +9,12 @@ from .places import BUILT, TOP
 
 #: What the check of landaudit printed, which `make landaudit` keeps.
 CHECK = BUILT.parent / "check.txt"
-README = (TOP / "README.md").read_text(encoding="utf-8")
-#: The items of the README's last part, each by its words in bold.
-ITEMS: dict[str, str] = dict(re.findall(r"^- \*\*(.*?)\*\*(.*)$", README.split("## What is trusted", 1)[1], re.MULTILINE))
+TRUSTED = (TOP / "docs" / "ASSURANCE.md").read_text(encoding="utf-8").split("## What is trusted", 1)[1]
+#: Its items, each by its words in bold.
+ITEMS: dict[str, str] = {
+    bold: " ".join(text.split())
+    for bold, text in re.findall(r"^- \*\*(.*?)\*\*((?:[^\n]|\n  )*)", TRUSTED, re.MULTILINE)
+}
 SPAN = re.compile(r"`([^`\n]+)`")
 #: The crates of this repository.
 OWN = set(re.findall(r"^(\w+):", (TOP / "crates.txt").read_text(encoding="utf-8"), re.MULTILINE))
@@ -67,7 +70,7 @@ class Words(unittest.TestCase):
         self.assertEqual(taken(LINES), {"logic-built", "statements"})
 
 
-class Readme(unittest.TestCase):
+class Assurance(unittest.TestCase):
     def listed(self) -> set[str]:
         return set(SPAN.findall(item("libraries of the toolchain")))
 
@@ -91,6 +94,6 @@ class Readme(unittest.TestCase):
         told = {library: int(count) for count, library in re.findall(r"(\d+) of [^()]*\(`(\w+)`\)", item("axioms"))}
         self.assertEqual(told, counted)
         self.assertEqual(str(sum(counted.values())), said(check, "axioms"))
-        self.assertIn(f"- **{said(check, 'axioms')} axioms**", README)
+        self.assertIn(f"{said(check, 'axioms')} axioms", ITEMS)
         self.assertIn(said(check, "cpu"), item("machine"))
         self.assertLessEqual(taken(check), set(SPAN.findall(item("The toolchain"))))
