@@ -4,10 +4,13 @@ from __future__ import annotations
 
 import unittest
 
+from landaudit_record import jsonl
+
 from .written_logs import CWD, THREAD, WrittenLogs, told
 
 OPENED = f'openat({CWD}, "f", 0 /* O_RDONLY */) = 3</w/f>'
 MADE = f"10  {THREAD} = 11"
+FORK = "clone(child_stack=NULL, flags=0x1200000 /* CLONE_CHILD_CLEARTID|CLONE_CHILD_SETTID */|17 /* SIGCHLD */"
 
 
 class Moments(WrittenLogs):
@@ -136,6 +139,59 @@ class Ends(WrittenLogs):
 
     def test_a_log_in_which_a_process_goes_on_is_cut(self) -> None:
         self.assertFalse(self.conversion("fork() = 11", "+++ exited with 0 +++").ended)
+
+    def test_a_child_that_ends_before_its_fork_has_ended_without_a_call(self) -> None:
+        for fork in ("vfork( <unfinished ...>", f"{FORK} <unfinished ...>"):
+            ended = self.ended(f"10  {fork}", "11  +++ exited with 0 +++", f"10  <... {fork[:5]} resumed>) = 11")
+            self.assertEqual(ended, [("fork", 10, 11), ("exit", 11, None), ("exit", 10, None)])
+
+    def test_a_child_whose_end_stands_before_the_line_of_its_fork(self) -> None:
+        ended = self.ended("11  +++ exited with 0 +++", f"10  {FORK}) = 11")
+        self.assertEqual(ended, [("fork", 10, 11), ("exit", 11, None), ("exit", 10, None)])
+
+    def test_a_child_that_acts_and_ends_before_its_fork_has_ended(self) -> None:
+        ended = self.ended(
+            f"10  {FORK} <unfinished ...>",
+            "11  fchdir(3</w>) = 0",
+            "11  +++ exited with 0 +++",
+            "10  <... clone resumed>) = 11",
+        )
+        self.assertEqual(ended, [("fork", 10, 11), ("exit", 11, None), ("exit", 10, None)])
+
+    def test_a_thread_that_ends_before_its_clone_has_ended(self) -> None:
+        begun = f"10  {THREAD.removesuffix(', 88)')} <unfinished ...>"
+        resumed = "10  <... clone3 resumed> => {parent_tid=[11]}, 88) = 11"
+        ended = self.ended(begun, "11  +++ exited with 0 +++", resumed)
+        self.assertEqual(ended, [("exit", 10, None)])
+
+    def test_a_number_that_is_used_again_is_of_two_children(self) -> None:
+        begun, done, resumed = f"10  {FORK} <unfinished ...>", "11  +++ exited with 0 +++", "10  <... clone resumed>) = 11"
+        ended = self.ended(begun, done, resumed, begun, resumed, done)
+        self.assertEqual(ended, [("fork", 10, 11), ("exit", 11, None)] * 2 + [("exit", 10, None)])
+
+    def test_a_grandchild_acts_and_ends_while_all_forks_are_under_way(self) -> None:
+        ended = self.ended(
+            f"10  {FORK} <unfinished ...>",
+            f"11  {FORK} <unfinished ...>",
+            "12  fchdir(3</w>) = 0",
+            "12  +++ exited with 0 +++",
+            "11  <... clone resumed>) = 12",
+            "11  +++ exited with 0 +++",
+            "10  <... clone resumed>) = 11",
+        )
+        self.assertEqual(
+            ended, [("fork", 10, 11), ("fork", 11, 12), ("exit", 12, None), ("exit", 11, None), ("exit", 10, None)]
+        )
+
+    def ended(self, *lines: str) -> list[tuple[object, ...]]:
+        """The forks and exits of a log that is whole, and in which nothing is left out."""
+        self.assertTrue(self.conversion(*lines, "+++ exited with 0 +++").ended)
+        self.assertEqual(self.unsaid(), [])
+        trace = [record for _, record in jsonl.numbered(self.out / "trace.jsonl")]
+        return told([record for record in trace if record["op"] in ("fork", "exit")], "op", "pid", "child")
+
+    def test_a_log_that_stops_while_a_fork_is_under_way_is_cut(self) -> None:
+        self.assertFalse(self.conversion(f"10  {FORK} <unfinished ...>", "11  +++ exited with 0 +++").ended)
 
     def test_a_core_file_may_be_refused(self) -> None:
         self.convert("fork() = 11", "11  +++ killed by SIGABRT (core dumped) +++")

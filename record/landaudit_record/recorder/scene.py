@@ -24,6 +24,7 @@ CLONE_THREAD = 0x10000
 #: What /proc has of each process is what it has of the one that looks (proc(5)).
 OWN_FILES = "/proc/self"
 NO_PATH = "a file without a path"
+SHARED_TABLE = "a descriptor table that two processes share"
 #: So it is where a process has no layer, and where the mode of what is asked for says so.
 BY_MODES = "EACCES by file modes, whatever a policy says"
 _OF_PROCESS = re.compile(r"/proc/(\d+)(?:/task/\d+)?/(fd/(\d+)|exe|cwd|root)")
@@ -251,14 +252,24 @@ class Scene:
 
     # Processes
 
-    def begin(self, birth: Birth, tid: int, call: Call) -> None:
+    def known(self, tid: int, line: int, text: str) -> Thread | None:
+        """A thread of which a line tells, be it that it ends; one that is met for the first time is begun by its fork.
+
+        None where the log tells of no such fork.
+        """
+        if tid not in self.threads and (birth := self.births.next(tid)) is not None:
+            self.begin(birth, tid, line, text)
+        return self.threads.get(tid)
+
+    def begin(self, birth: Birth, tid: int, line: int, text: str) -> None:
         """A thread that a fork makes, or a process with a copy of what its maker has.
 
-        A number that is used again says that its last thread has ended, if nothing else did.
+        A number that is used again says that its last thread has ended, if nothing else did. The maker may be met for
+        the first time here, since its own fork may be under way as well.
         """
         self.begun.add(birth.line)
-        self.end(tid, call.line)
-        maker = self.threads.get(birth.maker)
+        self.end(tid, line)
+        maker = self.known(birth.maker, line, text)
         if maker is None:
             return
         place = maker.place if birth.flags & CLONE_FS else replace(maker.place)
@@ -277,8 +288,8 @@ class Scene:
         self._join(Thread(tid, process, place, maker.layers))
         self.processes[tid] = process
         if birth.flags & CLONE_FILES:
-            self.leave_out(maker, call, "a descriptor table that two processes share", asks=True)
-        self.note(maker, call, "fork", child=tid)
+            self.recording.leave_out(SHARED_TABLE, line, maker.process.pid, text, asks=True)
+        self.recording.write("fork", maker.process.pid, line, child=tid)
 
     def _join(self, thread: Thread) -> None:
         self.threads[thread.tid] = thread

@@ -96,7 +96,7 @@ def _forked(scene: Scene, thread: Thread, call: Call) -> None:
         return
     birth = scene.births.next(call.value)
     if birth is not None:
-        scene.begin(birth, call.value, call)
+        scene.begin(birth, call.value, call.line, call.text)
 
 
 def _unshared(scene: Scene, thread: Thread, call: Call) -> None:
