@@ -190,6 +190,32 @@ class Ends(WrittenLogs):
         trace = [record for _, record in jsonl.numbered(self.out / "trace.jsonl")]
         return told([record for record in trace if record["op"] in ("fork", "exit")], "op", "pid", "child")
 
+    def test_a_thread_that_is_killed_makes_nobody_whom_no_line_tells_of(self) -> None:
+        begun, resumed = f"12  {THREAD.removesuffix(', 88)')} <unfinished ...>", "12  <... clone3 resumed> => {}, 88) = 230"
+        ended = self.ended(f"10  {THREAD} = 12", begun, resumed, "12  +++ exited with 0 +++")
+        self.assertEqual(ended, [("exit", 10, None)])
+        killed = "11  +++ killed by SIGKILL +++"
+        self.ended(f"10  {FORK}) = 11", "11  vfork( <unfinished ...>", "11  <... vfork resumed>) = 3", killed)
+
+    def test_a_leader_that_another_thread_supersedes_makes_nobody_whom_no_line_tells_of(self) -> None:
+        self.ended(
+            f"10  {THREAD} = 11",
+            "10  vfork( <unfinished ...>",
+            '11  execve("/w/p", ["p"], 0x1 /* 2 vars */ <pid changed to 10 ...>',
+            "10  <... vfork resumed>) = 60",
+            "10  +++ superseded by execve in pid 11 +++",
+            "10  <... execve resumed>) = 0",
+        )
+
+    def test_a_child_that_goes_on_after_its_maker_was_killed_is_one(self) -> None:
+        lines = (f"10  {FORK}) = 11", f"11  {FORK}) = 12", "11  +++ killed by SIGKILL +++", "12  fchdir(3</w>) = 0")
+        self.assertFalse(self.conversion(*lines, "+++ exited with 0 +++").ended)
+        self.ended(*lines, "12  +++ exited with 0 +++")
+
+    def test_a_call_that_a_killed_thread_did_not_make_is_no_hole(self) -> None:
+        for lines in (("11  ???( <unfinished ...>", "11  <... ??? resumed>) = ?"), ("11  ???() = ?",)):
+            self.ended(f"10  {THREAD} = 11", *lines, "11  +++ exited with 0 +++")
+
     def test_a_log_that_stops_while_a_fork_is_under_way_is_cut(self) -> None:
         self.assertFalse(self.conversion(f"10  {FORK} <unfinished ...>", "11  +++ exited with 0 +++").ended)
 

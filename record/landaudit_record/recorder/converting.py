@@ -40,7 +40,7 @@ def convert(folder: Path, ports: Ports, limits: Limits = LIMITS) -> Converted:
         if recording.records == 0:
             raise Problem(f"{log} has no call of a program: record it again")
         kept.keep(folder / OBJECTS)
-        return recording.finish(about.ended and not scene.threads, scene.further_names())
+        return recording.finish(about.ended and scene.have_ended(scene.threads), scene.further_names())
 
 
 def _take(scene: Scene, about: About, event: Event) -> None:
@@ -60,6 +60,7 @@ def _take_call(scene: Scene, about: About, call: Call) -> None:
     handler = HANDLERS.get(call.name)
     try:
         thread = scene.known(call.tid, call.line, call.text) or _started(scene, about, call)
+        thread.forked = None
         if handler is not None:
             with scene.recording.call():
                 handler(scene, thread, call)
@@ -85,7 +86,9 @@ def _started(scene: Scene, about: About, call: Call) -> Thread:
 def _take_end(scene: Scene, ended: Ended) -> None:
     """A thread's end, which may be all that the log tells of it before its fork has ended."""
     try:
-        scene.known(ended.tid, ended.line, "exit")
+        thread = scene.known(ended.tid, ended.line, "exit")
+        if thread is not None and (ended.killed or thread.process.threaded):
+            scene.doubt(thread)
         if ended.dumped and ended.tid in scene.processes:
             scene.recording.leave_out(CORE_FILE, ended.line, ended.tid, "core dumped", asks=True)
         scene.end(ended.tid, ended.line)
@@ -94,7 +97,9 @@ def _take_end(scene: Scene, ended: Ended) -> None:
 
 
 def _take_over(scene: Scene, event: Superseded) -> None:
-    """The thread that runs a program goes on under its leader's number."""
+    """The thread that runs a program goes on under its leader's number; the leader was killed."""
+    if (leader := scene.threads.get(event.tid)) is not None:
+        scene.doubt(leader)
     thread = scene.threads.pop(event.by, None)
     if thread is not None:
         thread.process.threads.discard(event.by)

@@ -3,6 +3,7 @@
 from __future__ import annotations
 
 import re
+from collections.abc import Iterable
 from contextlib import suppress
 from dataclasses import dataclass, replace
 from typing import Any
@@ -69,7 +70,8 @@ class Scene:
     """The state of a conversion.
 
     `asker` is as whom all processes ask for files, if file modes are known to count for them. `ruled` has each name on
-    which a record of the program puts a rule, with the object.
+    which a record of the program puts a rule, with the object. `unmet` are the threads of which the log has nothing yet
+    but the fork that made them, each with whether that fork's result is to be doubted.
     """
 
     def __init__(
@@ -91,6 +93,7 @@ class Scene:
         self.threads: dict[int, Thread] = {}
         self.processes: dict[int, Process] = {}
         self.begun: set[int] = set()
+        self.unmet: dict[int, bool] = {}
         self.ruled: list[tuple[str, Node]] = []
         self.handles: dict[str, str] = {}
         self._walked: set[tuple[str, str, str]] = set()
@@ -257,6 +260,7 @@ class Scene:
 
         None where the log tells of no such fork.
         """
+        self.unmet.pop(tid, None)
         if tid not in self.threads and (birth := self.births.next(tid)) is not None:
             self.begin(birth, tid, line, text)
         return self.threads.get(tid)
@@ -291,9 +295,19 @@ class Scene:
             self.recording.leave_out(SHARED_TABLE, line, maker.process.pid, text, asks=True)
         self.recording.write("fork", maker.process.pid, line, child=tid)
 
+    def doubt(self, maker: Thread) -> None:
+        """Doubts the result of a fork behind which its thread was killed: strace may show what it read elsewhere."""
+        if maker.forked in self.unmet:
+            self.unmet[maker.forked] = True
+
+    def have_ended(self, threads: Iterable[int]) -> bool:
+        """Whether none is left of what were threads, as far as the log is to be believed."""
+        return all(self.unmet.get(tid, False) for tid in threads)
+
     def _join(self, thread: Thread) -> None:
         self.threads[thread.tid] = thread
         thread.process.threads.add(thread.tid)
+        thread.process.threaded = thread.process.threaded or len(thread.process.threads) > 1
         own = f"/proc/{thread.process.pid}"
         if len(thread.process.threads) == 1:
             self.names.put(own, Node("dir", origin=OWN_FILES))
@@ -310,11 +324,12 @@ class Scene:
         thread = self.threads.pop(tid, None)
         if thread is None:
             return
-        thread.process.threads.discard(tid)
-        if not thread.process.threads and self.processes.get(thread.process.pid) is thread.process:
-            del self.processes[thread.process.pid]
-            self.names.put(f"/proc/{thread.process.pid}", None)
-            self.recording.write("exit", thread.process.pid, line)
+        process = thread.process
+        process.threads.discard(tid)
+        if self.have_ended(process.threads) and self.processes.get(process.pid) is process:
+            del self.processes[process.pid]
+            self.names.put(f"/proc/{process.pid}", None)
+            self.recording.write("exit", process.pid, line)
 
 
 def _is_foreign(of: Descriptor) -> bool:

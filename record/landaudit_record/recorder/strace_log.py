@@ -34,7 +34,9 @@ _NO_END = ") = ?"
 _DONE = ") = 0"
 
 _LINE = re.compile(r"(\d+) +(.*)")
-_NO_CALL = ("+++ ", "--- ", "<... ")
+#: What strace writes of a call that a thread was to make which was killed first: it learns not even which call.
+_NOT_MADE = ("???(", "<... ???")
+_NO_CALL = ("+++ ", "--- ", "<... ", "???(")
 _RESUMED = re.compile(r"<\.\.\. (\w+) resumed>")
 _NAME = re.compile(r"(\w+)\(")
 _RESULT = r"\)\s*= (-?\d+|0x[0-9a-f]+|\?)(.*)"
@@ -102,11 +104,15 @@ class Call:
 
 @dataclass(slots=True)
 class Ended:
-    """A thread that ended; `dumped` says that its process left a core file, or was to leave one (core(5))."""
+    """A thread that ended; `dumped` says that its process left a core file, or was to leave one (core(5)).
+
+    `killed` says that SIGKILL ended it, which no process can see coming.
+    """
 
     line: int
     tid: int
     dumped: bool = False
+    killed: bool = False
 
 
 @dataclass(slots=True)
@@ -262,7 +268,7 @@ class _Reader:
             return _call(number, tid, text)
         if text.startswith("+++ "):
             return self._end(number, tid, text)
-        if text.startswith("--- "):
+        if text.startswith("--- ") or text.startswith(_NOT_MADE):
             return None
         resumed = _RESUMED.match(text)
         return _call(number, tid, text) if resumed is None else self._resumes(number, tid, text, resumed)
@@ -298,7 +304,7 @@ class _Reader:
         superseded = _SUPERSEDED.search(text)
         if superseded is None:
             self._begun.pop(tid, None)
-            return Ended(number, tid, "(core dumped)" in text)
+            return Ended(number, tid, "(core dumped)" in text, "killed by SIGKILL" in text)
         by = int(superseded[1])
         if by in self._begun:
             self._begun[tid] = self._begun.pop(by)

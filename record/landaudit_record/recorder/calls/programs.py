@@ -97,6 +97,8 @@ def _forked(scene: Scene, thread: Thread, call: Call) -> None:
     birth = scene.births.next(call.value)
     if birth is not None:
         scene.begin(birth, call.value, call.line, call.text)
+        scene.unmet[call.value] = False
+        thread.forked = call.value
 
 
 def _unshared(scene: Scene, thread: Thread, call: Call) -> None:
