@@ -108,7 +108,8 @@ class Moments(WrittenLogs):
         self.assertEqual({record["pid"] for record in trace}, {10})
         runs = [record for record in trace if record["op"] == "exec"]
         self.assertEqual(told(runs, "path", "kernel"), [("/nothere~new~", "ENOENT"), ("/w/p", "ok")])
-        self.assertEqual(told(trace[-4:], "op", "fd"), [("close", 1_000_002), ("close", 3), ("open", 3), ("exit", None)])
+        last = [("close", 1_000_002), ("close", 3), ("open", 3), ("exit", None)]
+        self.assertEqual(told(trace[-4:], "op", "fd"), last)
         self.assertEqual(self.unsaid(), [])
 
 
@@ -165,7 +166,8 @@ class Ends(WrittenLogs):
         self.assertEqual(ended, [("exit", 10, None)])
 
     def test_a_number_that_is_used_again_is_of_two_children(self) -> None:
-        begun, done, resumed = f"10  {FORK} <unfinished ...>", "11  +++ exited with 0 +++", "10  <... clone resumed>) = 11"
+        begun, resumed = f"10  {FORK} <unfinished ...>", "10  <... clone resumed>) = 11"
+        done = "11  +++ exited with 0 +++"
         ended = self.ended(begun, done, resumed, begun, resumed, done)
         self.assertEqual(ended, [("fork", 10, 11), ("exit", 11, None)] * 2 + [("exit", 10, None)])
 
@@ -191,7 +193,8 @@ class Ends(WrittenLogs):
         return told([record for record in trace if record["op"] in ("fork", "exit")], "op", "pid", "child")
 
     def test_a_thread_that_is_killed_makes_nobody_whom_no_line_tells_of(self) -> None:
-        begun, resumed = f"12  {THREAD.removesuffix(', 88)')} <unfinished ...>", "12  <... clone3 resumed> => {}, 88) = 230"
+        begun = f"12  {THREAD.removesuffix(', 88)')} <unfinished ...>"
+        resumed = "12  <... clone3 resumed> => {}, 88) = 230"
         ended = self.ended(f"10  {THREAD} = 12", begun, resumed, "12  +++ exited with 0 +++")
         self.assertEqual(ended, [("exit", 10, None)])
         killed = "11  +++ killed by SIGKILL +++"
