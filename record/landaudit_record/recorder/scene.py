@@ -63,7 +63,8 @@ class Spot:
     @property
     def shown(self) -> str | None:
         """The real path, where the text in the trace is another."""
-        return self.real if self.real != self.path else None
+        text = self._text if self._text is not None else self.path
+        return self.real if self.real != text else None
 
 
 class Scene:
@@ -71,7 +72,8 @@ class Scene:
 
     `asker` is as whom all processes ask for files, if file modes are known to count for them. `ruled` has each name on
     which a record of the program puts a rule, with the object. `unmet` are the threads of which the log has nothing yet
-    but the fork that made them, each with whether that fork's result is to be doubted.
+    but the fork that made them, each with whether that fork's result is to be doubted. `placeless` says whether there
+    was a descriptor that is in a mount without a place.
     """
 
     def __init__(
@@ -94,6 +96,7 @@ class Scene:
         self.processes: dict[int, Process] = {}
         self.begun: set[int] = set()
         self.unmet: dict[int, bool] = {}
+        self.placeless = False
         self.ruled: list[tuple[str, Node]] = []
         self.handles: dict[str, str] = {}
         self._walked: set[tuple[str, str, str]] = set()
@@ -102,20 +105,21 @@ class Scene:
 
     def say(self, thread: Thread, call: Call, op: str, **members: Any) -> None:
         """Writes a record of something that Landlock judges, with what the kernel answered."""
-        if thread.layers < len(thread.process.restricted):
+        process, error = thread.process, call.error
+        if thread.layers < len(process.restricted):
             raise CannotSay("a call of a thread with fewer layers than its process")
-        if call.error == "EACCES" and (not thread.process.confined or self._modes_refuse(call, op, members)):
+        if error == "EACCES" and (not process.confined or self._modes_refuse(call, op, members)):
             raise NotAsked(BY_MODES)
-        self.note(thread, call, op, call.error or "ok", **members)
+        self.recording.add(op, process.pid, call.line, error or "ok", members)
 
     def _modes_refuse(self, call: Call, op: str, members: dict[str, Any]) -> bool:
         """Whether file modes refuse a call, as far as they are known."""
         runs = call.name in ("execve", "execveat")
         return self.asker is not None and modes.refuse(self.asker, self.disk.mode, op, members, runs)
 
-    def note(self, thread: Thread, call: Call, op: str, kernel: str | None = None, **members: Any) -> None:
+    def note(self, thread: Thread, call: Call, op: str, **members: Any) -> None:
         """Writes a record that only keeps the books, where the kernel's answer is not said."""
-        self.recording.write(op, thread.process.pid, call.line, kernel, **members)
+        self.recording.add(op, thread.process.pid, call.line, None, members)
 
     def leave_out(self, thread: Thread, call: Call, reason: str, *, asks: bool = False) -> None:
         """Counts something about a call that trace and tree can't hold; `asks` as `Recording.leave_out` has it."""
@@ -260,10 +264,13 @@ class Scene:
 
         None where the log tells of no such fork.
         """
-        self.unmet.pop(tid, None)
-        if tid not in self.threads and (birth := self.births.next(tid)) is not None:
+        thread = self.threads.get(tid)
+        if thread is None and (birth := self.births.next(tid)) is not None:
             self.begin(birth, tid, line, text)
-        return self.threads.get(tid)
+            thread = self.threads.get(tid)
+        if self.unmet:
+            self.unmet.pop(tid, None)
+        return thread
 
     def begin(self, birth: Birth, tid: int, line: int, text: str) -> None:
         """A thread that a fork makes, or a process with a copy of what its maker has.
@@ -342,7 +349,7 @@ def _is_foreign(of: Descriptor) -> bool:
     return of.behind is not None and of.behind.startswith("socket:")
 
 
-@dataclass(frozen=True)
+@dataclass(slots=True)
 class ThreadLinks:
     """Links as a thread meets them."""
 

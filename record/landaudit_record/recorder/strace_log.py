@@ -26,6 +26,7 @@ from ..problems import Problem
 
 #: Calls that take effect where they begin: they free numbers, or look up what a number stands for.
 AT_BEGINNING = frozenset({"close", "close_range", "ftruncate", "ioctl"})
+_BEGINNINGS = tuple(f"{name}(" for name in sorted(AT_BEGINNING))
 #: How the first half of a call ends; the second where a thread that is not the leader runs a program.
 UNFINISHED = " <unfinished ...>"
 _PID_CHANGED = re.compile(r" <pid changed to \d+ \.\.\.>$")
@@ -33,10 +34,10 @@ _PID_CHANGED = re.compile(r" <pid changed to \d+ \.\.\.>$")
 _NO_END = ") = ?"
 _DONE = ") = 0"
 
-_LINE = re.compile(r"(\d+) +(.*)")
 #: What strace writes of a call that a thread was to make which was killed first: it learns not even which call.
 _NOT_MADE = ("???(", "<... ???")
-_NO_CALL = ("+++ ", "--- ", "<... ", "???(")
+#: The first letters of what is no call: the end of a thread, a signal, the second half of a call, and the above.
+_NO_CALL = frozenset("+-<?")
 _RESUMED = re.compile(r"<\.\.\. (\w+) resumed>")
 _NAME = re.compile(r"(\w+)\(")
 _RESULT = r"\)\s*= (-?\d+|0x[0-9a-f]+|\?)(.*)"
@@ -184,8 +185,10 @@ def births(path: Path) -> Births:
         for number, line in enumerate(lines, start=1):
             if "clone" in line or "fork" in line:
                 forks.read(number, line)
-            if line.endswith("...>\n") or "resumed>" in line:
-                ends.read(number, line)
+            if line[-5:] == "...>\n":
+                ends.begin(number, line)
+            elif "resumed>" in line:
+                ends.end(line)
     return found
 
 
@@ -196,11 +199,14 @@ class _Ends:
         self._found = found
         self._begun: dict[str, int] = {}
 
-    def read(self, number: int, line: str) -> None:
-        """Takes up a line, if such a call begins or ends on it."""
+    def begin(self, number: int, line: str) -> None:
+        """Takes up a first half, if it is that of such a call."""
         if begins := _BEGINS.match(line):
             self._begun[begins[1]] = number
-        elif ends := _ENDS.match(line):
+
+    def end(self, line: str) -> None:
+        """Takes up a second half, if it is that of such a call."""
+        if ends := _ENDS.match(line):
             first = self._begun.pop(ends[1], None)
             if first is not None:
                 self._found.ends[first] = sys.intern(ends[2])
@@ -238,13 +244,14 @@ def _clone_flags(line: str) -> int:
 def events(path: Path, ends: Mapping[int, str] | None = None) -> Iterator[Event]:
     """What a log says, in the order in which the calls took effect; `ends` is what `births` found."""
     reader = _Reader(ends or {})
+    read = reader.read
     with open_log(path) as lines:
         for number, line in enumerate(lines, start=1):
-            match = _LINE.match(line)
-            if match is None:
+            tid, space, text = line.removesuffix("\n").partition(" ")
+            if not space or not tid.isdecimal():
                 yield Unread(number, 0, line.rstrip("\n"))
                 continue
-            event = reader.read(number, int(match[1]), match[2])
+            event = read(number, int(tid), text.lstrip(" "))
             if event is not None:
                 yield event
 
@@ -260,11 +267,13 @@ class _Reader:
 
     def read(self, number: int, tid: int, text: str) -> Event | None:
         """What a line tells, if it tells something by itself."""
-        if text.endswith("...>"):
-            first = _PID_CHANGED.sub("", text.removesuffix(UNFINISHED))
+        if text[-4:] == "...>":
+            first = text.removesuffix(UNFINISHED)
+            if first is text:
+                first = _PID_CHANGED.sub("", text)
             if first != text:
                 return self._begins(number, tid, first)
-        if not text.startswith(_NO_CALL):
+        if text[:1] not in _NO_CALL:
             return _call(number, tid, text)
         if text.startswith("+++ "):
             return self._end(number, tid, text)
@@ -275,9 +284,10 @@ class _Reader:
 
     def _begins(self, number: int, tid: int, text: str) -> Event | None:
         """The first half of a call: the whole call, if it takes effect here."""
-        name = _NAME.match(text)
-        end = self._ends.get(number, _NO_END if name is not None and name[1] == "close" else None)
-        if name is None or name[1] not in AT_BEGINNING or end is None:
+        end = None
+        if text.startswith(_BEGINNINGS):
+            end = self._ends.get(number, _NO_END if text.startswith("close(") else None)
+        if end is None:
             self._begun[tid] = number, text
             return None
         self._told.add(tid)
