@@ -20,6 +20,8 @@ from .writing import LIMITS, Limits, Recording, Tree
 
 CORE_FILE = "a core file that the kernel was to write"
 NOT_SEEN_TO_START = "a process whose start was not seen"
+#: After how many lines it is looked whether progress is to be shown.
+LINES_APART = 64
 
 
 def convert(folder: Path, ports: Ports, limits: Limits = LIMITS) -> Converted:
@@ -34,7 +36,8 @@ def convert(folder: Path, ports: Ports, limits: Limits = LIMITS) -> Converted:
         for event in strace_log.events(log, births.ends):
             _take(scene, about, event)
             recording.commit()
-            progress.show(recording.records)
+            if event.line % LINES_APART == 0:
+                progress.show(recording.records)
         if recording.unsaid[NOT_UNDERSTOOD] > recording.records:
             raise Problem(f"{log} is no log that 'landaudit-record run' wrote: record the program by it")
         if recording.records == 0:

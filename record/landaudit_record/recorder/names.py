@@ -114,7 +114,8 @@ class Names:
     `whiteouts` is the kind of object as which the kernel guards whiteouts (docs/SEMANTICS.md).
 
     Programs name the same directories over and over. So it is kept where paths of directories led, `_walked` by root,
-    starting point and text, `_reached` by real path, until a directory or a link on the way may be another.
+    starting point and text, `_reached` by real path, until a directory or a link on the way may be another, or one of
+    the names `_breaks` at which ways broke off.
     """
 
     def __init__(self, disk: Disk, before: dict[str, Seen], watched: list[str], whiteouts: str = "char") -> None:
@@ -125,7 +126,8 @@ class Names:
         self._linked: dict[str, Node] = {}
         self.root = Node("dir", origin="", start="", first="/")
         self._starts: dict[str, Node | None] = {"/": self.root}
-        self._walked: dict[_Way, tuple[list[str], Node]] = {}
+        self._walked: dict[_Way, Found] = {}
+        self._breaks: set[str] = set()
         self._reached: dict[str, Node] = {"": self.root}
         self.turns = 0
 
@@ -214,6 +216,7 @@ class Names:
     def _forget_ways(self) -> None:
         """Forgets where paths led."""
         self._walked.clear()
+        self._breaks.clear()
         self._reached = {"": self.root}
 
     def ensure(self, path: str, kind: str) -> Node:
@@ -257,7 +260,8 @@ class Names:
         Directories of /proc, which come and go with the processes, are on no way that is kept.
         """
         before = directory.children.get(name)
-        if before is not None and before.kind in _ON_WAYS and not self._is_proc(directory):
+        is_on_way = before is not None and before.kind in _ON_WAYS and not self._is_proc(directory)
+        if is_on_way or name in self._breaks:
             self._forget_ways()
         directory.children[name] = node
         if node is not None:
@@ -316,16 +320,23 @@ class Names:
         if name in _NO_NAMES or name == "..":
             return _Walk(self, root, directory, path, follow, links).found()
         way = (root, "" if path.startswith("/") else directory, over)
-        if way in self._walked:
-            here, node = self._walked[way]
-            child = self.child(node, name)
-            if child is None or not follow or child.kind != "sym":
-                return Found([*here, name], child, len(here) if child is None else None)
-        return _Walk(self, root, directory, path, follow, links, way).found()
+        led = self._walked.get(way)
+        if led is None:
+            return _Walk(self, root, directory, path, follow, links, way).found()
+        if led.node is None:
+            return Found([*led.names, name], None, led.broken)
+        child = self.child(led.node, name)
+        if child is None:
+            return Found([*led.names, name], None, len(led.names))
+        if follow and child.kind == "sym":
+            return _Walk(self, root, directory, path, follow, links).found()
+        return Found([*led.names, name], child)
 
-    def keep_way(self, way: "_Way", here: list[str], node: Node) -> None:
-        """Keeps where the path of a directory led."""
-        self._walked[way] = here, node
+    def keep_way(self, way: "_Way", led: Found) -> None:
+        """Keeps where the path of a directory led; where it broke off, until anything changes at that place."""
+        self._walked[way] = led
+        if led.broken is not None:
+            self._breaks.update(led.names[max(led.broken - 1, 0) : led.broken + 1])
 
 
 #: The root, the directory where a path begins that does not begin at the root, and the path of a directory.
@@ -353,26 +364,29 @@ class _Walk:
         """Where the path leads."""
         while self._left:
             if self._keeps and len(self._left) == 1:
-                self._keep_way()
+                self._keep_way(list(self._here))
             name = self._left.pop()
             if name == "..":
                 self._keeps = self._keeps and self._is_in_directory()
                 self._go_to(self._here[: max(len(self._here) - 1, len(self._top))])
             elif self._node is None or self._node.kind != "dir" or not self._step(self._node, name):
-                return Found([*self._here, name, *reversed(self._left)], None, len(self._here))
+                names = [*self._here, name, *reversed(self._left)]
+                if self._keeps:
+                    self._keep_way(names[:-1], len(self._here))
+                return Found(names, None, len(self._here))
         return Found(self._here, self._node, None if self._node is not None else max(len(self._here) - 1, 0))
 
     def _is_in_directory(self) -> bool:
         return self._node is not None and self._node.kind == "dir"
 
-    def _keep_way(self) -> None:
-        """Keeps where the directory's path led, now that nothing but the last name is left.
+    def _keep_way(self, names: list[str], broken: int | None = None) -> None:
+        """Keeps where the directory's path led or broke off.
 
         A way through /proc, whose links are others for others, is not kept.
         """
         self._keeps = False
-        if self._way is not None and self._node is not None and self._is_in_directory() and self._here[:1] != PROC:
-            self._names.keep_way(self._way, list(self._here), self._node)
+        if self._way is not None and names[:1] != PROC and (broken is not None or self._is_in_directory()):
+            self._names.keep_way(self._way, Found(names, None if broken is not None else self._node, broken))
 
     def _step(self, directory: Node, name: str) -> bool:
         """Goes to a name in the directory, or where it leads as a link; false where there is nothing to go to."""

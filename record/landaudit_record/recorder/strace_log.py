@@ -18,7 +18,7 @@ from collections.abc import Iterator, Mapping
 from dataclasses import dataclass, field
 from functools import lru_cache
 from pathlib import Path
-from typing import NamedTuple, SupportsIndex, TextIO, overload
+from typing import SupportsIndex, TextIO, overload
 
 from . import values
 from .unsaid import NotUnderstood
@@ -324,17 +324,14 @@ class _Reader:
 
 def _call(number: int, tid: int, text: str) -> Event:
     said = _said(text)
-    return Unread(number, tid, text) if said is None else Call(number, tid, *said, text)
+    if said is None:
+        return Unread(number, tid, text)
+    name, arguments, value, error, note = said
+    return Call(number, tid, name, arguments, value, error, note, text)
 
 
-class _Said(NamedTuple):
-    """What the text of a call says, as `Call` has it."""
-
-    name: str
-    arguments: Arguments
-    value: int | None
-    error: str | None
-    note: str
+#: What the text of a call says, as `Call` has it: name, arguments, value, error and note.
+_Said = tuple[str, Arguments, int | None, str | None, str]
 
 
 @lru_cache(values.KEPT)
@@ -351,7 +348,7 @@ def _said(text: str) -> _Said | None:
     ours = _IN_OUR_NAMESPACE.match(note)
     error = _ERROR.match(note) if value is None or value == -1 else None
     value = int(ours[1]) if ours is not None else value
-    return _Said(name, Arguments(arguments), value, error[1] if error is not None else None, note)
+    return name, Arguments(arguments), value, error[1] if error is not None else None, note
 
 
 def _parts(text: str) -> tuple[str, list[str], str, str] | None:

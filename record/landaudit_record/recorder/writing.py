@@ -9,6 +9,7 @@ import tempfile
 from collections import Counter
 from collections.abc import Container, Mapping, Sequence
 from dataclasses import dataclass
+from functools import lru_cache
 from pathlib import Path
 from types import TracebackType
 from typing import Any, Self
@@ -21,6 +22,7 @@ from .names import Names, Node, join
 from .processes import FIRST_MADE_UP
 from .unsaid import CannotSay as CannotSay
 from .unsaid import NotUnderstood
+from .values import KEPT
 
 MOST_RECORDS = 1_000_000
 MOST_PROCESSES = 65_536
@@ -196,7 +198,7 @@ class Limits:
 
 
 LIMITS = Limits()
-_value = jsonl.value
+_value, _text = jsonl.value, jsonl.text
 #: A call has far less records: so many are kept free for the last one of a part.
 MOST_OF_A_CALL = 2_000
 _ADDS = b'{"op":"add_path"'
@@ -251,7 +253,9 @@ class Recording:
         """Adds a record as `write` does, from members that nobody changes afterwards."""
         line = f'{{"op":"{op}","pid":{pid}'
         for name, value in members.items():
-            if type(value) is int:
+            if type(value) is str:
+                line += f',"{name}":{_text(value)}'
+            elif type(value) is int:
                 line += f',"{name}":{value}'
             elif value is not None and value is not False:
                 line += f',"{name}":{_value(value)}'
@@ -431,6 +435,7 @@ def _is_utf8(text: str) -> bool:
     return text.isascii() or not any("\ud800" <= letter <= "\udfff" for letter in text)
 
 
+@lru_cache(KEPT)
 def checked_path(path: str) -> str:
     """A path that landaudit reads (docs/FORMATS.md, "Paths")."""
     try:
