@@ -14,8 +14,8 @@ Record = dict[str, Any]
 
 _encode = json.JSONEncoder(ensure_ascii=False, separators=(",", ":")).encode
 _encode_escaped = json.JSONEncoder(separators=(",", ":")).encode
-#: Records repeat their texts: this many different ones are kept as they are written.
-_encode_text = lru_cache(16_384)(_encode)
+#: A text as JSON. Records repeat their texts: this many different ones are kept as they are written.
+text = lru_cache(16_384)(_encode)
 
 
 def numbered(path: Path) -> Iterator[tuple[int, Record]]:
@@ -43,7 +43,7 @@ def read(path: Path, number: int, line: bytes) -> Record:
 def value(of: Any) -> str:
     """A value as JSON: a text, a number or a flag, as most members are, without setting up an encoder for it."""
     if isinstance(of, str):
-        return _encode_text(of)
+        return text(of)
     if of is True:
         return "true"
     return str(of) if type(of) is int else _encode(of)

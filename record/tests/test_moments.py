@@ -4,10 +4,13 @@ from __future__ import annotations
 
 import unittest
 
+from landaudit_record import jsonl
+
 from .written_logs import CWD, THREAD, WrittenLogs, told
 
 OPENED = f'openat({CWD}, "f", 0 /* O_RDONLY */) = 3</w/f>'
 MADE = f"10  {THREAD} = 11"
+FORK = "clone(child_stack=NULL, flags=0x1200000 /* CLONE_CHILD_CLEARTID|CLONE_CHILD_SETTID */|17 /* SIGCHLD */"
 
 
 class Moments(WrittenLogs):
@@ -105,7 +108,8 @@ class Moments(WrittenLogs):
         self.assertEqual({record["pid"] for record in trace}, {10})
         runs = [record for record in trace if record["op"] == "exec"]
         self.assertEqual(told(runs, "path", "kernel"), [("/nothere~new~", "ENOENT"), ("/w/p", "ok")])
-        self.assertEqual(told(trace[-4:], "op", "fd"), [("close", 1_000_002), ("close", 3), ("open", 3), ("exit", None)])
+        last = [("close", 1_000_002), ("close", 3), ("open", 3), ("exit", None)]
+        self.assertEqual(told(trace[-4:], "op", "fd"), last)
         self.assertEqual(self.unsaid(), [])
 
 
@@ -136,6 +140,87 @@ class Ends(WrittenLogs):
 
     def test_a_log_in_which_a_process_goes_on_is_cut(self) -> None:
         self.assertFalse(self.conversion("fork() = 11", "+++ exited with 0 +++").ended)
+
+    def test_a_child_that_ends_before_its_fork_has_ended_without_a_call(self) -> None:
+        for fork in ("vfork( <unfinished ...>", f"{FORK} <unfinished ...>"):
+            ended = self.ended(f"10  {fork}", "11  +++ exited with 0 +++", f"10  <... {fork[:5]} resumed>) = 11")
+            self.assertEqual(ended, [("fork", 10, 11), ("exit", 11, None), ("exit", 10, None)])
+
+    def test_a_child_whose_end_stands_before_the_line_of_its_fork(self) -> None:
+        ended = self.ended("11  +++ exited with 0 +++", f"10  {FORK}) = 11")
+        self.assertEqual(ended, [("fork", 10, 11), ("exit", 11, None), ("exit", 10, None)])
+
+    def test_a_child_that_acts_and_ends_before_its_fork_has_ended(self) -> None:
+        ended = self.ended(
+            f"10  {FORK} <unfinished ...>",
+            "11  fchdir(3</w>) = 0",
+            "11  +++ exited with 0 +++",
+            "10  <... clone resumed>) = 11",
+        )
+        self.assertEqual(ended, [("fork", 10, 11), ("exit", 11, None), ("exit", 10, None)])
+
+    def test_a_thread_that_ends_before_its_clone_has_ended(self) -> None:
+        begun = f"10  {THREAD.removesuffix(', 88)')} <unfinished ...>"
+        resumed = "10  <... clone3 resumed> => {parent_tid=[11]}, 88) = 11"
+        ended = self.ended(begun, "11  +++ exited with 0 +++", resumed)
+        self.assertEqual(ended, [("exit", 10, None)])
+
+    def test_a_number_that_is_used_again_is_of_two_children(self) -> None:
+        begun, resumed = f"10  {FORK} <unfinished ...>", "10  <... clone resumed>) = 11"
+        done = "11  +++ exited with 0 +++"
+        ended = self.ended(begun, done, resumed, begun, resumed, done)
+        self.assertEqual(ended, [("fork", 10, 11), ("exit", 11, None)] * 2 + [("exit", 10, None)])
+
+    def test_a_grandchild_acts_and_ends_while_all_forks_are_under_way(self) -> None:
+        ended = self.ended(
+            f"10  {FORK} <unfinished ...>",
+            f"11  {FORK} <unfinished ...>",
+            "12  fchdir(3</w>) = 0",
+            "12  +++ exited with 0 +++",
+            "11  <... clone resumed>) = 12",
+            "11  +++ exited with 0 +++",
+            "10  <... clone resumed>) = 11",
+        )
+        self.assertEqual(
+            ended, [("fork", 10, 11), ("fork", 11, 12), ("exit", 12, None), ("exit", 11, None), ("exit", 10, None)]
+        )
+
+    def ended(self, *lines: str) -> list[tuple[object, ...]]:
+        """The forks and exits of a log that is whole, and in which nothing is left out."""
+        self.assertTrue(self.conversion(*lines, "+++ exited with 0 +++").ended)
+        self.assertEqual(self.unsaid(), [])
+        trace = [record for _, record in jsonl.numbered(self.out / "trace.jsonl")]
+        return told([record for record in trace if record["op"] in ("fork", "exit")], "op", "pid", "child")
+
+    def test_a_thread_that_is_killed_makes_nobody_whom_no_line_tells_of(self) -> None:
+        begun = f"12  {THREAD.removesuffix(', 88)')} <unfinished ...>"
+        resumed = "12  <... clone3 resumed> => {}, 88) = 230"
+        ended = self.ended(f"10  {THREAD} = 12", begun, resumed, "12  +++ exited with 0 +++")
+        self.assertEqual(ended, [("exit", 10, None)])
+        killed = "11  +++ killed by SIGKILL +++"
+        self.ended(f"10  {FORK}) = 11", "11  vfork( <unfinished ...>", "11  <... vfork resumed>) = 3", killed)
+
+    def test_a_leader_that_another_thread_supersedes_makes_nobody_whom_no_line_tells_of(self) -> None:
+        self.ended(
+            f"10  {THREAD} = 11",
+            "10  vfork( <unfinished ...>",
+            '11  execve("/w/p", ["p"], 0x1 /* 2 vars */ <pid changed to 10 ...>',
+            "10  <... vfork resumed>) = 60",
+            "10  +++ superseded by execve in pid 11 +++",
+            "10  <... execve resumed>) = 0",
+        )
+
+    def test_a_child_that_goes_on_after_its_maker_was_killed_is_one(self) -> None:
+        lines = (f"10  {FORK}) = 11", f"11  {FORK}) = 12", "11  +++ killed by SIGKILL +++", "12  fchdir(3</w>) = 0")
+        self.assertFalse(self.conversion(*lines, "+++ exited with 0 +++").ended)
+        self.ended(*lines, "12  +++ exited with 0 +++")
+
+    def test_a_call_that_a_killed_thread_did_not_make_is_no_hole(self) -> None:
+        for lines in (("11  ???( <unfinished ...>", "11  <... ??? resumed>) = ?"), ("11  ???() = ?",)):
+            self.ended(f"10  {THREAD} = 11", *lines, "11  +++ exited with 0 +++")
+
+    def test_a_log_that_stops_while_a_fork_is_under_way_is_cut(self) -> None:
+        self.assertFalse(self.conversion(f"10  {FORK} <unfinished ...>", "11  +++ exited with 0 +++").ended)
 
     def test_a_core_file_may_be_refused(self) -> None:
         self.convert("fork() = 11", "11  +++ killed by SIGABRT (core dumped) +++")

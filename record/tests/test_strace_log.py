@@ -84,7 +84,7 @@ class Lines(unittest.TestCase):
         close, end = read("1  close(3</a> <unfinished ...>", "1  +++ killed by SIGKILL +++")
         assert isinstance(close, Call)
         self.assertEqual((close.name, close.value, close.error), ("close", None, None))
-        self.assertEqual(end, Ended(2, 1))
+        self.assertEqual(end, Ended(2, 1, killed=True))
 
     def test_what_looks_up_a_number_does_so_where_it_begins_and_has_its_end_beside(self) -> None:
         cut, close = read(
@@ -102,7 +102,8 @@ class Lines(unittest.TestCase):
         self.assertFalse(call.ok)
 
     def test_ends_of_threads(self) -> None:
-        self.assertEqual(read("7  +++ exited with 1 +++", "8  +++ killed by SIGKILL +++"), [Ended(1, 7), Ended(2, 8)])
+        ends = read("7  +++ exited with 1 +++", "8  +++ killed by SIGKILL +++")
+        self.assertEqual(ends, [Ended(1, 7), Ended(2, 8, killed=True)])
 
     def test_a_thread_that_runs_a_program_takes_its_leaders_number(self) -> None:
         taken, call = read(

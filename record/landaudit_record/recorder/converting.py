@@ -14,12 +14,14 @@ from .processes import Handle, Place, Process, Thread
 from .progress import Progress
 from .recordings import OBJECTS, About, read_about, read_before
 from .scene import Scene
-from .strace_log import Birth, Call, Ended, Event, Superseded, Unread
+from .strace_log import Call, Ended, Event, Superseded, Unread
 from .unsaid import NOT_UNDERSTOOD, CannotSay
 from .writing import LIMITS, Limits, Recording, Tree
 
 CORE_FILE = "a core file that the kernel was to write"
 NOT_SEEN_TO_START = "a process whose start was not seen"
+#: After how many lines it is looked whether progress is to be shown.
+LINES_APART = 64
 
 
 def convert(folder: Path, ports: Ports, limits: Limits = LIMITS) -> Converted:
@@ -34,13 +36,14 @@ def convert(folder: Path, ports: Ports, limits: Limits = LIMITS) -> Converted:
         for event in strace_log.events(log, births.ends):
             _take(scene, about, event)
             recording.commit()
-            progress.show(recording.records)
+            if event.line % LINES_APART == 0:
+                progress.show(recording.records)
         if recording.unsaid[NOT_UNDERSTOOD] > recording.records:
             raise Problem(f"{log} is no log that 'landaudit-record run' wrote: record the program by it")
         if recording.records == 0:
             raise Problem(f"{log} has no call of a program: record it again")
         kept.keep(folder / OBJECTS)
-        return recording.finish(about.ended and not scene.threads, scene.further_names())
+        return recording.finish(about.ended and scene.have_ended(scene.threads), scene.further_names())
 
 
 def _take(scene: Scene, about: About, event: Event) -> None:
@@ -59,7 +62,8 @@ def _take_call(scene: Scene, about: About, call: Call) -> None:
     """A call, whose records are written whole or not at all."""
     handler = HANDLERS.get(call.name)
     try:
-        thread = scene.threads.get(call.tid) or _new_thread(scene, about, call)
+        thread = scene.known(call.tid, call.line, call.text) or _started(scene, about, call)
+        thread.forked = None
         if handler is not None:
             with scene.recording.call():
                 handler(scene, thread, call)
@@ -67,17 +71,8 @@ def _take_call(scene: Scene, about: About, call: Call) -> None:
         scene.recording.leave_out(str(reason), call.line, call.tid, call.text, asks=reason.asks)
 
 
-def _new_thread(scene: Scene, about: About, call: Call) -> Thread:
-    """A thread that is met for the first time: by its fork, or as the process that the recording starts with."""
-    birth: Birth | None = scene.births.next(call.tid)
-    if birth is not None:
-        scene.begin(birth, call.tid, call)
-    if call.tid not in scene.threads:
-        _start(scene, about, call)
-    return scene.threads[call.tid]
-
-
-def _start(scene: Scene, about: About, call: Call) -> None:
+def _started(scene: Scene, about: About, call: Call) -> Thread:
+    """A thread that no fork made: of the process that the recording starts with, or of one whose start was not seen."""
     process = Process(call.tid)
     thread = Thread(call.tid, process, Place("/", about.directory))
     if scene.recording.records:
@@ -88,19 +83,26 @@ def _start(scene: Scene, about: About, call: Call) -> None:
         handle = Handle(known["path"], adopted=known["kind"] or "other")
         process.table[int(number)] = handle
         scene.adopt(thread, call, int(number), handle)
+    return thread
 
 
 def _take_end(scene: Scene, ended: Ended) -> None:
-    if ended.dumped and ended.tid in scene.processes:
-        scene.recording.leave_out(CORE_FILE, ended.line, ended.tid, "core dumped", asks=True)
+    """A thread's end, which may be all that the log tells of it before its fork has ended."""
     try:
+        thread = scene.known(ended.tid, ended.line, "exit")
+        if thread is not None and (ended.killed or thread.process.threaded):
+            scene.doubt(thread)
+        if ended.dumped and ended.tid in scene.processes:
+            scene.recording.leave_out(CORE_FILE, ended.line, ended.tid, "core dumped", asks=True)
         scene.end(ended.tid, ended.line)
     except CannotSay as reason:
         scene.recording.leave_out(str(reason), ended.line, ended.tid, "exit", asks=reason.asks)
 
 
 def _take_over(scene: Scene, event: Superseded) -> None:
-    """The thread that runs a program goes on under its leader's number."""
+    """The thread that runs a program goes on under its leader's number; the leader was killed."""
+    if (leader := scene.threads.get(event.tid)) is not None:
+        scene.doubt(leader)
     thread = scene.threads.pop(event.by, None)
     if thread is not None:
         thread.process.threads.discard(event.by)

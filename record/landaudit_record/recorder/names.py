@@ -17,6 +17,11 @@ from .disk import WHITEOUT, Disk, Seen
 MOST_LINKS = 40
 #: Under this directory links lead elsewhere than their targets say (proc(5)).
 PROC = ["proc"]
+_IN_PROC = "/proc"
+#: What may be behind the last slash of a path and is no name in a directory.
+_NO_NAMES = ("", ".")
+#: The kinds of objects through which a path may lead.
+_ON_WAYS = ("dir", "sym")
 
 
 @dataclass(slots=True, eq=False)
@@ -107,6 +112,10 @@ class Names:
 
     `turns` counts how often a directory of its own got or lost a name: what is beneath is listed otherwise since.
     `whiteouts` is the kind of object as which the kernel guards whiteouts (docs/SEMANTICS.md).
+
+    Programs name the same directories over and over. So it is kept where paths of directories led, `_walked` by root,
+    starting point and text, `_reached` by real path, until a directory or a link on the way may be another, or one of
+    the names `_breaks` at which ways broke off.
     """
 
     def __init__(self, disk: Disk, before: dict[str, Seen], watched: list[str], whiteouts: str = "char") -> None:
@@ -117,13 +126,18 @@ class Names:
         self._linked: dict[str, Node] = {}
         self.root = Node("dir", origin="", start="", first="/")
         self._starts: dict[str, Node | None] = {"/": self.root}
+        self._walked: dict[_Way, Found] = {}
+        self._breaks: set[str] = set()
+        self._reached: dict[str, Node] = {"": self.root}
         self.turns = 0
 
     def child(self, node: Node, name: str) -> Node | None:
         """The object of a name in a directory."""
-        if name not in node.children:
-            node.children[name] = self._initial(node, name)
-        return node.children[name]
+        children = node.children
+        if name in children:
+            return children[name]
+        found = children[name] = self._initial(node, name)
+        return found
 
     def _initial(self, node: Node, name: str) -> Node | None:
         """What a name is that the run did not touch yet."""
@@ -178,7 +192,17 @@ class Names:
 
     def at(self, path: str) -> Node | None:
         """The object at a real path, one without links on its way."""
-        return self.below_root(split(path))
+        over, _, name = path.rpartition("/")
+        if name in _NO_NAMES:
+            return self.below_root(split(path))
+        directory = self._reached.get(over)
+        if directory is None:
+            directory = self.below_root(split(over))
+            if directory is None or directory.kind != "dir":
+                return None
+            if not over.startswith(_IN_PROC):
+                self._reached[over] = directory
+        return self.child(directory, name)
 
     def below_root(self, names: Sequence[str]) -> Node | None:
         """The object of the names of a real path."""
@@ -188,6 +212,12 @@ class Names:
                 return None
             node = self.child(node, name)
         return node
+
+    def _forget_ways(self) -> None:
+        """Forgets where paths led."""
+        self._walked.clear()
+        self._breaks.clear()
+        self._reached = {"": self.root}
 
     def ensure(self, path: str, kind: str) -> Node:
         """The object at a real path, which is known to be there: a name that says otherwise is put right."""
@@ -225,10 +255,20 @@ class Names:
             node.start = None
 
     def _name(self, directory: Node, name: str, node: Node | None) -> None:
-        """Gives a name in a directory to an object, or to nothing."""
+        """Gives a name in a directory to an object, or to nothing.
+
+        Directories of /proc, which come and go with the processes, are on no way that is kept.
+        """
+        before = directory.children.get(name)
+        is_on_way = before is not None and before.kind in _ON_WAYS and not self._is_proc(directory)
+        if is_on_way or name in self._breaks:
+            self._forget_ways()
         directory.children[name] = node
         if node is not None:
             node.over, node.name = directory, name
+
+    def _is_proc(self, directory: Node) -> bool:
+        return directory.name == PROC[0] and directory.over is self.root
 
     def put(self, path: str, node: Node | None) -> None:
         """Puts an object under a name, or takes the name away."""
@@ -276,13 +316,39 @@ class Names:
 
         `root` and `directory` are real paths; `follow` says whether a link at the end is followed.
         """
-        return _Walk(self, root, directory, path, follow, links).found()
+        over, _, name = path.rpartition("/")
+        if name in _NO_NAMES or name == "..":
+            return _Walk(self, root, directory, path, follow, links).found()
+        way = (root, "" if path.startswith("/") else directory, over)
+        led = self._walked.get(way)
+        if led is None:
+            return _Walk(self, root, directory, path, follow, links, way).found()
+        if led.node is None:
+            return Found([*led.names, name], None, led.broken)
+        child = self.child(led.node, name)
+        if child is None:
+            return Found([*led.names, name], None, len(led.names))
+        if follow and child.kind == "sym":
+            return _Walk(self, root, directory, path, follow, links).found()
+        return Found([*led.names, name], child)
+
+    def keep_way(self, way: "_Way", led: Found) -> None:
+        """Keeps where the path of a directory led; where it broke off, until anything changes at that place."""
+        self._walked[way] = led
+        if led.broken is not None:
+            self._breaks.update(led.names[max(led.broken - 1, 0) : led.broken + 1])
+
+
+#: The root, the directory where a path begins that does not begin at the root, and the path of a directory.
+_Way = tuple[str, str, str]
 
 
 class _Walk:
-    """The resolution of one path."""
+    """The resolution of one path; `way` is its directory's, if where that leads is to be kept."""
 
-    def __init__(self, names: Names, root: str, directory: str, path: str, follow: bool, links: Links) -> None:
+    def __init__(
+        self, names: Names, root: str, directory: str, path: str, follow: bool, links: Links, way: _Way | None = None
+    ) -> None:
         self._names = names
         self._links = links
         self._top = split(root)
@@ -291,22 +357,44 @@ class _Walk:
         self._follows_last = follow or path.endswith("/")
         self._followed = 0
         self._node = names.below_root(self._here)
+        self._way = way
+        self._keeps = way is not None
 
     def found(self) -> Found:
         """Where the path leads."""
         while self._left:
+            if self._keeps and len(self._left) == 1:
+                self._keep_way(list(self._here))
             name = self._left.pop()
             if name == "..":
+                self._keeps = self._keeps and self._is_in_directory()
                 self._go_to(self._here[: max(len(self._here) - 1, len(self._top))])
             elif self._node is None or self._node.kind != "dir" or not self._step(self._node, name):
-                return Found([*self._here, name, *reversed(self._left)], None, len(self._here))
+                names = [*self._here, name, *reversed(self._left)]
+                if self._keeps:
+                    self._keep_way(names[:-1], len(self._here))
+                return Found(names, None, len(self._here))
         return Found(self._here, self._node, None if self._node is not None else max(len(self._here) - 1, 0))
+
+    def _is_in_directory(self) -> bool:
+        return self._node is not None and self._node.kind == "dir"
+
+    def _keep_way(self, names: list[str], broken: int | None = None) -> None:
+        """Keeps where the directory's path led or broke off.
+
+        A way through /proc, whose links are others for others, is not kept.
+        """
+        self._keeps = False
+        if self._way is not None and names[:1] != PROC and (broken is not None or self._is_in_directory()):
+            self._names.keep_way(self._way, Found(names, None if broken is not None else self._node, broken))
 
     def _step(self, directory: Node, name: str) -> bool:
         """Goes to a name in the directory, or where it leads as a link; false where there is nothing to go to."""
         follows = bool(self._left) or self._follows_last
-        if follows and self._here[:1] == PROC and self._follow_magic(name):
-            return True
+        if follows and self._here[:1] == PROC:
+            self._keeps = False
+            if self._follow_magic(name):
+                return True
         child = self._names.child(directory, name)
         if child is None:
             return False

@@ -43,7 +43,7 @@ class Process:
     """A process as a trace has it: what shares one table of descriptors and one domain.
 
     `confined` says whether it has a layer, or may have one; `restricted` are the rulesets of its restrictions; `maker`
-    is the process that forked it.
+    is the process that forked it; `threaded` says whether it has or had several threads.
     """
 
     pid: int
@@ -54,6 +54,7 @@ class Process:
     restricted: list[int] = field(default_factory=list)
     next_made_up: int = FIRST_MADE_UP
     maker: Process | None = None
+    threaded: bool = False
 
     def made_up(self) -> int:
         """A number that no descriptor of the process ever has."""
@@ -63,9 +64,13 @@ class Process:
 
 @dataclass(slots=True, eq=False)
 class Thread:
-    """A thread: its process, where it is, and how many layers it has put on itself or inherited."""
+    """A thread: its process, where it is, and how many layers it has put on itself or inherited.
+
+    `forked` is the child that its last call made, if that was a fork.
+    """
 
     tid: int
     process: Process
     place: Place
     layers: int = 0
+    forked: int | None = None

@@ -3,6 +3,7 @@
 from __future__ import annotations
 
 import re
+from collections.abc import Iterable
 from contextlib import suppress
 from dataclasses import dataclass, replace
 from typing import Any
@@ -24,6 +25,7 @@ CLONE_THREAD = 0x10000
 #: What /proc has of each process is what it has of the one that looks (proc(5)).
 OWN_FILES = "/proc/self"
 NO_PATH = "a file without a path"
+SHARED_TABLE = "a descriptor table that two processes share"
 #: So it is where a process has no layer, and where the mode of what is asked for says so.
 BY_MODES = "EACCES by file modes, whatever a policy says"
 _OF_PROCESS = re.compile(r"/proc/(\d+)(?:/task/\d+)?/(fd/(\d+)|exe|cwd|root)")
@@ -61,14 +63,17 @@ class Spot:
     @property
     def shown(self) -> str | None:
         """The real path, where the text in the trace is another."""
-        return self.real if self.real != self.path else None
+        text = self._text if self._text is not None else self.path
+        return self.real if self.real != text else None
 
 
 class Scene:
     """The state of a conversion.
 
     `asker` is as whom all processes ask for files, if file modes are known to count for them. `ruled` has each name on
-    which a record of the program puts a rule, with the object.
+    which a record of the program puts a rule, with the object. `unmet` are the threads of which the log has nothing yet
+    but the fork that made them, each with whether that fork's result is to be doubted. `placeless` says whether there
+    was a descriptor that is in a mount without a place.
     """
 
     def __init__(
@@ -90,6 +95,8 @@ class Scene:
         self.threads: dict[int, Thread] = {}
         self.processes: dict[int, Process] = {}
         self.begun: set[int] = set()
+        self.unmet: dict[int, bool] = {}
+        self.placeless = False
         self.ruled: list[tuple[str, Node]] = []
         self.handles: dict[str, str] = {}
         self._walked: set[tuple[str, str, str]] = set()
@@ -98,20 +105,21 @@ class Scene:
 
     def say(self, thread: Thread, call: Call, op: str, **members: Any) -> None:
         """Writes a record of something that Landlock judges, with what the kernel answered."""
-        if thread.layers < len(thread.process.restricted):
+        process, error = thread.process, call.error
+        if thread.layers < len(process.restricted):
             raise CannotSay("a call of a thread with fewer layers than its process")
-        if call.error == "EACCES" and (not thread.process.confined or self._modes_refuse(call, op, members)):
+        if error == "EACCES" and (not process.confined or self._modes_refuse(call, op, members)):
             raise NotAsked(BY_MODES)
-        self.note(thread, call, op, call.error or "ok", **members)
+        self.recording.add(op, process.pid, call.line, error or "ok", members)
 
     def _modes_refuse(self, call: Call, op: str, members: dict[str, Any]) -> bool:
         """Whether file modes refuse a call, as far as they are known."""
         runs = call.name in ("execve", "execveat")
         return self.asker is not None and modes.refuse(self.asker, self.disk.mode, op, members, runs)
 
-    def note(self, thread: Thread, call: Call, op: str, kernel: str | None = None, **members: Any) -> None:
+    def note(self, thread: Thread, call: Call, op: str, **members: Any) -> None:
         """Writes a record that only keeps the books, where the kernel's answer is not said."""
-        self.recording.write(op, thread.process.pid, call.line, kernel, **members)
+        self.recording.add(op, thread.process.pid, call.line, None, members)
 
     def leave_out(self, thread: Thread, call: Call, reason: str, *, asks: bool = False) -> None:
         """Counts something about a call that trace and tree can't hold; `asks` as `Recording.leave_out` has it."""
@@ -251,14 +259,28 @@ class Scene:
 
     # Processes
 
-    def begin(self, birth: Birth, tid: int, call: Call) -> None:
+    def known(self, tid: int, line: int, text: str) -> Thread | None:
+        """A thread of which a line tells, be it that it ends; one that is met for the first time is begun by its fork.
+
+        None where the log tells of no such fork.
+        """
+        thread = self.threads.get(tid)
+        if thread is None and (birth := self.births.next(tid)) is not None:
+            self.begin(birth, tid, line, text)
+            thread = self.threads.get(tid)
+        if self.unmet:
+            self.unmet.pop(tid, None)
+        return thread
+
+    def begin(self, birth: Birth, tid: int, line: int, text: str) -> None:
         """A thread that a fork makes, or a process with a copy of what its maker has.
 
-        A number that is used again says that its last thread has ended, if nothing else did.
+        A number that is used again says that its last thread has ended, if nothing else did. The maker may be met for
+        the first time here, since its own fork may be under way as well.
         """
         self.begun.add(birth.line)
-        self.end(tid, call.line)
-        maker = self.threads.get(birth.maker)
+        self.end(tid, line)
+        maker = self.known(birth.maker, line, text)
         if maker is None:
             return
         place = maker.place if birth.flags & CLONE_FS else replace(maker.place)
@@ -277,12 +299,22 @@ class Scene:
         self._join(Thread(tid, process, place, maker.layers))
         self.processes[tid] = process
         if birth.flags & CLONE_FILES:
-            self.leave_out(maker, call, "a descriptor table that two processes share", asks=True)
-        self.note(maker, call, "fork", child=tid)
+            self.recording.leave_out(SHARED_TABLE, line, maker.process.pid, text, asks=True)
+        self.recording.write("fork", maker.process.pid, line, child=tid)
+
+    def doubt(self, maker: Thread) -> None:
+        """Doubts the result of a fork behind which its thread was killed: strace may show what it read elsewhere."""
+        if maker.forked in self.unmet:
+            self.unmet[maker.forked] = True
+
+    def have_ended(self, threads: Iterable[int]) -> bool:
+        """Whether none is left of what were threads, as far as the log is to be believed."""
+        return all(self.unmet.get(tid, False) for tid in threads)
 
     def _join(self, thread: Thread) -> None:
         self.threads[thread.tid] = thread
         thread.process.threads.add(thread.tid)
+        thread.process.threaded = thread.process.threaded or len(thread.process.threads) > 1
         own = f"/proc/{thread.process.pid}"
         if len(thread.process.threads) == 1:
             self.names.put(own, Node("dir", origin=OWN_FILES))
@@ -299,11 +331,12 @@ class Scene:
         thread = self.threads.pop(tid, None)
         if thread is None:
             return
-        thread.process.threads.discard(tid)
-        if not thread.process.threads and self.processes.get(thread.process.pid) is thread.process:
-            del self.processes[thread.process.pid]
-            self.names.put(f"/proc/{thread.process.pid}", None)
-            self.recording.write("exit", thread.process.pid, line)
+        process = thread.process
+        process.threads.discard(tid)
+        if self.have_ended(process.threads) and self.processes.get(process.pid) is process:
+            del self.processes[process.pid]
+            self.names.put(f"/proc/{process.pid}", None)
+            self.recording.write("exit", process.pid, line)
 
 
 def _is_foreign(of: Descriptor) -> bool:
@@ -316,7 +349,7 @@ def _is_foreign(of: Descriptor) -> bool:
     return of.behind is not None and of.behind.startswith("socket:")
 
 
-@dataclass(frozen=True)
+@dataclass(slots=True)
 class ThreadLinks:
     """Links as a thread meets them."""
 

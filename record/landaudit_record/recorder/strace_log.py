@@ -18,7 +18,7 @@ from collections.abc import Iterator, Mapping
 from dataclasses import dataclass, field
 from functools import lru_cache
 from pathlib import Path
-from typing import NamedTuple, SupportsIndex, TextIO, overload
+from typing import SupportsIndex, TextIO, overload
 
 from . import values
 from .unsaid import NotUnderstood
@@ -26,6 +26,7 @@ from ..problems import Problem
 
 #: Calls that take effect where they begin: they free numbers, or look up what a number stands for.
 AT_BEGINNING = frozenset({"close", "close_range", "ftruncate", "ioctl"})
+_BEGINNINGS = tuple(f"{name}(" for name in sorted(AT_BEGINNING))
 #: How the first half of a call ends; the second where a thread that is not the leader runs a program.
 UNFINISHED = " <unfinished ...>"
 _PID_CHANGED = re.compile(r" <pid changed to \d+ \.\.\.>$")
@@ -33,8 +34,10 @@ _PID_CHANGED = re.compile(r" <pid changed to \d+ \.\.\.>$")
 _NO_END = ") = ?"
 _DONE = ") = 0"
 
-_LINE = re.compile(r"(\d+) +(.*)")
-_NO_CALL = ("+++ ", "--- ", "<... ")
+#: What strace writes of a call that a thread was to make which was killed first: it learns not even which call.
+_NOT_MADE = ("???(", "<... ???")
+#: The first letters of what is no call: the end of a thread, a signal, the second half of a call, and the above.
+_NO_CALL = frozenset("+-<?")
 _RESUMED = re.compile(r"<\.\.\. (\w+) resumed>")
 _NAME = re.compile(r"(\w+)\(")
 _RESULT = r"\)\s*= (-?\d+|0x[0-9a-f]+|\?)(.*)"
@@ -102,11 +105,15 @@ class Call:
 
 @dataclass(slots=True)
 class Ended:
-    """A thread that ended; `dumped` says that its process left a core file, or was to leave one (core(5))."""
+    """A thread that ended; `dumped` says that its process left a core file, or was to leave one (core(5)).
+
+    `killed` says that SIGKILL ended it, which no process can see coming.
+    """
 
     line: int
     tid: int
     dumped: bool = False
+    killed: bool = False
 
 
 @dataclass(slots=True)
@@ -178,8 +185,10 @@ def births(path: Path) -> Births:
         for number, line in enumerate(lines, start=1):
             if "clone" in line or "fork" in line:
                 forks.read(number, line)
-            if line.endswith("...>\n") or "resumed>" in line:
-                ends.read(number, line)
+            if line[-5:] == "...>\n":
+                ends.begin(number, line)
+            elif "resumed>" in line:
+                ends.end(line)
     return found
 
 
@@ -190,11 +199,14 @@ class _Ends:
         self._found = found
         self._begun: dict[str, int] = {}
 
-    def read(self, number: int, line: str) -> None:
-        """Takes up a line, if such a call begins or ends on it."""
+    def begin(self, number: int, line: str) -> None:
+        """Takes up a first half, if it is that of such a call."""
         if begins := _BEGINS.match(line):
             self._begun[begins[1]] = number
-        elif ends := _ENDS.match(line):
+
+    def end(self, line: str) -> None:
+        """Takes up a second half, if it is that of such a call."""
+        if ends := _ENDS.match(line):
             first = self._begun.pop(ends[1], None)
             if first is not None:
                 self._found.ends[first] = sys.intern(ends[2])
@@ -232,13 +244,14 @@ def _clone_flags(line: str) -> int:
 def events(path: Path, ends: Mapping[int, str] | None = None) -> Iterator[Event]:
     """What a log says, in the order in which the calls took effect; `ends` is what `births` found."""
     reader = _Reader(ends or {})
+    read = reader.read
     with open_log(path) as lines:
         for number, line in enumerate(lines, start=1):
-            match = _LINE.match(line)
-            if match is None:
+            tid, space, text = line.removesuffix("\n").partition(" ")
+            if not space or not tid.isdecimal():
                 yield Unread(number, 0, line.rstrip("\n"))
                 continue
-            event = reader.read(number, int(match[1]), match[2])
+            event = read(number, int(tid), text.lstrip(" "))
             if event is not None:
                 yield event
 
@@ -254,24 +267,27 @@ class _Reader:
 
     def read(self, number: int, tid: int, text: str) -> Event | None:
         """What a line tells, if it tells something by itself."""
-        if text.endswith("...>"):
-            first = _PID_CHANGED.sub("", text.removesuffix(UNFINISHED))
+        if text[-4:] == "...>":
+            first = text.removesuffix(UNFINISHED)
+            if first is text:
+                first = _PID_CHANGED.sub("", text)
             if first != text:
                 return self._begins(number, tid, first)
-        if not text.startswith(_NO_CALL):
+        if text[:1] not in _NO_CALL:
             return _call(number, tid, text)
         if text.startswith("+++ "):
             return self._end(number, tid, text)
-        if text.startswith("--- "):
+        if text.startswith("--- ") or text.startswith(_NOT_MADE):
             return None
         resumed = _RESUMED.match(text)
         return _call(number, tid, text) if resumed is None else self._resumes(number, tid, text, resumed)
 
     def _begins(self, number: int, tid: int, text: str) -> Event | None:
         """The first half of a call: the whole call, if it takes effect here."""
-        name = _NAME.match(text)
-        end = self._ends.get(number, _NO_END if name is not None and name[1] == "close" else None)
-        if name is None or name[1] not in AT_BEGINNING or end is None:
+        end = None
+        if text.startswith(_BEGINNINGS):
+            end = self._ends.get(number, _NO_END if text.startswith("close(") else None)
+        if end is None:
             self._begun[tid] = number, text
             return None
         self._told.add(tid)
@@ -298,7 +314,7 @@ class _Reader:
         superseded = _SUPERSEDED.search(text)
         if superseded is None:
             self._begun.pop(tid, None)
-            return Ended(number, tid, "(core dumped)" in text)
+            return Ended(number, tid, "(core dumped)" in text, "killed by SIGKILL" in text)
         by = int(superseded[1])
         if by in self._begun:
             self._begun[tid] = self._begun.pop(by)
@@ -308,17 +324,14 @@ class _Reader:
 
 def _call(number: int, tid: int, text: str) -> Event:
     said = _said(text)
-    return Unread(number, tid, text) if said is None else Call(number, tid, *said, text)
+    if said is None:
+        return Unread(number, tid, text)
+    name, arguments, value, error, note = said
+    return Call(number, tid, name, arguments, value, error, note, text)
 
 
-class _Said(NamedTuple):
-    """What the text of a call says, as `Call` has it."""
-
-    name: str
-    arguments: Arguments
-    value: int | None
-    error: str | None
-    note: str
+#: What the text of a call says, as `Call` has it: name, arguments, value, error and note.
+_Said = tuple[str, Arguments, int | None, str | None, str]
 
 
 @lru_cache(values.KEPT)
@@ -335,7 +348,7 @@ def _said(text: str) -> _Said | None:
     ours = _IN_OUR_NAMESPACE.match(note)
     error = _ERROR.match(note) if value is None or value == -1 else None
     value = int(ours[1]) if ours is not None else value
-    return _Said(name, Arguments(arguments), value, error[1] if error is not None else None, note)
+    return name, Arguments(arguments), value, error[1] if error is not None else None, note
 
 
 def _parts(text: str) -> tuple[str, list[str], str, str] | None:

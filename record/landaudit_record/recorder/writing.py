@@ -9,6 +9,7 @@ import tempfile
 from collections import Counter
 from collections.abc import Container, Mapping, Sequence
 from dataclasses import dataclass
+from functools import lru_cache
 from pathlib import Path
 from types import TracebackType
 from typing import Any, Self
@@ -21,6 +22,7 @@ from .names import Names, Node, join
 from .processes import FIRST_MADE_UP
 from .unsaid import CannotSay as CannotSay
 from .unsaid import NotUnderstood
+from .values import KEPT
 
 MOST_RECORDS = 1_000_000
 MOST_PROCESSES = 65_536
@@ -196,6 +198,7 @@ class Limits:
 
 
 LIMITS = Limits()
+_value, _text = jsonl.value, jsonl.text
 #: A call has far less records: so many are kept free for the last one of a part.
 MOST_OF_A_CALL = 2_000
 _ADDS = b'{"op":"add_path"'
@@ -225,6 +228,7 @@ class Recording:
         self._holes: Counter[str] = Counter()
         self._living = Living()
         self._call: list[_Waiting] = []
+        self._whole = _Call(self._call)
         self._parts: list[_PartInMaking] = []
         self._begin_part()
 
@@ -243,10 +247,18 @@ class Recording:
 
     def write(self, op: str, pid: int, call: int, kernel: str | None = None, **members: Any) -> None:
         """Adds a record to those of its call; members that are None or false are left out."""
+        self.add(op, pid, call, kernel, members)
+
+    def add(self, op: str, pid: int, call: int, kernel: str | None, members: Members) -> None:
+        """Adds a record as `write` does, from members that nobody changes afterwards."""
         line = f'{{"op":"{op}","pid":{pid}'
         for name, value in members.items():
-            if value is not None and value is not False:
-                line += f',"{name}":{value if type(value) is int else jsonl.value(value)}'
+            if type(value) is str:
+                line += f',"{name}":{_text(value)}'
+            elif type(value) is int:
+                line += f',"{name}":{value}'
+            elif value is not None and value is not False:
+                line += f',"{name}":{_value(value)}'
         line += f',"call":{call}' if kernel is None else f',"call":{call},"kernel":"{kernel}"'
         if op == "ioctl" and members["driver"] is False:
             line += ',"driver":false'
@@ -262,16 +274,17 @@ class Recording:
             self._begin_part()
         self._in_part += len(call)
         self._committed += len(call)
-        objects, follow = self._objects, self._living.follow
+        needed, follow, write = self._needed, self._living.follow, self._trace.write
         for op, pid, members, kernel, line in call:
-            self._trace.write(line)
+            write(line)
             path = members.get("path")
             if path is None:
                 if op in _WITHOUT_PATH:
                     self._count(op, members)
-            elif path not in objects:
+            elif path not in needed:
                 self._need(path)
-            follow(op, pid, members, kernel)
+            if members.get("fd", 0) < FIRST_MADE_UP:
+                follow(op, pid, members, kernel)
         call.clear()
         if self.tree.fresh:
             self._list_fresh()
@@ -282,7 +295,8 @@ class Recording:
         Of a call that turns out not to be sayable none stays but those that keep the books on numbers of the process
         itself, as the close of what a number stood for before.
         """
-        return _Call(self._call, len(self._call))
+        self._whole.first = len(self._call)
+        return self._whole
 
     def leave_out(self, reason: str, line: int, pid: int, call: str, *, asks: bool = False) -> None:
         """Counts a call that could not be said; `asks` says that the kernel may refuse it by a policy."""
@@ -320,6 +334,7 @@ class Recording:
         self._part = Part(self._undone, len(self._parts) + 1)
         self._trace = open(self._part.trace, "w", encoding="utf-8")
         self._objects: set[str] = set()
+        self._needed: set[str] = {ROOT}
         self._started = 0
         again = self._living.again()
         for record in again:
@@ -343,12 +358,17 @@ class Recording:
     def _list_fresh(self) -> None:
         """Lists what the call had listed in the tree."""
         for path in self.tree.fresh:
+            self._needed.discard(path)
             self._need(path)
         self.tree.fresh.clear()
 
     def _need(self, path: str) -> None:
-        """Lists an object in the tree of the part, if it is one, and the directories over it."""
-        while path not in self._objects and path != "/":
+        """Lists an object in the tree of the part, if it is one, and the directories over it.
+
+        What is needed and is no object is looked at once, unless it is listed later.
+        """
+        while path not in self._needed:
+            self._needed.add(path)
             if path in self.tree:
                 self._objects.add(path)
             path = directory_of(path)
@@ -361,10 +381,10 @@ class Recording:
 
 @dataclass(slots=True)
 class _Call:
-    """The records of a call, which are those from a number on among those that wait."""
+    """The records of a call, which are those from a number on among those that wait; one for all calls in turn."""
 
     waiting: list[_Waiting]
-    first: int
+    first: int = 0
 
     def __enter__(self) -> None:
         pass
@@ -415,6 +435,7 @@ def _is_utf8(text: str) -> bool:
     return text.isascii() or not any("\ud800" <= letter <= "\udfff" for letter in text)
 
 
+@lru_cache(KEPT)
 def checked_path(path: str) -> str:
     """A path that landaudit reads (docs/FORMATS.md, "Paths")."""
     try:

@@ -91,6 +91,7 @@ def _is_placeless(scene: Scene, thread: Thread, call: Call, *, close_on_exec: bo
     """What a call opened is in a mount without a place, and so is what is opened from there."""
     if call.ok and call.value is not None:
         scene.put(thread, call, call.value, Handle("/", close_on_exec=close_on_exec, placeless=True))
+        scene.placeless = True
     raise CannotSay(WITHOUT_PLACE)
 
 
@@ -98,10 +99,10 @@ def from_a_place(handler: Handler, base: int | None) -> Handler:
     """The handler of a call that opens files, which leaves out those that it opens in a mount without a place."""
 
     def opened(scene: Scene, thread: Thread, call: Call) -> None:
-        directory = arguments.descriptor_at(scene, call, base)
-        handle = thread.process.table.get(directory.number) if directory is not None else None
-        if handle is not None and handle.placeless:
-            _is_placeless(scene, thread, call, close_on_exec=False)
+        if scene.placeless and base is not None:
+            handle = thread.process.table.get(scene.descriptor(call.arguments[base]).number)
+            if handle is not None and handle.placeless:
+                _is_placeless(scene, thread, call, close_on_exec=False)
         handler(scene, thread, call)
 
     return opened

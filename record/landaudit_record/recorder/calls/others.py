@@ -18,6 +18,7 @@ from ..values import Descriptor
 from . import arguments
 
 PTRACE_ATTACH, PTRACE_SEIZE = 0x10, 0x4206
+PROC = "/proc/"
 INTO_ANOTHER = "a look into another process, which Landlock's rule on ptrace may refuse"
 
 #: The files of a process that only those may use who may trace it; and its links, which only they may follow.
@@ -35,7 +36,8 @@ def opening(handler: Handler, base: int | None, path: int) -> Handler:
     """The handler of a call that opens files, which counts those of another process."""
 
     def opened(scene: Scene, thread: Thread, call: Call) -> None:
-        if _is_guarded(scene, thread, _whole_path(scene, thread, call, base, path)) and _may_be_refused(call):
+        whole = _whole_path(scene, thread, call, base, path)
+        if whole.startswith(PROC) and _is_guarded(scene, thread, whole) and _may_be_refused(call):
             if call.error is not None and thread.layers:
                 raise CannotSay(INTO_ANOTHER)
             scene.leave_out(thread, call, INTO_ANOTHER, asks=True)
@@ -58,7 +60,7 @@ def _whole_path(scene: Scene, thread: Thread, call: Call, base: int | None, path
 
 
 def _is_guarded(scene: Scene, thread: Thread, path: str) -> bool:
-    guarded = _GUARDED.match(path) if path.startswith("/proc/") else None
+    guarded = _GUARDED.match(path)
     return guarded is not None and may_refuse(scene, thread, int(guarded[1]))
 
 

@@ -96,7 +96,9 @@ def _forked(scene: Scene, thread: Thread, call: Call) -> None:
         return
     birth = scene.births.next(call.value)
     if birth is not None:
-        scene.begin(birth, call.value, call)
+        scene.begin(birth, call.value, call.line, call.text)
+        scene.unmet[call.value] = False
+        thread.forked = call.value
 
 
 def _unshared(scene: Scene, thread: Thread, call: Call) -> None:
