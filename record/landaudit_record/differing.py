@@ -296,7 +296,9 @@ class _Reader:
 
     def _next(self) -> dict[str, Abis]:
         """What the next line answers at which ABIs."""
-        text = next(self._lines).split(" ", 3)[3]
+        text = next(self._lines, "").partition(" ")[2].partition(" ")[2].partition(" ")[2]
+        if not text:
+            raise Problem("landaudit's report is cut: use landaudit and landaudit-policy of one version")
         known = self._known.get(text)
         if known is None:
             known = self._known[text] = self._read(text)

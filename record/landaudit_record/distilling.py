@@ -13,7 +13,7 @@ from collections import Counter
 from collections.abc import Iterator, Mapping
 from dataclasses import dataclass, field
 from pathlib import Path
-from typing import Any
+from typing import Any, NamedTuple
 
 from . import jsonl
 from .jsonl import Record
@@ -21,7 +21,7 @@ from .problems import Problem
 from .processes import of_policy
 
 #: Of calls that Landlock judges by themselves, the members by which it does.
-_JUDGED = {
+_JUDGED: Mapping[str, tuple[str, ...]] = {
     "open": ("path", "mode", "create", "trunc"),
     "truncate": ("path",),
     "exec": ("path",),
@@ -37,37 +37,43 @@ _JUDGED = {
     "connect": ("port",),
 }
 #: Calls on a descriptor, which Landlock judges by what was so when that was opened.
-_USES = {"ftruncate": (), "ioctl": ("driver",)}
-_OF_RULESETS = ("path", "port", "fs", "net")
+_USES: Mapping[str, tuple[str, ...]] = {"ftruncate": (), "ioctl": ("driver",)}
+_ON_RULESETS: Mapping[str, tuple[str, ...]] = {
+    "create": ("fs", "net"),
+    "add_path": ("path", "fs"),
+    "add_port": ("port", "net"),
+    "restrict": (),
+    "close_rs": (),
+}
+_MEMBERS = {**_JUDGED, **_USES, **_ON_RULESETS}
 
-Members = tuple[tuple[str, Any], ...]
-"""A call without its process and its descriptor."""
+Call = tuple[Any, ...]
+"""A call without its process and its number: its operation, and behind it the members by which it is judged."""
 
-Enforced = int | tuple[Members, ...]
+Enforced = int | tuple[Call, ...]
 """A layer of the policy by its number, or one of a program's own by the calls that it was made by."""
 
 Domain = tuple[Enforced, ...]
 
 
-@dataclass(frozen=True, slots=True)
-class Question:
+class Question(NamedTuple):
     """What is asked: the layers, the oldest first, and one call or two, of which the first opens what the second uses."""
 
     domain: Domain
-    calls: tuple[Members, ...]
+    calls: tuple[Call, ...]
 
     @property
     def about(self) -> Iterator[str | int]:
         """The paths and ports that the calls name."""
-        for call in self.calls:
-            yield from (value for name, value in call if name in ("path", "from", "to", "port"))
+        for op, *values in self.calls:
+            yield from (value for name, value in zip(_MEMBERS[op], values) if name in ("path", "from", "to", "port"))
 
 
 @dataclass(slots=True)
 class _Ruleset:
     """A ruleset that processes hold, with the calls so far or, where it is the policy's, the number of its layer."""
 
-    made: list[Members]
+    made: list[Call]
     of_policy: int | None
 
     @property
@@ -115,19 +121,19 @@ class Distilling:
             return
         process = self._by_pid[pid]
         if op in _JUDGED:
-            question = self._ask(process.domain, record, (_members(record, _JUDGED[op]),))
+            question = self._ask(process.domain, record, (call_of(record),))
             if op == "open":
                 process.opened[record["fd"]] = question
         elif op in _USES:
             opened = process.opened.get(record["fd"])
             if opened is not None:
-                self._ask(opened.domain, record, (*opened.calls, _members(record, _USES[op])))
+                self._ask(opened.domain, record, (*opened.calls, call_of(record)))
         else:
             self._change(process, op, record)
 
-    def _ask(self, domain: Domain, record: Record, calls: tuple[Members, ...]) -> Question | None:
+    def _ask(self, domain: Domain, record: Record, calls: tuple[Call, ...]) -> Question | None:
         """Counts a question, if the policy is asked; what begins a part only gives once more what there was."""
-        if not any(isinstance(layer, int) for layer in domain):
+        if not any(type(layer) is int for layer in domain):
             return None
         question = Question(domain, calls)
         if "again" not in record:
@@ -149,10 +155,10 @@ class Distilling:
                 process.opened.pop(record["fd"], None)
             case "create":
                 origin = of_policy(record)
-                made = _Ruleset([of_ruleset(record)], origin["layer"] if origin else None)
+                made = _Ruleset([call_of(record)], origin["layer"] if origin else None)
                 process.rulesets[record["rs"]] = made
             case "add_path" | "add_port":
-                process.rulesets[record["rs"]].made.append(of_ruleset(record))
+                process.rulesets[record["rs"]].made.append(call_of(record))
             case "restrict":
                 process.domain = (*process.domain, process.rulesets[record["rs"]].layer)
             case "close_rs":
@@ -169,22 +175,14 @@ def _refused(record: Record, origin: Mapping[str, Any]) -> Problem:
                    "a policy of fewer layers")
 
 
-def of_ruleset(record: Record) -> Members:
-    """A call on a ruleset without its process and the ruleset's number."""
-    return _members(record, _OF_RULESETS)
+def call_of(record: Record) -> Call:
+    """A record without what its answer does not depend on."""
+    op = record["op"]
+    return (op, *[tuple(value) if type(value) is list else value for value in map(record.get, _MEMBERS[op])])
 
 
-def _members(record: Record, names: tuple[str, ...]) -> Members:
-    """The members of a record that its answer depends on."""
-    found: list[tuple[str, Any]] = [("op", record["op"])]
-    for name in names:
-        value = record.get(name)
-        if value is not None and value is not False:
-            found.append((name, tuple(value) if isinstance(value, list) else value))
-    return tuple(found)
-
-
-def text(call: Members, member: str, number: int) -> str:
+def text(call: Call, member: str, number: int) -> str:
     """A call as a line of a trace has it behind its process, with the number of its descriptor or its ruleset."""
-    return ",".join(f'"{name}":{jsonl.value(list(of) if isinstance(of, tuple) else of)}'
-                    for name, of in (*call, (member, number)))
+    op, *values = call
+    said = [("op", op), *((name, value) for name, value in zip(_MEMBERS[op], values) if value is not None), (member, number)]
+    return ",".join(f'"{name}":{jsonl.value(list(of) if isinstance(of, tuple) else of)}' for name, of in said)

@@ -14,7 +14,7 @@ from pathlib import Path, PurePosixPath
 
 from . import landaudit
 from .asking import FIRST_DESCRIPTOR, RULESET
-from .distilling import Domain, Enforced, Question, of_ruleset, text
+from .distilling import Domain, Enforced, Question, call_of, text
 from .jsonl import Record
 from .policies import Access, Layer, PathRule, Policy, PortRule
 from .rights import FS, NET, alone
@@ -287,7 +287,7 @@ class _Trace:
 def _calls_of(layer: Enforced, inserted: Iterable[Record]) -> Iterator[str]:
     """The calls by which a process comes to a layer, the policy's or one of a program's own."""
     if isinstance(layer, int):
-        of_layer = [of_ruleset(record) for record in inserted if record["policy"].get("layer") == layer]
+        of_layer = [call_of(record) for record in inserted if record["policy"].get("layer") == layer]
     else:
-        of_layer = [*layer, (("op", "restrict"),), (("op", "close_rs"),)]
+        of_layer = [*layer, ("restrict",), ("close_rs",)]
     yield from (text(call, "rs", RULESET) for call in of_layer)
