@@ -72,6 +72,8 @@ test:
 	wait $$! && test $$tests -eq 0 && bench/drive; } > $$log 2>&1; status=$$?; \
 	test $$status -eq 0 || cat $$log >&2; rm -f $$log; exit $$status
 
-# What needs strace and a kernel with Landlock, and is no part of the gate; says what it skips and why.
+# What needs strace and a kernel with Landlock, and is no part of the gate; says what it skips and why. Then policies by
+# brute force, in smaller numbers than they have by themselves.
 live:
 	$(call UNIT_TESTS,record) -p 'live_*.py' --verbose
+	record/tests/brute.py --pairs 40 --policies 20

@@ -74,6 +74,8 @@ class Differences:
     def add(self, subject: Subject, old: _Passes, new: _Passes) -> None:
         """Notes where one policy lets a call pass and the other refuses it, which both let be tried."""
         self.tried += 1
+        if old is new:
+            return
         both = old.reached & new.reached
         for found, one, other in ((self.more, new, old), (self.less, old, new)):
             alone = (one.whole - other.whole) & both
@@ -95,6 +97,16 @@ class _Passes:
 
     reached: Abis
     whole: Abis
+
+
+@dataclass(frozen=True)
+class _Answer:
+    """What a line of a report answers at which ABIs, and what it is for a question that has no other record."""
+
+    allowed: Abis
+    moot: Abis
+    refused: Abis
+    alone: _Passes
 
 
 def differences(program: Path, old: Policy, new: Policy, abis: range) -> Differences:
@@ -273,38 +285,43 @@ class _Reader:
     def __init__(self, lines: Iterator[str], abis: range) -> None:
         self._lines = lines
         self._all = frozenset(abis)
-        self._known: dict[str, dict[str, Abis]] = {}
+        self._known: dict[str, _Answer] = {}
 
     def process(self, own: Sequence[Record], questions: Sequence[_Question]) -> list[_Passes]:
         """Where each question of a process passes."""
         self._next()
         for record in own:
-            refused = self._next().get("refused")
-            if refused and record["op"] != "add_path":
+            if self._next().refused and record["op"] != "add_path":
                 raise Problem(f"the policy can't be tried: landaudit refuses its {record['op']}")
         return [self._passes(question) for question in questions]
 
     def _passes(self, question: _Question) -> _Passes:
         """Where the records of a question are allowed. What is moot is so for one that was refused before it."""
-        reached = passes = self._all
-        for _ in question.records:
-            reached, answers = passes, self._next()
-            if answers.get("moot", _NONE) & reached:
-                raise Problem(f"landaudit says that the policy is not asked about {' '.join(question.records)}")
-            passes = reached & answers.get("allowed", _NONE)
-        return _Passes(reached, passes)
+        answer = self._next()
+        passes = answer.alone
+        moot = answer.moot
+        for _ in question.records[1:]:
+            answer, reached = self._next(), passes.whole
+            moot |= answer.moot & reached
+            passes = _Passes(reached, reached & answer.allowed)
+        if moot:
+            raise Problem(f"landaudit says that the policy is not asked about {' '.join(question.records)}")
+        return passes
 
-    def _next(self) -> dict[str, Abis]:
-        """What the next line answers at which ABIs."""
-        text = next(self._lines).split(" ", 3)[3]
+    def _next(self) -> _Answer:
+        """What the next line answers; two that say the same have one answer."""
+        text = next(self._lines, "").partition(" ")[2].partition(" ")[2].partition(" ")[2]
         known = self._known.get(text)
         if known is None:
             known = self._known[text] = self._read(text)
         return known
 
-    def _read(self, text: str) -> dict[str, Abis]:
-        answers: dict[str, Abis] = {}
+    def _read(self, text: str) -> _Answer:
+        if not text:
+            raise Problem("landaudit's report is cut: use landaudit and landaudit-policy of one version")
+        found: dict[str, Abis] = {}
         for first, last, verdict in _ANSWER.findall(text):
             abis = frozenset(range(int(first), int(last or first) + 1)) if first else self._all
-            answers[verdict] = answers.get(verdict, _NONE) | abis
-        return answers
+            found[verdict] = found.get(verdict, _NONE) | abis
+        allowed = found.get("allowed", _NONE)
+        return _Answer(allowed, found.get("moot", _NONE), found.get("refused", _NONE), _Passes(self._all, allowed))

@@ -47,7 +47,7 @@ def _of_one(differing: Mapping[Subject, Abis], regions: Regions, abis: Abis) -> 
         behind = "" if at == abis else f" (at ABI {_abis(at)})"
         rights = [subject for subject in subjects if isinstance(subject, About)]
         moves = [subject for subject in subjects if isinstance(subject, Move)]
-        for text in (*_rights(rights, regions), *_ports(rights), *_mounts(rights), *_moves(moves, regions)):
+        for text in (*_rights(rights, regions), *_ports(rights, regions), *_mounts(rights), *_moves(moves, regions)):
             yield text + behind
 
 
@@ -75,16 +75,25 @@ def _rights(subjects: list[About], regions: Regions) -> Iterator[str]:
     yield from (f"{', '.join(rights)} {place}" for place, rights in by_place.items())
 
 
-def _ports(subjects: list[About]) -> Iterator[str]:
+def _ports(subjects: list[About], regions: Regions) -> Iterator[str]:
     """Rights for ports, those of the same ports together."""
-    by_right: defaultdict[str, list[str]] = defaultdict(list)
+    by_right: defaultdict[str, set[int | None]] = defaultdict(set)
     for subject in subjects:
         if subject.right in NET.since:
-            by_right[subject.right].append("every other port" if subject.port is None else f"port {subject.port}")
+            by_right[subject.right].add(subject.port)
     by_ports: dict[str, list[str]] = {}
     for right in NET.ordered(by_right):
-        by_ports.setdefault(", ".join(by_right[right]), []).append(right)
+        by_ports.setdefault(_of_ports(by_right[right], regions), []).append(right)
     yield from (f"{', '.join(rights)} on {ports}" for ports, rights in by_ports.items())
+
+
+def _of_ports(differing: set[int | None], regions: Regions) -> str:
+    """Some ports in words, as `port 80`, or `every port, but for port 22` where those without a rule are among them."""
+    every = None in differing
+    named = ", ".join(f"port {port}" for port in regions.ports if (port in differing) != every)
+    if not every:
+        return named
+    return f"every port, but for {named}" if named else "every port"
 
 
 def _mounts(subjects: list[About]) -> Iterator[str]:

@@ -70,15 +70,25 @@ def workers() -> int:
 
 
 def audit(
-    program: Path, abis: range, tree: Path, trace: Path, report: Path, *, best_effort: bool, explain: bool = True
+    program: Path,
+    abis: range,
+    tree: Path,
+    trace: Path,
+    report: Path,
+    *,
+    best_effort: bool,
+    explain: bool = True,
+    only_refused: bool = False,
 ) -> int:
-    """Runs landaudit once for all ABIs of a range, and writes its report, with explanations or without, to a file.
+    """Runs landaudit once for all ABIs of a range, and writes its report to a file: with explanations or without, and
+    of all records or of those alone that some ABI refuses.
 
     The status is 0, or 1 if some ABI refuses something. At best effort rulesets lose the rights that an ABI does not
     have; else they are judged as they were recorded. A fault of the run is a Problem.
     """
     command = [str(program), "--abi", span(abis), *(["--best-effort"] if best_effort else [])]
-    command += [*(["--explain"] if explain else []), "--workers", str(workers()), str(tree), str(trace)]
+    command += [*(["--explain"] if explain else []), *(["--refused"] if only_refused else [])]
+    command += ["--workers", str(workers()), str(tree), str(trace)]
     with open(report, "wb") as out:
         try:
             run = subprocess.run(command, stdout=out, stderr=subprocess.PIPE, check=False)

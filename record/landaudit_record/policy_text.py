@@ -4,6 +4,7 @@ from __future__ import annotations
 
 import json
 from collections.abc import Callable, Iterator
+from dataclasses import replace
 
 from .comments import Comments
 from .policies import Access, Layer, PathRule, Policy, PortRule
@@ -12,18 +13,50 @@ from .trees import Tree
 from .wording import printable
 
 Remark = Callable[[int, str], str | None]
+#: Behind the name of a rule, for the part of it that is on files.
+_OF_FILES = " (files)"
 
 
-def lines(policy: Policy, tree: Tree, comments: Comments, remark: Remark) -> Iterator[str]:
-    """The lines of a policy with its comments; `remark` says more of a rule, by the layer's number and its name."""
+def in_words(policy: Policy, tree: Tree) -> Policy:
+    """The policy with rules that can be written: those for files apart, where a group is there in part.
+
+    A group means of a file's rights those that it can have, and rights that are named are meant as they are.
+    """
+    return replace(policy, layers=tuple(
+        replace(layer, path_beneath=tuple(part for rule in layer.path_beneath for part in _by_kind(rule, layer, tree)))
+        for layer in policy.layers
+    ))
+
+
+def _by_kind(rule: PathRule, layer: Layer, tree: Tree) -> Iterator[PathRule]:
+    """A rule, or one for its directories and one for its files where its rights can't be in the same words for both."""
+    access, handled = rule.allowed_access, layer.handled_access_fs.rights
+    named = set(_words(access, FS, handled)) - set(FS.groups)
+    files = [parent for parent in rule.parents if tree.kind(tree.resolved(parent, before_run=True)) not in ("dir", None)]
+    if not files or not (named - access.outright) - FILE_RIGHTS:
+        yield rule
+        return
+    directories = tuple(parent for parent in rule.parents if parent not in files)
+    if directories:
+        yield replace(rule, parents=directories)
+    on_file = Access(access.outright, access.grouped & FILE_RIGHTS)
+    if on_file.rights & handled:
+        yield replace(rule, place=rule.place + _OF_FILES, allowed_access=on_file, parents=tuple(files))
+
+
+def lines(policy: Policy, comments: Comments, remark: Remark) -> Iterator[str]:
+    """The lines of a policy with its comments; `remark` says more of a rule, by the layer's number and its name.
+
+    Its rules are such as `in_words` makes.
+    """
     yield from _comments(comments.whole)
     if comments.whole:
         yield ""
     for layer in policy.layers:
-        yield from _layer(layer, tree, comments, remark)
+        yield from _layer(layer, comments, remark)
 
 
-def _layer(layer: Layer, tree: Tree, comments: Comments, remark: Remark) -> Iterator[str]:
+def _layer(layer: Layer, comments: Comments, remark: Remark) -> Iterator[str]:
     yield from _comments(comments.on_layer(layer.number))
     yield "[[layer]]"
     for key, access, family in (("fs", layer.handled_access_fs, FS), ("net", layer.handled_access_net, NET)):
@@ -32,11 +65,10 @@ def _layer(layer: Layer, tree: Tree, comments: Comments, remark: Remark) -> Iter
     if layer.scoped:
         yield f"scoped = {_list(list(layer.scoped))}"
     for rule in layer.path_beneath:
-        for words, parents in _by_kind(rule, layer.handled_access_fs.rights, tree):
-            yield from _head(layer, rule, comments, remark)
-            yield "[[layer.path_beneath]]"
-            yield f"allowed_access = {_list(words)}"
-            yield f"parent = {_one_or_several(parents)}"
+        yield from _head(layer, rule, comments, remark)
+        yield "[[layer.path_beneath]]"
+        yield f"allowed_access = {_list(_words(rule.allowed_access, FS, layer.handled_access_fs.rights))}"
+        yield f"parent = {_one_or_several(list(rule.parents))}"
     for port_rule in layer.net_port:
         yield from _head(layer, port_rule, comments, remark)
         yield "[[layer.net_port]]"
@@ -47,7 +79,7 @@ def _layer(layer: Layer, tree: Tree, comments: Comments, remark: Remark) -> Iter
 def _head(layer: Layer, rule: PathRule | PortRule, comments: Comments, remark: Remark) -> Iterator[str]:
     """What is said before a rule."""
     yield ""
-    yield from _comments(comments.on_rule(layer.number, rule.place))
+    yield from _comments(comments.on_rule(layer.number, rule.place.removesuffix(_OF_FILES)))
     said = remark(layer.number, rule.place)
     if said is not None:
         yield from _comments([said])
@@ -55,26 +87,6 @@ def _head(layer: Layer, rule: PathRule | PortRule, comments: Comments, remark: R
 
 def _comments(texts: list[str]) -> Iterator[str]:
     yield from (f"# {printable(text)}".rstrip() for text in texts)
-
-
-def _by_kind(rule: PathRule, handled: Rights, tree: Tree) -> Iterator[tuple[list[str], list[str]]]:
-    """The rights of a rule and its parents; files apart, where a group that isn't whole has rights that they can't have.
-
-    A group means of a file's rights those that it can have, and rights that are named are meant as they are.
-    """
-    access = rule.allowed_access
-    words = _words(access, FS, handled)
-    named = {right for right in words if right not in FS.groups}
-    if not (named - access.outright) - FILE_RIGHTS:
-        yield words, list(rule.parents)
-        return
-    files = [parent for parent in rule.parents if tree.kind(tree.resolved(parent, before_run=True)) not in ("dir", None)]
-    directories = [parent for parent in rule.parents if parent not in files]
-    if directories:
-        yield words, directories
-    on_file = _words(Access(access.outright, access.grouped & FILE_RIGHTS), FS, handled)
-    if files and on_file:
-        yield on_file, files
 
 
 def _words(access: Access, family: Family, handled: Rights) -> list[str]:

@@ -1,29 +1,31 @@
 """A policy without what recordings don't need.
 
-What may be taken away is one right of one rule at a time. A domain has sixteen layers, and an answer names all that
-refuse, so one audit tries many policies: each as a layer more, which is the policy's layer without one right. What
-such a layer alone refuses needs the right. What it doesn't refuse may need it too: EACCES of one layer hides EXDEV of
-another, and a call that is refused opens no descriptor for later ones. So what is taken away is tried by itself, and
-what is left is asked about again.
+What may be taken away is one right of one rule at a time, and from what is left none. Each policy that is tried has
+processes of its own in one trace, and they ask what the recordings asked (`distilling`): so an answer is that of the
+policy alone, and one audit tries many.
 """
 
 from __future__ import annotations
 
-import json
-from collections import Counter
-from collections.abc import Callable, Iterable, Iterator, Sequence
-from dataclasses import dataclass, field, replace
+import tempfile
+from collections.abc import Collection, Iterable, Iterator, Mapping, Sequence
+from dataclasses import dataclass, replace
+from pathlib import Path, PurePosixPath
 
-from . import explanations
+from . import landaudit
+from .asking import FIRST_DESCRIPTOR, RULESET
+from .distilling import Domain, Enforced, Question, call_of, text
+from .jsonl import Record
 from .policies import Access, Layer, PathRule, Policy, PortRule
-from .processes import of_policy
-from .reading import Walk
-from .rights import FS, NET
+from .rights import FS, NET, alone
+from .trees import upwards
+from .trying import Tried
 
-MOST_LAYERS = 16
+MOST_RECORDS = 900_000
+"""How many records a trace is given at most; landaudit reads some more."""
 
-#: A refused record, as its recording has it; two that say the same are told apart by how many there are.
-Key = str
+Refused = frozenset[tuple[int, int]]
+"""Questions that are refused: on which tree each was asked, and its number there."""
 
 
 @dataclass(frozen=True)
@@ -35,22 +37,17 @@ class Unit:
     right: str
 
 
-@dataclass
-class Audited:
-    """What an audit refuses: all of it, and what layers of a tried policy refuse and no earlier ones do, by layer."""
-
-    refused: Counter[Key] = field(default_factory=Counter)
-    by_layer: dict[int, set[Key]] = field(default_factory=dict)
-    layers_of_program: int = 0
-
-
 @dataclass(frozen=True)
 class Tightened:
-    """A policy, the calls that need each right that is left, and the rights that were taken away."""
+    """A policy, how many calls need each right and each rule of it, how many rights were taken away, by how many audits.
+
+    An audit is counted by all that it was made for.
+    """
 
     policy: Policy
-    needed: dict[Unit, set[Key]]
-    taken: tuple[Unit, ...]
+    needed: Mapping[Unit, int]
+    by_rule: Mapping[tuple[int, str], int]
+    taken: int
     audits: int
 
 
@@ -86,86 +83,211 @@ def _layer_without(layer: Layer, gone: dict[tuple[int, str], set[str]]) -> Layer
     )
 
 
-class Tightening:
-    """Takes away what is not needed. `audit` judges all recordings under a policy, and gives a walk over each part."""
+def _wide_first(policy: Policy, some: Iterable[Unit]) -> list[Unit]:
+    """Rights by how near to the root their rules are: of two rules that grant what a call needs the wider one goes."""
+    depths = {
+        (layer.number, rule.place): min(len(PurePosixPath(parent).parts) for parent in rule.parents)
+        for layer in policy.layers
+        for rule in layer.path_beneath
+    }
+    return sorted(some, key=lambda unit: depths.get((unit.layer, unit.rule), 0))
 
-    def __init__(self, policy: Policy, abi: int, audit: Callable[[Policy], Iterable[tuple[int, Walk]]]) -> None:
-        self._policy = policy
+
+@dataclass(frozen=True)
+class Asked:
+    """The questions that were asked on one tree by a recording, with how many calls asked each.
+
+    A question is known by its number; `bodies` are its records without a process, `over` says which questions are
+    about what is at or under a path, or about a port.
+    """
+
+    tried: Tried
+    tree: Path
+    counted: Mapping[Question, int]
+    questions: tuple[Question, ...]
+    bodies: tuple[tuple[str, ...], ...]
+    over: Mapping[str | int, frozenset[int]]
+
+    @classmethod
+    def of(cls, tried: Tried, tree: Path, counted: Mapping[Question, int]) -> Asked:
+        """Questions that were counted."""
+        questions = tuple(counted)
+        bodies = tuple(
+            tuple(text(call, "fd", FIRST_DESCRIPTOR + number) for call in question.calls)
+            for number, question in enumerate(questions)
+        )
+        over: dict[str | int, set[int]] = {}
+        for number, question in enumerate(questions):
+            for place in question.about:
+                for one in _with_what_is_over(place):
+                    over.setdefault(one, set()).add(number)
+        return cls(tried, tree, counted, questions, bodies, {place: frozenset(some) for place, some in over.items()})
+
+    def calls(self, number: int) -> int:
+        """How many calls asked a question."""
+        return self.counted[self.questions[number]]
+
+    def touched(self, inserted: Iterable[Record], gone: Collection[Unit]) -> list[int]:
+        """The questions whose answers may change where some rights are taken from a policy, by the policy's records.
+
+        An answer depends on a path by the rules that are on it and over it alone.
+        """
+        rules = {(unit.layer, unit.rule) for unit in gone}
+        numbers: set[int] = set()
+        for record in inserted:
+            origin = record["policy"]
+            if (origin.get("layer"), origin.get("rule")) in rules:
+                numbers |= self.over.get(record.get("path", record.get("port")), frozenset())
+        return sorted(numbers)
+
+
+def _with_what_is_over(place: str | int) -> Iterator[str | int]:
+    """A path and the directories over it, or a port."""
+    if isinstance(place, str):
+        yield from upwards(place)
+    else:
+        yield place
+
+
+@dataclass(frozen=True)
+class _Trial:
+    """A policy's records that some questions are asked under, and which choice of what is tried it is."""
+
+    choice: int
+    inserted: list[Record]
+    questions: list[int]
+
+
+class Tightening:
+    """Takes away what is not needed by what recordings asked."""
+
+    def __init__(self, program: Path, abi: int, asked: Sequence[Asked], *, best_effort: bool) -> None:
+        self._program = program
         self._abi = abi
-        self._audit = audit
+        self._asked = asked
+        self._best_effort = best_effort
         self._audits = 0
 
-    def done(self) -> Tightened:
-        """The policy under which nothing more is refused, and from which no right can be taken."""
-        whole = self._audited(self._policy)
-        policy, taken = self._policy, list[Unit]()
+    def tightened(self, policy: Policy) -> Tightened:
+        """A policy's rights without those that can go, until none can: each that is left is needed by some call."""
+        taken: list[Unit] = []
         while True:
-            needed = self._needed(policy, whole)
-            doubtful = [unit for unit, keys in needed.items() if not keys]
-            away = self._away(policy, doubtful, whole)
-            kept = [unit for unit in doubtful if unit not in away]
-            for unit in kept:
-                needed[unit] = self._alone(policy, away, unit, whole)
+            left = list(units(policy, self._abi))
+            needed = dict(zip(left, self._refused(policy, [[unit] for unit in left])))
+            free = _wide_first(policy, [unit for unit, refused in needed.items() if not refused])
+            if not free:
+                return self._counted(policy, needed, taken)
+            away = self._away(policy, free)
             taken += away
             policy = without(policy, away)
-            if not away:
-                return Tightened(policy, needed, tuple(taken), self._audits)
 
-    def _needed(self, policy: Policy, whole: Audited) -> dict[Unit, set[Key]]:
-        """The calls that are seen to need each right, by many layers in one audit."""
-        found: dict[Unit, set[Key]] = {unit: set() for unit in units(policy, self._abi)}
-        room = MOST_LAYERS - len(policy.layers) - whole.layers_of_program
-        asked = list(found)
-        for first in range(0, len(asked), room) if room > 0 else ():
-            some = asked[first : first + room]
-            more = [self._as_layer(policy, unit, len(policy.layers) + n) for n, unit in enumerate(some, start=1)]
-            audited = self._audited(replace(policy, layers=(*policy.layers, *more)), len(policy.layers))
-            for unit, layer in zip(some, more):
-                found[unit] = {key for key in audited.by_layer.get(layer.number, ()) if key not in whole.refused}
-        return found
+    def _counted(self, policy: Policy, needed: Mapping[Unit, Refused], taken: Sequence[Unit]) -> Tightened:
+        by_rule: dict[tuple[int, str], Refused] = {}
+        for unit, refused in needed.items():
+            rule = unit.layer, unit.rule
+            by_rule[rule] = by_rule.get(rule, frozenset()) | refused
+        return Tightened(
+            policy,
+            {unit: self._calls(refused) for unit, refused in needed.items()},
+            {rule: self._calls(refused) for rule, refused in by_rule.items()},
+            len(taken),
+            self._audits,
+        )
 
-    def _as_layer(self, policy: Policy, unit: Unit, number: int) -> Layer:
-        """The layer of a right without the right, as one more."""
-        (layer,) = (it for it in without(policy, [unit]).layers if it.number == unit.layer)
-        return replace(layer, number=number)
+    def _calls(self, refused: Refused) -> int:
+        """How many calls asked what is refused."""
+        return sum(self._asked[where].calls(number) for where, number in refused)
 
-    def _away(self, policy: Policy, doubtful: Sequence[Unit], whole: Audited) -> list[Unit]:
-        """As many of some rights as can be taken away: all of them, or else of one half and then of the other."""
-        if not doubtful or not self._more_refused(without(policy, doubtful), whole):
-            return list(doubtful)
-        if len(doubtful) == 1:
+    def _away(self, policy: Policy, free: Sequence[Unit]) -> list[Unit]:
+        """As many of some rights as can go together: all of them, or else of one half and then of the other."""
+        if not free or not self._refused(policy, [free])[0]:
+            return list(free)
+        if len(free) == 1:
             return []
-        middle = len(doubtful) // 2
-        first = self._away(policy, doubtful[:middle], whole)
-        return first + self._away(without(policy, first), doubtful[middle:], whole)
+        middle = len(free) // 2
+        first = self._away(policy, free[:middle])
+        return first + self._away(without(policy, first), free[middle:])
 
-    def _alone(self, policy: Policy, away: Sequence[Unit], unit: Unit, whole: Audited) -> set[Key]:
-        """The calls that are refused without a right, by an audit of its own."""
-        return set(self._more_refused(without(policy, [*away, unit]), whole))
+    def _refused(self, policy: Policy, gone: Sequence[Sequence[Unit]]) -> list[Refused]:
+        """What is refused without some rights of a policy, for each of several choices of these."""
+        found: list[set[tuple[int, int]]] = [set() for _ in gone]
+        for where, asked in enumerate(self._asked):
+            whole = asked.tried.inserted(policy, self._abi)
+            trials = (
+                _Trial(choice, asked.tried.inserted(without(policy, some), self._abi), asked.touched(whole, some))
+                for choice, some in enumerate(gone)
+            )
+            for choice, number in self._tried(asked, trials):
+                found[choice].add((where, number))
+        return [frozenset(refused) for refused in found]
 
-    def _more_refused(self, policy: Policy, whole: Audited) -> Counter[Key]:
-        """The records that a policy refuses and the whole one lets pass."""
-        return self._audited(policy).refused - whole.refused
+    def _tried(self, asked: Asked, trials: Iterable[_Trial]) -> Iterator[tuple[int, int]]:
+        """The questions that are refused, each with the choice that it is refused under."""
+        trace = _Trace(asked)
+        for trial in trials:
+            if trace.lines and len(trace.lines) + trace.weight(trial) > MOST_RECORDS:
+                yield from self._judged(trace)
+                trace = _Trace(asked)
+            trace.add(trial)
+        if trace.lines:
+            yield from self._judged(trace)
 
-    def _audited(self, policy: Policy, own: int = MOST_LAYERS) -> Audited:
-        """What is refused under a policy, of which layers behind `own` are told apart."""
+    def _judged(self, trace: _Trace) -> Iterator[tuple[int, int]]:
+        """What is refused in a trace."""
         self._audits += 1
-        found = Audited()
-        restricts: Counter[int] = Counter()
-        for recording, walk in self._audit(policy):
-            for told in walk:
-                if of_policy(told.record) is not None:
-                    continue
-                restricts[recording] += told.record["op"] == "restrict"
-                for _, answer in told.answered:
-                    if not answer.refused:
-                        continue
-                    key = f"{recording} {json.dumps(told.record, sort_keys=True)}"
-                    found.refused[key] += 1
-                    numbers = [walk.policy_of(it.line) or 0 for it in explanations.refusing(told.record, answer)] \
-                        if answer.layers else []
-                    if numbers and min(numbers) > own:
-                        for number in numbers:
-                            found.by_layer.setdefault(number, set()).add(key)
-        found.layers_of_program = max(restricts.values(), default=0)
-        return found
+        with tempfile.TemporaryDirectory(prefix="landaudit-") as name:
+            file, report = Path(name, "trace.jsonl"), Path(name, "report.txt")
+            with open(file, "w", encoding="utf-8") as out:
+                out.writelines(trace.lines)
+            landaudit.audit(self._program, alone(self._abi), trace.asked.tree, file, report,
+                            best_effort=self._best_effort, explain=False, only_refused=True)
+            with open(report, encoding="utf-8") as lines:
+                for line in lines:
+                    number = line.partition(" ")[0]
+                    if number.isdigit() and (decided := trace.decided.get(int(number))) is not None:
+                        yield decided
+
+
+class _Trace:
+    """A trace in which processes under several policies ask questions."""
+
+    def __init__(self, asked: Asked) -> None:
+        self.asked = asked
+        self.lines: list[str] = []
+        self.decided: dict[int, tuple[int, int]] = {}
+        self._pid = 0
+
+    def weight(self, trial: _Trial) -> int:
+        """How many lines a trial has at most."""
+        domains = {self.asked.questions[number].domain for number in trial.questions}
+        own = sum(1 + sum(len(trial.inserted) if isinstance(layer, int) else 3 + len(layer) for layer in domain)
+                  for domain in domains)
+        return own + sum(len(self.asked.bodies[number]) for number in trial.questions)
+
+    def add(self, trial: _Trial) -> None:
+        """Adds the processes of a trial: one for all questions that are asked under the same layers."""
+        by_domain: dict[Domain, list[int]] = {}
+        for number in trial.questions:
+            by_domain.setdefault(self.asked.questions[number].domain, []).append(number)
+        for domain, numbers in by_domain.items():
+            self._pid += 1
+            self._say('"op":"start","nnp":true')
+            for layer in domain:
+                for call in _calls_of(layer, trial.inserted):
+                    self._say(call)
+            for number in numbers:
+                for body in self.asked.bodies[number]:
+                    self._say(body)
+                self.decided[len(self.lines)] = trial.choice, number
+
+    def _say(self, body: str) -> None:
+        self.lines.append(f'{{"pid":{self._pid},{body}}}\n')
+
+
+def _calls_of(layer: Enforced, inserted: Iterable[Record]) -> Iterator[str]:
+    """The calls by which a process comes to a layer, the policy's or one of a program's own."""
+    if isinstance(layer, int):
+        of_layer = [call_of(record) for record in inserted if record["policy"].get("layer") == layer]
+    else:
+        of_layer = [*layer, ("restrict",), ("close_rs",)]
+    yield from (text(call, "rs", RULESET) for call in of_layer)

@@ -55,10 +55,10 @@ class Tried:
         """The ABIs of a range in steps, the oldest first: each is judged by the traces of its newest."""
         found = [alone(abis[-1])]
         for abi in reversed(abis[:-1]):
-            inserted = self._inserted(self.policy, found[0][-1])
+            inserted = self.inserted(self.policy, found[0][-1])
             if best_effort:
                 inserted = list(applying.at_best_effort(inserted, abi))
-            if inserted == self._inserted(self.policy, abi):
+            if inserted == self.inserted(self.policy, abi):
                 found[0] = range(abi, found[0].stop)
             else:
                 found.insert(0, alone(abi))
@@ -69,7 +69,7 @@ class Tried:
 
         Where they would be more records than landaudit reads, the part is cut into pieces, one after another.
         """
-        part, places, inserted = self.recording.parts[number], self.places[number], self._inserted(policy, abi)
+        part, places, inserted = self.recording.parts[number], self.places[number], self.inserted(policy, abi)
         tree = part.tree
         if len(self.recording.parts) > 1:
             tree = into.tree
@@ -84,7 +84,7 @@ class Tried:
             _write_trace(piece, again, inserted, piece.with_suffix(".tried"))
             yield Files(tree, piece.with_suffix(".tried"), piece.with_suffix(".report"))
 
-    def _inserted(self, policy: Policy, abi: int) -> list[Record]:
+    def inserted(self, policy: Policy, abi: int) -> list[Record]:
         """The policy's records as an ABI knows them."""
         layers, _ = fitting.fit(policy, abi)
         return applying.records(policy, layers, self.tree, max(places.rs for places in self.places))
@@ -145,9 +145,16 @@ class Auditing:
     status: int = 0
 
     def walks(self, abis: range, tried: Tried | None, policy: Policy | None = None) -> Iterator[Walk]:
-        """Judges each part at some ABIs, and gives a walk over its answers.
+        """Judges each part at some ABIs, and gives a walk over its answers, as `judged` does."""
+        for files in self.judged(abis, tried, policy):
+            yield Walk(files.trace, files.report, abis, self.progress)
 
-        Where something is tried, `policy` is what it has in the place of the policy, with more rules.
+    def judged(
+        self, abis: range, tried: Tried | None, policy: Policy | None = None, *, explain: bool = True
+    ) -> Iterator[Files]:
+        """Judges each part at some ABIs, and gives its files, which the next part may take the place of.
+
+        Where something is tried, `policy` is what it has in the place of the policy, with other rules.
         """
         for number, own in enumerate(self.recording.parts):
             part = Part(self.folder, own.number)
@@ -157,8 +164,8 @@ class Auditing:
                 judged = tried.write(policy or tried.policy, abis[-1], number, part)
             for files in judged:
                 self.progress.say(f"judging at ABI {span(abis)}{self._of_all(own)}")
-                self.status |= landaudit.audit(self.program, abis, *files, best_effort=self.best_effort)
-                yield Walk(files.trace, files.report, abis, self.progress)
+                self.status |= landaudit.audit(self.program, abis, *files, best_effort=self.best_effort, explain=explain)
+                yield files
 
     def _of_all(self, part: Part) -> str:
         return "" if part.number is None else f", part {part.number} of {len(self.recording.parts)}"

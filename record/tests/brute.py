@@ -1,291 +1,367 @@
 #!/usr/bin/env python3
-"""Random policies and random calls: whether what `landaudit-policy diff` says holds for each call that is tried.
+"""Random policies by brute force: whether what landaudit-policy diff and landaudit-record tighten say of them holds.
 
-    record/tests/brute.py [PAIRS] [CALLS] [FIRST]
+    record/tests/brute.py [--pairs N] [--calls N] [--policies N] [--records N] [--first SEED] [--landaudit PATH]
 
-tries 500 pairs of policies with 2,000 calls each, or as many as the words say, from a seed on. Each pair has a tree of
-its own. Where one policy lets a call pass and the other refuses it, a right or a move that the call needs is to be
-named there, by the tables of docs/SEMANTICS.md ("What each call asks", "Moving and linking").
+Of each pair of policies, random calls on random trees are asked of landaudit under both. Where one policy alone lets a
+call pass, a line of `diff` is to cover something that the call needs; and a line is to cover a call that needs one
+thing alone only where that differs. Of each policy of ten rules `tighten` makes another for random recordings: it is to
+grant nothing more and refuse nothing new, and each right is taken from it by itself, to see that something is refused.
 """
 
 from __future__ import annotations
 
+import argparse
+import contextlib
+import io
 import random
+import re
 import sys
 import tempfile
-from collections.abc import Iterator, Sequence
+import tomllib
+from collections.abc import Iterable, Iterator, Sequence
 from dataclasses import dataclass
 from pathlib import Path
 
-sys.path.insert(0, str(Path(__file__).resolve().parents[1]))
+if __name__ == "__main__":
+    sys.path.insert(0, str(Path(__file__).resolve().parents[1]))
 
-from landaudit_record import applying, asking, differing, fitting, jsonl, landaudit  # noqa: E402
-from landaudit_record.differing import About, Differences, Move, Subject  # noqa: E402
+from landaudit_record import asking, cli, jsonl, landaudit  # noqa: E402
 from landaudit_record.jsonl import Record  # noqa: E402
-from landaudit_record.policies import Access, Layer, PathRule, Policy, PortRule  # noqa: E402
-from landaudit_record.regions import Region, Regions  # noqa: E402
-from landaudit_record.rights import FS, NET, NEWEST_ABI, OLDEST_ABI, Family  # noqa: E402
-from landaudit_record.trees import ROOT, Tree, directory_of, joined, upwards  # noqa: E402
+from landaudit_record.rights import FS, NET, NEWEST_ABI, OLDEST_ABI, alone  # noqa: E402
+from landaudit_record.trees import ROOT  # noqa: E402
+from tests import covering  # noqa: E402
+from tests.random_calls import Call, Caller  # noqa: E402
+from tests.random_policies import Kinds, Layer, Maker, Policy, Rule, meant, plain  # noqa: E402
+from tests.random_runs import Run  # noqa: E402
 
 ABIS = range(OLDEST_ABI, NEWEST_ABI + 1)
-NAMES = ("a", "b", "c")
-FILES = ("reg", "reg", "reg", "char", "block", "fifo", "sock", "sym")
-PORTS = (0, 22, 80, 443)
-MAKE = {"reg": "make_reg", "dir": "make_dir", "sym": "make_sym", "char": "make_char", "block": "make_block",
-        "fifo": "make_fifo", "sock": "make_sock"}
-
-
-def tree(of: random.Random) -> Tree:
-    """A tree of up to four levels, in which a name is a directory, a file or nothing."""
-    found = Tree()
-
-    def fill(directory: str, depth: int) -> None:
-        for name in NAMES:
-            kind = of.choice(("dir", "dir", "dir", *FILES[:4], None)) if depth < 4 else of.choice((*FILES, None, None))
-            if kind is not None:
-                path = joined(directory, name)
-                found.kinds[path] = kind
-                if kind == "dir":
-                    fill(path, depth + 1)
-
-    fill(ROOT, 1)
-    return found
-
-
-def places(of: random.Random, count: int) -> list[str]:
-    """Paths of up to four names, nested in one another; the root seldom."""
-    return ["/" + "/".join(of.choices(NAMES, k=of.choice((1, 1, 2, 2, 3, 4)))) if of.random() < 0.93 else ROOT
-            for _ in range(count)]
-
-
-def rights(of: random.Random, family: Family, share: float) -> Access:
-    """Some rights, seldom by a group."""
-    if of.random() < 0.4:
-        return Access(grouped=family.groups[of.choice(list(family.groups))])
-    return Access(outright=frozenset(right for right in family.since if of.random() < share))
-
-
-def policy(of: random.Random, name: str) -> Policy:
-    """A policy of up to four layers."""
-    return Policy(Path(name), tuple(layer(of, number) for number in range(1, of.randint(1, 4) + 1)))
-
-
-def layer(of: random.Random, number: int) -> Layer:
-    """A layer with rules on paths, directories and files alike, and on ports."""
-    fs, net = rights(of, FS, 0.7), rights(of, NET, 0.5)
-    if not fs.rights and not net.rights:
-        fs = Access(grouped=FS.groups["all"])
-    path_rules, port_rules = [], []
-    for index, path in enumerate(places(of, of.randint(0, 6)), start=1):
-        access = rights(of, FS, 0.6)
-        access = Access(access.outright & fs.rights, access.grouped)
-        if access.rights & fs.rights:
-            path_rules.append(PathRule(f"path_beneath {index}", access, (path,)))
-    for index in range(1, of.randint(0, 2) + 1):
-        access = Access(rights(of, NET, 0.7).rights & net.rights)
-        if access.rights:
-            port_rules.append(PortRule(f"net_port {index}", access, (of.choice(PORTS),)))
-    return Layer(number, fs, net, tuple(path_rules), tuple(port_rules))
-
-
-def changed(of: random.Random, old: Policy) -> Policy:
-    """A policy that is another one with one layer made anew, or with one rule less."""
-    layers = list(old.layers)
-    index = of.randrange(len(layers))
-    kept = layers[index]
-    if kept.path_beneath and of.random() < 0.6:
-        rules = list(kept.path_beneath)
-        rules.pop(of.randrange(len(rules)))
-        layers[index] = Layer(kept.number, kept.handled_access_fs, kept.handled_access_net, tuple(rules), kept.net_port)
-    else:
-        layers[index] = layer(of, kept.number)
-    return Policy(Path("new"), tuple(layers))
+TREES = 4
+_ANSWER = re.compile(r"(?:([0-9]+)(?:-([0-9]+))? )?(allowed|moot|refused)")
+_ROW = re.compile(r" *([0-9]+)  ([a-z_]+) +layer ([0-9]+), (path_beneath|net_port) ([0-9]+) .*")
+_TABLES = {"path_beneath": "path", "net_port": "port"}
+RULES = 10
+APART = 1000
+"""How far the numbers of processes are apart that are under different policies."""
+MOST_SHOWN = 3
+Abis = frozenset[int]
 
 
 @dataclass(frozen=True)
-class Call:
-    """A call: its records, of which all must be allowed, and what it needs."""
+class Answer:
+    """At which ABIs a record is allowed, and at which the policy is not asked."""
 
-    records: tuple[Record, ...]
-    needs: tuple[Subject, ...]
+    allowed: Abis
+    moot: Abis
+
+
+def judged(program: Path, folder: Path, kinds: Kinds, records: Sequence[Record], abis: range = ABIS) -> list[Answer]:
+    """What landaudit answers to each record of a trace."""
+    tree, trace, report = folder / "tree.jsonl", folder / "trace.jsonl", folder / "report.txt"
+    asking.write_tree(tree, kinds)
+    jsonl.write(trace, records)
+    landaudit.audit(program, abis, tree, trace, report, best_effort=True, explain=False)
+    with open(report, encoding="utf-8") as lines:
+        return [_answer(next(lines), abis) for _ in records]
+
+
+def _answer(line: str, abis: range) -> Answer:
+    """The answer on a line of a report."""
+    found: dict[str, Abis] = {}
+    for first, last, verdict in _ANSWER.findall(line.split(" ", 3)[3]):
+        some = frozenset(range(int(first), int(last or first) + 1)) if first else frozenset(abis)
+        found[verdict] = found.get(verdict, frozenset()) | some
+    return Answer(found.get("allowed", frozenset()), found.get("moot", frozenset()))
+
+
+def run(words: Sequence[str], program: cli.Program) -> tuple[int, str, str]:
+    """The status of a command, and what it writes to standard output and to standard error."""
+    with contextlib.redirect_stdout(io.StringIO()) as out, contextlib.redirect_stderr(io.StringIO()) as errors:
+        status = cli.main(words, program)
+    return status, out.getvalue(), errors.getvalue()
+
+
+# ---- landaudit-policy diff
 
 
 @dataclass(frozen=True)
-class Caller:
-    """Makes random calls on a tree, with what each needs in terms of the regions."""
+class Pair:
+    """Two policies, by the seed that they were made by."""
 
-    of: random.Random
-    tree: Tree
-    regions: Regions
+    seed: int
+    old: Policy
+    new: Policy
+    maker: Maker
 
-    def region(self, path: str) -> Region:
-        """The region of a path: its own where it has a rule and is no directory."""
-        over = next(place for place in upwards(path) if place in self.regions.paths)
-        return Region(over, as_file=over == path and self.tree.kind(path) not in ("dir", None))
+    @classmethod
+    def of(cls, seed: int) -> Pair:
+        """Two policies of one to four layers, mostly close to one another."""
+        maker = Maker(random.Random(seed))
+        old = maker.policy(maker.of.choice((1, 1, 1, 2, 2, 3, 4)))
+        near = maker.of.random() < 0.85
+        return cls(seed, old, maker.changed(old) if near else maker.policy(maker.of.randint(1, 4)), maker)
 
-    def under(self, path: str) -> str:
-        """The region that a directory and new objects in it are in."""
-        return self.region(path).path
+    @property
+    def changed(self) -> frozenset[str]:
+        """The paths that one of the policies alone has some rule on, but for the root."""
+        old, new = ({(path, rule.words) for layer in it.layers for rule in layer.paths for path in rule.on}
+                    for it in (self.old, self.new))
+        return frozenset(plain(str(path)) for path, _ in old ^ new) - {ROOT}
 
-    def some(self, *kinds: str) -> str | None:
-        """An object of some kind."""
-        there = [path for path, kind in self.tree.kinds.items() if kind in kinds and path != ROOT]
-        return self.of.choice(there) if there else None
+    def said(self, program: Path, folder: Path) -> covering.Said:
+        """What `diff` says of them."""
+        paths = [folder / name for name in ("old.toml", "new.toml")]
+        for path, policy in zip(paths, (self.old, self.new)):
+            path.write_text(policy.toml())
+        status, out, errors = run(["diff", *map(str, paths), "--landaudit", str(program)], cli.POLICY)
+        assert status in (0, 1), errors
+        return covering.read(status, out, str(paths[0]), str(paths[1]), ABIS)
 
-    def directory(self) -> str:
-        """A directory, the root too."""
-        return self.of.choice([path for path, kind in self.tree.kinds.items() if kind == "dir"])
-
-    def call(self, fd: int) -> Call | None:
-        """One call, or None where the tree has nothing for it."""
-        kind = self.of.choice(("file",) * 4 + ("directory",) * 4 + ("move",) * 8 + ("port", "mount"))
-        made: Call | None = getattr(self, f"_{kind}")(fd)
-        return made
-
-    def _mount(self, fd: int) -> Call | None:
-        return Call(({"op": "mount"},), (About(differing.MOUNT),))
-
-    def _port(self, fd: int) -> Call | None:
-        op, port = self.of.choice(("bind", "connect")), self.of.choice((*PORTS, 8080, 65535))
-        return Call(({"op": op, "port": port},), (About(f"{op}_tcp", port=port if port in self.regions.ports else None),))
-
-    def _file(self, fd: int) -> Call | None:
-        op = self.of.choice(("open", "open", "exec", "truncate", "ftruncate", "ioctl"))
-        path = self.some(*{"open": ("reg", "char", "block", "fifo"), "ioctl": ("char", "block")}.get(op, ("reg",)))
-        if path is None:
-            return None
-        region = self.region(path)
-        mode = "w" if op == "ftruncate" else self.of.choice(("r", "w", "rw"))
-        opened: Record = {"op": "open", "path": path, "mode": mode, "fd": fd}
-        by_mode = tuple(About(right, region) for letter, right in (("r", "read_file"), ("w", "write_file")) if letter in mode)
-        if op == "open":
-            trunc = self.of.random() < 0.3 and self.tree.kind(path) == "reg"
-            needs = (*by_mode, About("truncate", region)) if trunc else by_mode
-            return Call(({**opened, "trunc": trunc},), needs)
-        if op == "ioctl":
-            return Call((opened, {"op": op, "fd": fd, "driver": True}), (*by_mode, About("ioctl_dev", region)))
-        if op == "ftruncate":
-            return Call((opened, {"op": op, "fd": fd}), (*by_mode, About("truncate", region)))
-        return Call(({"op": op, "path": path},), (About({"exec": "execute"}.get(op, op), region),))
-
-    def _directory(self, fd: int) -> Call | None:
-        directory = self.directory()
-        under, new = Region(self.under(directory)), joined(directory, "new")
-        op = self.of.choice(("read", "create", "mkdir", "symlink", "mknod", "unlink", "rmdir"))
-        if op == "read":
-            return Call(({"op": "open", "path": directory, "mode": "r", "fd": fd},), (About("read_dir", under),))
-        if op == "create":
-            record: Record = {"op": "open", "path": new, "mode": "w", "fd": fd, "create": True}
-            return Call((record, {"op": "ftruncate", "fd": fd}),
-                        tuple(About(right, under) for right in ("make_reg", "write_file", "truncate")))
-        if op in ("unlink", "rmdir"):
-            path = self.some("dir") if op == "rmdir" else self.some(*set(FILES))
-            if path is None:
-                return None
-            place = Region(self.under(directory_of(path)))
-            return Call(({"op": op, "path": path},), (About("remove_dir" if op == "rmdir" else "remove_file", place),))
-        kind = {"mkdir": "dir", "symlink": "sym"}.get(op) or self.of.choice(("reg", "char", "block", "fifo", "sock"))
-        return Call(({"op": op, "path": new, "kind": kind},), (About(MAKE[kind], under),))
-
-    def _move(self, fd: int) -> Call | None:
-        how = self.of.choice(("rename", "link", "over", "exchange"))
-        moved = self.some(*set(FILES), *(() if how == "link" else ("dir",)))
-        if moved is None:
-            return None
-        needs = list(self._leaving(moved)) if how != "link" else []
-        if how in ("rename", "link"):
-            directory = self.directory()
-            record: Record = {"op": how, "from": moved, "to": joined(directory, "new")}
-            return Call((record,), (*needs, *self._coming(moved, directory)))
-        there = self.some(*set(FILES), "dir")
-        if there is None:
-            return None
-        record = {"op": "rename", "from": moved, "to": there, "exchange": how == "exchange"}
-        needs += [*self._coming(moved, directory_of(there)), *self._leaving(there)]
-        if how == "exchange":
-            needs += self._coming(there, directory_of(moved))
-        return Call((record,), tuple(needs))
-
-    def _leaving(self, path: str) -> Iterator[Subject]:
-        right = "remove_dir" if self.tree.kind(path) == "dir" else "remove_file"
-        yield About(right, Region(self.under(directory_of(path))))
-
-    def _coming(self, path: str, directory: str) -> Iterator[Subject]:
-        """What an object asks where it comes to a directory: to be made there and, from another one, to move."""
-        kind, to = self.tree.kinds[path], self.under(directory)
-        yield About(MAKE[kind], Region(to))
-        itself = path in self.regions.paths and kind != "sym"
-        yield Move(kind, path if itself else self.under(directory_of(path)), itself, to)
+    def passing(self, program: Path, folder: Path, kinds: Kinds, calls: Sequence[Call]) -> Iterator[tuple[Call, Abis, Abis]]:
+        """Each call on a tree, and at which ABIs the old policy lets it pass, and the new one."""
+        asked = [record for call in calls for record in call.records]
+        records: list[Record] = []
+        first: list[int] = []
+        for pid, policy in enumerate((self.old, self.new), start=1):
+            records += [{"op": "start", "pid": pid}, *({**record, "pid": pid} for record in policy.records(kinds))]
+            first.append(len(records))
+            records += [{**record, "pid": pid} for record in asked]
+        found = judged(program, folder, kinds, records)
+        both = [iter(found[at:]) for at in first]
+        for call in calls:
+            old, new = (frozenset(ABIS).intersection(*(next(of_one).allowed for _ in call.records)) for of_one in both)
+            yield call, old, new
 
 
-def answered(program: Path, folder: Path, of: Tree, two: Sequence[Policy], calls: Sequence[Call]) -> Iterator[list[set[int]]]:
-    """For each call, at which ABIs each policy lets it pass, and at which the policy is not asked about it."""
-    records: list[Record] = []
-    for pid, one in enumerate(two, start=1):
-        layers, _ = fitting.fit(one, NEWEST_ABI)
-        own = applying.records(one, layers, of, asking.RULESET)
-        records += [{"op": "start", "pid": pid}, *({**record, "pid": pid} for record in own)]
-        records += [{**record, "pid": pid} for call in calls for record in call.records]
-    asking.write_tree(folder / "tree.jsonl", of.kinds)
-    jsonl.write(folder / "trace.jsonl", records)
-    landaudit.audit(program, ABIS, folder / "tree.jsonl", folder / "trace.jsonl", folder / "report.txt",
-                    best_effort=True, explain=False)
-    by_abi = {abi: [it.verdict for it in landaudit.answers(folder / "report.txt", abi)] for abi in ABIS}
-    spent = len(records) // 2
-    length = sum(len(call.records) for call in calls)
-    ends = [next(at for at, it in enumerate(records) if it["op"] == "start" and it["pid"] == 2), len(records)]
-    assert spent >= 0
-    at = [end - length for end in ends]
-    for call in calls:
-        passes: list[set[int]] = []
-        for start in at:
-            passes.append({abi for abi in ABIS
-                           if all(by_abi[abi][start + n] == "allowed" for n in range(len(call.records)))})
-        first = [{abi for abi in ABIS if by_abi[abi][start] == "moot"} for start in at]
-        yield [*passes, set.union(*first)]
-        at = [start + len(call.records) for start in at]
+@dataclass
+class Tried:
+    """How many calls were tried, how many differ, and what is at fault, in words."""
+
+    calls: int
+    differ: int
+    faults: list[str]
 
 
-def named(found: Differences, call: Call, abi: int, more: bool) -> bool:
-    """Whether something that a call needs is said to differ."""
-    differing_there = found.more if more else found.less
-    return any(abi in differing_there.get(need, ()) for need in call.needs)
+def compared(program: Path, seed: int, count: int) -> Tried:
+    """Tries the calls of a pair, on several trees."""
+    pair, tried = Pair.of(seed), Tried(0, 0, [])
+    with tempfile.TemporaryDirectory() as name:
+        said = pair.said(program, Path(name))
+        if said.status != bool(said.more):
+            tried.faults.append(f"seed {seed}: status {said.status}")
+        for _ in range(TREES):
+            kinds = pair.maker.tree(pair.old.paths | pair.new.paths)
+            calls = list(Caller(pair.maker.of, kinds, pair.changed).calls(count // TREES))
+            for call, old, new in pair.passing(program, Path(name), kinds, calls):
+                tried.calls += 1
+                tried.differ += old != new
+                tried.faults += [f"seed {seed}, {fault}: {call}" for fault in faults_of(said, call, old, new)]
+    return tried
 
 
-def tried(program: Path, seed: int, count: int) -> tuple[int, int, list[str]]:
-    """How many calls of a pair of policies were tried and how many differ, and those that `diff` doesn't name."""
-    of = random.Random(seed)
-    old = policy(of, "old")
-    new = changed(of, old) if of.random() < 0.7 else policy(of, "new")
-    found = differing.differences(program, old, new, ABIS)
-    caller = Caller(of, tree(of), Regions.of((old, new)))
-    calls = [call for fd in range(3, 3 + count) if (call := caller.call(fd)) is not None]
-    differ, unnamed = 0, []
-    with tempfile.TemporaryDirectory() as folder:
-        for call, (one, other, moot) in zip(calls, answered(program, Path(folder), caller.tree, (old, new), calls)):
-            differ += bool((one ^ other) - moot)
-            for abi in (one ^ other) - moot:
-                if not named(found, call, abi, more=abi in other):
-                    unnamed.append(f"seed {seed}, ABI {abi}, {'more' if abi in other else 'less'}: {call}")
-    return len(calls), differ, unnamed
+def faults_of(said: covering.Said, call: Call, old: Abis, new: Abis) -> Iterator[str]:
+    """What is at fault in what is said of a call that two policies let pass at some ABIs."""
+    for abi in ABIS:
+        for one, other, more in ((new, old, True), (old, new, False)):
+            differs = abi in one and abi not in other
+            covered = said.covers(call.needs, abi, more)
+            word = "more" if more else "less"
+            if differs and not covered:
+                yield f"ABI {abi}, {word}, not named"
+            if covered and not differs and len(call.needs) == 1:
+                yield f"ABI {abi}, {word}, named and no difference"
+
+
+# ---- landaudit-record tighten
+
+Unit = tuple[int, str, str]
+"""A right of a rule: the layer's number, the rule as `path 1`, and the right."""
+
+
+@dataclass(frozen=True)
+class Recorded:
+    """A random tree and a recording on it, with a policy of ten rules that is tried, by the seed of all."""
+
+    seed: int
+    abi: int
+    policy: Policy
+    runs: tuple[Run, ...]
+
+    @classmethod
+    def of(cls, seed: int, count: int) -> Recorded:
+        """A policy of one to three layers, seldom of nearly as many as a domain has, and one or two recordings."""
+        maker = Maker(random.Random(seed))
+        layers = maker.of.choice((1, 1, 2, 2, 3, 3, 5, 15))
+        policy = maker.policy(layers, RULES)
+        kinds = maker.tree(policy.paths)
+        policy = policy.taken_on(kinds)
+        runs = [Run(maker.of, kinds).made(count) for _ in range(maker.of.choice((1, 1, 2)))]
+        return cls(seed, maker.of.choice((5, 5, 5, 5, 4, 3, 2, 1)), policy, tuple(runs))
+
+    def written(self, folder: Path) -> list[str]:
+        """The words that name the policy and the folders of the recordings, once they are written."""
+        policy = folder / "policy.toml"
+        policy.write_text(self.policy.toml())
+        words = ["--policy", str(policy), "--abi", str(self.abi)]
+        for number, run in enumerate(self.runs):
+            one = folder / f"rec-{number}"
+            one.mkdir()
+            asking.write_tree(one / "tree.jsonl", run.kinds)
+            jsonl.write(one / "trace.jsonl", run.records)
+            words.append(str(one))
+        return words
+
+    def refused(self, program: Path, folder: Path, policies: Sequence[Sequence[Record]]) -> list[set[tuple[int, int]]]:
+        """What is refused under each of some policies, by recording and record: each has processes of its own."""
+        found: list[set[tuple[int, int]]] = [set() for _ in policies]
+        for number, run in enumerate(self.runs):
+            traces = [list(_under(run, policy, which * APART)) for which, policy in enumerate(policies)]
+            records = [record for trace in traces for record in trace]
+            verdicts = iter(judged(program, folder, run.kinds, records, alone(self.abi)))
+            for refused, trace in zip(found, traces):
+                said = [(record["call_of_run"], next(verdicts)) for record in trace]
+                refused |= {(number, at) for at, answer in said if at is not None and not answer.allowed | answer.moot}
+        return found
+
+
+def _under(run: Run, policy: Sequence[Record], pids: int) -> Iterator[Record]:
+    """The records of a run under a policy; its processes have numbers of their own, and its records their places."""
+    for at, record in enumerate(run.records):
+        if at in run.first:
+            yield from ({**one, "pid": run.first[at] + pids, "call_of_run": None} for one in policy)
+        child = {"child": record["child"] + pids} if "child" in record else {}
+        yield {**record, "pid": record["pid"] + pids, **child, "call_of_run": at}
+
+
+def parsed(text: str) -> Policy:
+    """A policy's file as it was printed."""
+    layers = []
+    for layer in tomllib.loads(text)["layer"]:
+        rules = [
+            tuple(Rule(tuple(it["allowed_access"]), tuple(it[on] if isinstance(it[on], list) else [it[on]]))
+                  for it in layer.get(table, ()))
+            for table, on in (("path_beneath", "parent"), ("net_port", "port"))
+        ]
+        handled = (tuple(layer.get(f"handled_access_{key}", ())) for key in ("fs", "net"))
+        layers.append(Layer(*handled, *rules))
+    return Policy(tuple(layers))
+
+
+def units(policy: Policy, abi: int) -> Iterator[Unit]:
+    """Each right of each rule that an ABI knows and its layer handles."""
+    for number, layer in enumerate(policy.layers, start=1):
+        for kind, family, words, rules in (("path", FS, layer.fs, layer.paths), ("port", NET, layer.net, layer.ports)):
+            handled = meant(words, family) & family.known(abi)
+            for place, rule in enumerate(rules, start=1):
+                yield from ((number, f"{kind} {place}", right) for right in family.ordered(meant(rule.words, family) & handled))
+
+
+def without(records: Iterable[Record], gone: Iterable[Unit]) -> list[Record]:
+    """The records of a policy without some rights."""
+    taken = set(gone)
+    left = []
+    for record in records:
+        if "rule" in record:
+            rights = "fs" if "fs" in record else "net"
+            kept = [right for right in record[rights] if (record["layer"], record["rule"], right) not in taken]
+            if not kept:
+                continue
+            record = {**record, rights: kept}
+        left.append(record)
+    return left
+
+
+def grants(records: Iterable[Record], abi: int) -> set[tuple[object, ...]]:
+    """What the rules of a policy grant, by layer and by what they are on."""
+    known = FS.known(abi) | NET.known(abi)
+    return {(it["layer"], it.get("path"), it.get("port"), right)
+            for it in records if "rule" in it for right in (*it.get("fs", ()), *it.get("net", ())) if right in known}
+
+
+def tightened(program: Path, seed: int, count: int) -> Tried:
+    """Tightens a policy and tries each right of what is left, and each of what is said of how many calls need it."""
+    recorded, tried = Recorded.of(seed, count), Tried(0, 0, [])
+    with tempfile.TemporaryDirectory() as name:
+        folder = Path(name)
+        words = ["tighten", *recorded.written(folder), "--landaudit", str(program)]
+        status, out, errors = run(words, cli.RECORD)
+        if status:
+            return Tried(0, 0, [f"seed {seed}: status {status}: {errors}"])
+        table = run([*words, "--list"], cli.RECORD)[1]
+        tried.calls = sum(len(it.records) for it in recorded.runs)
+        tried.faults += [f"seed {seed}, ABI {recorded.abi}: {fault}"
+                         for fault in _of_tight(program, folder, recorded, parsed(out), table, tried)]
+    return tried
+
+
+def _of_tight(
+    program: Path, folder: Path, recorded: Recorded, tight: Policy, table: str, tried: Tried
+) -> Iterator[str]:
+    """What is at fault in a policy that was tightened, and in the table of how many calls need each right."""
+    kinds, abi = recorded.runs[0].kinds, recorded.abi
+    whole, left = recorded.policy.records(kinds), tight.records(kinds)
+    more = grants(left, abi) - grants(whole, abi)
+    if more or len(tight.layers) != len(recorded.policy.layers):
+        yield f"grants more: {sorted(more, key=str)}"
+    kept = list(units(tight, abi))
+    counts = dict(_counts(table))
+    listed = [unit for unit, calls in counts.items() if calls]
+    of_list = without(whole, [unit for unit, calls in counts.items() if not calls])
+    tried.differ = len(kept)
+    before, after, by_table, *alone_gone = recorded.refused(
+        program, folder, [whole, left, of_list, *(without(left, [unit]) for unit in kept),
+                          *(without(of_list, [unit]) for unit in listed)])
+    if after - before:
+        yield f"refuses what passed: {sorted(after - before)}"
+    if by_table != after:
+        yield "the table has another policy than what is printed"
+    for unit, refused in zip(kept, alone_gone):
+        if not refused - before:
+            yield f"nothing needs {unit}"
+    for unit, refused in zip(listed, alone_gone[len(kept):]):
+        if len(refused - before) != counts[unit]:
+            yield f"{counts[unit]} calls are said to need {unit}, and it is {len(refused - before)}"
+
+
+def _counts(table: str) -> Iterator[tuple[Unit, int]]:
+    """Each right of each rule in a table, with the number of calls that need it."""
+    for row in table.splitlines()[1:]:
+        found = _ROW.fullmatch(row)
+        assert found is not None, row
+        yield (int(found[3]), f"{_TABLES[found[4]]} {found[5]}", found[2]), int(found[1])
+
+
+# ---- the program
 
 
 def main() -> int:
-    """Tries pairs of policies, and prints what is not named."""
-    words = [int(word) for word in sys.argv[1:]] + [500, 2000, 0][len(sys.argv) - 1 :]
-    pairs, count, first = words
-    program = landaudit.find(None)
-    calls = differ = quiet = 0
-    wrong: list[str] = []
-    for seed in range(first, first + pairs):
-        some, differing_here, unnamed = tried(program, seed, count)
-        calls, differ, quiet = calls + some, differ + differing_here, quiet + (differing_here == 0)
-        wrong += unnamed
-        for line in unnamed[:3]:
-            print(line)
-    print(f"{pairs} pairs, {quiet} of them without a call that differs; {calls:,} calls, {differ:,} differ, "
-          f"{len(wrong):,} are not named")
-    return 1 if wrong else 0
+    """Tries pairs and policies, and prints what is at fault."""
+    parser = argparse.ArgumentParser(description=__doc__, formatter_class=argparse.RawDescriptionHelpFormatter)
+    for name, value, text in (
+        ("pairs", 500, "pairs of policies to compare"),
+        ("calls", 2000, "calls of each pair"),
+        ("policies", 200, "policies to tighten"),
+        ("records", 300, "calls of each recording"),
+        ("first", 0, "the first seed"),
+    ):
+        parser.add_argument(f"--{name}", type=int, default=value, help=f"{text} ({value} if it is left out)")
+    parser.add_argument("--landaudit", metavar="PATH", help="landaudit itself")
+    wanted = parser.parse_args()
+    program = landaudit.find(wanted.landaudit)
+    faults = 0
+    for what, said, count, each in (
+        (compared, "pairs: {calls:,} calls, {differ:,} differ, {faults:,} faults", wanted.pairs, wanted.calls),
+        (tightened, "policies: {calls:,} records, {differ:,} rights are left, {faults:,} faults", wanted.policies, wanted.records),
+    ):
+        total = Tried(0, 0, [])
+        for seed in range(wanted.first, wanted.first + count):
+            tried = what(program, seed, each)
+            total = Tried(total.calls + tried.calls, total.differ + tried.differ, total.faults + tried.faults)
+            for fault in tried.faults[:MOST_SHOWN]:
+                print(fault, flush=True)
+        print(count, said.format(calls=total.calls, differ=total.differ, faults=len(total.faults)), flush=True)
+        faults += len(total.faults)
+    return 1 if faults else 0
 
 
 if __name__ == "__main__":

@@ -12,7 +12,8 @@ from landaudit_record import cli, policies
 from landaudit_record.landaudit import BUILT
 from landaudit_record.regions import RULED_KINDS, Region, Regions, as_named, phrases
 
-from . import brute
+from . import brute, covering
+from .random_calls import Call, Right
 
 OLD = """[[layer]]
 handled_access_fs = ["all"]
@@ -123,7 +124,7 @@ class Differing(unittest.TestCase):
         status, lines, _ = self.said(files, nothing, "--abi", "5")
         self.assertEqual(status, 1)
         self.assertIn("  mounts", lines)
-        self.assertIn("  bind_tcp on every other port", lines)
+        self.assertIn("  bind_tcp on every port", lines)
         self.assertIn("  make_sym under /", lines)
 
     def test_a_right_that_came_later(self) -> None:
@@ -153,15 +154,35 @@ class Differing(unittest.TestCase):
     def test_what_does_not_read(self) -> None:
         self.assertEqual(self.said("[[layer]]", OLD)[0], 3)
 
+    def test_ports_but_for_one_with_a_rule(self) -> None:
+        """Every port is not every port where one with a rule does not differ."""
+        on = '[[layer]]\nhandled_access_net = ["bind_tcp"]\n[[layer.net_port]]\nallowed_access = ["bind_tcp"]\nport = 80\n'
+        _, lines, _ = self.said(on, '[[layer]]\nhandled_access_net = ["connect_tcp"]\n', "--abi", "5")
+        self.assertIn("  bind_tcp on every port, but for port 80", lines)
+        self.assertIn("  connect_tcp on every port", lines)
+
     def test_random_policies_by_random_calls(self) -> None:
-        program = BUILT
-        differ = 0
-        for seed in range(4):
-            calls, some, unnamed = brute.tried(program, seed, 150)
-            self.assertEqual(unnamed, [])
-            self.assertGreater(calls, 100)
-            differ += some
+        calls = differ = 0
+        for seed in (12, 13, 20, 21, 25):
+            tried = brute.compared(BUILT, seed, 80)
+            self.assertEqual(tried.faults, [])
+            calls, differ = calls + tried.calls, differ + tried.differ
+        self.assertGreater(calls, 300)
         self.assertGreater(differ, 20)
+
+    def test_a_line_that_is_missing_or_wrong_is_found_by_calls(self) -> None:
+        printed = """new lets pass what old refuses:
+  read_file under /a, but for /a/b
+old lets nothing pass that new refuses
+9 calls tried under each, at ABI 1-5"""
+        said = covering.read(1, printed, "old", "new", range(1, 6))
+        inside, outside = (Call((), (Right("read_file", path, is_file=True),)) for path in ("/a/x", "/a/b/x"))
+        every, none = frozenset(range(1, 6)), frozenset[int]()
+        self.assertEqual(list(brute.faults_of(said, inside, none, every)), [])
+        self.assertEqual(list(brute.faults_of(said, outside, none, none)), [])
+        self.assertEqual(len(list(brute.faults_of(said, outside, none, every))), 5)
+        self.assertEqual(len(list(brute.faults_of(said, inside, none, none))), 5)
+        self.assertEqual(len(list(brute.faults_of(said, inside, every, none))), 10)
 
 
 if __name__ == "__main__":

@@ -4,22 +4,21 @@ from __future__ import annotations
 
 import contextlib
 import io
-import json
 import random
 import tempfile
 import unittest
 from pathlib import Path
 
-from landaudit_record import applying, cli, comments, fitting, landaudit, policies, policy_text
+from landaudit_record import applying, cli, comments, fitting, policies, policy_text
 from landaudit_record.jsonl import Record
 from landaudit_record.landaudit import BUILT
 from landaudit_record.policies import Policy
-from landaudit_record.regions import Regions
-from landaudit_record.rights import FILE_RIGHTS, NEWEST_ABI, alone
-from landaudit_record.tightening import Unit, units, without
+from landaudit_record.rights import FILE_RIGHTS, FS, NEWEST_ABI
+from landaudit_record.tightening import units, without
 from landaudit_record.trees import Tree
 
 from . import brute
+from .random_policies import Maker
 from .recorded import write_lines
 
 PROGRAM = "/program"
@@ -62,20 +61,24 @@ class Text(unittest.TestCase):
     """A policy written out and read again is the same policy."""
 
     def again(self, policy: Policy, tree: Tree) -> Policy:
-        with tempfile.TemporaryDirectory() as folder:
-            file = Path(folder, "P.toml")
-            file.write_text("\n".join(policy_text.lines(policy, tree, comments.Comments(), lambda layer, rule: None)))
-            return policies.read(file)
+        written = policy_text.in_words(policy, tree)
+        return self.read("\n".join(policy_text.lines(written, comments.Comments(), lambda layer, rule: None)))
 
     def test_what_is_granted_is_as_before(self) -> None:
-        of = random.Random(7)
         for seed in range(60):
             with self.subTest(seed):
-                tree = brute.tree(of)
-                before = brute.policy(of, "P")
-                taken = [unit for unit in units(before, NEWEST_ABI) if of.random() < 0.3]
-                before = without(before, taken)
+                maker = Maker(random.Random(seed))
+                made = maker.policy(2, 8)
+                tree = Tree(maker.tree(made.paths))
+                before = self.read(made.toml())
+                before = without(before, [unit for unit in units(before, NEWEST_ABI) if maker.of.random() < 0.3])
                 self.assertEqual(self.granted(self.again(before, tree), tree), self.granted(before, tree))
+
+    def read(self, text: str) -> Policy:
+        with tempfile.TemporaryDirectory() as folder:
+            file = Path(folder, "P.toml")
+            file.write_text(text)
+            return policies.read(file)
 
     def granted(self, policy: Policy, tree: Tree) -> list[tuple[object, ...]]:
         """What the records of a policy say, in one order: rules on files that the kernel refuses are none."""
@@ -114,7 +117,7 @@ class Tightening(unittest.TestCase):
         status, out, _ = self.said(self.recording("one", TREE, CALLS))
         self.assertEqual(status, 0)
         head, _, text = out.partition("\n")
-        self.assertRegex(head, r"\A# 14 rights taken away that these recordings don't need \(\d+ audits\)\Z")
+        self.assertRegex(head, r"\A# 15 rights taken away that these recordings don't need \(\d+ audits\)\Z")
         self.assertEqual(
             text,
             """# Mine.
@@ -129,12 +132,12 @@ handled_access_net = ["all"]
 allowed_access = ["execute"]
 parent = ["/program", "/a"]
 
-# needed by 2 calls
+# needed by 1 call
 [[layer.path_beneath]]
-allowed_access = ["write_file", "make_dir"]
+allowed_access = ["make_dir"]
 parent = "/a"
 
-# needed by 2 calls
+# needed by 1 call
 [[layer.path_beneath]]
 allowed_access = ["write_file"]
 parent = "/a/f"
@@ -166,47 +169,88 @@ port = [80, 443]
         other = self.recording("other", TREE, [CALLS[0], {"op": "truncate", "path": "/a/f"}])
         self.assertIn("truncate", self.said(one, other)[1])
 
-    def test_nothing_can_be_taken_away_of_what_is_left(self) -> None:
-        for seed in range(3):
-            with self.subTest(seed):
-                self.irreducible(seed)
+    def rules(self, *rules: tuple[str, str]) -> str:
+        """A policy that handles all, with rules that have rights and parents, each as TOML has it."""
+        head = '[[layer]]\nhandled_access_fs = ["all"]\n'
+        return head + "".join(f"[[layer.path_beneath]]\nallowed_access = {rights}\nparent = {parent}\n" for rights, parent in rules)
 
-    def irreducible(self, seed: int) -> None:
-        of = random.Random(seed)
-        tree = brute.tree(of)
-        tree.kinds[PROGRAM] = "reg"
-        policy = brute.policy(of, "P")
-        text = policy_text.lines(policy, tree, comments.Comments(), lambda layer, rule: None)
-        self.policy.write_text("\n".join(text))
-        policy = policies.read(self.policy)
-        caller = brute.Caller(of, tree, Regions.of([policy]))
-        calls = [record for fd in range(3, 83) if (call := caller.call(fd)) is not None for record in call.records]
-        lines = [{"path": path, "kind": tree.kinds[path]} for path in sorted(tree.kinds) if path != "/"]
-        folder = self.recording(f"rec-{seed}", lines, [{"op": "exec", "path": PROGRAM}, *calls])
-        status, out, errors = self.said(folder)
+    def left(self, text: str, *folders: Path) -> list[tuple[str, ...]]:
+        """The rules on paths that are left of a policy: the parents of each behind its rights."""
+        self.policy.write_text(text)
+        status, out, errors = self.said(*folders)
         self.assertEqual(status, 0, errors)
-        tight = self.folder / f"tight-{seed}.toml"
-        tight.write_text(out)
-        left = policies.read(tight)
-        before = self.refused(folder, policy, tree)
-        self.assertEqual(self.refused(folder, left, tree) - before, set())
-        for unit in units(left, NEWEST_ABI):
-            with self.subTest(unit):
-                self.assertTrue(self.is_needed(folder, left, unit, tree, before))
+        self.policy.write_text(out)
+        (layer,) = policies.read(self.policy).layers
+        return [(*FS.ordered(rule.allowed_access.rights), *rule.parents) for rule in layer.path_beneath]
 
-    def is_needed(self, folder: Path, policy: Policy, unit: Unit, tree: Tree, before: set[int]) -> bool:
-        return bool(self.refused(folder, without(policy, [unit]), tree) - before)
+    def test_of_two_rules_that_grant_what_is_needed_the_wider_goes(self) -> None:
+        one = self.recording("one", TREE, [{"op": "exec", "path": PROGRAM}, CALLS[2]])
+        program = ('["execute"]', f'"{PROGRAM}"')
+        rules = [('["read_file"]', '"/a/f"'), ('["read_file"]', '"/a"')]
+        for some in (rules, rules[::-1]):
+            self.assertEqual(self.left(self.rules(program, *some), one), [("execute", PROGRAM), ("read_file", "/a/f")])
 
-    def refused(self, folder: Path, policy: Policy, tree: Tree) -> set[int]:
-        """The calls that are refused under a policy, asked by a trace of the test's own."""
-        layers, _ = fitting.fit(policy, NEWEST_ABI)
-        own = [{**record, "pid": 10} for record in applying.records(policy, layers, tree, 1)]
-        start, *calls = [json.loads(line) for line in (folder / "trace.jsonl").read_text().splitlines()]
-        file, report = self.folder / "own.jsonl", self.folder / "own.txt"
-        write_lines(file, [start, *own, *calls])
-        landaudit.audit(BUILT, alone(NEWEST_ABI), folder / "tree.jsonl", file, report, best_effort=True)
-        answers = list(landaudit.answers(report))[1 + len(own) :]
-        return {call["call"] for call, answer in zip(calls, answers, strict=True) if answer.refused}
+    def test_a_rule_on_a_file_and_a_directory_is_written_apart_and_less_of_it_is_left(self) -> None:
+        """The group is there in part, so the file's rule is one of its own: of both, one lets the file be read."""
+        one = self.recording("one", TREE, [{"op": "exec", "path": PROGRAM}, CALLS[2], CALLS[3]])
+        rules = self.rules(('["execute"]', f'"{PROGRAM}"'), ('["all"]', '["/a", "/a/f"]'))
+        wanted = [("execute", PROGRAM), ("make_dir", "/a"), ("read_file", "/a/f")]
+        self.assertEqual(self.left(rules, one), wanted)
+
+    def test_a_rule_of_which_nothing_is_left_for_a_file_is_not_written_for_it(self) -> None:
+        """Of the group `write` the layer handles nothing that a file can have once `truncate` is gone."""
+        one = self.recording("one", TREE, [{"op": "exec", "path": PROGRAM}, CALLS[3]])
+        self.assertEqual(self.left('[[layer]]\nhandled_access_fs = ["make_dir", "make_sym", "truncate"]\n[[layer.path_beneath]]\n'
+                                   'allowed_access = ["write"]\nparent = ["/a/f", "/a"]\n', one), [("make_dir", "/a")])
+
+    def test_calls_on_a_number_that_another_refusal_would_leave_open_on_something_else(self) -> None:
+        """Were /a/f refused, the number 6 would stay open on /a/g, and the call on it would need a right there.
+
+        Nothing refuses /a/g while it has two rules.
+        """
+        tree = [*TREE, {"path": "/a/g", "kind": "reg"}]
+        opened: list[Record] = [{"op": "open", "path": f"/a/{name}", "fd": fd, "mode": "w"} for name, fd in (("g", 6), ("f", 5))]
+        calls: list[Record] = [{"op": "exec", "path": PROGRAM}, *opened, {"op": "dup", "fd": 5, "to": 6}, {"op": "ftruncate", "fd": 6}]
+        rules = self.rules(('["execute"]', f'"{PROGRAM}"'), ('["write_file"]', '"/a/f"'), ('["write_file"]', '"/a/g"'),
+                           ('["write_file"]', '"/a/g"'), ('["truncate"]', '"/a/f"'), ('["truncate"]', '"/a/g"'))
+        wanted = [("execute", PROGRAM), ("write_file", "/a/f"), ("write_file", "/a/g"), ("truncate", "/a/f")]
+        self.assertEqual(self.left(rules, self.recording("one", tree, calls)), wanted)
+
+    def test_a_call_that_needs_rights_of_two_kinds_is_counted_for_each(self) -> None:
+        """A move that is refused with EACCES for want of `make_reg` is refused with EXDEV for want of `refer`."""
+        tree = [*TREE, {"path": "/b", "kind": "dir"}]
+        calls: list[Record] = [{"op": "exec", "path": PROGRAM}, {"op": "link", "from": "/a/f", "to": "/b/new"}]
+        self.policy.write_text(self.rules(('["execute"]', f'"{PROGRAM}"'), ('["make_reg", "refer"]', '["/a", "/b"]')))
+        rows = [line.split()[:2] for line in self.said("--list", self.recording("one", tree, calls))[1].splitlines()[1:]]
+        self.assertEqual(rows, [["1", right] for right in ("execute", "make_reg", "refer")])
+
+    def test_a_layer_of_the_programs_own_is_there_for_what_comes_behind_it(self) -> None:
+        """What the program's own layer refuses needs no right of the policy."""
+        own: list[Record] = [{"op": "create", "rs": 1, "fs": ["read_file"]}, {"op": "restrict", "rs": 1}, {"op": "close_rs", "rs": 1}]
+        calls = [{"op": "exec", "path": PROGRAM}, *own, CALLS[2], CALLS[3]]
+        rules = self.rules(('["execute"]', f'"{PROGRAM}"'), ('["read_file", "make_dir"]', '"/a"'))
+        self.assertEqual(self.left(rules, self.recording("one", TREE, calls)), [("execute", PROGRAM), ("make_dir", "/a")])
+
+    def test_a_policy_of_sixteen_layers(self) -> None:
+        self.policy.write_text(self.rules(('["read_file", "execute"]', '"/"')) * 16)
+        status, out, errors = self.said("--list", self.recording("one", TREE, [CALLS[0], CALLS[2]]))
+        self.assertEqual((status, errors), (0, ""))
+        self.assertEqual(len([row for row in out.splitlines() if row.split()[0] == "1"]), 32)
+
+    def test_a_rule_that_the_kernel_refuses(self) -> None:
+        self.policy.write_text(self.rules(('["read_file", "read_dir"]', '["/a", "/a/f"]')))
+        status, _, errors = self.said(self.recording("one", TREE, CALLS))
+        self.assertEqual(status, 3)
+        self.assertIn("layer 1, path_beneath 1, parent /a/f: the kernel refuses this rule", errors)
+
+    def test_nothing_can_be_taken_away_of_what_is_left(self) -> None:
+        left = 0
+        for seed in range(4):
+            with self.subTest(seed):
+                tried = brute.tightened(BUILT, seed, 60)
+                self.assertEqual(tried.faults, [])
+                left += tried.differ
+        self.assertGreater(left, 10)
 
 
 if __name__ == "__main__":

@@ -4,17 +4,19 @@ from __future__ import annotations
 
 import argparse
 import tempfile
-from collections.abc import Iterator
+from collections.abc import Iterable, Iterator
 from contextlib import ExitStack
+from dataclasses import replace
 from pathlib import Path
 
 from .. import comments, finished, landaudit, policies, policy_text, trying
+from ..distilling import Distilling
 from ..options import add_abi, add_as_recorded, add_landaudit, add_program, note
 from ..policies import Policy
-from ..reading import Walk
+from ..problems import WANTING, Problem
 from ..recorder.progress import Progress
 from ..rights import alone
-from ..tightening import Tightened, Tightening, units
+from ..tightening import Asked, Tightened, Tightening, units
 from ..trees import Tree
 from ..trying import Auditing, Tried
 from ..wording import counted
@@ -52,35 +54,56 @@ def run(arguments: argparse.Namespace) -> int:
             Auditing(program, recording, folder, not arguments.as_recorded, progress)
             for recording, folder in zip(opened, folders)
         ]
-
-        def audit(changed: Policy) -> Iterator[tuple[int, Walk]]:
-            for number, (auditing, one) in enumerate(zip(audits, tried), start=1):
-                for walk in auditing.walks(alone(arguments.abi), one, changed):
-                    yield number, walk
-
-        done = Tightening(policy, arguments.abi, audit).done()
+        asked = [of for audit, one in zip(audits, tried) for of in _asked(audit, one, policy, arguments.abi)]
+        progress.say("trying each right")
+        done = _tightened(Tightening(program, arguments.abi, asked, best_effort=not arguments.as_recorded), policy,
+                          None if arguments.list else _together(tried))
+        again = [of for audit, one in zip(audits, tried) for of in _asked(audit, one, done.policy, arguments.abi)]
+        if [dict(of.counted) for of in asked] != [dict(of.counted) for of in again]:
+            raise Problem("of the recordings something more is refused without what no call needs: report this fault",
+                          WANTING)
     note(f"NOT ALL IS JUDGED: {recording.folder}: {text}" for recording in opened for text in recording.missing)
-    for line in _table(policy, done, arguments.abi) if arguments.list else _toml(policy, done, tried):
+    for line in _table(policy, done, arguments.abi) if arguments.list else _toml(policy, done):
         print(line)
     return 0
 
 
-def _toml(policy: Policy, done: Tightened, tried: list[Tried]) -> Iterator[str]:
-    """The policy with a remark on each rule."""
-    calls: dict[tuple[int, str], set[str]] = {}
-    for unit, keys in done.needed.items():
-        calls.setdefault((unit.layer, unit.rule), set()).update(keys)
+def _tightened(tightening: Tightening, policy: Policy, tree: Tree | None) -> Tightened:
+    """A policy without what isn't needed; for its text by a tree, of rules that can be written, none can be less."""
+    done = tightening.tightened(policy)
+    while tree is not None and (written := policy_text.in_words(done.policy, tree)) != done.policy:
+        less = tightening.tightened(written)
+        done = replace(less, taken=done.taken + less.taken)
+    return done
 
-    def remark(layer: int, rule: str) -> str:
-        return f"needed by {counted(len(calls.get((layer, rule), ())), 'call')}"
 
+def _together(tried: Iterable[Tried]) -> Tree:
+    """The objects of all recordings."""
     tree = Tree()
     for one in tried:
         tree.kinds.update(one.tree.kinds)
         tree.targets.update(one.tree.targets)
+    return tree
+
+
+def _asked(audit: Auditing, tried: Tried, policy: Policy, abi: int) -> Iterator[Asked]:
+    """What a recording asks a policy, for each tree by itself."""
+    by_tree: dict[Path, Distilling] = {}
+    for files in audit.judged(alone(abi), tried, policy, explain=False):
+        audit.progress.say("reading what is asked")
+        by_tree.setdefault(files.tree, Distilling()).follow(files.trace, files.report)
+    yield from (Asked.of(tried, tree, found.questions) for tree, found in by_tree.items())
+
+
+def _toml(policy: Policy, done: Tightened) -> Iterator[str]:
+    """The policy with a remark on each rule."""
+
+    def remark(layer: int, rule: str) -> str:
+        return f"needed by {counted(done.by_rule.get((layer, rule), 0), 'call')}"
+
     written = comments.read(policy.path.read_text(encoding="utf-8"))
-    yield f"# {counted(len(done.taken), 'right')} taken away that these recordings don't need ({done.audits} audits)"
-    yield from policy_text.lines(done.policy, tree, written, remark)
+    yield f"# {counted(done.taken, 'right')} taken away that these recordings don't need ({done.audits} audits)"
+    yield from policy_text.lines(done.policy, written, remark)
 
 
 def _table(policy: Policy, done: Tightened, abi: int) -> Iterator[str]:
@@ -89,7 +112,7 @@ def _table(policy: Policy, done: Tightened, abi: int) -> Iterator[str]:
               for layer in policy.layers for rule in layer.path_beneath}
     places |= {(layer.number, rule.place): f"port {rule.ports[0]}" + (" .." if len(rule.ports) > 1 else "")
                for layer in policy.layers for rule in layer.net_port}
-    rows = [(len(done.needed.get(unit, ())), unit) for unit in units(policy, abi)]
+    rows = [(done.needed.get(unit, 0), unit) for unit in units(policy, abi)]
     yield f"{'calls':>7}  right        rule"
     for calls, unit in sorted(rows, key=lambda row: row[0]):
         yield f"{calls:>7}  {unit.right:<11}  layer {unit.layer}, {unit.rule} ({places[unit.layer, unit.rule]})"

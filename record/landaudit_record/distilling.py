@@ -1,0 +1,188 @@
+"""What the calls of a recording ask a policy: each question once, with how many calls ask it.
+
+Landlock answers a call by its process's layers and by what the call names, and what is done with a descriptor by the
+layers that were there when it was opened. So of all calls that a policy lets pass it is enough to ask those that
+differ in these again, each by itself, of a policy that grants less: that one refuses none of them just if it refuses
+nothing of the whole recording that passed. For take the first call that it would refuse there: until then all went as
+before, so the call's layers and what its descriptor is open on are those that are asked about here.
+"""
+
+from __future__ import annotations
+
+from collections import Counter
+from collections.abc import Iterator, Mapping
+from dataclasses import dataclass, field
+from pathlib import Path
+from typing import Any, NamedTuple
+
+from . import jsonl
+from .jsonl import Record
+from .problems import Problem
+from .processes import of_policy
+
+#: Of calls that Landlock judges by themselves, the members by which it does.
+_JUDGED: Mapping[str, tuple[str, ...]] = {
+    "open": ("path", "mode", "create", "trunc"),
+    "truncate": ("path",),
+    "exec": ("path",),
+    "mknod": ("path", "kind"),
+    "mkdir": ("path",),
+    "symlink": ("path",),
+    "unlink": ("path",),
+    "rmdir": ("path",),
+    "rename": ("from", "to", "exchange"),
+    "link": ("from", "to"),
+    "mount": (),
+    "bind": ("port",),
+    "connect": ("port",),
+}
+#: Calls on a descriptor, which Landlock judges by what was so when that was opened.
+_USES: Mapping[str, tuple[str, ...]] = {"ftruncate": (), "ioctl": ("driver",)}
+_ON_RULESETS: Mapping[str, tuple[str, ...]] = {
+    "create": ("fs", "net"),
+    "add_path": ("path", "fs"),
+    "add_port": ("port", "net"),
+    "restrict": (),
+    "close_rs": (),
+}
+_MEMBERS = {**_JUDGED, **_USES, **_ON_RULESETS}
+
+Call = tuple[Any, ...]
+"""A call without its process and its number: its operation, and behind it the members by which it is judged."""
+
+Enforced = int | tuple[Call, ...]
+"""A layer of the policy by its number, or one of a program's own by the calls that it was made by."""
+
+Domain = tuple[Enforced, ...]
+
+
+class Question(NamedTuple):
+    """What is asked: the layers, the oldest first, and one call or two, of which the first opens what the second uses."""
+
+    domain: Domain
+    calls: tuple[Call, ...]
+
+    @property
+    def about(self) -> Iterator[str | int]:
+        """The paths and ports that the calls name."""
+        for op, *values in self.calls:
+            yield from (value for name, value in zip(_MEMBERS[op], values) if name in ("path", "from", "to", "port"))
+
+
+@dataclass(slots=True)
+class _Ruleset:
+    """A ruleset that processes hold, with the calls so far or, where it is the policy's, the number of its layer."""
+
+    made: list[Call]
+    of_policy: int | None
+
+    @property
+    def layer(self) -> Enforced:
+        return tuple(self.made) if self.of_policy is None else self.of_policy
+
+
+@dataclass(slots=True)
+class _Process:
+    """What a process has: its layers, its rulesets by number, and of each descriptor the question that opened it."""
+
+    domain: Domain = ()
+    rulesets: dict[int, _Ruleset] = field(default_factory=dict)
+    opened: dict[int, Question | None] = field(default_factory=dict)
+
+    def forked(self) -> _Process:
+        return _Process(self.domain, dict(self.rulesets), dict(self.opened))
+
+
+class Distilling:
+    """Follows a trace with its report, and counts the questions that the policy was asked and let pass."""
+
+    def __init__(self) -> None:
+        self.questions: Counter[Question] = Counter()
+        self._by_pid: dict[int, _Process] = {}
+
+    def follow(self, trace: Path, report: Path) -> None:
+        """Takes up a trace by a report that explains nothing. What is refused or moot changes nothing."""
+        with open(report, "rb") as answers:
+            for number, record in jsonl.numbered(trace):
+                answer = next(answers, b"")
+                if not answer.startswith(b"%d %d " % (number, record["pid"])):
+                    raise Problem(f"{report} is no report on {trace}: use landaudit and landaudit-record of one version")
+                if answer.endswith(b" allowed\n"):
+                    self._take(record)
+                elif b" refused " in answer and (origin := of_policy(record)) is not None:
+                    raise _refused(record, origin)
+        self._by_pid.clear()
+
+    def _take(self, record: Record) -> None:
+        """Takes up a record that is allowed."""
+        op, pid = record["op"], record["pid"]
+        if op == "start":
+            self._by_pid[pid] = _Process()
+            return
+        process = self._by_pid[pid]
+        if op in _JUDGED:
+            question = self._ask(process.domain, record, (call_of(record),))
+            if op == "open":
+                process.opened[record["fd"]] = question
+        elif op in _USES:
+            opened = process.opened.get(record["fd"])
+            if opened is not None:
+                self._ask(opened.domain, record, (*opened.calls, call_of(record)))
+        else:
+            self._change(process, op, record)
+
+    def _ask(self, domain: Domain, record: Record, calls: tuple[Call, ...]) -> Question | None:
+        """Counts a question, if the policy is asked; what begins a part only gives once more what there was."""
+        if not any(type(layer) is int for layer in domain):
+            return None
+        question = Question(domain, calls)
+        if "again" not in record:
+            self.questions[question] += 1
+        return question
+
+    def _change(self, process: _Process, op: str, record: Record) -> None:
+        """What a record that asks nothing changes."""
+        match op:
+            case "fork":
+                self._by_pid[record["child"]] = process.forked()
+            case "exit":
+                del self._by_pid[record["pid"]]
+            case "adopt":
+                process.opened[record["fd"]] = None
+            case "dup":
+                process.opened[record["to"]] = process.opened.get(record["fd"])
+            case "close":
+                process.opened.pop(record["fd"], None)
+            case "create":
+                origin = of_policy(record)
+                made = _Ruleset([call_of(record)], origin["layer"] if origin else None)
+                process.rulesets[record["rs"]] = made
+            case "add_path" | "add_port":
+                process.rulesets[record["rs"]].made.append(call_of(record))
+            case "restrict":
+                process.domain = (*process.domain, process.rulesets[record["rs"]].layer)
+            case "close_rs":
+                process.rulesets.pop(record["rs"], None)
+
+
+def _refused(record: Record, origin: Mapping[str, Any]) -> Problem:
+    """That the kernel refuses a call of the policy's own."""
+    where = ", ".join([f"layer {origin['layer']}", *([origin["rule"]] if "rule" in origin else [])])
+    if record["op"] == "add_path":
+        return Problem(f"{where}, parent {origin['parent']}: the kernel refuses this rule, as it is on no directory and has "
+                       "rights of directories alone: give it a rule of its own, with a group or rights of files")
+    return Problem(f"{where}: the kernel refuses its {record['op']}, as the program has too many layers of its own: try "
+                   "a policy of fewer layers")
+
+
+def call_of(record: Record) -> Call:
+    """A record without what its answer does not depend on."""
+    op = record["op"]
+    return (op, *[tuple(value) if type(value) is list else value for value in map(record.get, _MEMBERS[op])])
+
+
+def text(call: Call, member: str, number: int) -> str:
+    """A call as a line of a trace has it behind its process, with the number of its descriptor or its ruleset."""
+    op, *values = call
+    said = [("op", op), *((name, value) for name, value in zip(_MEMBERS[op], values) if value is not None), (member, number)]
+    return ",".join(f'"{name}":{jsonl.value(list(of) if isinstance(of, tuple) else of)}' for name, of in said)
