@@ -10,7 +10,7 @@ from .policies import Layer, Policy
 from .rights import FS, NET
 from .suggesting import Suggestion, needs_refer
 from .wants import Rule
-from .wording import counted
+from .wording import counted, printable
 
 
 def lines(suggestion: Suggestion, policy: Policy) -> Iterator[str]:
@@ -32,8 +32,7 @@ def _of_layer(layer: Layer, rules: list[Rule], policy: Policy) -> Iterator[str]:
     for rule in rules:
         yield ""
         yield f"# {counted(rule.calls, 'call')}"
-        for path in rule.instead_of:
-            yield f"# (the run puts another object at {_text(path)}: a rule on that path stays with the first one)"
+        yield from (f"# {printable(remark)}" for remark in rule.remarks)
         yield from _rule(rule)
     yield ""
 
@@ -59,6 +58,7 @@ def _ending(suggestion: Suggestion) -> Iterator[str]:
         yield "# the policy refuses nothing that a rule can fix"
     yield from _staying(suggestion.unmended, "refused by layers of the policy whatever their rules are")
     yield from _staying(suggestion.of_program, "refused by layers that the program makes itself")
+    yield from _staying(suggestion.failed, "refused that failed in the recording too, so no rule would help")
 
 
 def _staying(calls: Counter[str], why: str) -> Iterator[str]:

@@ -14,7 +14,7 @@ from landaudit_record.jsonl import Record
 from landaudit_record.policies import Policy
 from landaudit_record.reading import Walk
 from landaudit_record.rights import FS, alone
-from landaudit_record.suggesting import Suggestion, suggest, with_rules
+from landaudit_record.suggesting import Recorded, Suggestion, suggest, with_rules
 from landaudit_record.trees import Tree
 from landaudit_record.wants import Rule
 
@@ -76,19 +76,28 @@ def opened(path: str, mode: str = "r", call: int = 1, **members: object) -> Reco
     return {"op": "open", "path": path, "fd": 5, "mode": mode, "call": call, "kernel": "ok", **members}
 
 
-def suggested(*rounds: list[Call], to: Policy | None = None, abi: int = 5) -> Suggestion:
+def suggested(
+    *rounds: list[Call], to: Policy | None = None, abi: int = 5, recorded: Recorded = Recorded(TREE)
+) -> Suggestion:
     """What is suggested where the audits answer one after another as the rounds say, and then nothing is refused."""
+    return suggested_of([recorded], *([calls] for calls in rounds), to=to, abi=abi)
+
+
+def suggested_of(
+    recorded: Sequence[Recorded], *rounds: list[list[Call]], to: Policy | None = None, abi: int = 5
+) -> Suggestion:
+    """What is suggested of several recordings, of which a round has the answers to each."""
     audits = iter(rounds)
 
-    def audit(_: Policy) -> Iterator[Walk]:
-        calls = next(audits, [])
-        trace = records({"op": "nnp", "policy": {}}, *(record for record, _ in calls))
-        with tempfile.TemporaryDirectory() as folder:
-            answers = ["allowed", "allowed", *(answer for _, answer in calls)]
-            report = write_report(Path(folder, "report.txt"), trace, answers)
-            yield Walk(write_lines(Path(folder, "trace.jsonl"), trace), report, alone(abi))
+    def audit(_: Policy) -> Iterator[tuple[int, Walk]]:
+        for index, calls in enumerate(next(audits, [])):
+            trace = records({"op": "nnp", "policy": {}}, *(record for record, _ in calls))
+            with tempfile.TemporaryDirectory() as folder:
+                answers = ["allowed", "allowed", *(answer for _, answer in calls)]
+                report = write_report(Path(folder, "report.txt"), trace, answers)
+                yield index, Walk(write_lines(Path(folder, "trace.jsonl"), trace), report, alone(abi))
 
-    return suggest(TREE, to or policy(), abi, audit)
+    return suggest(recorded, to or policy(), abi, audit)
 
 
 def rules(*calls: Call) -> list[tuple[object, list[str], int]]:
@@ -121,16 +130,16 @@ class Paths(unittest.TestCase):
         call = ({"op": "open", "path": "/a/f", "fd": 5, "mode": "r"}, refused("read_file on /a/f"))
         self.assertEqual(rules(call, call), [("/a/f", ["read_file"], 2)])
 
-    def test_several_files_of_a_directory_are_one_rule(self) -> None:
-        calls = [reading(path, call) for call, path in enumerate(("/a/f", "/a/g", "/a/s/t"), start=1)]
-        self.assertEqual(rules(*calls), [("/a", ["read_file"], 3)])
+    def test_several_files_of_a_directory_have_a_rule_each(self) -> None:
+        """A rule on the directory would grant the same on all that is in it."""
+        paths = ("/a/f", "/a/g", "/a/h", "/a/s/t")
+        calls = [reading(path, call) for call, path in enumerate(paths, start=1)]
+        self.assertEqual(rules(*calls), [(path, ["read_file"], 1) for path in paths])
 
-    def test_what_one_file_of_them_needs_alone_stays_with_it(self) -> None:
-        both = (opened("/a/g", "rw", call=2), refused("write_file, read_file on /a/g"))
-        self.assertEqual(rules(reading("/a/f"), both), [("/a", ["read_file"], 2), ("/a/g", ["write_file"], 1)])
-
-    def test_files_in_the_root_are_not_joined(self) -> None:
-        self.assertEqual(rules(reading("/x"), reading("/y", 2)), [("/x", ["read_file"], 1), ("/y", ["read_file"], 1)])
+    def test_what_a_directory_has_for_another_reason_is_not_granted_again(self) -> None:
+        """What the run makes can have no rule of its own, so its directory has one, which holds for all in it."""
+        found = rules(reading("/a/made/t"), reading("/a/f", 2), (opened("/a/g", "w", 3), refused("write_file on /a/g")))
+        self.assertEqual(found, [("/a", ["read_file"], 2), ("/a/g", ["write_file"], 1)])
 
     def test_directories_are_not_joined(self) -> None:
         self.assertEqual(rules(listing("/a"), listing("/b", 2)), [("/a", ["read_dir"], 1), ("/b", ["read_dir"], 1)])
@@ -149,8 +158,7 @@ class Paths(unittest.TestCase):
         self.assertEqual(rules(reading("/b/moved")), [("/a/f", ["read_file"], 1)])
 
     def test_what_is_put_in_the_place_of_another_file_is_granted_on_the_directory(self) -> None:
-        (rule,) = suggested([*layer(), reading("/a/g~2~")]).rules[1]
-        self.assertEqual((rule.place, rule.instead_of), ("/a", ("/a/g",)))
+        self.assertEqual(rules(reading("/a/g~2~")), [("/a", ["read_file"], 1)])
 
     def test_files_of_a_process_are_granted_on_proc(self) -> None:
         self.assertEqual(rules(reading("/proc/7/maps")), [("/proc", ["read_file"], 1)])
@@ -233,7 +241,7 @@ class Layers(unittest.TestCase):
 
     def test_a_forked_child_has_its_parents_layers(self) -> None:
         record, answer = reading("/a/f")
-        child = [({"op": "fork", "child": 11}, "allowed"), ({**record, "pid": 11}, answer)]
+        child: list[Call] = [({"op": "fork", "child": 11}, "allowed"), ({**record, "pid": 11}, answer)]
         self.assertEqual(rules(*child), [("/a/f", ["read_file"], 1)])
 
     def test_a_call_that_fails_by_itself_is_no_layers(self) -> None:
@@ -285,7 +293,7 @@ class Text(unittest.TestCase):
     def test_why_a_rule_on_the_file_would_not_do(self) -> None:
         found = suggested([*layer(), reading("/a/g~2~")])
         written = list(suggestion_text.lines(found, policy()))
-        why = '# (the run puts another object at "/a/g": a rule on that path stays with the first one)'
+        why = "# (the run puts another object at /a/g: a rule on that path stays with the first one)"
         self.assertIn(why, written)
         self.assertIn('parent = "/a"', written)
 

@@ -3,20 +3,16 @@
 from __future__ import annotations
 
 import argparse
-import tempfile
 from collections.abc import Iterator
-from contextlib import ExitStack
 from pathlib import Path
 
-from .. import comments, finished, landaudit, policies, policy_text, trying
-from ..options import add_abi, add_as_recorded, add_landaudit, add_program, note
+from .. import comments, landaudit, policies, policy_text, together
+from ..options import add_abi, add_as_recorded, add_landaudit, add_program, add_recordings
 from ..policies import Policy
 from ..reading import Walk
-from ..recorder.progress import Progress
 from ..rights import alone
 from ..tightening import Tightened, Tightening, units
 from ..trees import Tree
-from ..trying import Auditing, Tried
 from ..wording import counted
 
 NAME = "tighten"
@@ -26,7 +22,7 @@ EXAMPLE = "landaudit-record tighten --policy policy.toml rec > tight.toml"
 
 def add_arguments(parser: argparse.ArgumentParser) -> None:
     """Names the words of the subcommand."""
-    parser.add_argument("recordings", metavar="OUT", nargs="+", help="the folders of recordings")
+    add_recordings(parser)
     parser.add_argument("--policy", metavar="POLICY.toml", type=Path, required=True, help="the policy")
     parser.add_argument(
         "--list", action="store_true", help="print a table in its place: rule, right, how many calls need it, 0 first"
@@ -41,31 +37,23 @@ def run(arguments: argparse.Namespace) -> int:
     """Prints the policy, or the table."""
     program = landaudit.find(arguments.landaudit)
     policy = policies.read(arguments.policy)
-    opened = [finished.opened(name) for name in arguments.recordings]
-    tried = [trying.tried(recording, policy, arguments.program) for recording in opened]
-    for one in tried:
-        trying.noted(one, alone(arguments.abi))
-    with ExitStack() as stack:
-        progress = stack.enter_context(Progress())
-        folders = [Path(stack.enter_context(tempfile.TemporaryDirectory(prefix="landaudit-"))) for _ in opened]
-        audits = [
-            Auditing(program, recording, folder, not arguments.as_recorded, progress)
-            for recording, folder in zip(opened, folders)
-        ]
+    members = together.opened(arguments.recordings, policy, arguments.program)
+    abis = alone(arguments.abi)
+    together.note_policy(members, abis)
+    with together.audits(members, program, NAME, best_effort=not arguments.as_recorded) as audits:
 
         def audit(changed: Policy) -> Iterator[tuple[int, Walk]]:
-            for number, (auditing, one) in enumerate(zip(audits, tried), start=1):
-                for walk in auditing.walks(alone(arguments.abi), one, changed):
-                    yield number, walk
+            return together.walks(members, audits, abis, changed)
 
         done = Tightening(policy, arguments.abi, audit).done()
-    note(f"NOT ALL IS JUDGED: {recording.folder}: {text}" for recording in opened for text in recording.missing)
-    for line in _table(policy, done, arguments.abi) if arguments.list else _toml(policy, done, tried):
+    together.note_missing(members)
+    trees = [member.tree for member in members]
+    for line in _table(policy, done, arguments.abi) if arguments.list else _toml(policy, done, trees):
         print(line)
     return 0
 
 
-def _toml(policy: Policy, done: Tightened, tried: list[Tried]) -> Iterator[str]:
+def _toml(policy: Policy, done: Tightened, trees: list[Tree]) -> Iterator[str]:
     """The policy with a remark on each rule."""
     calls: dict[tuple[int, str], set[str]] = {}
     for unit, keys in done.needed.items():
@@ -75,9 +63,9 @@ def _toml(policy: Policy, done: Tightened, tried: list[Tried]) -> Iterator[str]:
         return f"needed by {counted(len(calls.get((layer, rule), ())), 'call')}"
 
     tree = Tree()
-    for one in tried:
-        tree.kinds.update(one.tree.kinds)
-        tree.targets.update(one.tree.targets)
+    for one in trees:
+        tree.kinds.update(one.kinds)
+        tree.targets.update(one.targets)
     written = comments.read(policy.path.read_text(encoding="utf-8"))
     yield f"# {counted(len(done.taken), 'right')} taken away that these recordings don't need ({done.audits} audits)"
     yield from policy_text.lines(done.policy, tree, written, remark)
