@@ -17,7 +17,6 @@ _OP = b'{"op":"'
 _OPEN = b'{"op":"open"'
 _GOES = (b'{"op":"unlink"', b'{"op":"rename"')
 _CREATES = b'"create":true'
-_AGAIN = b'"again":true'
 
 
 def cut_files(traces: Iterable[Path]) -> set[str]:
@@ -42,10 +41,10 @@ def _telling(trace: Path) -> Iterator[jsonl.Record]:
     with open(trace, "rb") as lines:
         for number, line in enumerate(lines, start=1):
             known = line.startswith(_OP)
-            if not line.strip() or _AGAIN in line or known and not line.startswith((_OPEN, *_GOES)):
+            if not line.strip() or known and not line.startswith((_OPEN, *_GOES)):
                 continue
             if line.startswith(_OPEN) and _CREATES not in line:
                 continue
             record = jsonl.read(trace, number, line)
-            if record.get("kernel", "ok") == "ok" and "op" in record:
+            if record.get("kernel", "ok") == "ok" and "op" in record and "again" not in record:
                 yield record

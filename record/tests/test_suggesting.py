@@ -168,6 +168,130 @@ class Paths(unittest.TestCase):
         self.assertEqual([place for place, _, _ in found], ["/b", "/a/f"])
 
 
+class Remarks(unittest.TestCase):
+    """What a rule is for, where it is not on the path that is asked for, and what to be warned of."""
+
+    def remarks(self, *calls: Call) -> list[tuple[str, ...]]:
+        return [rule.remarks for rule in suggested([*layer(), *calls]).rules[1]]
+
+    def test_a_rule_on_the_path_itself_has_none(self) -> None:
+        self.assertEqual(self.remarks(reading("/a/f"), listing("/b", 2), reading("/b/moved", 3)), [(), ()])
+
+    def test_what_the_run_makes(self) -> None:
+        self.assertEqual(self.remarks(reading("/a/made/t"), reading("/a/made", 2)),
+                         [("(for what the run makes there: made, made/t)",)])
+
+    def test_what_a_process_has(self) -> None:
+        (remarks,) = self.remarks(reading("/proc/7/maps"))
+        self.assertEqual(remarks[0], "(for what a process has under its number, which differs in each run, as /proc/7/maps)")
+        self.assertIn("warning: /proc: ", remarks[1])
+
+    def test_a_link(self) -> None:
+        move = ({"op": "rename", "from": "/a/link", "to": "/b/~new~", "call": 1, "kernel": "ok"},
+                refused("/a/link would gain execute in /b", error="EXDEV"))
+        self.assertEqual(self.remarks(move), [("(for the link /a/link, since a rule follows it)",)])
+
+    def test_names_that_are_made_up(self) -> None:
+        tree = Tree({**TREE.kinds, "/a/x.Ab3dEf": "reg"}, made={*TREE.made, "/a/x.Ab3dEf"})
+        (rule,) = suggested([*layer(), reading("/a/x.Ab3dEf")], recorded=Recorded(tree)).rules[1]
+        self.assertEqual((rule.place, rule.remarks), ("/a", ("(for names that differ in each run, as x.Ab3dEf)",)))
+
+    def test_a_name_that_looks_so_and_was_there(self) -> None:
+        tree = Tree({**TREE.kinds, "/a/x.Ab3dEf": "dir", "/a/x.Ab3dEf/f": "reg"})
+        (rule,) = suggested([*layer(), reading("/a/x.Ab3dEf/f")], recorded=Recorded(tree)).rules[1]
+        told = "(/a/x.Ab3dEf looks like a name that differs in each run: then grant on /a)"
+        self.assertEqual((rule.place, rule.remarks), ("/a/x.Ab3dEf/f", (told,)))
+
+    def test_a_warning(self) -> None:
+        make = (opened("/~new~", "w", create=True, shown="/n"), refused("make_reg on /"))
+        self.assertEqual(self.remarks(make), [("warning: make_reg on everything that there is",)])
+
+
+class SeveralRecordings(unittest.TestCase):
+    def test_what_one_of_them_lacks_is_granted(self) -> None:
+        found = suggested_of([Recorded(TREE), Recorded(TREE)], [[*layer(), reading("/a/f")], [*layer(), listing("/b")]])
+        self.assertEqual({rule.place: rule.calls for rule in found.rules[1]}, {"/a/f": 1, "/b": 1})
+
+    def test_calls_of_each_count(self) -> None:
+        found = suggested_of([Recorded(TREE), Recorded(TREE)], [[*layer(), reading("/a/f")], [*layer(), reading("/a/f")]])
+        self.assertEqual(found.rules[1], [Rule("/a/f", frozenset({"read_file"}), 2)])
+
+    def test_what_one_run_made_and_another_found(self) -> None:
+        """The second run is in the folder that the first left; a rule on the file could not be there before the first."""
+        first = Recorded(Tree({"/": "dir", "/w": "dir", "/w/out": "reg"}, made={"/w/out"}))
+        second = Recorded(Tree({"/": "dir", "/w": "dir", "/w/out": "reg"}))
+        make = (opened("/w/~new~", "w", create=True, shown="/w/out"), refused("make_reg on /w"))
+        found = suggested_of([first, second], [[*layer(), make], [*layer(), reading("/w/out")]])
+        self.assertEqual([(rule.place, rule.rights) for rule in found.rules[1]], [("/w", {"make_reg", "read_file"})])
+
+    def test_names_that_differ_from_run_to_run(self) -> None:
+        trees = [Tree({"/": "dir", "/r": "dir", f"/r/x-{part}": "dir", f"/r/x-{part}/sock": "reg"})
+                 for part in ("8f3a1c", "77b0de")]
+        calls = [[*layer(), reading(f"/r/x-{part}/sock")] for part in ("8f3a1c", "77b0de")]
+        (rule,) = suggested_of([Recorded(tree) for tree in trees], calls).rules[1]
+        self.assertEqual((rule.place, rule.calls), ("/r", 2))
+        self.assertEqual(rule.remarks, ("(for names that differ in each run, as x-77b0de/sock, x-8f3a1c/sock)",))
+
+    def test_files_that_were_named_to_the_program_stay(self) -> None:
+        trees = [Tree({"/": "dir", "/w": "dir", f"/w/{name}": "reg"}) for name in ("left", "mode")]
+        calls = [[*layer(), reading(f"/w/{name}")] for name in ("left", "mode")]
+        found = suggested_of([Recorded(tree) for tree in trees], calls)
+        self.assertEqual([rule.place for rule in found.rules[1]], ["/w/left", "/w/mode"])
+
+
+class TheRunAfter(unittest.TestCase):
+    """A file that the run makes and cuts is there in the run after, where opening it asks for truncate."""
+
+    MAKE = opened("/a/~new~", "w", create=True, trunc=True, shown="/a/n"), refused("write_file, make_reg on /a")
+
+    def rights(self, handled: str = '["all"]', abi: int = 5, cut: frozenset[str] = frozenset({"/a/n"})) -> set[str]:
+        to = policy(f"[[layer]]\nhandled_access_fs = {handled}\n")
+        found = suggested([*layer(), self.MAKE], recorded=Recorded(TREE, cut), to=to, abi=abi)
+        (rule,) = found.rules[1]
+        self.assertEqual(rule.place, "/a")
+        return set(rule.rights)
+
+    def test_it_is_granted(self) -> None:
+        self.assertEqual(self.rights(), {"write_file", "make_reg", "truncate"})
+
+    def test_not_for_what_the_run_removes(self) -> None:
+        self.assertEqual(self.rights(cut=frozenset()), {"write_file", "make_reg"})
+
+    def test_not_where_it_is_not_handled_or_not_known(self) -> None:
+        self.assertEqual(self.rights('["write_file", "make_reg"]'), {"write_file", "make_reg"})
+        self.assertEqual(self.rights(abi=2), {"write_file", "make_reg"})
+
+
+class FailedAnyway(unittest.TestCase):
+    """What failed in the recording by file modes or file systems fails whatever the rules are."""
+
+    def failing(self, kernel: str, *before: Call) -> Suggestion:
+        record, answer = reading("/a/f")
+        return suggested([*before, *layer(), ({**record, "kernel": kernel}, answer)])
+
+    def test_no_rule_is_asked_for(self) -> None:
+        for kernel in ("EACCES", "EPERM", "EROFS", "EXDEV"):
+            with self.subTest(kernel):
+                found = self.failing(kernel)
+                self.assertEqual((found.rules, found.failed), ({}, {"open r": 1}))
+
+    def test_it_is_said(self) -> None:
+        written = "\n".join(suggestion_text.lines(self.failing("EPERM"), policy()))
+        self.assertIn("# 1 call is refused that failed in the recording too, so no rule would help: open r 1", written)
+
+    def test_under_a_layer_of_the_program_the_failure_may_be_that_layers(self) -> None:
+        for kernel, places in (("EACCES", ["/a/f"]), ("EROFS", [])):
+            with self.subTest(kernel):
+                record, answer = reading("/a/f")
+                by_second = answer.replace("layer 1 ", "layer 2 ").replace("EACCES 1", "EACCES 2")
+                by_second = by_second.replace("(line 101)", "(line 102)")
+                found = suggested([*layer(None), *layer(), ({**record, "kernel": kernel}, by_second)])
+                self.assertEqual([rule.place for rule in found.rules.get(1, [])], places)
+
+    def test_other_errors_come_after_landlock(self) -> None:
+        self.assertEqual(self.failing("ENXIO").failed, {})
+
+
 class Descriptors(unittest.TestCase):
     CUT = {"op": "ftruncate", "fd": 5, "call": 2}
 
