@@ -88,9 +88,14 @@ def remarks(place: str, spots: Iterable[Spot]) -> Iterator[str]:
         names = sorted({_named(place, spot) for spot in spots if spot.cause is cause})
         if names:
             yield f"({cause.value.format(some_of(names))})"
-    name = next((over for over in upwards(place) if varying.looks_made_up(over.rpartition('/')[2])), None)
-    if name is not None:
-        yield f"({name} looks like a name that differs in each run: then grant on {directory_of(name)})"
+
+
+def doubtful(place: str) -> tuple[str, str] | None:
+    """The path on the way to a rule's place whose name looks made up though it was there, with what to say of it."""
+    path = next((over for over in upwards(place) if varying.looks_made_up(over.rpartition("/")[2])), None)
+    if path is None:
+        return None
+    return path, f"({path} looks like a name that differs in each run: then grant on {directory_of(path)})"
 
 
 def _named(place: str, spot: Spot) -> str:

@@ -3,8 +3,8 @@
 from __future__ import annotations
 
 from collections import defaultdict
-from collections.abc import Iterable, Sequence, Set
-from dataclasses import dataclass
+from collections.abc import Iterable, Iterator, Sequence, Set
+from dataclasses import dataclass, replace
 from typing import TypeVar
 
 from . import placing, sensitive
@@ -71,7 +71,7 @@ def rules(wanted: Wanted) -> list[Rule]:
     """
     granted = narrowed(wanted.paths)
     of_paths = [Rule(place, frozenset(rights), asking(rights)) for place, rights in granted.items()]
-    return remarked([*of_paths, *_port_rules(wanted.ports)], wanted.spots)
+    return remarked([*of_paths, *port_rules(wanted.ports)], wanted.spots)
 
 
 def asking(rights: Lacking) -> int:
@@ -96,17 +96,22 @@ def remarked(found: Iterable[Rule], spots: Iterable[Spot]) -> list[Rule]:
     serving: dict[str, list[Spot]] = defaultdict(list)
     for spot in spots:
         serving[next((over for over in upwards(spot.place) if over in places), spot.place)].append(spot)
-    return [_remarked(rule, serving) for rule in ordered]
+    doubted: set[str] = set()
+    return [replace(rule, remarks=(*rule.remarks, *_remarks(rule, serving, doubted))) for rule in ordered]
 
 
-def _remarked(rule: Rule, serving: dict[str, list[Spot]]) -> Rule:
-    if not isinstance(rule.place, str):
-        return rule
-    remarks = (*placing.remarks(rule.place, serving[rule.place]), *sensitive.warnings(rule.place, rule.rights))
-    return Rule(rule.place, rule.rights, rule.calls, (*rule.remarks, *remarks))
+def _remarks(rule: Rule, serving: dict[str, list[Spot]], doubted: set[str]) -> Iterator[str]:
+    """What is to be known of a rule; a name that looks made up is told of once, and is then among the doubted ones."""
+    if isinstance(rule.place, str):
+        yield from placing.remarks(rule.place, serving[rule.place])
+        path, text = placing.doubtful(rule.place) or (None, "")
+        if path is not None and path not in doubted:
+            doubted.add(path)
+            yield text
+        yield from sensitive.warnings(rule.place, rule.rights)
 
 
-def _port_rules(wants: dict[int, Lacking]) -> list[Rule]:
+def port_rules(wants: dict[int, Lacking]) -> list[Rule]:
     """One rule for all ports on which the same rights are lacking."""
     ports: dict[Rights, list[int]] = defaultdict(list)
     calls: dict[Rights, set[Call]] = defaultdict(set)

@@ -3,16 +3,18 @@
 from __future__ import annotations
 
 import argparse
-from collections.abc import Iterator
+from collections.abc import Iterator, Sequence
 from pathlib import Path
 
-from .. import landaudit, leaving, policies, suggestion_text, together
+from .. import landaudit, leaving, policies, suggestion_text, together, widening
+from ..objects import Objects
 from ..options import add_abi, add_as_recorded, add_landaudit, add_program, add_recordings
-from ..policies import Policy
+from ..policies import Layer, Policy
 from ..reading import Walk
 from ..rights import alone
-from ..suggesting import Recorded, suggest
+from ..suggesting import Making, Recorded, exactly, suggest
 from ..together import Member
+from ..wants import Rule, Wanted
 
 NAME = "suggest"
 HELP = "print the rules that would have let the refused calls pass, as TOML to paste"
@@ -23,6 +25,13 @@ def add_arguments(parser: argparse.ArgumentParser) -> None:
     """Names the words of the subcommand."""
     add_recordings(parser)
     parser.add_argument("--policy", metavar="POLICY.toml", required=True, help="the policy that the rules are for")
+    parser.add_argument(
+        "--rules",
+        metavar="N",
+        type=_number,
+        help="at most N rules for a layer (if it is left out, as many as are needed to grant nothing else): directories "
+        "are widened where that grants least, and each rule says what it grants more",
+    )
     add_program(parser)
     add_abi(parser)
     add_as_recorded(parser)
@@ -41,11 +50,27 @@ def run(arguments: argparse.Namespace) -> int:
         def audit(extended: Policy) -> Iterator[tuple[int, Walk]]:
             return together.walks(members, audits, abis, extended)
 
-        suggestion = suggest([_recorded(member) for member in members], policy, arguments.abi, audit)
+        recorded = [_recorded(member) for member in members]
+        suggestion = suggest(recorded, policy, arguments.abi, audit, _making(recorded, arguments.rules))
     together.note_missing(members)
     for line in suggestion_text.lines(suggestion, policy):
         print(line)
     return 0 if suggestion.finished and not suggestion.unmended and not suggestion.of_program else 1
+
+
+def _number(text: str) -> int:
+    """A number of rules."""
+    if not text.isdecimal() or not int(text):
+        raise argparse.ArgumentTypeError(f"{text!r} is no number of rules: give one from 1 on")
+    return int(text)
+
+
+def _making(recorded: Sequence[Recorded], most: int | None) -> Making:
+    """How rules are made: as they are needed, or at most so many."""
+    if most is None:
+        return exactly
+    objects = Objects([one.tree for one in recorded])
+    return lambda layer, wanted, room=most: widening.rules(wanted, objects, room)
 
 
 def _recorded(member: Member) -> Recorded:
