@@ -6,11 +6,12 @@ from collections import Counter
 from collections.abc import Callable, Iterable, Iterator, Mapping, Sequence, Set
 from dataclasses import dataclass, field, replace
 
-from . import processes, wants
+from . import processes, styling, wants, widening
 from .explanations import Closed, Gained, Kept, Missing, Objection, refusing
 from .jsonl import Record
 from .landaudit import Answer
-from .policies import Access, Layer, PathRule, Policy, PortRule
+from .objects import Objects
+from .policies import Access, Layer, PathRule, Policy, PortRule, group_rules
 from .processes import of_policy
 from .reading import Told, Walk, call_text
 from .rights import FS, NET, NONE, Rights
@@ -61,15 +62,26 @@ class Suggestion:
     rounds: int
     finished: bool
     failed: Counter[str] = field(default_factory=Counter)
+    groups: Mapping[int, Mapping[str, int]] = field(default_factory=dict)
 
 
-#: Makes rules for a layer of what it lacks.
-Making = Callable[[Layer, Wanted], list[Rule]]
+@dataclass(frozen=True)
+class Making:
+    """How rules are made of what a layer lacks: exactly, or at most so many by `objects`; if `in_groups`, beside groups."""
 
+    most: int | None = None
+    objects: Objects | None = None
+    in_groups: bool = False
 
-def exactly(_: Layer, wanted: Wanted) -> list[Rule]:
-    """The rules that grant what is lacking and nothing else that could be left out."""
-    return wants.rules(wanted)
+    def rules(self, layer: Layer, wanted: Wanted, trees: Sequence[Tree]) -> tuple[Mapping[str, int], list[Rule]]:
+        """The groups for a layer, each with how many calls need it, and the rules beside them."""
+        groups: Mapping[str, int] = {}
+        if self.in_groups:
+            styled = styling.with_groups(wanted, layer.handled_access_fs.rights, trees)
+            groups, wanted = styled.groups, styled.left
+        if self.most is None or self.objects is None:
+            return groups, wants.rules(wanted)
+        return groups, widening.rules(wanted, self.objects, self.most)
 
 
 def suggest(
@@ -77,7 +89,7 @@ def suggest(
     policy: Policy,
     abi: int,
     audit: Callable[[Policy], Iterable[tuple[int, Walk]]],
-    making: Making = exactly,
+    making: Making = Making(),
 ) -> Suggestion:
     """Rules until no layer of the policy refuses what a rule would fix.
 
@@ -85,20 +97,24 @@ def suggest(
     the next may show refusals that were behind those which they fix.
     """
     found = Round()
+    groups: dict[int, Mapping[str, int]] = {}
     rules: dict[int, list[Rule]] = {}
     lacked: dict[int, list[Wants]] = {layer.number: [{} for _ in recorded] for layer in policy.layers}
     trees = [one.tree for one in recorded]
     for rounds in range(1, MOST_ROUNDS + 1):
-        found = _Look(recorded, policy, abi).over(audit(with_rules(policy, rules)))
+        found = _Look(recorded, policy, abi).over(audit(with_rules(policy, rules, groups)))
         if not found.wants:
-            return Suggestion(rules, found.unmended, found.of_program, rounds, True, found.failed)
+            break
         for number, by_recording in found.wants.items():
             for index, more in by_recording.items():
                 wants.unite(lacked[number][index], more)
         pids = [found.pids.get(index, set()) for index in range(len(recorded))]
-        lacking = [layer for layer in policy.layers if any(lacked[layer.number])]
-        rules = {it.number: making(it, wants.placed(trees, lacked[it.number], pids)) for it in lacking}
-    return Suggestion(rules, found.unmended, found.of_program, MOST_ROUNDS, False, found.failed)
+        for layer in policy.layers:
+            if any(lacked[layer.number]):
+                wanted = wants.placed(trees, lacked[layer.number], pids)
+                groups[layer.number], rules[layer.number] = making.rules(layer, wanted, trees)
+    finished = not found.wants
+    return Suggestion(rules, found.unmended, found.of_program, rounds, finished, found.failed, groups)
 
 
 def needs_refer(layer: Layer, rules: Iterable[Rule]) -> bool:
@@ -106,21 +122,32 @@ def needs_refer(layer: Layer, rules: Iterable[Rule]) -> bool:
     return "refer" not in layer.handled_access_fs.rights and any("refer" in rule.rights for rule in rules)
 
 
-def with_rules(policy: Policy, rules: Mapping[int, list[Rule]]) -> Policy:
-    """A policy with suggested rules, each in its layer."""
-    return replace(policy, layers=tuple(_layer_with(layer, rules.get(layer.number, [])) for layer in policy.layers))
+def with_rules(
+    policy: Policy, rules: Mapping[int, list[Rule]], groups: Mapping[int, Iterable[str]] | None = None
+) -> Policy:
+    """A policy with suggested rules and groups of rules, each in its layer."""
+    named = groups or {}
+    layers = (_layer_with(it, rules.get(it.number, []), named.get(it.number, ())) for it in policy.layers)
+    return replace(policy, layers=tuple(layers))
 
 
-def _layer_with(layer: Layer, rules: list[Rule]) -> Layer:
+def _layer_with(layer: Layer, rules: list[Rule], groups: Iterable[str]) -> Layer:
     handled = layer.handled_access_fs
     if needs_refer(layer, rules):
         handled = replace(handled, outright=handled.outright | {"refer"})
     return replace(
         layer,
         handled_access_fs=handled,
-        path_beneath=(*layer.path_beneath, *_path_rules(rules)),
+        path_beneath=(*layer.path_beneath, *_path_rules(rules), *_of_groups(layer, groups)),
         net_port=(*layer.net_port, *_port_rules(rules)),
     )
+
+
+def _of_groups(layer: Layer, groups: Iterable[str]) -> Iterator[PathRule]:
+    """The rules of the groups that a layer doesn't have yet."""
+    there = {rule.group for rule in layer.path_beneath}
+    for name in groups:
+        yield from group_rules(name, layer.handled_access_fs.rights) if name not in there else ()
 
 
 def _path_rules(rules: list[Rule]) -> Iterator[PathRule]:
@@ -145,7 +172,7 @@ class _Look:
         self._seen = Round()
 
     def over(self, walks: Iterable[tuple[int, Walk]]) -> Round:
-        """What the walks show. A call is known by the number that the recording gives it, else by that of its record."""
+        """What the walks show. A call is known by its number in the recording, else by that of its record's line."""
         for index, walk in walks:
             pids = self._seen.pids.setdefault(index, set())
             for told in walk:

@@ -4,7 +4,7 @@ from __future__ import annotations
 
 import json
 from collections import Counter
-from collections.abc import Iterator
+from collections.abc import Iterator, Mapping
 
 from .policies import Layer, Policy
 from .rights import FS, NET
@@ -16,19 +16,25 @@ from .wording import counted, printable
 def lines(suggestion: Suggestion, policy: Policy) -> Iterator[str]:
     """The lines, each without its line feed. All but rules is comment, so the whole may be pasted into a layer."""
     for layer in policy.layers:
-        rules = suggestion.rules.get(layer.number, [])
-        if rules:
-            yield from _of_layer(layer, rules, policy)
+        rules, groups = suggestion.rules.get(layer.number, []), suggestion.groups.get(layer.number, {})
+        if rules or groups:
+            yield from _of_layer(layer, rules, groups, policy)
     yield from _ending(suggestion)
 
 
-def _of_layer(layer: Layer, rules: list[Rule], policy: Policy) -> Iterator[str]:
+def _of_layer(layer: Layer, rules: list[Rule], groups: Mapping[str, int], policy: Policy) -> Iterator[str]:
     only = "" if len(policy.layers) == 1 else f": paste them under the [[layer]] of that number in {policy.path}"
-    yield f"# {counted(len(rules), 'rule')} for layer {layer.number}{only}"
+    beside = f" beside {counted(len(groups), 'group')}" if groups else ""
+    yield f"# {counted(len(rules), 'rule')}{beside} for layer {layer.number}{only}"
     if needs_refer(layer, rules):
         handled = _list(FS.ordered(layer.handled_access_fs.rights | {"refer"}))
         yield "# rules may grant refer only where the layer handles it; first change its line to"
         yield f"# handled_access_fs = {handled}"
+    if groups:
+        yield ""
+        yield from (f"# {name}: {counted(calls, 'call')}" for name, calls in groups.items())
+        yield "[[layer.path_beneath]]"
+        yield f"include = {_list(list(groups))}"
     for rule in rules:
         yield ""
         yield f"# {counted(rule.calls, 'call')}"
@@ -52,7 +58,7 @@ def _ending(suggestion: Suggestion) -> Iterator[str]:
     """What stays refused under the rules, or that nothing does."""
     if not suggestion.finished:
         yield f"# after {suggestion.rounds} audits there is still more to fix: add these rules and run this again"
-    elif suggestion.rules:
+    elif suggestion.rules or suggestion.groups:
         yield f"# with these rules no layer of the policy refuses what a rule can fix ({suggestion.rounds} audits)"
     else:
         yield "# the policy refuses nothing that a rule can fix"

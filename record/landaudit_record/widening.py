@@ -102,7 +102,8 @@ def _more(place: str, rights: Rights, exact: OnPaths, objects: Objects) -> tuple
             by_number[kind_of(right), more].append(right)
     if place in UNCOUNTED and by_number:
         return (f"also all else under {place} ({', '.join(FS.ordered(rights))})",)
-    return tuple(f"also {_number(more, kind)} under {place} ({', '.join(some)})" for (kind, more), some in by_number.items())
+    told = [(_number(number, kind), ", ".join(some)) for (kind, number), some in by_number.items()]
+    return tuple(f"also {number} under {place} ({names})" for number, names in told)
 
 
 def _number(number: int, kind: str) -> str:
@@ -119,6 +120,7 @@ def _port_rules(wanted: Wanted, room: int) -> list[Rule]:
         return found
     rights = frozenset().union(*(rule.rights for rule in found))
     calls = len(set().union(*(calls for asked in wanted.ports.values() for calls in asked.values())))
-    more = (f"also {right} on {counted(len(some), 'port')}: {some_of(list(map(str, some)))}" for right in NET.ordered(rights)
-            if (some := [port for port in sorted(wanted.ports) if right not in wanted.ports[port]]))
-    return [Rule(tuple(sorted(wanted.ports)), rights, calls, tuple(more))]
+    ports = sorted(wanted.ports)
+    others = {right: [str(port) for port in ports if right not in wanted.ports[port]] for right in NET.ordered(rights)}
+    more = (f"also {right} on {counted(len(some), 'port')}: {some_of(some)}" for right, some in others.items() if some)
+    return [Rule(tuple(ports), rights, calls, tuple(more))]

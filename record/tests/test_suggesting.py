@@ -183,7 +183,8 @@ class Remarks(unittest.TestCase):
 
     def test_what_a_process_has(self) -> None:
         (remarks,) = self.remarks(reading("/proc/7/maps"))
-        self.assertEqual(remarks[0], "(for what a process has under its number, which differs in each run, as /proc/7/maps)")
+        why = "for what a process has under its number, which differs in each run"
+        self.assertEqual(remarks[0], f"({why}, as /proc/7/maps)")
         self.assertIn("warning: /proc: ", remarks[1])
 
     def test_a_link(self) -> None:
@@ -213,11 +214,11 @@ class SeveralRecordings(unittest.TestCase):
         self.assertEqual({rule.place: rule.calls for rule in found.rules[1]}, {"/a/f": 1, "/b": 1})
 
     def test_calls_of_each_count(self) -> None:
-        found = suggested_of([Recorded(TREE), Recorded(TREE)], [[*layer(), reading("/a/f")], [*layer(), reading("/a/f")]])
+        found = suggested_of([Recorded(TREE), Recorded(TREE)], [[*layer(), reading("/a/f")]] * 2)
         self.assertEqual(found.rules[1], [Rule("/a/f", frozenset({"read_file"}), 2)])
 
     def test_what_one_run_made_and_another_found(self) -> None:
-        """The second run is in the folder that the first left; a rule on the file could not be there before the first."""
+        """The second run is in the folder that the first left: before the first, no rule could be on the file."""
         first = Recorded(Tree({"/": "dir", "/w": "dir", "/w/out": "reg"}, made={"/w/out"}))
         second = Recorded(Tree({"/": "dir", "/w": "dir", "/w/out": "reg"}))
         make = (opened("/w/~new~", "w", create=True, shown="/w/out"), refused("make_reg on /w"))

@@ -16,7 +16,8 @@ def tree(*paths: str) -> Tree:
 
 class MadeUp(unittest.TestCase):
     def test_names_as_programs_make_them_up(self) -> None:
-        for name in ("dpkg-deb.Ab3dEf", "tmp0_z8xk2q", "tmp.Zq81KfwD0x", "ccNA2dKx.o", "sh-thd.1b9XqZ", "go-build1234567890"):
+        for name in ("dpkg-deb.Ab3dEf", "tmp0_z8xk2q", "tmp.Zq81KfwD0x", "ccNA2dKx.o", "sh-thd.1b9XqZ",
+                     "go-build1234567890"):
             with self.subTest(name):
                 self.assertTrue(varying.looks_made_up(name))
 

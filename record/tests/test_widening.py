@@ -10,7 +10,7 @@ from pathlib import Path
 
 from landaudit_record import wants, widening
 from landaudit_record.objects import Count, Objects
-from landaudit_record.trees import ROOT, Tree
+from landaudit_record.trees import ROOT, Tree, upwards
 from landaudit_record.wants import Lacking, Rule, Wanted
 
 
@@ -115,7 +115,8 @@ class Widening(Disk):
 
     def test_a_directory_that_has_a_rule_takes_up_others(self) -> None:
         found = self.rules(1, {"some": asked("make_reg"), "some/f0": asked("write_file", call=2)})
-        self.assertEqual([(rule.place, rule.rights) for rule in found], [(self.path("some"), {"make_reg", "write_file"})])
+        self.assertEqual([rule.place for rule in found], [self.path("some")])
+        self.assertEqual(found[0].rights, {"make_reg", "write_file"})
         self.assertEqual(found[0].remarks, (f"also 4 files under {self.path('some')} (write_file)",))
 
     def test_directories_are_counted_for_their_rights(self) -> None:
@@ -148,9 +149,10 @@ class Widening(Disk):
                 found = self.rules(most, paths)
                 self.assertLessEqual(len(found), most)
                 for name, rights in paths.items():
-                    over = {right for rule in found if self.path(name).startswith(str(rule.place)) for right in rule.rights}
-                    self.assertLessEqual(set(rights), over)
-                self.assertEqual(len(wants.narrowed({str(rule.place): asked(*rule.rights) for rule in found})), len(found))
+                    over = [rule for rule in found if rule.place in upwards(self.path(name))]
+                    self.assertLessEqual(set(rights), {right for rule in over for right in rule.rights})
+                granted = {str(rule.place): asked(*rule.rights) for rule in found}
+                self.assertEqual(wants.narrowed(granted), granted)
 
 
 if __name__ == "__main__":

@@ -6,16 +6,16 @@ import argparse
 from collections.abc import Iterator, Sequence
 from pathlib import Path
 
-from .. import landaudit, leaving, policies, suggestion_text, together, widening
+from .. import landaudit, leaving, policies, suggestion_text, together
 from ..objects import Objects
 from ..options import add_abi, add_as_recorded, add_landaudit, add_program, add_recordings
-from ..policies import Layer, Policy
+from ..policies import Policy
 from ..reading import Walk
 from ..rights import alone
-from ..suggesting import Making, Recorded, exactly, suggest
+from ..suggesting import Making, Recorded, suggest
 from ..together import Member
-from ..wants import Rule, Wanted
 
+EXACT, BASE = "exact", "base"
 NAME = "suggest"
 HELP = "print the rules that would have let the refused calls pass, as TOML to paste"
 EXAMPLE = "landaudit-record suggest rec --policy policy.toml >> policy.toml"
@@ -29,8 +29,15 @@ def add_arguments(parser: argparse.ArgumentParser) -> None:
         "--rules",
         metavar="N",
         type=_number,
-        help="at most N rules for a layer (if it is left out, as many as are needed to grant nothing else): directories "
-        "are widened where that grants least, and each rule says what it grants more",
+        help="at most N rules for a layer (if it is left out, as many as it takes to grant nothing else): they are put on "
+        "directories where that grants least, and each says what it grants more",
+    )
+    parser.add_argument(
+        "--style",
+        choices=(EXACT, BASE),
+        default=EXACT,
+        help="exact grants what is needed alone (so it is if the option is left out); base names groups of rules that "
+        "several of the paths are in, as a person does, by 'include': base, nameservice, ssl, tmp, languages",
     )
     add_program(parser)
     add_abi(parser)
@@ -51,7 +58,7 @@ def run(arguments: argparse.Namespace) -> int:
             return together.walks(members, audits, abis, extended)
 
         recorded = [_recorded(member) for member in members]
-        suggestion = suggest(recorded, policy, arguments.abi, audit, _making(recorded, arguments.rules))
+        suggestion = suggest(recorded, policy, arguments.abi, audit, _making(recorded, arguments))
     together.note_missing(members)
     for line in suggestion_text.lines(suggestion, policy):
         print(line)
@@ -65,12 +72,10 @@ def _number(text: str) -> int:
     return int(text)
 
 
-def _making(recorded: Sequence[Recorded], most: int | None) -> Making:
-    """How rules are made: as they are needed, or at most so many."""
-    if most is None:
-        return exactly
-    objects = Objects([one.tree for one in recorded])
-    return lambda layer, wanted, room=most: widening.rules(wanted, objects, room)
+def _making(recorded: Sequence[Recorded], arguments: argparse.Namespace) -> Making:
+    """How rules are made."""
+    objects = None if arguments.rules is None else Objects([one.tree for one in recorded])
+    return Making(arguments.rules, objects, in_groups=arguments.style == BASE)
 
 
 def _recorded(member: Member) -> Recorded:
