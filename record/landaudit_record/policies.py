@@ -64,7 +64,7 @@ class Access:
 
 @dataclass(frozen=True)
 class PathRule:
-    """A rule under each of some paths. `place` names it, as `path_beneath 2`; `group` is that which it is of, or None."""
+    """A rule under each of some paths. `place` names it, as `path_beneath 2`; `group` is what it is of, if of any."""
 
     place: str
     allowed_access: Access

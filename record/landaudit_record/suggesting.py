@@ -67,7 +67,7 @@ class Suggestion:
 
 @dataclass(frozen=True)
 class Making:
-    """How rules are made of what a layer lacks: exactly, or at most so many by `objects`; if `in_groups`, beside groups."""
+    """How rules are made of what a layer lacks: exactly, or at most so many by `objects`; with groups or without."""
 
     most: int | None = None
     objects: Objects | None = None

@@ -149,7 +149,7 @@ class Widening(Disk):
                 found = self.rules(most, paths)
                 self.assertLessEqual(len(found), most)
                 for name, rights in paths.items():
-                    over = [rule for rule in found if rule.place in upwards(self.path(name))]
+                    over = [rule for rule in found if str(rule.place) in upwards(self.path(name))]
                     self.assertLessEqual(set(rights), {right for rule in over for right in rule.rights})
                 granted = {str(rule.place): asked(*rule.rights) for rule in found}
                 self.assertEqual(wants.narrowed(granted), granted)

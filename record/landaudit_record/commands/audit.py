@@ -20,7 +20,8 @@ from ..trying import Auditing
 
 NAME = "audit"
 HELP = "say what a policy would refuse, or without one what the program's own layers refuse"
-EXAMPLE = "landaudit-record audit rec --policy policy.toml --abi 4"
+EXAMPLE = """landaudit-record audit rec --policy policy.toml --abi 4
+  landaudit-record audit rec again --policy policy.toml"""
 
 
 def add_arguments(parser: argparse.ArgumentParser) -> None:

@@ -18,7 +18,9 @@ from ..together import Member
 EXACT, BASE = "exact", "base"
 NAME = "suggest"
 HELP = "print the rules that would have let the refused calls pass, as TOML to paste"
-EXAMPLE = "landaudit-record suggest rec --policy policy.toml >> policy.toml"
+EXAMPLE = """landaudit-record suggest rec --policy policy.toml >> policy.toml
+  landaudit-record suggest rec again --policy deny.toml --rules 8
+  landaudit-record suggest rec --policy deny.toml --style base"""
 
 
 def add_arguments(parser: argparse.ArgumentParser) -> None:
@@ -29,8 +31,8 @@ def add_arguments(parser: argparse.ArgumentParser) -> None:
         "--rules",
         metavar="N",
         type=_number,
-        help="at most N rules for a layer (if it is left out, as many as it takes to grant nothing else): they are put on "
-        "directories where that grants least, and each says what it grants more",
+        help="at most N rules for a layer (if it is left out, as many as it takes to grant nothing else): they are put "
+        "on directories where that grants least, and each says what it grants more",
     )
     parser.add_argument(
         "--style",
