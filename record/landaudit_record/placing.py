@@ -45,6 +45,10 @@ class Placing:
         other = varying.first_of(spot.place, self._varying)
         return spot if other is None else Spot(directory_of(other), spot.path, Cause.MADE_UP)
 
+    def new(self, recording: int, directory: str, path: str) -> Spot:
+        """Where the rule is for a real path that a call of a recording was to make in a directory."""
+        return Spot(self.spot(recording, directory).place, path, _cause_of_made(path))
+
     def _before(self, own: Tree, path: str) -> Spot:
         """Where a rule can be before the run: by the recording's own tree, then by those of the others."""
         spot = _there_before(own, path)

@@ -37,13 +37,15 @@ class Recorded:
 class Round:
     """What one audit shows: what the policy's layers lack by recording, and refusals for which there is no rule.
 
-    `pids` are the processes of each recording.
+    `new` has by recording and directory the real paths of what calls were to make there; `pids` are the processes of
+    each recording.
     """
 
     wants: dict[int, dict[int, Wants]] = field(default_factory=dict)
     unmended: Counter[str] = field(default_factory=Counter)
     of_program: Counter[str] = field(default_factory=Counter)
     failed: Counter[str] = field(default_factory=Counter)
+    new: dict[int, dict[str, set[str]]] = field(default_factory=dict)
     pids: dict[int, set[int]] = field(default_factory=dict)
 
 
@@ -100,6 +102,7 @@ def suggest(
     groups: dict[int, Mapping[str, int]] = {}
     rules: dict[int, list[Rule]] = {}
     lacked: dict[int, list[Wants]] = {layer.number: [{} for _ in recorded] for layer in policy.layers}
+    new: list[dict[str, set[str]]] = [{} for _ in recorded]
     trees = [one.tree for one in recorded]
     for rounds in range(1, MOST_ROUNDS + 1):
         found = _Look(recorded, policy, abi).over(audit(with_rules(policy, rules, groups)))
@@ -108,10 +111,13 @@ def suggest(
         for number, by_recording in found.wants.items():
             for index, more in by_recording.items():
                 wants.unite(lacked[number][index], more)
+        for index, by_directory in found.new.items():
+            for directory, paths in by_directory.items():
+                new[index].setdefault(directory, set()).update(paths)
         pids = [found.pids.get(index, set()) for index in range(len(recorded))]
         for layer in policy.layers:
             if any(lacked[layer.number]):
-                wanted = wants.placed(trees, lacked[layer.number], pids)
+                wanted = wants.placed(trees, lacked[layer.number], new, pids)
                 groups[layer.number], rules[layer.number] = making.rules(layer, wanted, trees)
     finished = not found.wants
     return Suggestion(rules, found.unmended, found.of_program, rounds, finished, found.failed, groups)
@@ -206,9 +212,18 @@ class _Look:
                 self._seen.unmended[call_text(record)] += 1
                 continue
             grants += _for_the_run_after(one, record, self._handled[number])
+            self._note_new(record, call[0], {place for place, _ in grants})
             lacked = self._seen.wants.setdefault(number, {}).setdefault(call[0], {})
             for place, rights in grants:
                 wants.unite(lacked, {place: {right: {call} for right in rights}})
+
+
+    def _note_new(self, record: Record, index: int, places: Set[str | int]) -> None:
+        """Notes what a call was to make in directories where it lacks something."""
+        for member in ("path", "to"):
+            name, real = record.get(member), processes.shown(record, member)
+            if isinstance(name, str) and name not in self._recorded[index].tree.kinds and directory_of(name) in places:
+                self._seen.new.setdefault(index, {}).setdefault(directory_of(name), set()).add(str(real))
 
 
 def _fails_anyway(told: Told) -> bool:

@@ -3,7 +3,7 @@
 from __future__ import annotations
 
 from collections import defaultdict
-from collections.abc import Iterable, Iterator, Sequence, Set
+from collections.abc import Iterable, Iterator, Mapping, Sequence, Set
 from dataclasses import dataclass, replace
 from typing import TypeVar
 
@@ -50,11 +50,19 @@ def unite(wants: dict[Place, Lacking], more: dict[Place, Lacking]) -> None:
             here.setdefault(right, set()).update(calls)
 
 
-def placed(trees: Sequence[Tree], wants: Sequence[Wants], pids: Sequence[Set[int]]) -> Wanted:
-    """What is lacking in each recording, put where rules can be; `pids` are the processes of each."""
+def placed(
+    trees: Sequence[Tree], wants: Sequence[Wants], new: Sequence[Mapping[str, Set[str]]], pids: Sequence[Set[int]]
+) -> Wanted:
+    """What is lacking in each recording, put where rules can be.
+
+    `new` has of each by directory what calls were to make there, and `pids` are the processes of each.
+    """
     paths = [{place: rights for place, rights in some.items() if isinstance(place, str)} for some in wants]
     where = Placing(trees, paths, pids)
-    found = Wanted({}, [where.spot(index, path) for index, some in enumerate(paths) for path in some], {})
+    spots = [where.spot(index, path) for index, asked in enumerate(paths) for path in asked]
+    for index, asked in enumerate(paths):
+        spots += [where.new(index, path, real) for path in asked for real in new[index].get(path, ())]
+    found = Wanted({}, spots, {})
     for index, some in enumerate(wants):
         for place, rights in some.items():
             if isinstance(place, str):

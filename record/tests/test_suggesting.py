@@ -181,6 +181,13 @@ class Remarks(unittest.TestCase):
         self.assertEqual(self.remarks(reading("/a/made/t"), reading("/a/made", 2)),
                          [("(for what the run makes there: made, made/t)",)])
 
+    def test_what_a_call_is_to_make(self) -> None:
+        make = (opened("/a/~new~", "w", create=True, shown="/a/n"), refused("write_file, make_reg on /a"))
+        move = ({"op": "rename", "from": "/a/f", "to": "/b/~new~", "shown_to": "/b/m", "call": 2, "kernel": "ok"},
+                refused("remove_file on /a; make_reg on /b"))
+        told = [f"(for what the run makes there: {name})" for name in ("n", "m")]
+        self.assertEqual(self.remarks(make, move), [(text,) for text in told])
+
     def test_what_a_process_has(self) -> None:
         (remarks,) = self.remarks(reading("/proc/7/maps"))
         why = "for what a process has under its number, which differs in each run"
@@ -205,7 +212,8 @@ class Remarks(unittest.TestCase):
 
     def test_a_warning(self) -> None:
         make = (opened("/~new~", "w", create=True, shown="/n"), refused("make_reg on /"))
-        self.assertEqual(self.remarks(make), [("warning: make_reg on everything that there is",)])
+        told = ("(for what the run makes there: /n)", "warning: make_reg on everything that there is")
+        self.assertEqual(self.remarks(make), [told])
 
 
 class SeveralRecordings(unittest.TestCase):
