@@ -6,8 +6,10 @@ import json
 import unittest
 from typing import Any
 
-from .recorded import PID, failed
-from .stand_in import OLDER_OPS, OPS, POLICY, StandIn
+from landaudit_record.jsonl import Record
+
+from .recorded import PID, failed, refused, write_lines
+from .stand_in import OLDER_OPS, OPS, POLICY, TRACE, TREE, StandIn
 
 
 class Trying(StandIn):
@@ -241,6 +243,45 @@ parent = ["/none", "/a"]
         self.assertIn('# 1 call\n[[layer.path_beneath]]\nallowed_access = ["write_file"]\nparent = "/a"\n', out)
         self.assertIn("(2 audits)", out)
         self.assertEqual(sorted(path.name for path in self.recording.iterdir()), ["trace.jsonl", "tree.jsonl"])
+
+    def test_suggest_takes_at_most_as_many_rules_as_are_asked_for(self) -> None:
+        status, out, _ = self.audited("suggest", self.recording, "--policy", self.policy, "--rules", "1")
+        self.assertEqual(status, 0)
+        self.assertEqual(out.count("[[layer.path_beneath]]"), 1)
+        for number in ("0", "-1", "1.5", "all"):
+            with self.subTest(number), self.assertRaises(SystemExit) as ended:
+                self.audited("suggest", self.recording, "--policy", self.policy, f"--rules={number}")
+            self.assertEqual(ended.exception.code, 2)
+
+    def test_suggest_names_groups_of_rules_if_that_is_the_style(self) -> None:
+        """Two files of the machine's names are read and refused, then nothing is."""
+        write_lines(self.recording / "tree.jsonl", [*TREE, {"path": "/etc", "kind": "dir"}, *(
+            {"path": path, "kind": "reg"} for path in ("/etc/passwd", "/etc/group"))])
+        common = {"op": "open", "pid": PID, "mode": "r", "kernel": "ok"}
+        reading: list[Record] = [{**common, "path": path, "fd": fd, "call": fd}
+                                 for fd, path in ((4, "/etc/passwd"), (5, "/etc/group"))]
+        write_lines(self.recording / "trace.jsonl", [*TRACE, *reading])
+        self.policy.write_text('[[layer]]\nhandled_access_fs = ["read_file"]\n')
+        lacking = [refused(f"read_file on {record['path']}") for record in reading]
+        answers = {"9": ["allowed"] * 7 + lacking, "11": ["allowed"] * 11}
+        (self.folder / "answers.json").write_text(json.dumps(answers))
+        for style, rules, wanted in (("base", 1, 'include = ["nameservice"]'), ("exact", 2, 'parent = "/etc/group"')):
+            with self.subTest(style):
+                words = ["suggest", self.recording, "--policy", self.policy, "--style", style]
+                status, out, _ = self.audited(*words)
+                self.assertEqual((status, out.count("[[layer.path_beneath]]")), (0, rules))
+                self.assertIn(f"{wanted}\n", out)
+
+    def test_a_policy_with_groups_of_rules(self) -> None:
+        """A rule is on those of a group's paths that the recording met, and nothing is said of the others."""
+        write_lines(self.recording / "tree.jsonl", [*TREE, {"path": "/tmp", "kind": "dir"}])
+        self.policy.write_text('include = ["tmp"]\n[[layer]]\nhandled_access_fs = ["write_file", "truncate"]\n')
+        status, out, errors = self.audited("audit", self.recording, "--policy", self.policy)
+        self.assertEqual((status, errors), (1, ""))
+        self.assertIn("8 records: 7 allowed, 1 refused, 0 moot", out)
+        tried = [json.loads(line) for line in (self.recording / "tried.jsonl").read_text().splitlines()]
+        self.assertEqual([(it["path"], it["fs"]) for it in tried if it["op"] == "add_path"],
+                         [("/tmp", ["write_file", "truncate"])])
 
     def test_a_folder_without_a_recording(self) -> None:
         made = "has no tree.jsonl: name a folder that 'landaudit-record run' made\n"
