@@ -86,7 +86,7 @@ def _cause_of_made(path: str) -> Cause:
     return Cause.MADE_UP if varying.looks_made_up(path.rpartition("/")[2]) else Cause.MADE
 
 
-def remarks(place: str, spots: Iterable[Spot]) -> Iterator[str]:
+def remarks(place: str, spots: Sequence[Spot]) -> Iterator[str]:
     """What to say of a rule by what it is for."""
     for cause in Cause:
         names = sorted({_named(place, spot) for spot in spots if spot.cause is cause})
