@@ -37,11 +37,12 @@ landaudit:
 	@cd crates/landaudit && ../../packaging/progress --keep '$(CHECK)' rt run -- --help
 	@echo '$(PROGRAM) is there; sudo make install puts it into $(PREFIX)'
 
-# The scripts and their modules stay together in share/landaudit; they find landaudit beside them in bin.
+# The scripts, their modules and the groups of rules stay together in share/landaudit; they find landaudit beside them in
+# bin.
 install:
 	$(if $(wildcard $(PROGRAM)),,$(error landaudit is not built: run 'make landaudit' first))
 	@rm -rf '$(ROOT)/share/landaudit'
-	@for file in $(SCRIPTS) $$(cd record && find landaudit_record -name '*.py'); do \
+	@for file in $(SCRIPTS) $$(cd record && find landaudit_record -name '*.py' -o -name '*.toml'); do \
 	install -D -m 644 record/$$file '$(ROOT)'/share/landaudit/$$file || exit 1; done
 	@cd '$(ROOT)' && mkdir -p $(sort $(dir $(INSTALLED)))
 	@for script in $(SCRIPTS); do chmod 755 '$(ROOT)'/share/landaudit/$$script && \

@@ -9,7 +9,7 @@ _landaudit_record_words() {
         audit) echo '-h --help --policy --accepted --program --abi --as-recorded --json --landaudit' ;;
         compare) echo '-h --help --abi --json --differences --landaudit' ;;
         tighten) echo '-h --help --policy --list --program --abi --as-recorded --landaudit' ;;
-        suggest) echo '-h --help --policy --program --abi --as-recorded --landaudit' ;;
+        suggest) echo '-h --help --policy --rules --style --program --abi --as-recorded --landaudit' ;;
         *) echo 'run convert apply audit compare suggest tighten -h --help -V --version' ;;
     esac
 }
@@ -48,6 +48,7 @@ _landaudit_record() {
     fi
     case $prev in
         --abi) mapfile -t COMPREPLY < <(compgen -W "$(_landaudit_record_abis "$sub")" -- "$cur") ;;
+        --style) mapfile -t COMPREPLY < <(compgen -W 'exact base' -- "$cur") ;;
         --program) mapfile -t COMPREPLY < <(compgen -c -- "$cur") ;;
         --policy | --port-rules | --accepted)
             compopt -o filenames 2> /dev/null
@@ -57,7 +58,7 @@ _landaudit_record() {
             compopt -o filenames 2> /dev/null
             mapfile -t COMPREPLY < <(compgen -d -- "$cur")
             ;;
-        --out | --tree | --differences | --landaudit) ;;
+        --out | --tree | --differences | --landaudit | --rules) ;;
         *)
             if [[ -z $sub || $cur == -* ]]; then
                 mapfile -t COMPREPLY < <(compgen -W "$(_landaudit_record_words "$sub")" -- "$cur")

@@ -40,6 +40,8 @@ complete -c landaudit-record -n '__landaudit_record_has audit compare' -l json -
 complete -c landaudit-record -n '__landaudit_record_has audit compare suggest tighten' -l landaudit -r -F -d 'landaudit itself'
 complete -c landaudit-record -n '__landaudit_record_has audit' -l accepted -r -F -d 'Refusals that are known and fine'
 complete -c landaudit-record -n '__landaudit_record_has tighten' -l list -d 'Print a table in its place'
+complete -c landaudit-record -n '__landaudit_record_has suggest' -l rules -x -d 'At most so many rules for a layer'
+complete -c landaudit-record -n '__landaudit_record_has suggest' -l style -x -a 'exact base' -d 'Exact rules, or groups of rules too'
 complete -c landaudit-record -n '__landaudit_record_has apply' -l out -r -F -d 'Where the trace goes'
 complete -c landaudit-record -n '__landaudit_record_has apply' -l tree -r -F -d 'Tree'
 complete -c landaudit-record -n '__landaudit_record_has compare' -l differences -r -F -d 'Write each difference'

@@ -133,6 +133,9 @@ class Asked:
                       "policy confine p.toml"):
             self.assert_offers(f"landaudit-{words} --abi ", ABIS)
 
+    def test_the_styles_of_suggestions(self) -> None:
+        self.assert_offers("landaudit-record suggest rec --style ", {"exact", "base"})
+
     def test_the_ranges_of_abis_that_an_audit_and_a_comparison_take(self) -> None:
         for words in ("record audit rec", "policy diff old.toml new.toml"):
             self.assert_offers(f"landaudit-{words} --abi ", ABIS | RANGES)

@@ -50,7 +50,9 @@ class Install(unittest.TestCase):
 
     def test_what_goes_where(self) -> None:
         self.assertEqual(self.make("install").returncode, 0)
-        modules = [path.relative_to(TOP / "record") for path in (TOP / "record" / "landaudit_record").rglob("*.py")]
+        package = TOP / "record" / "landaudit_record"
+        modules = [path.relative_to(TOP / "record") for end in ("py", "toml") for path in package.rglob(f"*.{end}")]
+        self.assertIn(Path("landaudit_record/groups/base.toml"), modules)
         self.assertEqual(
             files(self.prefix),
             {
@@ -90,6 +92,14 @@ class Install(unittest.TestCase):
         status, text = self.said(recorder, "audit", recording)
         self.assertEqual(status, 4)
         self.assertIn(f"landaudit: a stand-in at {self.prefix}/bin/landaudit ", text)
+
+    def test_the_groups_of_rules_are_found(self) -> None:
+        self.make("install")
+        policy = self.root / "policy.toml"
+        policy.write_text('[[layer]]\nhandled_access_fs = ["read_file"]\ninclude = ["base"]\n', encoding="utf-8")
+        status, text = self.said(self.prefix / "bin" / "landaudit-policy", "export", policy, "--c")
+        self.assertEqual(status, 0)
+        self.assertIn('"/etc/ld.so.cache"', text)
 
     @unittest.skipUnless(BUILT.exists(), f"{BUILT} is not built")
     def test_the_proved_program(self) -> None:

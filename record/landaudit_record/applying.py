@@ -213,6 +213,8 @@ def _of_layer(policy: Policy, layer: FittedLayer, tree: Tree, rs: int) -> Iterat
         for parent in rule.parents:
             place = f"{policy.path}: layer {layer.number}, {rule.place}, parent"
             path = _resolved(tree, parent, place, before_run=True)
+            if rule.group is not None and not tree.is_there_before(path):
+                continue
             of_rule: dict[str, Any] = {**origin, "rule": rule.place, "parent": parent}
             for name, about in _on(tree, path):
                 yield {

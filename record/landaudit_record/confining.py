@@ -85,7 +85,8 @@ def _add_parent(policy: Policy, ruleset: int, layer: int, rule: FittedPathRule, 
     except OSError as error:
         if error.errno not in NOT_THERE:
             raise
-        yield f"{where}: no rule on {parent}: {error.strerror}"
+        if rule.group is None:
+            yield f"{where}: no rule on {parent}: {error.strerror}"
         return
     try:
         _add(policy, ruleset, f"{where}, parent {parent}", rule, place)

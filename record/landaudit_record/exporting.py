@@ -207,7 +207,8 @@ def _rules(layer: Layer, comments: Comments) -> Iterator[str]:
     if layer.path_beneath:
         yield f"static const struct policy_path policy_paths_{layer.number}[] = {{"
         for rule in layer.path_beneath:
-            yield from _comment(comments.on_rule(layer.number, rule.place), "\t")
+            of_group = [] if rule.group is None else [f"of the group {rule.group}"]
+            yield from _comment([*comments.on_rule(layer.number, rule.place), *of_group], "\t")
             yield from _path_rows(rule, layer)
         yield from ("};", "")
     if layer.net_port:

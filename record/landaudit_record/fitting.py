@@ -14,12 +14,16 @@ from .rights import FILE_RIGHTS, FS, NET, Family, Rights
 
 @dataclass(frozen=True)
 class FittedPathRule:
-    """What a rule grants under its parents: by a group, a parent that is a file gets the rights for files alone."""
+    """What a rule grants under its parents: by a group, a parent that is a file gets the rights for files alone.
+
+    `group` is the group of rules that it is of, if any: what of its parents is not there is left out in silence.
+    """
 
     place: str
     parents: tuple[str, ...]
     on_directory: list[str]
     on_file: list[str]
+    group: str | None = None
 
     def on(self, kind: str | None) -> list[str]:
         """What the rule asks to be granted on an object of a kind; None is an object that is not listed.
@@ -87,9 +91,10 @@ def _path_rule(rule: PathRule, handled: Rights, abi: int, where: str, notes: lis
     on_directory = _known(rule.allowed_access, FS, abi, f"{where}, {rule.place}", notes) & handled
     on_file = (rule.allowed_access.outright | FILE_RIGHTS) & on_directory
     if not on_directory:
-        notes.append(f"{where}, {rule.place} is left out: ABI {abi} knows nothing that it allows")
+        if rule.group is None:
+            notes.append(f"{where}, {rule.place} is left out: ABI {abi} knows nothing that it allows")
         return None
-    return FittedPathRule(rule.place, rule.parents, FS.ordered(on_directory), FS.ordered(on_file))
+    return FittedPathRule(rule.place, rule.parents, FS.ordered(on_directory), FS.ordered(on_file), rule.group)
 
 
 def _port_rule(rule: PortRule, handled: Rights, abi: int, where: str, notes: list[str]) -> FittedPortRule | None:

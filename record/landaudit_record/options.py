@@ -17,6 +17,11 @@ _ABI_OF = {str(abi): abi for abi in range(OLDEST_ABI, NEWEST_ABI + 1)}
 OF_POLICY = "of the policy, rights that it does not have are dropped"
 
 
+def add_recordings(parser: argparse.ArgumentParser) -> None:
+    """The recordings that a subcommand is about."""
+    parser.add_argument("recordings", metavar="OUT", nargs="+", help="a recording's folder, or several")
+
+
 def add_abi(parser: argparse.ArgumentParser, besides: str = OF_POLICY) -> None:
     """The one ABI by which calls are judged, and what else comes of it."""
     parser.add_argument(

@@ -16,12 +16,18 @@ A list of rights has rights by name and groups (`all`, `read`, `write`,
 `execute`). A right that a rule names must be handled by its layer, since the
 kernel refuses the whole rule otherwise; a group in a rule stands for those of
 its rights that the layer handles.
+
+`include` names groups of rules, each a TOML file in `groups`: at the top for all
+layers, in a layer, or in a `[[layer.path_beneath]]` in the place of all else.
+Their rights are taken as those of groups are, and what of their paths is not
+there is left out in silence, since one group is for many machines.
 """
 
 from __future__ import annotations
 
-from collections.abc import Callable, Mapping
-from dataclasses import dataclass
+from collections.abc import Callable, Iterator, Mapping, Sequence
+from dataclasses import dataclass, replace
+from functools import cache
 from pathlib import Path
 from typing import Any, TypeVar
 
@@ -34,6 +40,9 @@ ACCEPTED = "accepted"
 
 MOST_LAYERS = 16
 HIGHEST_PORT = 65535
+GROUPS = Path(__file__).resolve().parent / "groups"
+"""The folder with the groups of rules."""
+
 SCOPES = ("abstract_unix_socket", "signal")
 LONGEST_PATH = 4096
 
@@ -55,11 +64,12 @@ class Access:
 
 @dataclass(frozen=True)
 class PathRule:
-    """A rule under each of some paths. `place` names it, as `path_beneath 2`."""
+    """A rule under each of some paths. `place` names it, as `path_beneath 2`; `group` is what it is of, if of any."""
 
     place: str
     allowed_access: Access
     parents: tuple[str, ...]
+    group: str | None = None
 
 
 @dataclass(frozen=True)
@@ -100,31 +110,66 @@ def read(path: Path) -> Policy:
 
 
 def _policy(document: Mapping[str, Any], place: Place) -> Policy:
-    check_keys(document, ("layer", ACCEPTED), place)
+    check_keys(document, ("layer", "include", ACCEPTED), place)
+    included = _included(document, place)
     found = tables(document.get("layer", []), "layer", place)
     if not found:
         place.fault("no layer: write one as [[layer]] with handled_access_fs")
     if len(found) > MOST_LAYERS:
         place.fault(f"{len(found)} layers: the kernel takes at most {MOST_LAYERS}")
-    layers = (_layer(table, number, place / f"layer {number}") for number, table in enumerate(found, start=1))
+    layers = (_layer(table, number, included, place / f"layer {number}") for number, table in enumerate(found, start=1))
     return Policy(place.path, tuple(layers))
 
 
-def _layer(table: Mapping[str, Any], number: int, place: Place) -> Layer:
-    check_keys(table, ("handled_access_fs", "handled_access_net", "path_beneath", "net_port", "scoped"), place)
+def _layer(table: Mapping[str, Any], number: int, included: Sequence[str], place: Place) -> Layer:
+    """A layer, with the rules of groups that its policy includes behind its own."""
+    keys = ("handled_access_fs", "handled_access_net", "include", "path_beneath", "net_port", "scoped")
+    check_keys(table, keys, place)
     fs = _access(table.get("handled_access_fs", []), FS, place / "handled_access_fs")
     net = _access(table.get("handled_access_net", []), NET, place / "handled_access_net")
     scoped = _scopes(table.get("scoped", []), place / "scoped")
     if not fs.rights and not net.rights and not scoped:
         place.fault('handles nothing: give handled_access_fs or handled_access_net rights, as ["all"]')
-    return Layer(
-        number,
-        fs,
-        net,
-        _rules(table, "path_beneath", place, lambda rule, name, where: _path_rule(rule, name, fs.rights, where)),
-        _rules(table, "net_port", place, lambda rule, name, where: _port_rule(rule, name, net.rights, where)),
-        scoped,
-    )
+    named = [*included, *_included(table, place)]
+    paths = _rules(table, "path_beneath", place, lambda it, name, at: _path_rule(it, name, fs.rights, named, at))
+    ports = _rules(table, "net_port", place, lambda it, name, at: _port_rule(it, name, net.rights, at))
+    of_groups = (rule for name in dict.fromkeys(named) for rule in group_rules(name, fs.rights))
+    return Layer(number, fs, net, (*filter(None, paths), *of_groups), ports, scoped)
+
+
+def _included(table: Mapping[str, Any], place: Place) -> tuple[str, ...]:
+    """The groups of rules that a table includes."""
+    return one_or_several(table["include"], _group_name, place / "include") if "include" in table else ()
+
+
+def _group_name(value: Any, place: Place) -> str:
+    names = group_names()
+    if value not in names:
+        place.fault(f"unknown group of rules {unknown(str(value), names)}")
+    return str(value)
+
+
+def group_names() -> list[str]:
+    """The names of all groups of rules."""
+    return sorted(path.stem for path in GROUPS.glob("*.toml"))
+
+
+def group_rules(name: str, handled: Rights) -> Iterator[PathRule]:
+    """The rules of a group with those of their rights that a layer handles."""
+    for rule in _group(name):
+        if rights := rule.allowed_access.rights & handled:
+            yield replace(rule, allowed_access=Access(grouped=rights))
+
+
+@cache
+def _group(name: str) -> tuple[PathRule, ...]:
+    """The rules of a group, of a layer that handles all."""
+    place = Place(GROUPS / f"{name}.toml")
+    document = documents.read(place.path)
+    check_keys(document, ("path_beneath",), place, all_needed=True)
+    handled, none = FS.groups["all"], list[str]()
+    rules = _rules(document, "path_beneath", place, lambda it, rule, at: _path_rule(it, rule, handled, none, at))
+    return tuple(replace(rule, place=f"{name} {rule.place}", group=name) for rule in filter(None, rules))
 
 
 def _scopes(value: Any, place: Place) -> tuple[str, ...]:
@@ -146,7 +191,14 @@ def _rules(
     return tuple(rule(table, name, place / name) for name, table in zip(names, found))
 
 
-def _path_rule(table: Mapping[str, Any], name: str, handled: Rights, place: Place) -> PathRule:
+def _path_rule(
+    table: Mapping[str, Any], name: str, handled: Rights, included: list[str], place: Place
+) -> PathRule | None:
+    """A rule; None where groups are included in its place, which are then among those that are."""
+    if "include" in table:
+        check_keys(table, ("include",), place)
+        included += _included(table, place)
+        return None
     check_keys(table, ("allowed_access", "parent"), place, all_needed=True)
     access = _allowed(table["allowed_access"], FS, handled, "handled_access_fs", place / "allowed_access")
     return PathRule(name, access, one_or_several(table["parent"], _parent, place / "parent"))

@@ -80,6 +80,8 @@ def _head(layer: Layer, rule: PathRule | PortRule, comments: Comments, remark: R
     """What is said before a rule."""
     yield ""
     yield from _comments(comments.on_rule(layer.number, rule.place.removesuffix(_OF_FILES)))
+    if isinstance(rule, PathRule) and rule.group is not None:
+        yield from _comments([f"of the group {rule.group}"])
     said = remark(layer.number, rule.place)
     if said is not None:
         yield from _comments([said])

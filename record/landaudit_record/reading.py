@@ -73,7 +73,8 @@ class Told:
 
     `answered` has the answers that are not `allowed`, each with the ABIs that give it; `program` is what the process
     runs, None before its first program; `asked` says whether it is a call on a path that Landlock was asked about;
-    `missed` are the ABIs under which its descriptor would be open had its opening been allowed.
+    `missed` are the ABIs under which its descriptor would be open had its opening been allowed; `confined` says that
+    the process had a layer in the run.
     """
 
     line: int
@@ -82,6 +83,7 @@ class Told:
     program: str | None
     asked: bool
     missed: frozenset[int]
+    confined: bool
 
 
 class Walk:
@@ -101,6 +103,7 @@ class Walk:
         self._missed: dict[int, dict[int, frozenset[int]]] = {}
         self._watched = 0
         self._policies: dict[int, int | None] = {}
+        self._confined: set[int] = set()
         self.records = 0
         self.path_calls = 0
         self.confines = False
@@ -165,7 +168,7 @@ class Walk:
         asked = op in PATH_CALLS and record.get("kernel") in ASKED_LANDLOCK
         fd = record.get("fd")
         missed = self._missed.get(pid, {}).get(fd, frozenset()) if isinstance(fd, int) else frozenset()
-        told = Told(number, record, found, self._programs.get(pid), asked, missed)
+        told = Told(number, record, found, self._programs.get(pid), asked, missed, pid in self._confined)
         self._follow(told, op, pid)
         return told
 
@@ -174,9 +177,12 @@ class Walk:
         match op:
             case "start":
                 self._programs[pid] = None
+                self._confined.discard(pid)
             case "fork":
                 child = record["child"]
                 self._programs[child] = self._programs.get(pid)
+                self._confined.discard(child)
+                self._confined.update({child} if pid in self._confined else ())
                 for fd, abis in self._missed.get(pid, {}).items():
                     if _may_be_opened(fd):
                         self._miss(child, fd, abis)
@@ -190,6 +196,7 @@ class Walk:
             case "restrict":
                 self.confines = True
                 self._policies[told.line] = (of_policy(record) or {}).get("layer")
+                self._confined.update({pid} if of_policy(record) is None else ())
             case "open":
                 self._miss(pid, record["fd"], _not_given(told))
             case "dup":

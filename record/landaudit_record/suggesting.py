@@ -2,39 +2,60 @@
 
 from __future__ import annotations
 
-from collections import Counter, defaultdict
-from collections.abc import Callable, Iterable, Iterator, Mapping
+from collections import Counter
+from collections.abc import Callable, Iterable, Iterator, Mapping, Sequence, Set
 from dataclasses import dataclass, field, replace
 
-from . import wants
+from . import processes, styling, wants, widening
 from .explanations import Closed, Gained, Kept, Missing, Objection, refusing
+from .jsonl import Record
 from .landaudit import Answer
-from .policies import Access, Layer, PathRule, Policy, PortRule
+from .objects import Objects
+from .policies import Access, Layer, PathRule, Policy, PortRule, group_rules
 from .processes import of_policy
 from .reading import Told, Walk, call_text
 from .rights import FS, NET, NONE, Rights
 from .trees import Tree, directory_of
-from .wants import Rule, Wants
+from .wants import Call, Rule, Wanted, Wants
 
 MOST_ROUNDS = 30
+#: How a call ends by file modes, by file systems and between two of them, where its process has no layer; and how it
+#: ends before Landlock is asked in any case.
+_BY_ITSELF = ("EACCES", "EPERM", "EXDEV")
+_BEFORE_LANDLOCK = ("EROFS",)
+
+
+@dataclass(frozen=True)
+class Recorded:
+    """What is known of a recording: its tree, and the files that its run makes, cuts and leaves behind."""
+
+    tree: Tree
+    cut: Set[str] = frozenset()
 
 
 @dataclass
 class Round:
-    """What one audit shows: what the policy's layers lack, and refusals that no rule fixes."""
+    """What one audit shows: what the policy's layers lack by recording, and refusals for which there is no rule.
 
-    wants: dict[int, Wants] = field(default_factory=dict)
+    `new` has by recording and directory the real paths of what calls were to make there; `pids` are the processes of
+    each recording.
+    """
+
+    wants: dict[int, dict[int, Wants]] = field(default_factory=dict)
     unmended: Counter[str] = field(default_factory=Counter)
     of_program: Counter[str] = field(default_factory=Counter)
+    failed: Counter[str] = field(default_factory=Counter)
+    new: dict[int, dict[str, set[str]]] = field(default_factory=dict)
+    pids: dict[int, set[int]] = field(default_factory=dict)
 
 
 @dataclass(frozen=True)
 class Suggestion:
     """The rules for each layer by its number, and what stays refused with them.
 
-    `unmended` are refusals of the policy's layers that no rule fixes,
-    `of_program` those of layers that the program makes itself, both by call.
-    `rounds` is how many audits it took; it is not `finished` where it took too many.
+    `unmended` are refusals of the policy's layers that no rule fixes, `of_program` those of layers that the program
+    makes itself, and `failed` are calls that failed in the recording whatever a policy says, all by call. `rounds` is
+    how many audits it took; it is not `finished` where it took too many.
     """
 
     rules: Mapping[int, list[Rule]]
@@ -42,25 +63,64 @@ class Suggestion:
     of_program: Counter[str]
     rounds: int
     finished: bool
+    failed: Counter[str] = field(default_factory=Counter)
+    groups: Mapping[int, Mapping[str, int]] = field(default_factory=dict)
 
 
-def suggest(tree: Tree, policy: Policy, abi: int, audit: Callable[[Policy], Iterable[Walk]]) -> Suggestion:
+@dataclass(frozen=True)
+class Making:
+    """How rules are made of what a layer lacks: exactly, or at most so many by `objects`; with groups or without."""
+
+    most: int | None = None
+    objects: Objects | None = None
+    in_groups: bool = False
+
+    def rules(self, layer: Layer, wanted: Wanted, trees: Sequence[Tree]) -> tuple[Mapping[str, int], list[Rule]]:
+        """The groups for a layer, each with how many calls need it, and the rules beside them."""
+        groups: Mapping[str, int] = {}
+        if self.in_groups:
+            styled = styling.with_groups(wanted, layer.handled_access_fs.rights, trees)
+            groups, wanted = styled.groups, styled.left
+        if self.most is None or self.objects is None:
+            return groups, wants.rules(wanted)
+        return groups, widening.rules(wanted, self.objects, self.most)
+
+
+def suggest(
+    recorded: Sequence[Recorded],
+    policy: Policy,
+    abi: int,
+    audit: Callable[[Policy], Iterable[tuple[int, Walk]]],
+    making: Making = Making(),
+) -> Suggestion:
     """Rules until no layer of the policy refuses what a rule would fix.
 
-    `audit` answers each part of the recording under a policy. Under the rules of one round
+    `audit` answers each part of each recording under a policy, with the recording's index. Under the rules of one round
     the next may show refusals that were behind those which they fix.
     """
     found = Round()
+    groups: dict[int, Mapping[str, int]] = {}
     rules: dict[int, list[Rule]] = {}
-    lacked: dict[int, Wants] = defaultdict(dict)
+    lacked: dict[int, list[Wants]] = {layer.number: [{} for _ in recorded] for layer in policy.layers}
+    new: list[dict[str, set[str]]] = [{} for _ in recorded]
+    trees = [one.tree for one in recorded]
     for rounds in range(1, MOST_ROUNDS + 1):
-        found = _look(tree, abi, audit(with_rules(policy, rules)))
+        found = _Look(recorded, policy, abi).over(audit(with_rules(policy, rules, groups)))
         if not found.wants:
-            return Suggestion(rules, found.unmended, found.of_program, rounds, True)
-        for number, more in found.wants.items():
-            wants.unite(lacked[number], more)
-        rules = {number: wants.rules(tree, lacked[number]) for number in sorted(lacked)}
-    return Suggestion(rules, found.unmended, found.of_program, MOST_ROUNDS, False)
+            break
+        for number, by_recording in found.wants.items():
+            for index, more in by_recording.items():
+                wants.unite(lacked[number][index], more)
+        for index, by_directory in found.new.items():
+            for directory, paths in by_directory.items():
+                new[index].setdefault(directory, set()).update(paths)
+        pids = [found.pids.get(index, set()) for index in range(len(recorded))]
+        for layer in policy.layers:
+            if any(lacked[layer.number]):
+                wanted = wants.placed(trees, lacked[layer.number], new, pids)
+                groups[layer.number], rules[layer.number] = making.rules(layer, wanted, trees)
+    finished = not found.wants
+    return Suggestion(rules, found.unmended, found.of_program, rounds, finished, found.failed, groups)
 
 
 def needs_refer(layer: Layer, rules: Iterable[Rule]) -> bool:
@@ -68,21 +128,32 @@ def needs_refer(layer: Layer, rules: Iterable[Rule]) -> bool:
     return "refer" not in layer.handled_access_fs.rights and any("refer" in rule.rights for rule in rules)
 
 
-def with_rules(policy: Policy, rules: Mapping[int, list[Rule]]) -> Policy:
-    """A policy with suggested rules, each in its layer."""
-    return replace(policy, layers=tuple(_layer_with(layer, rules.get(layer.number, [])) for layer in policy.layers))
+def with_rules(
+    policy: Policy, rules: Mapping[int, list[Rule]], groups: Mapping[int, Iterable[str]] | None = None
+) -> Policy:
+    """A policy with suggested rules and groups of rules, each in its layer."""
+    named = groups or {}
+    layers = (_layer_with(it, rules.get(it.number, []), named.get(it.number, ())) for it in policy.layers)
+    return replace(policy, layers=tuple(layers))
 
 
-def _layer_with(layer: Layer, rules: list[Rule]) -> Layer:
+def _layer_with(layer: Layer, rules: list[Rule], groups: Iterable[str]) -> Layer:
     handled = layer.handled_access_fs
     if needs_refer(layer, rules):
         handled = replace(handled, outright=handled.outright | {"refer"})
     return replace(
         layer,
         handled_access_fs=handled,
-        path_beneath=(*layer.path_beneath, *_path_rules(rules)),
+        path_beneath=(*layer.path_beneath, *_path_rules(rules), *_of_groups(layer, groups)),
         net_port=(*layer.net_port, *_port_rules(rules)),
     )
+
+
+def _of_groups(layer: Layer, groups: Iterable[str]) -> Iterator[PathRule]:
+    """The rules of the groups that a layer doesn't have yet."""
+    there = {rule.group for rule in layer.path_beneath}
+    for name in groups:
+        yield from group_rules(name, layer.handled_access_fs.rights) if name not in there else ()
 
 
 def _path_rules(rules: list[Rule]) -> Iterator[PathRule]:
@@ -97,39 +168,76 @@ def _port_rules(rules: list[Rule]) -> Iterator[PortRule]:
             yield PortRule("suggested", Access(rule.rights), rule.place)
 
 
-def _look(tree: Tree, abi: int, walks: Iterable[Walk]) -> Round:
-    """What one audit shows. A call is known by the number that the recording gives it, else by that of its record."""
-    seen = Round()
-    known = FS.known(abi) | NET.known(abi)
-    for walk in walks:
-        for told in walk:
-            if of_policy(told.record) is not None:
+class _Look:
+    """A look at what one audit shows, over the walks of all recordings."""
+
+    def __init__(self, recorded: Sequence[Recorded], policy: Policy, abi: int) -> None:
+        self._recorded = recorded
+        self._known = FS.known(abi) | NET.known(abi)
+        self._handled = {it.number: it.handled_access_fs.rights & self._known for it in policy.layers}
+        self._seen = Round()
+
+    def over(self, walks: Iterable[tuple[int, Walk]]) -> Round:
+        """What the walks show. A call is known by its number in the recording, else by that of its record's line."""
+        for index, walk in walks:
+            pids = self._seen.pids.setdefault(index, set())
+            for told in walk:
+                pids.update({told.record["pid"], told.record.get("child", told.record["pid"])})
+                if of_policy(told.record) is not None:
+                    continue
+                number = told.record.get("call")
+                call = index, number if type(number) is int else -told.line
+                for _, answer in told.answered:
+                    if answer.layers:
+                        self._refused(walk, told, answer, call)
+        return self._seen
+
+    def _refused(self, walk: Walk, told: Told, answer: Answer, call: Call) -> None:
+        """Takes up one refused call, for each layer that refuses it.
+
+        Where one of its objections can't be fixed, rules for the others would
+        not help. So it is with `refer` at ABI 1, which no rule can grant there.
+        """
+        record, one = told.record, self._recorded[call[0]]
+        if _fails_anyway(told):
+            self._seen.failed[call_text(record)] += 1
+            return
+        for layer in refusing(record, answer):
+            number = walk.policy_of(layer.line)
+            if number is None:
+                self._seen.of_program[call_text(record)] += 1
                 continue
-            for _, answer in told.answered:
-                if answer.layers:
-                    call = told.record.get("call")
-                    _refused(seen, tree, known, walk, told, answer, call if type(call) is int else -told.line)
-    return seen
+            grants = [_grant(one.tree, objection) for objection in layer.objections]
+            if not all(rights and rights <= self._known for _, rights in grants):
+                self._seen.unmended[call_text(record)] += 1
+                continue
+            grants += _for_the_run_after(one, record, self._handled[number])
+            self._note_new(record, call[0], {place for place, _ in grants})
+            lacked = self._seen.wants.setdefault(number, {}).setdefault(call[0], {})
+            for place, rights in grants:
+                wants.unite(lacked, {place: {right: {call} for right in rights}})
 
 
-def _refused(seen: Round, tree: Tree, known: Rights, walk: Walk, told: Told, answer: Answer, call: int) -> None:
-    """Takes up one refused call, for each layer that refuses it.
+    def _note_new(self, record: Record, index: int, places: Set[str | int]) -> None:
+        """Notes what a call was to make in directories where it lacks something."""
+        for member in ("path", "to"):
+            name, real = record.get(member), processes.shown(record, member)
+            if isinstance(name, str) and name not in self._recorded[index].tree.kinds and directory_of(name) in places:
+                self._seen.new.setdefault(index, {}).setdefault(directory_of(name), set()).add(str(real))
 
-    Where one of its objections can't be fixed, rules for the others would
-    not help. So it is with `refer` at ABI 1, which no rule can grant there.
-    """
-    record = told.record
-    for layer in refusing(record, answer):
-        number = walk.policy_of(layer.line)
-        if number is None:
-            seen.of_program[call_text(record)] += 1
-            continue
-        grants = [_grant(tree, objection) for objection in layer.objections]
-        if not all(rights and rights <= known for _, rights in grants):
-            seen.unmended[call_text(record)] += 1
-            continue
-        for place, rights in grants:
-            wants.unite(seen.wants.setdefault(number, {}), {place: {right: {call} for right in rights}})
+
+def _fails_anyway(told: Told) -> bool:
+    """Whether a call that a policy refuses fails without any too, as the recording shows."""
+    kernel = told.record.get("kernel")
+    return kernel in _BEFORE_LANDLOCK or kernel in _BY_ITSELF and not told.confined
+
+
+def _for_the_run_after(recorded: Recorded, record: Record, handled: Rights) -> list[tuple[str | int, Rights]]:
+    """What a call that makes a file and cuts it asks of the same file in the run after."""
+    path, real = record.get("path"), processes.shown(record, "path")
+    if record["op"] != "open" or not record.get("create") or not record.get("trunc") or real not in recorded.cut:
+        return []
+    return [(directory_of(str(path)), handled & {"truncate"})]
 
 
 def _grant(tree: Tree, objection: Objection) -> tuple[str | int, Rights]:

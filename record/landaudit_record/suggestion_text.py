@@ -4,36 +4,41 @@ from __future__ import annotations
 
 import json
 from collections import Counter
-from collections.abc import Iterator
+from collections.abc import Iterator, Mapping
 
 from .policies import Layer, Policy
 from .rights import FS, NET
 from .suggesting import Suggestion, needs_refer
 from .wants import Rule
-from .wording import counted
+from .wording import counted, printable
 
 
 def lines(suggestion: Suggestion, policy: Policy) -> Iterator[str]:
     """The lines, each without its line feed. All but rules is comment, so the whole may be pasted into a layer."""
     for layer in policy.layers:
-        rules = suggestion.rules.get(layer.number, [])
-        if rules:
-            yield from _of_layer(layer, rules, policy)
+        rules, groups = suggestion.rules.get(layer.number, []), suggestion.groups.get(layer.number, {})
+        if rules or groups:
+            yield from _of_layer(layer, rules, groups, policy)
     yield from _ending(suggestion)
 
 
-def _of_layer(layer: Layer, rules: list[Rule], policy: Policy) -> Iterator[str]:
+def _of_layer(layer: Layer, rules: list[Rule], groups: Mapping[str, int], policy: Policy) -> Iterator[str]:
     only = "" if len(policy.layers) == 1 else f": paste them under the [[layer]] of that number in {policy.path}"
-    yield f"# {counted(len(rules), 'rule')} for layer {layer.number}{only}"
+    beside = f" beside {counted(len(groups), 'group')}" if groups else ""
+    yield f"# {counted(len(rules), 'rule')}{beside} for layer {layer.number}{only}"
     if needs_refer(layer, rules):
         handled = _list(FS.ordered(layer.handled_access_fs.rights | {"refer"}))
         yield "# rules may grant refer only where the layer handles it; first change its line to"
         yield f"# handled_access_fs = {handled}"
+    if groups:
+        yield ""
+        yield from (f"# {name}: {counted(calls, 'call')}" for name, calls in groups.items())
+        yield "[[layer.path_beneath]]"
+        yield f"include = {_list(list(groups))}"
     for rule in rules:
         yield ""
         yield f"# {counted(rule.calls, 'call')}"
-        for path in rule.instead_of:
-            yield f"# (the run puts another object at {_text(path)}: a rule on that path stays with the first one)"
+        yield from (f"# {printable(remark)}" for remark in rule.remarks)
         yield from _rule(rule)
     yield ""
 
@@ -53,12 +58,13 @@ def _ending(suggestion: Suggestion) -> Iterator[str]:
     """What stays refused under the rules, or that nothing does."""
     if not suggestion.finished:
         yield f"# after {suggestion.rounds} audits there is still more to fix: add these rules and run this again"
-    elif suggestion.rules:
+    elif suggestion.rules or suggestion.groups:
         yield f"# with these rules no layer of the policy refuses what a rule can fix ({suggestion.rounds} audits)"
     else:
         yield "# the policy refuses nothing that a rule can fix"
     yield from _staying(suggestion.unmended, "refused by layers of the policy whatever their rules are")
     yield from _staying(suggestion.of_program, "refused by layers that the program makes itself")
+    yield from _staying(suggestion.failed, "refused that failed in the recording too, so no rule would help")
 
 
 def _staying(calls: Counter[str], why: str) -> Iterator[str]:

@@ -62,7 +62,8 @@ class Accepted:
 class Summary:
     """All that is said of an audit; `missing` is what it can't say, with which it is no all clear.
 
-    Refusals that are accepted are apart, with how many calls there are of each.
+    Refusals that are accepted are apart, with how many calls there are of each. `untouched` are the warnings of rules
+    on what was never touched; `recordings` says, where several were audited, in which each refusal occurs.
     """
 
     abi: int
@@ -76,6 +77,8 @@ class Summary:
     unsaid: Counter[str] = field(default_factory=Counter)
     missing: tuple[str, ...] = ()
     accepted: Counter[Accepted] = field(default_factory=Counter)
+    untouched: set[str] = field(default_factory=set)
+    recordings: dict[Refusal, list[str]] = field(default_factory=dict)
 
     @property
     def others_refused(self) -> bool:
@@ -165,8 +168,10 @@ class Summaries:
             why, at = _because(told.record, answer, abi in told.missed)
             summary.moot.setdefault(why, Counter())[at] += 1
             if origin is not None:
-                _warn(summary, f"{_rule_text(origin, told.record)} is moot: {at} {why}; was it never touched in the "
-                               "run, or is the name wrong?")
+                text = (f"{_rule_text(origin, told.record)} is moot: {at} {why}; was it never touched in the run, or "
+                        "is the name wrong?")
+                _warn(summary, text)
+                summary.untouched.add(text)
 
     def done(self, unsaid: Counter[str], missing: Sequence[str] = ()) -> list[Summary]:
         """The summaries, the oldest ABI first; `missing` is what no audit of the recording can say."""
@@ -268,7 +273,7 @@ def as_data(summary: Summary) -> dict[str, Any]:
         "allowed": summary.verdicts["allowed"],
         "refused": summary.verdicts["refused"],
         "moot": summary.verdicts["moot"],
-        "refusals": [_refusal_data(refusal, programs) for refusal, programs in summary.by_frequency()],
+        "refusals": [_refusal_data(refusal, programs, summary) for refusal, programs in summary.by_frequency()],
         "accepted": [{"times": times, **asdict(one)} for one, times in summary.accepted.most_common()],
         "moot_because": [
             {"why": why, "times": at.total(), "at": dict(at.most_common())}
@@ -282,7 +287,9 @@ def as_data(summary: Summary) -> dict[str, Any]:
     }
 
 
-def _refusal_data(refusal: Refusal, programs: Counter[str]) -> dict[str, Any]:
+def _refusal_data(refusal: Refusal, programs: Counter[str], summary: Summary) -> dict[str, Any]:
+    """A kind of refused calls; where several recordings were audited, with those in which it occurs."""
+    where = summary.recordings.get(refusal)
     return {
         "times": programs.total(),
         "call": refusal.call,
@@ -291,6 +298,7 @@ def _refusal_data(refusal: Refusal, programs: Counter[str]) -> dict[str, Any]:
         "layers": [_layer_data(layer) for layer in refusal.layers],
         "condition": refusal.condition,
         "programs": dict(programs.most_common()),
+        **({} if where is None else {"recordings": where}),
     }
 
 

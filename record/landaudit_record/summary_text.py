@@ -11,10 +11,9 @@ from typing import TextIO
 from .by_abi import Kind, Step
 from .explanations import Closed, Kept, Missing, Objection
 from .summary import Refusal, RefusingLayer, Summary
-from .wording import counted, printable
+from .wording import counted, printable, some_of
 
 MOST_ROWS = 50
-MOST_NAMES = 3
 
 
 @dataclass(frozen=True)
@@ -67,6 +66,17 @@ def ending(summary: Summary, style: Style) -> Iterator[str]:
         yield style.red("NOT ALL IS JUDGED: ") + printable(text)
 
 
+def by_recording(each: Sequence[tuple[str, Summary]], style: Style) -> Iterator[str]:
+    """The lines of the table by recording, which is behind a summary of several."""
+    yield ""
+    yield style.bold("by recording")
+    rows = []
+    for name, summary in each:
+        counts = (summary.records, *(summary.verdicts[verdict] for verdict in ("allowed", "refused", "moot")))
+        rows.append((*map(str, counts), name))
+    yield from _table(("records", "allowed", "refused", "moot", "recording"), rows, numbers=4)
+
+
 def by_abi(steps: Sequence[Step], style: Style) -> Iterator[str]:
     """The lines of the table by ABI, which is behind a summary."""
     yield ""
@@ -87,7 +97,7 @@ def _step_rows(step: Step) -> Iterator[tuple[str, ...]]:
 def _changes(step: Step) -> list[str]:
     """What an ABI changes, against the one before it."""
     named = (("breaks", step.breaks), ("refused no more", step.no_more))
-    said = [f"{what}: {_some([_kind(kind) for kind in kinds])}" for what, kinds in named if kinds]
+    said = [f"{what}: {some_of([_kind(kind) for kind in kinds])}" for what, kinds in named if kinds]
     if step.warnings:
         said.append(f"{counted(len(step.warnings), 'warning')} more: see --abi {step.abi}")
     return said
@@ -104,8 +114,9 @@ def _refusals(summary: Summary, style: Style) -> Iterator[str]:
         return
     yield ""
     yield style.bold(f"refused, the most frequent first ({counted(len(found), 'kind')})")
-    rows = [_refusal_row(refusal, programs) for refusal, programs in found[:MOST_ROWS]]
-    yield from _table(("times", "call", "place", "error", "layers", "program", "why"), rows)
+    rows = [_refusal_row(refusal, programs, summary) for refusal, programs in found[:MOST_ROWS]]
+    where = ("recordings",) if summary.recordings else ()
+    yield from _table(("times", "call", "place", "error", "layers", *where, "program", "why"), rows)
     if len(found) > MOST_ROWS:
         yield f"  and {counted(len(found) - MOST_ROWS, 'kind')} more: --json lists all"
 
@@ -124,9 +135,11 @@ def _accepted(summary: Summary, style: Style) -> Iterator[str]:
         yield from _table(("times", "call", "place", "reason"), rows)
 
 
-def _refusal_row(refusal: Refusal, programs: Counter[str]) -> tuple[str, ...]:
+def _refusal_row(refusal: Refusal, programs: Counter[str], summary: Summary) -> tuple[str, ...]:
     layers = ", ".join(layer.name for layer in refusal.layers) or "-"
-    return str(programs.total()), refusal.call, refusal.place, refusal.error, layers, _names(programs), _why(refusal)
+    where = (some_of(summary.recordings[refusal]),) if summary.recordings else ()
+    told = (str(programs.total()), refusal.call, refusal.place, refusal.error, layers)
+    return *told, *where, _names(programs), _why(refusal)
 
 
 def _why(refusal: Refusal) -> str:
@@ -166,13 +179,7 @@ def _moot(summary: Summary, style: Style) -> Iterator[str]:
 
 def _names(counted: Counter[str]) -> str:
     """The most frequent names, and how many are left."""
-    return _some([name for name, _ in counted.most_common()])
-
-
-def _some(names: Sequence[str]) -> str:
-    """The first names, and how many are left."""
-    left = len(names) - MOST_NAMES
-    return ", ".join(names[:MOST_NAMES]) + (f" and {left} more" if left > 0 else "")
+    return some_of([name for name, _ in counted.most_common()])
 
 
 def _table(heads: Sequence[str], rows: Sequence[Sequence[str]], numbers: int = 1) -> Iterator[str]:

@@ -55,6 +55,10 @@ class Tree:
         """The kind of what is there, None if nothing is."""
         return self.kinds.get(path)
 
+    def is_there_before(self, path: str) -> bool:
+        """Whether something is there when the run begins."""
+        return path in self.kinds and not any(over in self.made for over in upwards(path))
+
     def is_dir(self, path: str) -> bool:
         """Whether a directory is there."""
         return self.kinds.get(path) == "dir"

@@ -14,7 +14,6 @@ from . import applying, cutting, fitting, jsonl, landaudit, trees
 from .applying import Plan
 from .finished import Finished, Part
 from .jsonl import Record
-from .options import note
 from .policies import Policy
 from .reading import Walk
 from .recorder.progress import Progress
@@ -134,7 +133,8 @@ def folder_for(recording: Finished, name: str) -> Iterator[tuple[Path, bool]]:
 class Auditing:
     """How a recording is audited: by which landaudit, in which folder, and whether at best effort.
 
-    `progress` shows how far it is; `status` is 1 once an ABI has refused something.
+    `progress` shows how far it is; `stays` says that what is in the folder can stay in the recording's; `status` is 1
+    once an ABI has refused something.
     """
 
     program: Path
@@ -142,6 +142,7 @@ class Auditing:
     folder: Path
     best_effort: bool
     progress: Progress
+    stays: bool = True
     status: int = 0
 
     def walks(self, abis: range, tried: Tried | None, policy: Policy | None = None) -> Iterator[Walk]:
@@ -171,28 +172,29 @@ class Auditing:
         return "" if part.number is None else f", part {part.number} of {len(self.recording.parts)}"
 
     def keep(self) -> None:
-        """Puts the last tried traces and reports into the recording's folder."""
-        for own in self.recording.parts:
+        """Puts the last tried traces and reports into the recording's folder, where that can be written."""
+        for own in self.recording.parts if self.stays else ():
             files = Part(self.folder, own.number)
             for made, place in ((files.tried, own.tried), (files.report, own.report)):
                 if made.exists():
                     made.replace(place)
 
 
-def noted(tried: Tried, abis: range) -> None:
-    """Prints notes on what of a policy is not judged, and what of it the ABIs do not have.
+def notes(tried: Tried, abis: range) -> Iterator[str]:
+    """Notes on what of a policy is not judged, and what of it the ABIs do not have.
 
     Of the newest ABI all is said, of each older one how many notes there are.
     """
-    note(_notes(tried.policy, tried.tree))
+    yield from _not_judged(tried.policy, tried.tree)
     for abi in abis:
-        _, notes = fitting.fit(tried.policy, abi)
-        if abi != abis[-1] and notes:
-            notes = [f"ABI {abi} is missing rights of the policy: see --abi {abi} ({counted(len(notes), 'note')})"]
-        note(notes)
+        _, dropped = fitting.fit(tried.policy, abi)
+        if abi == abis[-1]:
+            yield from dropped
+        elif dropped:
+            yield f"ABI {abi} is missing rights of the policy: see --abi {abi} ({counted(len(dropped), 'note')})"
 
 
-def _notes(policy: Policy, tree: Tree) -> Iterator[str]:
+def _not_judged(policy: Policy, tree: Tree) -> Iterator[str]:
     """What no ABI here judges of a policy, and rules that the kernel may understand otherwise than their author."""
     for layer in policy.layers:
         if layer.scoped:

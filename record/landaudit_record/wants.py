@@ -2,37 +2,44 @@
 
 from __future__ import annotations
 
-import re
-from collections import Counter, defaultdict
+from collections import defaultdict
+from collections.abc import Iterable, Iterator, Mapping, Sequence, Set
 from dataclasses import dataclass, replace
 from typing import TypeVar
 
+from . import placing, sensitive
+from .placing import Placing, Spot
 from .rights import Rights
-from .trees import ROOT, Tree, directory_of, upwards
+from .trees import Tree, upwards
 
-SEVERAL = 2
-_OF_A_PROCESS = re.compile(r"/proc/[0-9]+")
-
-# Rights, each with the calls that ask for it, by their numbers.
-Lacking = dict[str, set[int]]
+#: A refused call, by the index of its recording and its number there.
+Call = tuple[int, int]
+# Rights, each with the calls that ask for it.
+Lacking = dict[str, set[Call]]
 # What is lacking on each path, or on each path and port.
 OnPaths = dict[str, Lacking]
 Wants = dict[str | int, Lacking]
 
-Place = TypeVar("Place", str, str | int)
+Place = TypeVar("Place", str, int, str | int)
 
 
 @dataclass(frozen=True)
 class Rule:
-    """A rule to be written, on a path or on ports, and how many calls ask for it.
-
-    `instead_of` are paths beneath that at which the run puts other objects, so that rules on them would not do.
-    """
+    """A rule to be written, on a path or on ports, how many calls ask for it, and what is to be known of it."""
 
     place: str | tuple[int, ...]
     rights: Rights
     calls: int
-    instead_of: tuple[str, ...] = ()
+    remarks: tuple[str, ...] = ()
+
+
+@dataclass(frozen=True)
+class Wanted:
+    """What a layer lacks over all recordings: on paths, each where a rule can be, with what it is for; and on ports."""
+
+    paths: OnPaths
+    spots: Sequence[Spot]
+    ports: dict[int, Lacking]
 
 
 def unite(wants: dict[Place, Lacking], more: dict[Place, Lacking]) -> None:
@@ -43,73 +50,80 @@ def unite(wants: dict[Place, Lacking], more: dict[Place, Lacking]) -> None:
             here.setdefault(right, set()).update(calls)
 
 
-def rules(tree: Tree, wants: Wants) -> list[Rule]:
-    """The rules that grant what is lacking, those first for which most calls ask.
+def placed(
+    trees: Sequence[Tree], wants: Sequence[Wants], new: Sequence[Mapping[str, Set[str]]], pids: Sequence[Set[int]]
+) -> Wanted:
+    """What is lacking in each recording, put where rules can be.
 
-    A rule is on what can be opened before the run: for an object that is
-    made in it, and for a symbolic link, on the directory over that; for one
-    that is moved in it, on where it was. What is
-    lacking on several files of one directory is granted on the directory,
-    except for the root.
+    `new` has of each by directory what calls were to make there, and `pids` are the processes of each.
     """
-    replaced = {tree.real(place): there_before(tree, place) for place in wants if isinstance(place, str)}
-    replaced = {path: before for path, before in replaced.items() if path != before and tree.is_replaced(path)}
-    of_paths = _path_rules(_together(tree, _lasting(tree, wants)))
-    found = [_instead(rule, replaced) for rule in of_paths] + _port_rules(wants)
-    return sorted(found, key=lambda rule: -rule.calls)
+    paths = [{place: rights for place, rights in some.items() if isinstance(place, str)} for some in wants]
+    where = Placing(trees, paths, pids)
+    spots = [where.spot(index, path) for index, asked in enumerate(paths) for path in asked]
+    for index, asked in enumerate(paths):
+        spots += [where.new(index, path, real) for path in asked for real in new[index].get(path, ())]
+    found = Wanted({}, spots, {})
+    for index, some in enumerate(wants):
+        for place, rights in some.items():
+            if isinstance(place, str):
+                unite(found.paths, {where.spot(index, place).place: rights})
+            else:
+                unite(found.ports, {place: rights})
+    return found
 
 
-def _instead(rule: Rule, replaced: dict[str, str]) -> Rule:
-    """A rule with the paths that are replaced in the run, and that it is there for."""
-    paths = sorted(path for path, before in replaced.items() if rule.place in [*upwards(before)])
-    return replace(rule, instead_of=tuple(paths))
+def rules(wanted: Wanted) -> list[Rule]:
+    """The rules that grant what is lacking and nothing else that could be left out, in the order of how many calls ask.
+
+    What a rule on a directory over a path grants is not granted again.
+    """
+    granted = narrowed(wanted.paths)
+    of_paths = [Rule(place, frozenset(rights), asking(rights)) for place, rights in granted.items()]
+    return remarked([*of_paths, *port_rules(wanted.ports)], wanted.spots)
 
 
-def _lasting(tree: Tree, wants: Wants) -> OnPaths:
-    """What is lacking on paths, each of which can have a rule before the run."""
-    lasting: OnPaths = {}
-    for place, rights in wants.items():
-        if isinstance(place, str):
-            unite(lasting, {there_before(tree, place): rights})
-    return lasting
+def asking(rights: Lacking) -> int:
+    """How many calls ask for rights."""
+    return len(set().union(*rights.values()))
 
 
-def there_before(tree: Tree, path: str) -> str:
-    """Where a rule for a path can be before the run: not on a link, and not on what a process has in /proc."""
-    before = tree.before(directory_of(path) if tree.kind(path) == "sym" else path)
-    for over in upwards(before):
-        if _OF_A_PROCESS.fullmatch(over):
-            before = directory_of(over)
-    return before
-
-
-def _together(tree: Tree, wants: OnPaths) -> OnPaths:
-    """What is lacking on several files of a directory, on the directory; all else as it is."""
-    files = {path: directory_of(path) for path in wants if not tree.is_dir(path) and directory_of(path) != ROOT}
-    alike = Counter((directory, right) for path, directory in files.items() for right in wants[path])
-    together: OnPaths = {}
-    for path, rights in wants.items():
-        for right, calls in rights.items():
-            several = path in files and alike[files[path], right] >= SEVERAL
-            unite(together, {files[path] if several else path: {right: calls}})
-    return together
-
-
-def _path_rules(wants: OnPaths) -> list[Rule]:
-    """One rule a path. What a rule on a directory over a path grants is not granted again."""
+def narrowed(wants: OnPaths) -> OnPaths:
+    """What is lacking, each right on the uppermost of its paths that are over one another."""
     granted: OnPaths = {}
     for path in sorted(wants):
         for right, calls in wants[path].items():
             place = next((over for over in upwards(path) if right in granted.get(over, {})), path)
             unite(granted, {place: {right: calls}})
-    return [Rule(path, frozenset(rights), len(set().union(*rights.values()))) for path, rights in granted.items()]
+    return granted
 
 
-def _port_rules(wants: Wants) -> list[Rule]:
+def remarked(found: Iterable[Rule], spots: Iterable[Spot]) -> list[Rule]:
+    """Rules with what is to be known of each, those first for which most calls ask."""
+    ordered = sorted(found, key=lambda rule: -rule.calls)
+    places = {rule.place for rule in ordered}
+    serving: dict[str, list[Spot]] = defaultdict(list)
+    for spot in spots:
+        serving[next((over for over in upwards(spot.place) if over in places), spot.place)].append(spot)
+    doubted: set[str] = set()
+    return [replace(rule, remarks=(*rule.remarks, *_remarks(rule, serving, doubted))) for rule in ordered]
+
+
+def _remarks(rule: Rule, serving: dict[str, list[Spot]], doubted: set[str]) -> Iterator[str]:
+    """What is to be known of a rule; a name that looks made up is told of once, and is then among the doubted ones."""
+    if isinstance(rule.place, str):
+        yield from placing.remarks(rule.place, serving[rule.place])
+        path, text = placing.doubtful(rule.place) or (None, "")
+        if path is not None and path not in doubted:
+            doubted.add(path)
+            yield text
+        yield from sensitive.warnings(rule.place, rule.rights)
+
+
+def port_rules(wants: dict[int, Lacking]) -> list[Rule]:
     """One rule for all ports on which the same rights are lacking."""
     ports: dict[Rights, list[int]] = defaultdict(list)
-    calls: dict[Rights, set[int]] = defaultdict(set)
-    for port in sorted(place for place in wants if isinstance(place, int)):
+    calls: dict[Rights, set[Call]] = defaultdict(set)
+    for port in sorted(wants):
         rights = frozenset(wants[port])
         ports[rights].append(port)
         calls[rights].update(*wants[port].values())

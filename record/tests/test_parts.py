@@ -5,9 +5,11 @@ from __future__ import annotations
 import json
 import tempfile
 import unittest
+from contextlib import redirect_stderr, redirect_stdout
+from io import StringIO
 from pathlib import Path
 
-from landaudit_record import policies
+from landaudit_record import cli, policies
 from landaudit_record.policies import Policy
 from landaudit_record.recorder import converting
 from landaudit_record.recorder.ports import Ports
@@ -73,6 +75,21 @@ class Parts(KeptLogs):
     def test_a_random_story(self) -> None:
         one, cut = (self.told(3, limits) for limits in (LIMITS, TENTH))
         self.assert_alike(one, cut, ("reading", None), ("two layers", "gcc"))
+
+    @unittest.skipIf(wanting(), wanting() or "")
+    def test_the_same_rules_are_suggested(self) -> None:
+        one, cut = (self.told(3, limits) for limits in (LIMITS, TENTH))
+        self.policy(POLICIES["two layers"])
+        of_one = self.suggested(one)
+        self.assertIn("[[layer.path_beneath]]", of_one)
+        self.assertEqual(self.suggested(cut), of_one)
+
+    def suggested(self, recording: Path) -> str:
+        """What is suggested for the policy that was read last."""
+        policy = str(Path(self._folder.name) / "policy.toml")
+        with redirect_stdout(StringIO()) as out, redirect_stderr(StringIO()):
+            cli.main(["suggest", str(recording), "--policy", policy])
+        return out.getvalue()
 
     def told(self, seed: int, limits: Limits, calls: int = 100) -> Path:
         """The recording of a random story."""

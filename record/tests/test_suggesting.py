@@ -14,7 +14,7 @@ from landaudit_record.jsonl import Record
 from landaudit_record.policies import Policy
 from landaudit_record.reading import Walk
 from landaudit_record.rights import FS, alone
-from landaudit_record.suggesting import Suggestion, suggest, with_rules
+from landaudit_record.suggesting import Recorded, Suggestion, suggest, with_rules
 from landaudit_record.trees import Tree
 from landaudit_record.wants import Rule
 
@@ -76,19 +76,28 @@ def opened(path: str, mode: str = "r", call: int = 1, **members: object) -> Reco
     return {"op": "open", "path": path, "fd": 5, "mode": mode, "call": call, "kernel": "ok", **members}
 
 
-def suggested(*rounds: list[Call], to: Policy | None = None, abi: int = 5) -> Suggestion:
+def suggested(
+    *rounds: list[Call], to: Policy | None = None, abi: int = 5, recorded: Recorded = Recorded(TREE)
+) -> Suggestion:
     """What is suggested where the audits answer one after another as the rounds say, and then nothing is refused."""
+    return suggested_of([recorded], *([calls] for calls in rounds), to=to, abi=abi)
+
+
+def suggested_of(
+    recorded: Sequence[Recorded], *rounds: list[list[Call]], to: Policy | None = None, abi: int = 5
+) -> Suggestion:
+    """What is suggested of several recordings, of which a round has the answers to each."""
     audits = iter(rounds)
 
-    def audit(_: Policy) -> Iterator[Walk]:
-        calls = next(audits, [])
-        trace = records({"op": "nnp", "policy": {}}, *(record for record, _ in calls))
-        with tempfile.TemporaryDirectory() as folder:
-            answers = ["allowed", "allowed", *(answer for _, answer in calls)]
-            report = write_report(Path(folder, "report.txt"), trace, answers)
-            yield Walk(write_lines(Path(folder, "trace.jsonl"), trace), report, alone(abi))
+    def audit(_: Policy) -> Iterator[tuple[int, Walk]]:
+        for index, calls in enumerate(next(audits, [])):
+            trace = records({"op": "nnp", "policy": {}}, *(record for record, _ in calls))
+            with tempfile.TemporaryDirectory() as folder:
+                answers = ["allowed", "allowed", *(answer for _, answer in calls)]
+                report = write_report(Path(folder, "report.txt"), trace, answers)
+                yield index, Walk(write_lines(Path(folder, "trace.jsonl"), trace), report, alone(abi))
 
-    return suggest(TREE, to or policy(), abi, audit)
+    return suggest(recorded, to or policy(), abi, audit)
 
 
 def rules(*calls: Call) -> list[tuple[object, list[str], int]]:
@@ -121,16 +130,16 @@ class Paths(unittest.TestCase):
         call = ({"op": "open", "path": "/a/f", "fd": 5, "mode": "r"}, refused("read_file on /a/f"))
         self.assertEqual(rules(call, call), [("/a/f", ["read_file"], 2)])
 
-    def test_several_files_of_a_directory_are_one_rule(self) -> None:
-        calls = [reading(path, call) for call, path in enumerate(("/a/f", "/a/g", "/a/s/t"), start=1)]
-        self.assertEqual(rules(*calls), [("/a", ["read_file"], 3)])
+    def test_several_files_of_a_directory_have_a_rule_each(self) -> None:
+        """A rule on the directory would grant the same on all that is in it."""
+        paths = ("/a/f", "/a/g", "/a/h", "/a/s/t")
+        calls = [reading(path, call) for call, path in enumerate(paths, start=1)]
+        self.assertEqual(rules(*calls), [(path, ["read_file"], 1) for path in paths])
 
-    def test_what_one_file_of_them_needs_alone_stays_with_it(self) -> None:
-        both = (opened("/a/g", "rw", call=2), refused("write_file, read_file on /a/g"))
-        self.assertEqual(rules(reading("/a/f"), both), [("/a", ["read_file"], 2), ("/a/g", ["write_file"], 1)])
-
-    def test_files_in_the_root_are_not_joined(self) -> None:
-        self.assertEqual(rules(reading("/x"), reading("/y", 2)), [("/x", ["read_file"], 1), ("/y", ["read_file"], 1)])
+    def test_what_a_directory_has_for_another_reason_is_not_granted_again(self) -> None:
+        """What the run makes can have no rule of its own, so its directory has one, which holds for all in it."""
+        found = rules(reading("/a/made/t"), reading("/a/f", 2), (opened("/a/g", "w", 3), refused("write_file on /a/g")))
+        self.assertEqual(found, [("/a", ["read_file"], 2), ("/a/g", ["write_file"], 1)])
 
     def test_directories_are_not_joined(self) -> None:
         self.assertEqual(rules(listing("/a"), listing("/b", 2)), [("/a", ["read_dir"], 1), ("/b", ["read_dir"], 1)])
@@ -149,8 +158,7 @@ class Paths(unittest.TestCase):
         self.assertEqual(rules(reading("/b/moved")), [("/a/f", ["read_file"], 1)])
 
     def test_what_is_put_in_the_place_of_another_file_is_granted_on_the_directory(self) -> None:
-        (rule,) = suggested([*layer(), reading("/a/g~2~")]).rules[1]
-        self.assertEqual((rule.place, rule.instead_of), ("/a", ("/a/g",)))
+        self.assertEqual(rules(reading("/a/g~2~")), [("/a", ["read_file"], 1)])
 
     def test_files_of_a_process_are_granted_on_proc(self) -> None:
         self.assertEqual(rules(reading("/proc/7/maps")), [("/proc", ["read_file"], 1)])
@@ -158,6 +166,139 @@ class Paths(unittest.TestCase):
     def test_the_rule_for_which_most_calls_ask_comes_first(self) -> None:
         found = rules(reading("/a/f"), listing("/b", 2), listing("/b", 3))
         self.assertEqual([place for place, _, _ in found], ["/b", "/a/f"])
+
+
+class Remarks(unittest.TestCase):
+    """What a rule is for, where it is not on the path that is asked for, and what to be warned of."""
+
+    def remarks(self, *calls: Call) -> list[tuple[str, ...]]:
+        return [rule.remarks for rule in suggested([*layer(), *calls]).rules[1]]
+
+    def test_a_rule_on_the_path_itself_has_none(self) -> None:
+        self.assertEqual(self.remarks(reading("/a/f"), listing("/b", 2), reading("/b/moved", 3)), [(), ()])
+
+    def test_what_the_run_makes(self) -> None:
+        self.assertEqual(self.remarks(reading("/a/made/t"), reading("/a/made", 2)),
+                         [("(for what the run makes there: made, made/t)",)])
+
+    def test_what_a_call_is_to_make(self) -> None:
+        make = (opened("/a/~new~", "w", create=True, shown="/a/n"), refused("write_file, make_reg on /a"))
+        move = ({"op": "rename", "from": "/a/f", "to": "/b/~new~", "shown_to": "/b/m", "call": 2, "kernel": "ok"},
+                refused("remove_file on /a; make_reg on /b"))
+        told = [f"(for what the run makes there: {name})" for name in ("n", "m")]
+        self.assertEqual(self.remarks(make, move), [(text,) for text in told])
+
+    def test_what_a_process_has(self) -> None:
+        (remarks,) = self.remarks(reading("/proc/7/maps"))
+        why = "for what a process has under its number, which differs in each run"
+        self.assertEqual(remarks[0], f"({why}, as /proc/7/maps)")
+        self.assertIn("warning: /proc: ", remarks[1])
+
+    def test_a_link(self) -> None:
+        move = ({"op": "rename", "from": "/a/link", "to": "/b/~new~", "call": 1, "kernel": "ok"},
+                refused("/a/link would gain execute in /b", error="EXDEV"))
+        self.assertEqual(self.remarks(move), [("(for the link /a/link, since a rule follows it)",)])
+
+    def test_names_that_are_made_up(self) -> None:
+        tree = Tree({**TREE.kinds, "/a/x.Ab3dEf": "reg"}, made={*TREE.made, "/a/x.Ab3dEf"})
+        (rule,) = suggested([*layer(), reading("/a/x.Ab3dEf")], recorded=Recorded(tree)).rules[1]
+        self.assertEqual((rule.place, rule.remarks), ("/a", ("(for names that differ in each run, as x.Ab3dEf)",)))
+
+    def test_a_name_that_looks_so_and_was_there(self) -> None:
+        tree = Tree({**TREE.kinds, "/a/x.Ab3dEf": "dir", "/a/x.Ab3dEf/f": "reg"})
+        (rule,) = suggested([*layer(), reading("/a/x.Ab3dEf/f")], recorded=Recorded(tree)).rules[1]
+        told = "(/a/x.Ab3dEf looks like a name that differs in each run: then grant on /a)"
+        self.assertEqual((rule.place, rule.remarks), ("/a/x.Ab3dEf/f", (told,)))
+
+    def test_a_warning(self) -> None:
+        make = (opened("/~new~", "w", create=True, shown="/n"), refused("make_reg on /"))
+        told = ("(for what the run makes there: /n)", "warning: make_reg on everything that there is")
+        self.assertEqual(self.remarks(make), [told])
+
+
+class SeveralRecordings(unittest.TestCase):
+    def test_what_one_of_them_lacks_is_granted(self) -> None:
+        found = suggested_of([Recorded(TREE), Recorded(TREE)], [[*layer(), reading("/a/f")], [*layer(), listing("/b")]])
+        self.assertEqual({rule.place: rule.calls for rule in found.rules[1]}, {"/a/f": 1, "/b": 1})
+
+    def test_calls_of_each_count(self) -> None:
+        found = suggested_of([Recorded(TREE), Recorded(TREE)], [[*layer(), reading("/a/f")]] * 2)
+        self.assertEqual(found.rules[1], [Rule("/a/f", frozenset({"read_file"}), 2)])
+
+    def test_what_one_run_made_and_another_found(self) -> None:
+        """The second run is in the folder that the first left: before the first, no rule could be on the file."""
+        first = Recorded(Tree({"/": "dir", "/w": "dir", "/w/out": "reg"}, made={"/w/out"}))
+        second = Recorded(Tree({"/": "dir", "/w": "dir", "/w/out": "reg"}))
+        make = (opened("/w/~new~", "w", create=True, shown="/w/out"), refused("make_reg on /w"))
+        found = suggested_of([first, second], [[*layer(), make], [*layer(), reading("/w/out")]])
+        self.assertEqual([(rule.place, rule.rights) for rule in found.rules[1]], [("/w", {"make_reg", "read_file"})])
+
+    def test_names_that_differ_from_run_to_run(self) -> None:
+        trees = [Tree({"/": "dir", "/r": "dir", f"/r/x-{part}": "dir", f"/r/x-{part}/sock": "reg"})
+                 for part in ("8f3a1c", "77b0de")]
+        calls = [[*layer(), reading(f"/r/x-{part}/sock")] for part in ("8f3a1c", "77b0de")]
+        (rule,) = suggested_of([Recorded(tree) for tree in trees], calls).rules[1]
+        self.assertEqual((rule.place, rule.calls), ("/r", 2))
+        self.assertEqual(rule.remarks, ("(for names that differ in each run, as x-77b0de/sock, x-8f3a1c/sock)",))
+
+    def test_files_that_were_named_to_the_program_stay(self) -> None:
+        trees = [Tree({"/": "dir", "/w": "dir", f"/w/{name}": "reg"}) for name in ("left", "mode")]
+        calls = [[*layer(), reading(f"/w/{name}")] for name in ("left", "mode")]
+        found = suggested_of([Recorded(tree) for tree in trees], calls)
+        self.assertEqual([rule.place for rule in found.rules[1]], ["/w/left", "/w/mode"])
+
+
+class TheRunAfter(unittest.TestCase):
+    """A file that the run makes and cuts is there in the run after, where opening it asks for truncate."""
+
+    MAKE = opened("/a/~new~", "w", create=True, trunc=True, shown="/a/n"), refused("write_file, make_reg on /a")
+
+    def rights(self, handled: str = '["all"]', abi: int = 5, cut: frozenset[str] = frozenset({"/a/n"})) -> set[str]:
+        to = policy(f"[[layer]]\nhandled_access_fs = {handled}\n")
+        found = suggested([*layer(), self.MAKE], recorded=Recorded(TREE, cut), to=to, abi=abi)
+        (rule,) = found.rules[1]
+        self.assertEqual(rule.place, "/a")
+        return set(rule.rights)
+
+    def test_it_is_granted(self) -> None:
+        self.assertEqual(self.rights(), {"write_file", "make_reg", "truncate"})
+
+    def test_not_for_what_the_run_removes(self) -> None:
+        self.assertEqual(self.rights(cut=frozenset()), {"write_file", "make_reg"})
+
+    def test_not_where_it_is_not_handled_or_not_known(self) -> None:
+        self.assertEqual(self.rights('["write_file", "make_reg"]'), {"write_file", "make_reg"})
+        self.assertEqual(self.rights(abi=2), {"write_file", "make_reg"})
+
+
+class FailedAnyway(unittest.TestCase):
+    """What failed in the recording by file modes or file systems fails whatever the rules are."""
+
+    def failing(self, kernel: str, *before: Call) -> Suggestion:
+        record, answer = reading("/a/f")
+        return suggested([*before, *layer(), ({**record, "kernel": kernel}, answer)])
+
+    def test_no_rule_is_asked_for(self) -> None:
+        for kernel in ("EACCES", "EPERM", "EROFS", "EXDEV"):
+            with self.subTest(kernel):
+                found = self.failing(kernel)
+                self.assertEqual((found.rules, found.failed), ({}, {"open r": 1}))
+
+    def test_it_is_said(self) -> None:
+        written = "\n".join(suggestion_text.lines(self.failing("EPERM"), policy()))
+        self.assertIn("# 1 call is refused that failed in the recording too, so no rule would help: open r 1", written)
+
+    def test_under_a_layer_of_the_program_the_failure_may_be_that_layers(self) -> None:
+        for kernel, places in (("EACCES", ["/a/f"]), ("EROFS", [])):
+            with self.subTest(kernel):
+                record, answer = reading("/a/f")
+                by_second = answer.replace("layer 1 ", "layer 2 ").replace("EACCES 1", "EACCES 2")
+                by_second = by_second.replace("(line 101)", "(line 102)")
+                found = suggested([*layer(None), *layer(), ({**record, "kernel": kernel}, by_second)])
+                self.assertEqual([rule.place for rule in found.rules.get(1, [])], places)
+
+    def test_other_errors_come_after_landlock(self) -> None:
+        self.assertEqual(self.failing("ENXIO").failed, {})
 
 
 class Descriptors(unittest.TestCase):
@@ -233,7 +374,7 @@ class Layers(unittest.TestCase):
 
     def test_a_forked_child_has_its_parents_layers(self) -> None:
         record, answer = reading("/a/f")
-        child = [({"op": "fork", "child": 11}, "allowed"), ({**record, "pid": 11}, answer)]
+        child: list[Call] = [({"op": "fork", "child": 11}, "allowed"), ({**record, "pid": 11}, answer)]
         self.assertEqual(rules(*child), [("/a/f", ["read_file"], 1)])
 
     def test_a_call_that_fails_by_itself_is_no_layers(self) -> None:
@@ -285,7 +426,7 @@ class Text(unittest.TestCase):
     def test_why_a_rule_on_the_file_would_not_do(self) -> None:
         found = suggested([*layer(), reading("/a/g~2~")])
         written = list(suggestion_text.lines(found, policy()))
-        why = '# (the run puts another object at "/a/g": a rule on that path stays with the first one)'
+        why = "# (the run puts another object at /a/g: a rule on that path stays with the first one)"
         self.assertIn(why, written)
         self.assertIn('parent = "/a"', written)
 

@@ -3,107 +3,16 @@
 from __future__ import annotations
 
 import json
-import tempfile
 import unittest
-from contextlib import redirect_stderr, redirect_stdout
-from io import BytesIO, StringIO, TextIOWrapper
-from pathlib import Path
 from typing import Any
 
-from landaudit_record import cli
+from landaudit_record.jsonl import Record
 
-from .recorded import PID, failed, moot, refused, write_lines
-
-TREE = [{"path": "/bin", "kind": "reg"}, {"path": "/a", "kind": "reg"}]
-TRACE = [
-    {"op": "start", "pid": PID, "call": 1},
-    {"op": "exec", "pid": PID, "path": "/bin", "call": 1, "kernel": "ok"},
-    {"op": "open", "pid": PID, "path": "/a", "fd": 3, "mode": "w", "call": 2, "kernel": "ok"},
-]
-POLICY = """[[layer]]
-handled_access_fs = ["write_file", "truncate"]
-[[layer.path_beneath]]
-allowed_access = ["truncate"]
-parent = "/a"
-"""
-# What the tried trace is at ABI 3: start, nnp, create, add_path, restrict, close_rs, exec, open.
-OPS = ["start", "nnp", "create", "add_path", "restrict", "close_rs", "exec", "open"]
-# Before ABI 3 it has no rule, since that would grant truncate; in the trace of a newer one that rule is left out.
-OLDER_OPS = [op for op in OPS if op != "add_path"]
-LANDAUDIT = """#!/usr/bin/env python3
-# Answers as it is told to, by ABI and number of records or by the latter alone, and says how it was called.
-import json, sys
-from pathlib import Path
-sys.path.insert(0, {record!r})
-from tests.recorded import at_its_line, over_range
-_, word, *flags, workers, number, tree, trace = sys.argv[1:]
-assert workers == "--workers" and int(number) > 0
-assert Path(tree).read_text()
-with open({runs!r}, "a") as runs:
-    print(word, *flags, file=runs)
-oldest, _, newest = word.partition("-")
-abis = range(int(oldest), int(newest or oldest) + 1)
-lines = [json.loads(line) for line in Path(trace).read_text().splitlines()]
-known = json.loads(Path({answers!r}).read_text())
-answers = {{abi: known.get(f"{{abi}}: {{len(lines)}}") or known[str(len(lines))] for abi in abis}}
-for number, record in enumerate(lines, start=1):
-    answer = over_range({{abi: answers[abi][number - 1] for abi in abis}})
-    print(number, record["pid"], record["op"], at_its_line(lines, answer))
-for abi in abis:
-    print("total", len(lines), *(["abi", abi] if len(abis) > 1 else []))
-sys.exit(1 if any("refused" in answer for abi in abis for answer in answers[abi]) else 0)
-"""
-RECORD = Path(__file__).resolve().parents[1]
-LEFT_OUT = moot("left out, as this ABI supports none of the rule's rights")
+from .recorded import PID, failed, refused, write_lines
+from .stand_in import OLDER_OPS, OPS, POLICY, TRACE, TREE, StandIn
 
 
-class Trying(unittest.TestCase):
-    def setUp(self) -> None:
-        made = tempfile.TemporaryDirectory()
-        self.addCleanup(made.cleanup)
-        self.folder = Path(made.name)
-        self.recording = self.folder / "rec"
-        self.recording.mkdir()
-        write_lines(self.recording / "tree.jsonl", TREE)
-        write_lines(self.recording / "trace.jsonl", TRACE)
-        self.policy = self.folder / "P.toml"
-        self.policy.write_text(POLICY)
-        answers = {
-            "3": ["allowed"] * 3,
-            "1: 7": ["allowed"] * 5 + [refused("execute on /bin"), "allowed"],
-            "2: 7": ["allowed"] * 6 + [refused("write_file on /a")],
-            "1: 8": ["allowed"] * 3 + [LEFT_OUT] + ["allowed"] * 2 + [refused("execute on /bin"), "allowed"],
-            "2: 8": ["allowed"] * 3 + [LEFT_OUT] + ["allowed"] * 3 + [refused("write_file on /a")],
-            "8": ["allowed"] * 7 + [refused("write_file on /a")],
-            "9": ["allowed"] * 9,
-        }
-        (self.folder / "answers.json").write_text(json.dumps(answers))
-        self.landaudit = self.folder / "landaudit"
-        self.runs = self.folder / "runs"
-        files = {"answers": str(self.folder / "answers.json"), "runs": str(self.runs), "record": str(RECORD)}
-        self.landaudit.write_text(LANDAUDIT.format(**files))
-        self.landaudit.chmod(0o755)
-
-    def called(self, *words: str | Path) -> tuple[int, str, str]:
-        """The status of a call, and what it wrote to standard output and standard error."""
-        out, errors = TextIOWrapper(BytesIO(), encoding="utf-8"), StringIO()
-        with redirect_stdout(out), redirect_stderr(errors):
-            status = cli.main([str(word) for word in words])
-        out.seek(0)
-        return status, out.read(), errors.getvalue()
-
-    def audited(self, *words: str | Path, abi: str | None = "3") -> tuple[int, str, str]:
-        chosen = [] if abi is None else ["--abi", abi]
-        return self.called(*words, *chosen, "--landaudit", self.landaudit)
-
-    def ran(self) -> list[str]:
-        """How landaudit was called, each time: the ABI and the flags."""
-        return self.runs.read_text().splitlines()
-
-    def table(self, out: str) -> list[str]:
-        """The lines of the table by ABI."""
-        return out.partition("by ABI")[2].splitlines()[1:]
-
+class Trying(StandIn):
     def test_apply_writes_the_trace_to_standard_output(self) -> None:
         status, out, errors = self.called("apply", self.policy, self.recording, "--abi", "3")
         records: list[dict[str, Any]] = [json.loads(line) for line in out.splitlines()]
@@ -152,8 +61,9 @@ class Trying(unittest.TestCase):
         self.assertNotIn("rules for these", out)
 
     def test_audit_is_at_best_effort_and_as_recorded_if_that_is_wanted(self) -> None:
+        none: list[str] = []
         for command in (["audit", self.recording], ["suggest", self.recording, "--policy", self.policy]):
-            for words, flags in ([], "3 --best-effort --explain"), (["--as-recorded"], "3 --explain"):
+            for words, flags in (none, "3 --best-effort --explain"), (["--as-recorded"], "3 --explain"):
                 with self.subTest(command=command[0], words=words):
                     self.runs.unlink(missing_ok=True)
                     self.audited(*command, *words)
@@ -333,6 +243,45 @@ parent = ["/none", "/a"]
         self.assertIn('# 1 call\n[[layer.path_beneath]]\nallowed_access = ["write_file"]\nparent = "/a"\n', out)
         self.assertIn("(2 audits)", out)
         self.assertEqual(sorted(path.name for path in self.recording.iterdir()), ["trace.jsonl", "tree.jsonl"])
+
+    def test_suggest_takes_at_most_as_many_rules_as_are_asked_for(self) -> None:
+        status, out, _ = self.audited("suggest", self.recording, "--policy", self.policy, "--rules", "1")
+        self.assertEqual(status, 0)
+        self.assertEqual(out.count("[[layer.path_beneath]]"), 1)
+        for number in ("0", "-1", "1.5", "all"):
+            with self.subTest(number), self.assertRaises(SystemExit) as ended:
+                self.audited("suggest", self.recording, "--policy", self.policy, f"--rules={number}")
+            self.assertEqual(ended.exception.code, 2)
+
+    def test_suggest_names_groups_of_rules_if_that_is_the_style(self) -> None:
+        """Two files of the machine's names are read and refused, then nothing is."""
+        write_lines(self.recording / "tree.jsonl", [*TREE, {"path": "/etc", "kind": "dir"}, *(
+            {"path": path, "kind": "reg"} for path in ("/etc/passwd", "/etc/group"))])
+        common = {"op": "open", "pid": PID, "mode": "r", "kernel": "ok"}
+        reading: list[Record] = [{**common, "path": path, "fd": fd, "call": fd}
+                                 for fd, path in ((4, "/etc/passwd"), (5, "/etc/group"))]
+        write_lines(self.recording / "trace.jsonl", [*TRACE, *reading])
+        self.policy.write_text('[[layer]]\nhandled_access_fs = ["read_file"]\n')
+        lacking = [refused(f"read_file on {record['path']}") for record in reading]
+        answers = {"9": ["allowed"] * 7 + lacking, "11": ["allowed"] * 11}
+        (self.folder / "answers.json").write_text(json.dumps(answers))
+        for style, rules, wanted in (("base", 1, 'include = ["nameservice"]'), ("exact", 2, 'parent = "/etc/group"')):
+            with self.subTest(style):
+                words = ["suggest", self.recording, "--policy", self.policy, "--style", style]
+                status, out, _ = self.audited(*words)
+                self.assertEqual((status, out.count("[[layer.path_beneath]]")), (0, rules))
+                self.assertIn(f"{wanted}\n", out)
+
+    def test_a_policy_with_groups_of_rules(self) -> None:
+        """A rule is on those of a group's paths that the recording met, and nothing is said of the others."""
+        write_lines(self.recording / "tree.jsonl", [*TREE, {"path": "/tmp", "kind": "dir"}])
+        self.policy.write_text('include = ["tmp"]\n[[layer]]\nhandled_access_fs = ["write_file", "truncate"]\n')
+        status, out, errors = self.audited("audit", self.recording, "--policy", self.policy)
+        self.assertEqual((status, errors), (1, ""))
+        self.assertIn("8 records: 7 allowed, 1 refused, 0 moot", out)
+        tried = [json.loads(line) for line in (self.recording / "tried.jsonl").read_text().splitlines()]
+        self.assertEqual([(it["path"], it["fs"]) for it in tried if it["op"] == "add_path"],
+                         [("/tmp", ["write_file", "truncate"])])
 
     def test_a_folder_without_a_recording(self) -> None:
         made = "has no tree.jsonl: name a folder that 'landaudit-record run' made\n"

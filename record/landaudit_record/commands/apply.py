@@ -16,7 +16,9 @@ EXAMPLE = "landaudit-record apply policy.toml rec --out tried.jsonl"
 POLICIES = """
 A policy is TOML: each [[layer]] has handled_access_fs, handled_access_net, and
 rules, [[layer.path_beneath]] with allowed_access and parent (one or several)
-and [[layer.net_port]] with allowed_access and port (one or several).
+and [[layer.net_port]] with allowed_access and port (one or several). In a layer
+or before all, include = ["base"] stands for a group of rules: of these there are
+base, nameservice, ssl, tmp, and some for languages.
 
 Rights have Landlock's names, as read_file, or groups stand for them: all, read,
 write, execute. In a rule a group means those of its rights that the layer

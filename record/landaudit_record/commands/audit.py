@@ -1,4 +1,4 @@
-"""Audits a finished recording, with a policy or without, and sums it up: at one ABI, or at each of a range."""
+"""Audits finished recordings, with a policy or without, and sums them up: at one ABI, or at each of a range."""
 
 from __future__ import annotations
 
@@ -6,24 +6,27 @@ import argparse
 import json
 import shlex
 import sys
+from collections.abc import Sequence
 from pathlib import Path
+from typing import Any
 
-from .. import accepting, by_abi, finished, landaudit, policies, summary_text, trying
-from ..options import add_abis, add_as_recorded, add_landaudit, add_program, note
+from .. import accepting, by_abi, landaudit, policies, summary_text, together
+from ..options import add_abis, add_as_recorded, add_landaudit, add_program, add_recordings, note
 from ..problems import NOT_ALL_JUDGED
-from ..recorder.progress import Progress
 from ..rights import NEWEST_ABI
 from ..summary import Summaries, Summary, as_data
+from ..together import Member
 from ..trying import Auditing
 
 NAME = "audit"
 HELP = "say what a policy would refuse, or without one what the program's own layers refuse"
-EXAMPLE = "landaudit-record audit rec --policy policy.toml --abi 4"
+EXAMPLE = """landaudit-record audit rec --policy policy.toml --abi 4
+  landaudit-record audit rec again --policy policy.toml"""
 
 
 def add_arguments(parser: argparse.ArgumentParser) -> None:
     """Names the words of the subcommand."""
-    parser.add_argument("recording", metavar="OUT", help="a recording's folder")
+    add_recordings(parser)
     parser.add_argument(
         "--policy",
         metavar="POLICY.toml",
@@ -39,69 +42,93 @@ def add_arguments(parser: argparse.ArgumentParser) -> None:
     add_program(parser)
     add_abis(parser)
     add_as_recorded(parser)
-    parser.add_argument("--json", action="store_true", help="print the same as data: that of each ABI is in 'abis'")
+    parser.add_argument(
+        "--json",
+        action="store_true",
+        help="print the same as data: that of each ABI is in 'abis' and, of several recordings, that of each in "
+        "'recordings'",
+    )
     add_landaudit(parser)
 
 
-def run(arguments: argparse.Namespace) -> int:
-    """Writes OUT/report.txt and prints the summary.
+#: The summaries of an audit by ABI, the oldest first, each recording by itself.
+Each = Sequence[tuple[Member, list[Summary]]]
 
-    The status is 1 if an ABI refuses something, else 5 if not all that a policy may refuse could be judged.
-    landaudit runs once for all ABIs that are judged by one trace; the files that stay are those of the newest.
+
+def run(arguments: argparse.Namespace) -> int:
+    """Writes OUT/report.txt of each recording, and prints the summary of all.
+
+    The status is 1 if an ABI refuses something of any, else 5 if not all that a policy may refuse could be judged.
     """
     program = landaudit.find(arguments.landaudit)
-    recording = finished.opened(arguments.recording)
     policy = None if arguments.policy is None else policies.read(Path(arguments.policy))
     accepted = [*(accepting.read(policy.path, only=False) if policy else ()),
                 *(accepting.read(arguments.accepted) if arguments.accepted else ())]
-    tried = None if policy is None else trying.tried(recording, policy, arguments.program)
-    best_effort = not arguments.as_recorded
-    found = Summaries(arguments.abis, tried=tried is not None)
-    with trying.folder_for(recording, NAME) as (folder, stays), Progress() as progress:
-        auditing = Auditing(program, recording, folder, best_effort, progress)
-        if tried is None:
-            steps = [arguments.abis]
-        else:
-            steps = tried.steps(arguments.abis, best_effort=best_effort)
-            trying.noted(tried, arguments.abis)
-        for abis in steps:
-            for walk in auditing.walks(abis, tried):
-                found.take(walk, abis)
-        if stays:
+    members = together.opened(arguments.recordings, policy, arguments.program)
+    together.note_policy(members, arguments.abis)
+    with together.audits(members, program, NAME, best_effort=not arguments.as_recorded) as audits:
+        each = [(it, _summaries(it, auditing, arguments.abis)) for it, auditing in zip(members, audits)]
+        for auditing in audits:
             auditing.keep()
-    summaries = found.done(recording.unsaid, recording.missing)
-    if not stays:
-        note([f"{recording.folder} can't be written: report and tried trace are not kept"])
-    for one in accepting.set_apart(accepted, summaries):
+    note(f"{auditing.recording.folder} can't be written: report and tried trace are not kept"
+         for auditing in audits if not auditing.stays)
+    for one in accepting.set_apart(accepted, [summary for _, summaries in each for summary in summaries]):
         note([f"accepted and refused no more: {one} ({one.reason})"])
-    _print(summaries, arguments)
-    if any(summary.others_refused for summary in summaries):
+    _print(each, arguments)
+    if any(summary.others_refused for _, summaries in each for summary in summaries):
         return 1
-    return NOT_ALL_JUDGED if recording.missing else 0
+    return NOT_ALL_JUDGED if any(member.recording.missing for member in members) else 0
 
 
-def _print(summaries: list[Summary], arguments: argparse.Namespace) -> None:
+def _summaries(member: Member, auditing: Auditing, abis: range) -> list[Summary]:
+    """Audits one recording. landaudit runs once for all ABIs that are judged by one trace; the newest is the last."""
+    tried = member.tried
+    found = Summaries(abis, tried=tried is not None)
+    for step in [abis] if tried is None else tried.steps(abis, best_effort=auditing.best_effort):
+        for walk in auditing.walks(step, tried):
+            found.take(walk, step)
+    return found.done(member.recording.unsaid, member.recording.missing)
+
+
+def _print(each: Each, arguments: argparse.Namespace) -> None:
     """Prints the summary of the newest ABI, and what changes from ABI to ABI."""
-    newest, steps = summaries[-1], by_abi.steps(summaries)
+    members = [member for member, _ in each]
+    summaries = [together.united(list(zip(members, of_abi))) for of_abi in zip(*(found for _, found in each))]
     if arguments.json:
-        about = {key: getattr(arguments, key) for key in ("recording", "policy", "as_recorded")}
-        print(json.dumps({**about, **as_data(newest), "abis": by_abi.as_data(steps)}, indent=2))
+        print(json.dumps(_data(each, summaries, arguments), indent=2))
         return
+    newest, steps = summaries[-1], by_abi.steps(summaries)
     under = f" under {arguments.policy}" if arguments.policy else ""
     style = summary_text.Style.of(sys.stdout)
-    for line in summary_text.lines(newest, f"{arguments.recording}{under} at ABI {newest.abi}", style):
+    title = f"{', '.join(arguments.recordings)}{under} at ABI {newest.abi}"
+    for line in summary_text.lines(newest, title, style):
         print(line)
     if any(layer.policy for refusal in newest.refusals for layer in refusal.layers):
         print(f"\nrules for these: {shlex.join(_suggesting(arguments, newest.abi))}")
+    by_name = [(member.name, found[-1]) for member, found in each]
+    for line in summary_text.by_recording(by_name, style) if len(each) > 1 else ():
+        print(line)
     for line in summary_text.by_abi(steps, style) if len(steps) > 1 else ():
         print(line)
     for line in summary_text.ending(newest, style):
         print(line)
 
 
+def _data(each: Each, summaries: list[Summary], arguments: argparse.Namespace) -> dict[str, Any]:
+    """The summary as data; of several recordings that of all together, and that of each in `recordings`."""
+    about: dict[str, Any] = {key: getattr(arguments, key) for key in ("policy", "as_recorded")}
+    alone: list[dict[str, Any]] = [{"recording": member.name, **about, **_data_of(found)} for member, found in each]
+    return alone[0] if len(each) == 1 else {**about, **_data_of(summaries), "recordings": alone}
+
+
+def _data_of(summaries: list[Summary]) -> dict[str, Any]:
+    """What is said of the newest ABI, and what changes from ABI to ABI."""
+    return {**as_data(summaries[-1]), "abis": by_abi.as_data(by_abi.steps(summaries))}
+
+
 def _suggesting(arguments: argparse.Namespace, abi: int) -> list[str]:
     """The command that suggests rules for what this audit found at the newest ABI."""
-    words = ["landaudit-record", "suggest", arguments.recording, "--policy", arguments.policy]
+    words = ["landaudit-record", "suggest", *arguments.recordings, "--policy", arguments.policy]
     words += ["--program", arguments.program] if arguments.program else []
     words += ["--abi", str(abi)] if abi != NEWEST_ABI else []
     return words + (["--as-recorded"] if arguments.as_recorded else [])

@@ -1,29 +1,46 @@
-"""Suggests rules for a policy that is tried on a finished recording."""
+"""Suggests rules for a policy that is tried on finished recordings."""
 
 from __future__ import annotations
 
 import argparse
-from collections.abc import Iterator
+from collections.abc import Iterator, Sequence
 from pathlib import Path
 
-from .. import finished, landaudit, policies, suggestion_text, trying
-from ..options import add_abi, add_as_recorded, add_landaudit, add_program, note
+from .. import landaudit, leaving, policies, suggestion_text, together
+from ..objects import Objects
+from ..options import add_abi, add_as_recorded, add_landaudit, add_program, add_recordings
 from ..policies import Policy
 from ..reading import Walk
-from ..recorder.progress import Progress
 from ..rights import alone
-from ..suggesting import suggest
-from ..trying import Auditing
+from ..suggesting import Making, Recorded, suggest
+from ..together import Member
 
+EXACT, BASE = "exact", "base"
 NAME = "suggest"
 HELP = "print the rules that would have let the refused calls pass, as TOML to paste"
-EXAMPLE = "landaudit-record suggest rec --policy policy.toml >> policy.toml"
+EXAMPLE = """landaudit-record suggest rec --policy policy.toml >> policy.toml
+  landaudit-record suggest rec again --policy deny.toml --rules 8
+  landaudit-record suggest rec --policy deny.toml --style base"""
 
 
 def add_arguments(parser: argparse.ArgumentParser) -> None:
     """Names the words of the subcommand."""
-    parser.add_argument("recording", metavar="OUT", help="a recording's folder")
+    add_recordings(parser)
     parser.add_argument("--policy", metavar="POLICY.toml", required=True, help="the policy that the rules are for")
+    parser.add_argument(
+        "--rules",
+        metavar="N",
+        type=_number,
+        help="at most N rules for a layer (if it is left out, as many as it takes to grant nothing else): they are put "
+        "on directories where that grants least, and each says what it grants more",
+    )
+    parser.add_argument(
+        "--style",
+        choices=(EXACT, BASE),
+        default=EXACT,
+        help="exact grants what is needed alone (so it is if the option is left out); base names groups of rules that "
+        "several of the paths are in, as a person does, by 'include': base, nameservice, ssl, tmp, languages",
+    )
     add_program(parser)
     add_abi(parser)
     add_as_recorded(parser)
@@ -33,18 +50,37 @@ def add_arguments(parser: argparse.ArgumentParser) -> None:
 def run(arguments: argparse.Namespace) -> int:
     """Prints the rules; the status is 1 if calls stay refused that no rule of the policy fixes."""
     program = landaudit.find(arguments.landaudit)
-    recording = finished.opened(arguments.recording)
     policy = policies.read(Path(arguments.policy))
-    tried = trying.tried(recording, policy, arguments.program)
-    trying.noted(tried, alone(arguments.abi))
-    with trying.folder_for(recording, NAME) as (folder, _), Progress() as progress:
-        auditing = Auditing(program, recording, folder, not arguments.as_recorded, progress)
+    members = together.opened(arguments.recordings, policy, arguments.program)
+    abis = alone(arguments.abi)
+    together.note_policy(members, abis)
+    with together.audits(members, program, NAME, best_effort=not arguments.as_recorded) as audits:
 
-        def audit(extended: Policy) -> Iterator[Walk]:
-            return auditing.walks(alone(arguments.abi), tried, extended)
+        def audit(extended: Policy) -> Iterator[tuple[int, Walk]]:
+            return together.walks(members, audits, abis, extended)
 
-        suggestion = suggest(tried.tree, policy, arguments.abi, audit)
-    note(f"NOT ALL IS JUDGED: {text}" for text in recording.missing)
+        recorded = [_recorded(member) for member in members]
+        suggestion = suggest(recorded, policy, arguments.abi, audit, _making(recorded, arguments))
+    together.note_missing(members)
     for line in suggestion_text.lines(suggestion, policy):
         print(line)
     return 0 if suggestion.finished and not suggestion.unmended and not suggestion.of_program else 1
+
+
+def _number(text: str) -> int:
+    """A number of rules."""
+    if not text.isdecimal() or not int(text):
+        raise argparse.ArgumentTypeError(f"{text!r} is no number of rules: give one from 1 on")
+    return int(text)
+
+
+def _making(recorded: Sequence[Recorded], arguments: argparse.Namespace) -> Making:
+    """How rules are made."""
+    objects = None if arguments.rules is None else Objects([one.tree for one in recorded])
+    return Making(arguments.rules, objects, in_groups=arguments.style == BASE)
+
+
+def _recorded(member: Member) -> Recorded:
+    """What rules need to know of a recording."""
+    parts = member.recording.parts
+    return Recorded(member.tree, leaving.cut_files(part.trace for part in parts))

@@ -3,18 +3,15 @@
 from __future__ import annotations
 
 import argparse
-import tempfile
 from collections.abc import Iterable, Iterator
-from contextlib import ExitStack
 from dataclasses import replace
 from pathlib import Path
 
-from .. import comments, finished, landaudit, policies, policy_text, trying
+from .. import comments, landaudit, policies, policy_text, together
 from ..distilling import Distilling
-from ..options import add_abi, add_as_recorded, add_landaudit, add_program, note
+from ..options import add_abi, add_as_recorded, add_landaudit, add_program, add_recordings
 from ..policies import Policy
 from ..problems import WANTING, Problem
-from ..recorder.progress import Progress
 from ..rights import alone
 from ..tightening import Asked, Tightened, Tightening, units
 from ..trees import Tree
@@ -28,7 +25,7 @@ EXAMPLE = "landaudit-record tighten --policy policy.toml rec > tight.toml"
 
 def add_arguments(parser: argparse.ArgumentParser) -> None:
     """Names the words of the subcommand."""
-    parser.add_argument("recordings", metavar="OUT", nargs="+", help="the folders of recordings")
+    add_recordings(parser)
     parser.add_argument("--policy", metavar="POLICY.toml", type=Path, required=True, help="the policy")
     parser.add_argument(
         "--list", action="store_true", help="print a table in its place: rule, right, how many calls need it, 0 first"
@@ -43,26 +40,19 @@ def run(arguments: argparse.Namespace) -> int:
     """Prints the policy, or the table."""
     program = landaudit.find(arguments.landaudit)
     policy = policies.read(arguments.policy)
-    opened = [finished.opened(name) for name in arguments.recordings]
-    tried = [trying.tried(recording, policy, arguments.program) for recording in opened]
-    for one in tried:
-        trying.noted(one, alone(arguments.abi))
-    with ExitStack() as stack:
-        progress = stack.enter_context(Progress())
-        folders = [Path(stack.enter_context(tempfile.TemporaryDirectory(prefix="landaudit-"))) for _ in opened]
-        audits = [
-            Auditing(program, recording, folder, not arguments.as_recorded, progress)
-            for recording, folder in zip(opened, folders)
-        ]
+    members = together.opened(arguments.recordings, policy, arguments.program)
+    together.note_policy(members, alone(arguments.abi))
+    tried = [member.tried for member in members if member.tried is not None]
+    with together.audits(members, program, NAME, best_effort=not arguments.as_recorded) as audits:
         asked = [of for audit, one in zip(audits, tried) for of in _asked(audit, one, policy, arguments.abi)]
-        progress.say("trying each right")
+        audits[0].progress.say("trying each right")
         done = _tightened(Tightening(program, arguments.abi, asked, best_effort=not arguments.as_recorded), policy,
-                          None if arguments.list else _together(tried))
+                          None if arguments.list else _tree_of(tried))
         again = [of for audit, one in zip(audits, tried) for of in _asked(audit, one, done.policy, arguments.abi)]
         if [dict(of.counted) for of in asked] != [dict(of.counted) for of in again]:
             raise Problem("of the recordings something more is refused without what no call needs: report this fault",
                           WANTING)
-    note(f"NOT ALL IS JUDGED: {recording.folder}: {text}" for recording in opened for text in recording.missing)
+    together.note_missing(members)
     for line in _table(policy, done, arguments.abi) if arguments.list else _toml(policy, done):
         print(line)
     return 0
@@ -77,7 +67,7 @@ def _tightened(tightening: Tightening, policy: Policy, tree: Tree | None) -> Tig
     return done
 
 
-def _together(tried: Iterable[Tried]) -> Tree:
+def _tree_of(tried: Iterable[Tried]) -> Tree:
     """The objects of all recordings."""
     tree = Tree()
     for one in tried:

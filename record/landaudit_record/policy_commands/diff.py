@@ -44,7 +44,7 @@ def _links(policy: Policy) -> Iterator[str]:
     """A note on each path that leads elsewhere on this machine: a rule is on an object, and paths are compared."""
     for layer in policy.layers:
         for rule in layer.path_beneath:
-            for parent in rule.parents:
+            for parent in rule.parents if rule.group is None else ():
                 path = as_named(parent)
                 real = os.path.realpath(path)
                 if real != path:

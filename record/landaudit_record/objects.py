@@ -1,0 +1,128 @@
+"""How many objects there are under a directory: on this disk, and those of recordings that this disk does not have."""
+
+from __future__ import annotations
+
+import os
+import stat
+from collections.abc import Iterator, Sequence
+from dataclasses import dataclass
+
+from .rights import FILE_RIGHTS
+from .trees import ROOT, Tree, upwards
+
+#: What is not counted: it changes from moment to moment, or has no end.
+UNCOUNTED = (ROOT, "/proc", "/sys")
+#: As how many objects that counts, and as how many a disk at most.
+WITHOUT_END = 10_000_000
+_DEVICES = ("char", "block")
+
+
+@dataclass
+class Count:
+    """Numbers of objects by what rights apply to them; devices are files too."""
+
+    files: int = 0
+    directories: int = 0
+    devices: int = 0
+
+    def add(self, other: Count) -> None:
+        """Adds the numbers of others."""
+        self.files += other.files
+        self.directories += other.directories
+        self.devices += other.devices
+
+    def of(self, right: str) -> int:
+        """How many a right applies to."""
+        match kind_of(right):
+            case "devices":
+                return self.devices
+            case "files":
+                return self.files
+        return self.directories
+
+
+def kind_of(right: str) -> str:
+    """To what kind of objects a right applies, as `Count` names it."""
+    return "devices" if right == "ioctl_dev" else "files" if right in FILE_RIGHTS else "directories"
+
+
+class Objects:
+    """The objects under directories, each directory counted once."""
+
+    def __init__(self, trees: Sequence[Tree]) -> None:
+        self._counts: dict[str, Count] = {}
+        self._elsewhere: dict[str, Count] = {}
+        listed = {path: kind for tree in trees for path, kind in tree.kinds.items() if path not in tree.made}
+        for path, kind in listed.items():
+            if not os.path.lexists(path):
+                for over in upwards(path):
+                    self._elsewhere.setdefault(over, Count()).add(_single(kind))
+
+    def under(self, path: str) -> Count:
+        """What is at a path and under it."""
+        if path in UNCOUNTED:
+            return Count(WITHOUT_END, WITHOUT_END, WITHOUT_END)
+        found = Count()
+        found.add(self._on_disk(path))
+        found.add(self._elsewhere.get(path, Count()))
+        return found
+
+    def _on_disk(self, path: str) -> Count:
+        """What is on the disk, each directory behind those that are in it."""
+        if path not in self._counts:
+            self._counts[path] = _alone(path)
+            for directory, entries in reversed(list(self._walk(path))):
+                count = Count(directories=1)
+                for entry in entries:
+                    count.add(self._counts[entry.path] if _is_directory(entry) else _of_entry(entry))
+                self._counts[directory] = count
+        return self._counts[path]
+
+    def _walk(self, top: str) -> Iterator[tuple[str, list[os.DirEntry[str]]]]:
+        """Each directory that is not counted yet with what is in it, before those that are in it."""
+        waiting, seen = [top] if os.path.isdir(top) else [], 0
+        while waiting:
+            directory = waiting.pop()
+            entries = _entries(directory) if seen < WITHOUT_END else []
+            seen += len(entries)
+            yield directory, entries
+            waiting += [it.path for it in entries if _is_directory(it) and it.path not in self._counts]
+
+
+def _entries(directory: str) -> list[os.DirEntry[str]]:
+    """What is in a directory; nothing where it can't be read."""
+    try:
+        with os.scandir(directory) as entries:
+            return list(entries)
+    except OSError:
+        return []
+
+
+def _is_directory(entry: os.DirEntry[str]) -> bool:
+    return entry.is_dir(follow_symlinks=False)
+
+
+def _of_entry(entry: os.DirEntry[str]) -> Count:
+    """An entry that is no directory; a link is no object that a rule is on."""
+    if entry.is_symlink():
+        return Count()
+    return Count(files=1) if entry.is_file(follow_symlinks=False) else _alone(entry.path)
+
+
+def _alone(path: str) -> Count:
+    """What is at a path, without what is under it; nothing where it can't be seen."""
+    try:
+        mode = os.lstat(path).st_mode
+    except OSError:
+        return Count()
+    return _single("sym" if stat.S_ISLNK(mode) else "char" if stat.S_ISCHR(mode) or stat.S_ISBLK(mode) else "reg")
+
+
+def _single(kind: str) -> Count:
+    """One object of a kind, as trees name it."""
+    match kind:
+        case "dir":
+            return Count(directories=1)
+        case "sym":
+            return Count()
+    return Count(files=1, devices=int(kind in _DEVICES))

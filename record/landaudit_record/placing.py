@@ -1,0 +1,109 @@
+"""Where the rule for a path can be, so that it is of use in each run: on the path itself, or over it for a cause."""
+
+from __future__ import annotations
+
+from collections.abc import Iterable, Iterator, Sequence, Set
+from dataclasses import dataclass
+from enum import Enum
+
+from . import varying
+from .trees import ROOT, Tree, directory_of, upwards
+from .wording import some_of
+
+
+class Cause(Enum):
+    """Why the rule for a path is not on it, in words with the names that it is for."""
+
+    LINK = "for the link {}, since a rule follows it"
+    MADE = "for what the run makes there: {}"
+    MADE_UP = "for names that differ in each run, as {}"
+    OF_PROCESS = "for what a process has under its number, which differs in each run, as {}"
+    REPLACED = "the run puts another object at {}: a rule on that path stays with the first one"
+
+
+@dataclass(frozen=True)
+class Spot:
+    """Where the rule for a path is, the real path, and why it is not there if it isn't."""
+
+    place: str
+    path: str
+    cause: Cause | None = None
+
+
+class Placing:
+    """Where rules are for what some recordings ask for, each by its tree, the paths, and its processes' numbers."""
+
+    def __init__(self, trees: Sequence[Tree], asked: Sequence[Iterable[str]], pids: Sequence[Set[int]]) -> None:
+        self._trees = trees
+        self._spots = [{path: self._before(tree, path) for path in paths} for tree, paths in zip(trees, asked)]
+        places = [{spot.place for spot in spots.values()} for spots in self._spots]
+        self._varying = varying.between(places, trees, pids)
+
+    def spot(self, recording: int, path: str) -> Spot:
+        """Where the rule for a path of a recording is."""
+        spot = self._spots[recording][path]
+        other = varying.first_of(spot.place, self._varying)
+        return spot if other is None else Spot(directory_of(other), spot.path, Cause.MADE_UP)
+
+    def new(self, recording: int, directory: str, path: str) -> Spot:
+        """Where the rule is for a real path that a call of a recording was to make in a directory."""
+        return Spot(self.spot(recording, directory).place, path, _cause_of_made(path))
+
+    def _before(self, own: Tree, path: str) -> Spot:
+        """Where a rule can be before the run: by the recording's own tree, then by those of the others."""
+        spot = _there_before(own, path)
+        down = reversed(list(upwards(spot.place)))
+        made = next((over for over in down if any(over in tree.made for tree in self._trees)), None)
+        if made is None:
+            return spot
+        return Spot(directory_of(made), spot.path, spot.cause or _cause_of_made(made))
+
+
+def _there_before(tree: Tree, path: str) -> Spot:
+    """Where a rule for a path can be before the run of its recording.
+
+    It is not on a link, not on what a process has in /proc, nor on what the run makes; for an object that is moved, it
+    is on where that was.
+    """
+    real, process = tree.real(path), varying.of_process(path)
+    if process is not None:
+        return Spot(directory_of(process), real, Cause.OF_PROCESS)
+    is_link = tree.kind(path) == "sym"
+    there = directory_of(path) if is_link else path
+    place, cause = tree.before(there), Cause.LINK if is_link else None
+    if place != tree.first.get(there, there) and cause is None:
+        cause = Cause.REPLACED if tree.is_replaced(real) else _cause_of_made(_beneath(place, real))
+    return Spot(place, real, cause)
+
+
+def _beneath(directory: str, path: str) -> str:
+    """What is just beneath a directory on the way to a path; the path itself where it is elsewhere."""
+    return next((over for over in upwards(path) if directory_of(over) == directory and over != ROOT), path)
+
+
+def _cause_of_made(path: str) -> Cause:
+    """Why a rule is over what is made at a path, by its name."""
+    return Cause.MADE_UP if varying.looks_made_up(path.rpartition("/")[2]) else Cause.MADE
+
+
+def remarks(place: str, spots: Sequence[Spot]) -> Iterator[str]:
+    """What to say of a rule by what it is for."""
+    for cause in Cause:
+        names = sorted({_named(place, spot) for spot in spots if spot.cause is cause})
+        if names:
+            yield f"({cause.value.format(some_of(names))})"
+
+
+def doubtful(place: str) -> tuple[str, str] | None:
+    """The path on the way to a rule's place whose name looks made up though it was there, with what to say of it."""
+    path = next((over for over in upwards(place) if varying.looks_made_up(over.rpartition("/")[2])), None)
+    if path is None:
+        return None
+    return path, f"({path} looks like a name that differs in each run: then grant on {directory_of(path)})"
+
+
+def _named(place: str, spot: Spot) -> str:
+    """What a rule is for, by its path under the rule's place where that tells as much."""
+    if spot.cause in (Cause.REPLACED, Cause.LINK, Cause.OF_PROCESS) or place == ROOT:
+        return spot.path
+    return spot.path.removeprefix(place + "/")

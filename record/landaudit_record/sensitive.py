@@ -1,0 +1,42 @@
+"""What a policy's author is warned of: rules that reach secrets, the kernel's own files, or everything."""
+
+from __future__ import annotations
+
+import re
+from collections.abc import Iterator
+from pathlib import Path
+
+from .rights import FILE_RIGHTS, Rights
+from .trees import ROOT, upwards
+
+#: Files with secrets that are at one place on every machine, and folders of them.
+SECRETS = ("/etc/shadow", "/etc/gshadow", "/etc/ssl/private", "/root/.ssh", "/root/.gnupg")
+#: The folder with those of users.
+HOMES = "/home"
+#: Names of what has keys, wherever it is.
+_OF_KEYS = re.compile(r"\.ssh|\.gnupg|.*\.key")
+_OF_KERNEL = {
+    "/proc": "it has files of every process, and settings of the kernel",
+    "/sys": "it has settings of the kernel and of devices",
+}
+_KEYS = ".ssh"
+_OF_USERS = "*/.ssh"
+
+
+def warnings(place: str, rights: Rights) -> Iterator[str]:
+    """What to be warned of in a rule on a path."""
+    if place == ROOT:
+        yield f"warning: {', '.join(sorted(rights))} on everything that there is"
+        return
+    over = list(upwards(place))
+    for path, why in _OF_KERNEL.items():
+        if path in over:
+            yield f"warning: {path}: {why}"
+    secret = next((path for path in over if path in SECRETS or _OF_KEYS.fullmatch(path.rpartition("/")[2])), None)
+    if secret is not None:
+        yield f"warning: {secret} holds secrets"
+    elif rights & FILE_RIGHTS:
+        beneath = [path for path in SECRETS if place in upwards(path)]
+        beneath += [str(keys) for keys in sorted(Path(place).glob(_OF_USERS if place == HOMES else _KEYS))]
+        if beneath:
+            yield f"warning: this reaches {', '.join(dict.fromkeys(beneath))}"

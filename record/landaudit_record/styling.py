@@ -1,0 +1,70 @@
+"""Groups of rules in the place of rules, as a person names them: those that several of the paths are in."""
+
+from __future__ import annotations
+
+from collections.abc import Iterable, Mapping, Sequence
+from dataclasses import dataclass
+
+from . import policies, wants
+from .policies import PathRule
+from .rights import FILE_RIGHTS, Rights
+from .trees import Tree, upwards
+from .wants import Call, OnPaths, Wanted
+
+#: So many of the paths that are asked for a group has at least, beside those of the groups before it.
+FEWEST = 2
+#: The group that comes before all others.
+FIRST = "base"
+
+
+@dataclass(frozen=True)
+class Styled:
+    """The groups for a layer, each with how many calls need it, and what is lacking beside them."""
+
+    groups: Mapping[str, int]
+    left: Wanted
+
+
+def with_groups(wanted: Wanted, handled: Rights, trees: Sequence[Tree]) -> Styled:
+    """The groups that have what is lacking, those first that have most of it."""
+    groups: dict[str, int] = {}
+    left = wanted.paths
+    names = [name for name in policies.group_names() if name != FIRST]
+    granted = {name: _granted(policies.group_rules(name, handled), trees) for name in (FIRST, *names)}
+    waiting = [FIRST, *sorted(names, key=lambda name: -len(_covered(left, granted[name])))]
+    for name in waiting:
+        covered = _covered(left, granted[name])
+        if len({spot.path for spot in wanted.spots if spot.place in covered}) >= FEWEST:
+            groups[name] = len(set[Call]().union(*(calls for rights in covered.values() for calls in rights.values())))
+            left = _without(left, covered)
+    return Styled(groups, Wanted(left, wanted.spots, wanted.ports))
+
+
+def _granted(rules: Iterable[PathRule], trees: Sequence[Tree]) -> dict[str, set[str]]:
+    """The rights that rules grant on what recordings met, by its path there."""
+    found: dict[str, set[str]] = {}
+    for rule in rules:
+        for parent in rule.parents:
+            for tree in trees:
+                path = tree.resolved(parent, before_run=True)
+                if tree.is_there_before(path):
+                    rights = rule.allowed_access.rights
+                    found.setdefault(path, set()).update(rights if tree.is_dir(path) else rights & FILE_RIGHTS)
+    return found
+
+
+def _covered(paths: OnPaths, granted: Mapping[str, set[str]]) -> OnPaths:
+    """What of some wants is granted on the path or over it."""
+    found: OnPaths = {}
+    for path, rights in paths.items():
+        here = set[str]().union(*(granted.get(over, ()) for over in upwards(path)))
+        if here & rights.keys():
+            wants.unite(found, {path: {right: calls for right, calls in rights.items() if right in here}})
+    return found
+
+
+def _without(paths: OnPaths, covered: OnPaths) -> OnPaths:
+    """Wants without those that are covered."""
+    left = {path: {right: calls for right, calls in rights.items() if right not in covered.get(path, {})}
+            for path, rights in paths.items()}
+    return {path: rights for path, rights in left.items() if rights}

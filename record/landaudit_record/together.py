@@ -1,0 +1,122 @@
+"""Several recordings under one policy: each is audited by itself, and what is said of all of them counts over each."""
+
+from __future__ import annotations
+
+from collections import Counter
+from collections.abc import Iterator, Sequence
+from contextlib import ExitStack, contextmanager
+from dataclasses import dataclass
+from pathlib import Path
+
+from . import finished, trying
+from .finished import Finished
+from .options import note
+from .policies import Policy
+from .problems import USAGE, Problem
+from .reading import Walk
+from .recorder.progress import Progress
+from .summary import Summary
+from .trees import Tree
+from .trying import Auditing, Tried
+
+
+@dataclass(frozen=True)
+class Member:
+    """One of the recordings, by the name that it was given, and the policy on it where one is tried."""
+
+    name: str
+    recording: Finished
+    tried: Tried | None
+
+    @property
+    def tree(self) -> Tree:
+        """All objects of the recording."""
+        return trying.tree_of(self.recording) if self.tried is None else self.tried.tree
+
+    @property
+    def of_several(self) -> list[str]:
+        """What an audit of the recording can't say, with its name."""
+        return [f"{self.name}: {text}" for text in self.recording.missing]
+
+
+def opened(names: Sequence[str], policy: Policy | None = None, program: str | None = None) -> list[Member]:
+    """The recordings in some folders, each with the policy; a folder that is named twice is a Problem."""
+    folders: dict[Path, str] = {}
+    for name in names:
+        first = folders.setdefault(Path(name).resolve(), name)
+        if first is not name:
+            raise Problem(f"{name} is named twice: name each recording once", USAGE)
+    members = []
+    for name in names:
+        recording = finished.opened(name)
+        members.append(Member(name, recording, None if policy is None else trying.tried(recording, policy, program)))
+    return members
+
+
+def note_missing(members: Sequence[Member]) -> None:
+    """Prints what no audit of the recordings can say."""
+    alone = len(members) == 1
+    note(f"NOT ALL IS JUDGED: {text}" for it in members for text in (it.recording.missing if alone else it.of_several))
+
+
+def note_policy(members: Sequence[Member], abis: range) -> None:
+    """Prints notes on what of the policy is not judged, and what of it the ABIs do not have.
+
+    What is said of a path that a recording did not meet is told if none of them met it.
+    """
+    notes = [list(trying.notes(member.tried, abis)) for member in members if member.tried is not None]
+    note(text for text in (notes[0] if notes else ()) if all(text in others for others in notes))
+
+
+@contextmanager
+def audits(members: Sequence[Member], program: Path, name: str, *, best_effort: bool) -> Iterator[list[Auditing]]:
+    """How each recording is audited, in a folder that the subcommand of this name has for it."""
+    with ExitStack() as stack:
+        progress = stack.enter_context(Progress())
+        made = [(it.recording, *stack.enter_context(trying.folder_for(it.recording, name))) for it in members]
+        yield [Auditing(program, recording, folder, best_effort, progress, stays) for recording, folder, stays in made]
+
+
+def walks(
+    members: Sequence[Member], audits: Sequence[Auditing], abis: range, policy: Policy
+) -> Iterator[tuple[int, Walk]]:
+    """Walks over the answers to all parts of all recordings under a policy, each with the recording's index."""
+    for index, (member, auditing) in enumerate(zip(members, audits)):
+        for walk in auditing.walks(abis, member.tried, policy):
+            yield index, walk
+
+
+def united(each: Sequence[tuple[Member, Summary]]) -> Summary:
+    """The summary of several recordings at one ABI, which knows in which of them each kind of refused call occurs.
+
+    A rule that one of them did not touch is told of if none did.
+    """
+    if len(each) == 1:
+        return each[0][1]
+    found = Summary(each[0][1].abi)
+    for member, one in each:
+        _add(found, member.name, one)
+    idle = set.intersection(*(one.untouched for _, one in each))
+    told = [text for text in found.warnings if text in idle or text not in found.untouched]
+    found.warnings = {text: found.warnings[text] for text in told}
+    found.untouched = idle
+    found.missing = tuple(text for member, _ in each for text in member.of_several)
+    return found
+
+
+def _add(found: Summary, name: str, one: Summary) -> None:
+    """Adds the summary of one recording."""
+    found.verdicts.update(one.verdicts)
+    for refusal, programs in one.refusals.items():
+        found.refusals.setdefault(refusal, Counter()).update(programs)
+        found.recordings.setdefault(refusal, []).append(name)
+    for why, at in one.moot.items():
+        found.moot.setdefault(why, Counter()).update(at)
+    for text, times in one.warnings.items():
+        found.warnings[text] = found.warnings.get(text, 0) + times
+    found.untouched |= one.untouched
+    found.unsaid.update(one.unsaid)
+    found.accepted.update(one.accepted)
+    found.seen += one.seen
+    found.path_calls += one.path_calls
+    found.moot_path_calls += one.moot_path_calls

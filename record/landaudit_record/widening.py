@@ -1,0 +1,126 @@
+"""At most so many rules: those are put together on a directory that grant least beside what is needed.
+
+What a rule grants is counted in objects, for each of its rights those that the right applies to.
+"""
+
+from __future__ import annotations
+
+from collections import Counter, defaultdict
+from collections.abc import Iterator
+from dataclasses import dataclass
+from itertools import combinations_with_replacement
+
+from . import wants
+from .objects import UNCOUNTED, Objects, kind_of
+from .rights import FS, NET, NONE, Rights
+from .trees import directory_of, upwards
+from .wants import OnPaths, Rule, Wanted
+from .wording import counted, some_of
+
+#: What kinds of objects are called that a rule grants something on, one of them.
+_CALLED = {"files": "file", "directories": "directory", "devices": "device"}
+
+
+@dataclass(frozen=True)
+class _Merger:
+    """Rights that go on a directory in place of rules under it: how many rules fewer, and what more is granted."""
+
+    directory: str
+    rights: Rights
+    fewer: int
+    cost: int
+
+
+def rules(wanted: Wanted, objects: Objects, most: int) -> list[Rule]:
+    """At most so many rules that grant what is lacking, or as few as there can be."""
+    exact = wants.narrowed(wanted.paths)
+    ports = _port_rules(wanted, most - len(exact))
+    paths, room = exact, max(most - len(ports), 1)
+    while len(paths) > room:
+        paths = _merged(paths, _cheapest(paths, objects, len(paths) - room))
+    found = [Rule(place, frozenset(rights), wants.asking(rights), _more(place, frozenset(rights), exact, objects))
+             for place, rights in paths.items()]
+    return wants.remarked([*found, *ports], wanted.spots)
+
+
+def _merged(paths: OnPaths, merger: _Merger) -> OnPaths:
+    """The rules with some of their rights on a directory in their place."""
+    found: OnPaths = {}
+    for place, rights in paths.items():
+        beneath = merger.directory in upwards(place)
+        for right, calls in rights.items():
+            there = merger.directory if beneath and right in merger.rights else place
+            wants.unite(found, {there: {right: calls}})
+    return wants.narrowed(found)
+
+
+def _cheapest(paths: OnPaths, objects: Objects, excess: int) -> _Merger:
+    """The merger that grants least for each rule that it saves; what it saves beyond the excess doesn't count."""
+    under: dict[str, list[str]] = defaultdict(list)
+    for place in paths:
+        for over in upwards(place):
+            under[over].append(place)
+    mergers = (it for directory, places in under.items() if len(places) > 1
+               for it in _mergers(directory, places, paths, objects))
+    return min(mergers, key=lambda it: (it.cost / min(it.fewer, excess), -len(it.directory), it.directory, it.cost))
+
+
+def _mergers(directory: str, places: list[str], paths: OnPaths, objects: Objects) -> Iterator[_Merger]:
+    """The rights that can go on a directory: those that two of the rules under it have together."""
+    if directory not in paths and len({_branch(directory, place) for place in places}) == 1:
+        return
+    sets = Counter(frozenset(paths[place]) for place in places)
+    covered: Counter[str] = Counter()
+    for place in places:
+        for right in paths[place]:
+            covered[right] += objects.under(place).of(right)
+    above: Rights = NONE.union(*(paths.get(over, ()) for over in list(upwards(directory))[1:]))
+    for one, other in combinations_with_replacement(sets, 2):
+        rights = one | other
+        fewer = sum(times for some, times in sets.items() if some <= rights) - 1
+        if fewer > 0:
+            new = objects.under(directory)
+            yield _Merger(directory, rights, fewer, sum(new.of(right) - covered[right] for right in rights - above))
+
+
+def _branch(directory: str, place: str) -> str:
+    """What is just beneath a directory on the way to a place."""
+    return next(over for over in upwards(place) if directory_of(over) == directory)
+
+
+def _more(place: str, rights: Rights, exact: OnPaths, objects: Objects) -> tuple[str, ...]:
+    """What a rule grants beside what is needed, a text for each kind of objects."""
+    all_under, needed = objects.under(place), Counter[str]()
+    for path, asked in exact.items():
+        for right in rights & asked.keys():
+            if place in upwards(path):
+                needed[right] += objects.under(path).of(right)
+    by_number: dict[tuple[str, int], list[str]] = defaultdict(list)
+    for right in FS.ordered(rights):
+        more = all_under.of(right) - needed[right]
+        if more > 0:
+            by_number[kind_of(right), more].append(right)
+    if place in UNCOUNTED and by_number:
+        return (f"also all else under {place} ({', '.join(FS.ordered(rights))})",)
+    told = [(_number(number, kind), ", ".join(some)) for (kind, number), some in by_number.items()]
+    return tuple(f"also {number} under {place} ({names})" for number, names in told)
+
+
+def _number(number: int, kind: str) -> str:
+    """A number of objects of a kind in words."""
+    if kind == "directories" and number > 1:
+        return f"{number:,} directories"
+    return f"1 {_CALLED[kind]}" if number == 1 else f"{number:,} {_CALLED[kind]}s"
+
+
+def _port_rules(wanted: Wanted, room: int) -> list[Rule]:
+    """The rules on ports; if there is no room for them all, one for all ports with all rights."""
+    found = wants.port_rules(wanted.ports)
+    if len(found) <= max(room, 1):
+        return found
+    rights = frozenset().union(*(rule.rights for rule in found))
+    calls = len(set().union(*(calls for asked in wanted.ports.values() for calls in asked.values())))
+    ports = sorted(wanted.ports)
+    others = {right: [str(port) for port in ports if right not in wanted.ports[port]] for right in NET.ordered(rights)}
+    more = (f"also {right} on {counted(len(some), 'port')}: {some_of(some)}" for right, some in others.items() if some)
+    return [Rule(tuple(ports), rights, calls, tuple(more))]

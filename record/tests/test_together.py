@@ -1,0 +1,179 @@
+"""Several recordings under one policy: counts over all, in which of them what occurs, and one status."""
+
+from __future__ import annotations
+
+import json
+import shutil
+import unittest
+from collections import Counter
+from pathlib import Path
+from typing import Any
+
+from landaudit_record import together
+from landaudit_record.finished import Finished
+from landaudit_record.summary import Accepted, Refusal, Summary
+
+from .recorded import PID, refused, write_lines
+from .stand_in import TRACE, StandIn
+
+#: Two records more than the first recording has, of which the policy refuses the last.
+SECOND = [
+    *TRACE,
+    {"op": "close", "pid": PID, "fd": 3, "call": 3},
+    {"op": "truncate", "pid": PID, "path": "/a", "call": 4, "kernel": "ok"},
+]
+ALLOWED = ["allowed"]
+
+
+class Several(StandIn):
+    def setUp(self) -> None:
+        super().setUp()
+        self.second = self.folder / "second"
+        self.second.mkdir()
+        shutil.copy(self.recording / "tree.jsonl", self.second)
+        write_lines(self.second / "trace.jsonl", SECOND)
+        self.answer({
+            "5": ALLOWED * 5,
+            "10": ALLOWED * 7 + [refused("write_file on /a"), "allowed", refused("write_file on /a")],
+            "11": ALLOWED * 11,
+        })
+
+    def answer(self, more: dict[str, list[str]]) -> None:
+        """Lets landaudit know more answers, by the number of records."""
+        file = self.folder / "answers.json"
+        file.write_text(json.dumps(json.loads(file.read_text()) | more))
+
+    def both(self, command: str, *words: object, abi: str | None = "3") -> tuple[int, str, str]:
+        return self.audited(command, self.recording, self.second, *words, abi=abi)
+
+    def data(self, *words: object) -> dict[str, Any]:
+        found: dict[str, Any] = json.loads(self.both("audit", "--policy", self.policy, "--json", *words)[1])
+        return found
+
+    def test_the_summary_counts_over_all_and_says_in_which_each_kind_occurs(self) -> None:
+        status, out, _ = self.both("audit", "--policy", self.policy)
+        title = f"{self.recording}, {self.second} under {self.policy} at ABI 3"
+        self.assertEqual((status, out.splitlines()[0]), (1, title))
+        self.assertIn("18 records: 15 allowed, 3 refused, 0 moot\n", out)
+        rows = [line.split() for line in out.splitlines() if line.split()[1:2] in (["open"], ["truncate"])]
+        both = [f"{self.recording},", str(self.second)]
+        self.assertEqual(rows, [
+            ["2", "open", "w", "/a", "EACCES", "policy's", "1", *both, "/bin", "write_file"],
+            ["1", "truncate", "/a", "EACCES", "policy's", "1", str(self.second), "/bin", "write_file"],
+        ])
+        table = out.partition("by recording\n")[2].splitlines()
+        self.assertEqual([row.split() for row in table], [
+            ["records", "allowed", "refused", "moot", "recording"],
+            ["8", "7", "1", "0", str(self.recording)],
+            ["10", "8", "2", "0", str(self.second)],
+        ])
+        command = f"landaudit-record suggest {self.recording} {self.second} --policy {self.policy} --abi 3"
+        self.assertIn(f"\nrules for these: {command}\n", out)
+
+    def test_each_keeps_its_own_report(self) -> None:
+        self.both("audit", "--policy", self.policy)
+        for folder, records in ((self.recording, 8), (self.second, 10)):
+            self.assertIn(f"\ntotal {records}", (folder / "report.txt").read_text())
+            self.assertEqual(len((folder / "tried.jsonl").read_text().splitlines()), records)
+
+    def test_data_has_all_together_and_each_by_itself(self) -> None:
+        data = self.data()
+        self.assertEqual([data[key] for key in ("records", "allowed", "refused", "moot")], [18, 15, 3, 0])
+        self.assertNotIn("recording", data)
+        kinds = [(kind["call"], kind["times"], kind["recordings"]) for kind in data["refusals"]]
+        one, other = str(self.recording), str(self.second)
+        self.assertEqual(kinds, [("open w", 2, [one, other]), ("truncate", 1, [other])])
+        alone = [json.loads(self.audited("audit", name, "--policy", self.policy, "--json")[1]) for name in (one, other)]
+        self.assertEqual(data["recordings"], alone)
+
+    def test_the_data_of_one_recording_is_as_it_always_was(self) -> None:
+        data = json.loads(self.audited("audit", self.recording, "--policy", self.policy, "--json")[1])
+        self.assertEqual((data["recording"], "recordings" in data), (str(self.recording), False))
+        self.assertNotIn("recordings", data["refusals"][0])
+
+    def test_the_status_is_1_if_any_is_refused(self) -> None:
+        self.assertEqual(self.both("audit")[0], 0)
+        self.answer({"10": ALLOWED * 10})
+        self.assertEqual(self.audited("audit", self.second, "--policy", self.policy)[0], 0)
+        self.assertEqual(self.both("audit", "--policy", self.policy)[0], 1)
+
+    def test_else_5_if_not_all_of_one_could_be_judged(self) -> None:
+        hole = [{"line": 1, "pid": PID, "class": "calls that io_uring makes", "call": "io_uring_enter()", "asks": True}]
+        write_lines(self.second / "unsaid.jsonl", hole)
+        status, out, _ = self.both("audit")
+        self.assertEqual(status, 5)
+        said = f"NOT ALL IS JUDGED: {self.second}: 1 call that a policy may refuse could not be recorded"
+        self.assertTrue(out.splitlines()[-1].startswith(said), out)
+        self.assertEqual(self.both("audit", "--policy", self.policy)[0], 1)
+        errors = self.both("suggest", "--policy", self.policy)[2]
+        self.assertIn(f"landaudit-record: note: {said}", errors)
+
+    def test_the_table_by_abi_is_of_all(self) -> None:
+        """At ABI 2 the first recording has the policy without its rule: a record less, which is allowed."""
+        out = self.both("audit", "--policy", self.policy, abi="2-3")[1]
+        rows = [row.split()[:4] for row in self.table(out)[1:3]]
+        self.assertEqual(rows, [["2", "14", "3", "0"], ["3", "15", "3", "0"]])
+
+    def test_what_is_accepted_need_occur_in_one_alone(self) -> None:
+        text = '[[accepted]]\ncall = "truncate"\npath = "/a"\nreason = "x"\n'
+        self.policy.write_text(self.policy.read_text() + text)
+        status, out, errors = self.both("audit", "--policy", self.policy)
+        self.assertEqual((status, errors), (1, ""))
+        self.assertIn("3 refused (1 accepted)", out)
+
+    def test_suggest_takes_what_each_of_them_lacks(self) -> None:
+        self.answer({"10": ALLOWED * 9 + [refused("truncate on /a")]})
+        status, out, _ = self.both("suggest", "--policy", self.policy)
+        self.assertEqual(status, 0)
+        rule = '[[layer.path_beneath]]\nallowed_access = ["write_file", "truncate"]\nparent = "/a"\n'
+        self.assertIn(f"# 2 calls\n{rule}", out)
+
+    def test_a_recording_that_is_named_twice(self) -> None:
+        for command in ("audit", "suggest", "tighten"):
+            status, out, errors = self.audited(command, self.recording, f"{self.folder}/./rec", "--policy", self.policy)
+            named = f"{self.folder}/./rec is named twice: name each recording once"
+            self.assertEqual((status, out, errors), (2, "", f"landaudit-record: {named}\n"))
+
+    def test_one_that_is_no_recording(self) -> None:
+        status, out, errors = self.audited("audit", self.recording, self.folder / "none")
+        self.assertEqual((status, out, errors.count("\n")), (3, "", 1))
+        self.assertIn("record first", errors)
+
+    def test_what_one_of_them_did_not_meet_is_no_note(self) -> None:
+        rule = '[[layer.path_beneath]]\nallowed_access = ["read_dir"]\nparent = "/b"\n'
+        self.policy.write_text('[[layer]]\nhandled_access_fs = ["write_file", "read_dir"]\n' + rule)
+        self.assertIn("not in the tree", self.audited("audit", self.recording, "--policy", self.policy)[2])
+        write_lines(self.second / "tree.jsonl", [{"path": "/b", "kind": "dir"}])
+        self.assertNotIn("not in the tree", self.both("audit", "--policy", self.policy)[2])
+
+
+class United(unittest.TestCase):
+    def member(self, name: str) -> together.Member:
+        return together.Member(name, Finished(Path(name), (), Counter(), Counter(), ended=True), None)
+
+    def summary(self, *warnings: str, untouched: str) -> Summary:
+        return Summary(5, warnings={text: 1 for text in (*warnings, untouched)}, untouched={untouched})
+
+    def test_a_rule_that_one_of_them_touches_is_no_warning(self) -> None:
+        one, other = self.summary("a", untouched="x"), self.summary("a", untouched="y")
+        found = together.united([(self.member("r1"), one), (self.member("r2"), other)])
+        self.assertEqual(found.warnings, {"a": 2})
+        found = together.united([(self.member("r1"), one), (self.member("r2"), self.summary(untouched="x"))])
+        self.assertEqual(found.warnings, {"a": 1, "x": 2})
+
+    def test_counts_are_added(self) -> None:
+        kind, known = Refusal("exec", "/a", "EACCES", (), None), Accepted("exec", "/b", "fine")
+        one, other = Summary(5, path_calls=3), Summary(5, path_calls=4)
+        for summary, programs in ((one, {"p": 2}), (other, {"p": 1, "q": 3})):
+            summary.refusals[kind] = Counter(programs)
+            summary.verdicts["refused"] = sum(programs.values())
+            summary.accepted[known] += 1
+            summary.moot["why"] = Counter({"/a": 3})
+        found = together.united([(self.member("r1"), one), (self.member("r2"), other)])
+        self.assertEqual((found.refusals[kind], found.recordings[kind]), ({"p": 3, "q": 3}, ["r1", "r2"]))
+        self.assertEqual((found.records, found.path_calls, found.accepted[known]), (6, 7, 2))
+        self.assertEqual(found.moot["why"].total(), 6)
+
+
+if __name__ == "__main__":
+    unittest.main()
