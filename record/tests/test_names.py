@@ -120,7 +120,7 @@ class Paths(unittest.TestCase):
         self.names.put("/w/a", Node("reg"))
         self.find("a/../x")
         self.names.put("/w/a", None)
-        self.assertEqual(self.find("a/../x").broken, 1)
+        self.assertEqual(self.find("a/../x").path, "/w/a/../x")
 
     def test_a_path_leads_on_where_a_directory_is_in_place_of_a_file(self) -> None:
         self.names.put("/w/moved", Node("reg"))
