@@ -17,12 +17,16 @@ from dataclasses import dataclass
 from pathlib import Path
 from typing import Any, NamedTuple
 
+from landaudit_record.problems import NOT_ALL_JUDGED
 from landaudit_record.reading import call_text
 
 HERE = Path(__file__).resolve().parent
 RECORDER = HERE.parent / "landaudit-record"
 DENYING = (HERE / "denying" / "all.toml", HERE / "denying" / "descriptors.toml")
 """Policies that deny everything. What is asked of a descriptor is denied by itself: a denied open has none."""
+
+ENDED = (0, 1, NOT_ALL_JUDGED)
+"""The statuses of an audit that came to its end: nothing refused, something refused, not all judged."""
 
 _NUMBER = re.compile(r"[0-9]+")
 _WORD = re.compile(r"[A-Za-z0-9_]{6,}")
@@ -99,11 +103,11 @@ def _is_made_up(word: str) -> bool:
 
 
 def _audit(recording: Path, policy: Path | None, abi: int) -> dict[str, Any]:
-    """What an audit at one ABI says, as data."""
+    """What an audit at one ABI says, as data. One that could not judge all says whole what it judged."""
     words = [sys.executable, str(RECORDER), "audit", str(recording), "--abi", str(abi), "--json"]
     words += [] if policy is None else ["--policy", str(policy)]
     run = subprocess.run(words, capture_output=True, text=True, check=False)
-    if run.returncode not in (0, 1):
+    if run.returncode not in ENDED:
         raise RuntimeError(f"{' '.join(words)}: {run.stderr.strip()}")
     found: dict[str, Any] = json.loads(run.stdout)
     return found

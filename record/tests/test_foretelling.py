@@ -2,6 +2,7 @@
 
 from __future__ import annotations
 
+import tempfile
 import unittest
 from pathlib import Path
 from typing import Any
@@ -58,6 +59,26 @@ class Foretelling(unittest.TestCase):
         self.assertEqual(foretelling.alike("/tmp/sortQx7aB2"), foretelling.alike("/tmp/sort9pLmZa"))
         self.assertEqual(foretelling.alike("/proc/123/fd"), foretelling.alike("/proc/4567/fd"))
         self.assertEqual(foretelling.alike("/usr/lib/locale"), "/usr/lib/locale")
+
+
+class Audits(unittest.TestCase):
+    """An audit that a program stands for which says something and ends with a status."""
+
+    def audit(self, status: int) -> dict[str, Any]:
+        folder = self.enterContext(tempfile.TemporaryDirectory())
+        recorder = Path(folder) / "recorder"
+        recorder.write_text(f'print(\'{{"refusals": []}}\')\nraise SystemExit({status})\n', encoding="utf-8")
+        with mock.patch.object(foretelling, "RECORDER", recorder):
+            return foretelling._audit(BARE, None, 5)
+
+    def test_one_that_refuses_or_could_not_judge_all_came_to_its_end(self) -> None:
+        for status in (0, 1, 5):
+            self.assertEqual(self.audit(status), {"refusals": []})
+
+    def test_one_that_failed_is_a_failure(self) -> None:
+        for status in (2, 3, 4):
+            with self.assertRaises(RuntimeError):
+                self.audit(status)
 
 
 if __name__ == "__main__":

@@ -2,7 +2,9 @@
 
 from __future__ import annotations
 
+import random
 import unittest
+from collections.abc import Callable
 
 from landaudit_record.recorder.disk import Disk, Seen
 from landaudit_record.recorder.names import Found, Names, Node
@@ -21,6 +23,34 @@ DISK = {
 }
 
 
+NAMES = ("a", "b", "moved", "lib", "x.so")
+
+
+def some_path(chance: random.Random) -> str:
+    """A path of a few names, in which links and ways back up may be."""
+    names = [chance.choice([*NAMES, *NAMES, "..", "..", "far"]) for _ in range(chance.randrange(1, 4))]
+    start = chance.choice(["", "/w/", "/w/a/../", "/w/b/", "/usr/", "/far/"])
+    return start + "/".join(names)
+
+
+def change(chance: random.Random) -> Callable[[Names], None]:
+    """Something that a run does to names."""
+    one, other = (chance.choice(["/w/", "/w/a/", "/usr/", "/usr/lib/"]) + chance.choice(NAMES) for _ in range(2))
+    made, target = chance.choice(["dir", "dir", "reg", "sym"]), some_path(chance)
+    match chance.randrange(4):
+        case 0:
+            return lambda names: names.put(one, None)
+        case 1:
+            return lambda names: names.exchange(one, other) if not (one + other).count("/w/a") else None
+        case 2:
+            return lambda names: names.move(one, other) if one == "/w/a" and "/w/a/" not in other else None
+    return lambda names: names.put(one, Node(made, target if made == "sym" else None))
+
+
+def kind(found: Found) -> str | None:
+    return None if found.node is None else found.node.kind
+
+
 class Paths(unittest.TestCase):
     def setUp(self) -> None:
         self.names = Names(Disk(0.0, DISK), {}, [])
@@ -29,8 +59,9 @@ class Paths(unittest.TestCase):
     def find(self, path: str, follow: bool = True, directory: str = "/w", root: str = "/") -> Found:
         return self.names.find(root, directory, path, follow, self)
 
-    def magic(self, path: str) -> str | None:
+    def magic(self, path: str) -> tuple[str, Node | None] | None:
         """Nothing here is a link of /proc."""
+        return None
 
     def passed(self, path: str, node: Node) -> None:
         """Keeps the links that were followed."""
@@ -84,6 +115,37 @@ class Paths(unittest.TestCase):
         self.names.exchange("/w/d", "/usr/lib/x.so")
         self.assertEqual(getattr(self.names.at("/w/d"), "kind", None), "reg")
         self.assertEqual(getattr(self.names.at("/usr/lib/x.so"), "kind", None), "dir")
+
+    def test_a_path_breaks_off_where_a_file_was_before(self) -> None:
+        self.names.put("/w/a", Node("reg"))
+        self.find("a/../x")
+        self.names.put("/w/a", None)
+        self.assertEqual(self.find("a/../x").path, "/w/a/../x")
+
+    def test_a_path_leads_on_where_a_directory_is_in_place_of_a_file(self) -> None:
+        self.names.put("/w/moved", Node("reg"))
+        self.assertEqual(self.find("moved/in/x").broken, 2)
+        self.names.put("/w/moved", None)
+        self.names.ensure("/w/moved", "dir")
+        self.assertEqual(self.find("moved/in/x").broken, 3)
+
+    def test_a_path_leads_where_it_does_whoever_was_asked_before(self) -> None:
+        for seed in range(8):
+            chance, done = random.Random(seed), []
+            for _ in range(40):
+                done.append(change(chance))
+                done[-1](self.names)
+                fresh = Names(Disk(0.0, DISK), {}, [])
+                for one in done:
+                    one(fresh)
+                for path in (some_path(chance) for _ in range(8)):
+                    follow, directory = chance.random() < 0.5, chance.choice(["/w", "/usr/lib", "/w/a"])
+                    known = self.find(path, follow, directory)
+                    new = fresh.find("/", directory, path, follow, self)
+                    self.assertEqual((known.path, known.broken, kind(known)), (new.path, new.broken, kind(new)), path)
+                    at, again = self.names.at(known.path), fresh.at(known.path)
+                    self.assertEqual(at and at.kind, again and again.kind)
+            self.setUp()
 
     def test_what_stood_before_the_run_counts_in_a_watched_directory(self) -> None:
         names = Names(Disk(0.0, DISK), {"/w/gone": Seen("fifo")}, ["/w"])

@@ -334,6 +334,8 @@ class Names:
 
     def keep_way(self, way: "_Way", led: Found) -> None:
         """Keeps where the path of a directory led; where it broke off, until anything changes at that place."""
+        if len(self._walked) == values.KEPT:
+            self._forget_ways()
         self._walked[way] = led
         if led.broken is not None:
             self._breaks.update(led.names[max(led.broken - 1, 0) : led.broken + 1])
@@ -371,7 +373,7 @@ class _Walk:
                 self._go_to(self._here[: max(len(self._here) - 1, len(self._top))])
             elif self._node is None or self._node.kind != "dir" or not self._step(self._node, name):
                 names = [*self._here, name, *reversed(self._left)]
-                if self._keeps:
+                if self._keeps and self._node is not None:
                     self._keep_way(names[:-1], len(self._here))
                 return Found(names, None, len(self._here))
         return Found(self._here, self._node, None if self._node is not None else max(len(self._here) - 1, 0))

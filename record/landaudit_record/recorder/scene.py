@@ -47,13 +47,15 @@ class Spot:
     @property
     def path(self) -> str:
         """The text in the trace: the object's name in the tree, or one that nothing ever has."""
-        if self._text is None:
+        text = self._text
+        if text is None:
             if self.node is not None:
-                self._text = self.tree.place(self.real, self.node)
+                text = self.tree.place(self.real, self.node)
             else:
                 names = split(self.real)
-                self._text = self.tree.gap(join(names[: self.broken]), names[self.broken :])
-        return self._text
+                text = self.tree.gap(join(names[: self.broken]), names[self.broken :])
+            self._text = text
+        return text
 
     @property
     def in_directory(self) -> bool:
@@ -204,8 +206,7 @@ class Scene:
 
     def descriptor(self, argument: str) -> Descriptor:
         """A descriptor of a call."""
-        found = values.descriptor(argument)
-        if found is None:
+        if (found := values.descriptor(argument)) is None:
             raise CannotSay("a descriptor that is not understood")
         return found
 

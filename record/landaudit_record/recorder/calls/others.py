@@ -36,7 +36,9 @@ def opening(handler: Handler, base: int | None, path: int) -> Handler:
     """The handler of a call that opens files, which counts those of another process."""
 
     def opened(scene: Scene, thread: Thread, call: Call) -> None:
-        whole = _whole_path(scene, thread, call, base, path)
+        whole = values.text(call.arguments[path]) or ""
+        if not whole.startswith("/"):
+            whole = f"{_directory(scene, thread, call, base)}/{whole}"
         if whole.startswith(PROC) and _is_guarded(scene, thread, whole) and _may_be_refused(call):
             if call.error is not None and thread.layers:
                 raise CannotSay(INTO_ANOTHER)
@@ -50,13 +52,10 @@ def _may_be_refused(call: Call) -> bool:
     return call.ok or call.error == "EACCES"
 
 
-def _whole_path(scene: Scene, thread: Thread, call: Call, base: int | None, path: int) -> str:
-    """The path that a call was given, from the root."""
-    text = values.text(call.arguments[path]) or ""
-    if text.startswith("/"):
-        return text
+def _directory(scene: Scene, thread: Thread, call: Call, base: int | None) -> str:
+    """The directory from which a call's path leads on."""
     directory = arguments.descriptor_at(scene, call, base)
-    return f"{(directory.path if directory else None) or thread.place.directory}/{text}"
+    return (directory.path if directory else None) or thread.place.directory
 
 
 def _is_guarded(scene: Scene, thread: Thread, path: str) -> bool:
