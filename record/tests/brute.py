@@ -117,7 +117,9 @@ class Pair:
         assert status in (0, 1), errors
         return covering.read(status, out, str(paths[0]), str(paths[1]), ABIS)
 
-    def passing(self, program: Path, folder: Path, kinds: Kinds, calls: Sequence[Call]) -> Iterator[tuple[Call, Abis, Abis]]:
+    def passing(
+        self, program: Path, folder: Path, kinds: Kinds, calls: Sequence[Call]
+    ) -> Iterator[tuple[Call, Abis, Abis]]:
         """Each call on a tree, and at which ABIs the old policy lets it pass, and the new one."""
         asked = [record for call in calls for record in call.records]
         records: list[Record] = []
@@ -253,7 +255,8 @@ def units(policy: Policy, abi: int) -> Iterator[Unit]:
         for kind, family, words, rules in (("path", FS, layer.fs, layer.paths), ("port", NET, layer.net, layer.ports)):
             handled = meant(words, family) & family.known(abi)
             for place, rule in enumerate(rules, start=1):
-                yield from ((number, f"{kind} {place}", right) for right in family.ordered(meant(rule.words, family) & handled))
+                rights = family.ordered(meant(rule.words, family) & handled)
+                yield from ((number, f"{kind} {place}", right) for right in rights)
 
 
 def without(records: Iterable[Record], gone: Iterable[Unit]) -> list[Record]:
@@ -349,9 +352,11 @@ def main() -> int:
     wanted = parser.parse_args()
     program = landaudit.find(wanted.landaudit)
     faults = 0
+    of_pairs = "pairs: {calls:,} calls, {differ:,} differ, {faults:,} faults"
+    of_policies = "policies: {calls:,} records, {differ:,} rights are left, {faults:,} faults"
     for what, said, count, each in (
-        (compared, "pairs: {calls:,} calls, {differ:,} differ, {faults:,} faults", wanted.pairs, wanted.calls),
-        (tightened, "policies: {calls:,} records, {differ:,} rights are left, {faults:,} faults", wanted.policies, wanted.records),
+        (compared, of_pairs, wanted.pairs, wanted.calls),
+        (tightened, of_policies, wanted.policies, wanted.records),
     ):
         total = Tried(0, 0, [])
         for seed in range(wanted.first, wanted.first + count):
