@@ -28,6 +28,7 @@ if __name__ == "__main__":
 
 from landaudit_record import asking, cli, jsonl, landaudit  # noqa: E402
 from landaudit_record.jsonl import Record  # noqa: E402
+from landaudit_record.problems import Problem  # noqa: E402
 from landaudit_record.rights import FS, NET, NEWEST_ABI, OLDEST_ABI, alone  # noqa: E402
 from landaudit_record.trees import ROOT  # noqa: E402
 from tests import covering  # noqa: E402
@@ -44,6 +45,8 @@ RULES = 10
 APART = 1000
 """How far the numbers of processes are apart that are under different policies."""
 MOST_SHOWN = 3
+ENDED = 128
+"""From here on a status says that a signal ended the command, and so it ends this program."""
 Abis = frozenset[int]
 
 
@@ -78,6 +81,8 @@ def run(words: Sequence[str], program: cli.Program) -> tuple[int, str, str]:
     """The status of a command, and what it writes to standard output and to standard error."""
     with contextlib.redirect_stdout(io.StringIO()) as out, contextlib.redirect_stderr(io.StringIO()) as errors:
         status = cli.main(words, program)
+    if status >= ENDED:
+        sys.exit(status)
     return status, out.getvalue(), errors.getvalue()
 
 
@@ -350,7 +355,11 @@ def main() -> int:
         parser.add_argument(f"--{name}", type=int, default=value, help=f"{text} ({value} if it is left out)")
     parser.add_argument("--landaudit", metavar="PATH", help="landaudit itself")
     wanted = parser.parse_args()
-    program = landaudit.find(wanted.landaudit)
+    try:
+        program = landaudit.find(wanted.landaudit)
+    except Problem as problem:
+        print(problem, file=sys.stderr)
+        return problem.status
     faults = 0
     of_pairs = "pairs: {calls:,} calls, {differ:,} differ, {faults:,} faults"
     of_policies = "policies: {calls:,} records, {differ:,} rights are left, {faults:,} faults"
