@@ -57,7 +57,7 @@ Domain = tuple[Enforced, ...]
 
 
 class Question(NamedTuple):
-    """What is asked: the layers, the oldest first, and one call or two, of which the first opens what the second uses."""
+    """What is asked: layers, the oldest first, and one call, or two of which the first opens what the second uses."""
 
     domain: Domain
     calls: tuple[Call, ...]
@@ -106,7 +106,7 @@ class Distilling:
             for number, record in jsonl.numbered(trace):
                 answer = next(answers, b"")
                 if not answer.startswith(b"%d %d " % (number, record["pid"])):
-                    raise Problem(f"{report} is no report on {trace}: use landaudit and landaudit-record of one version")
+                    raise Problem(f"{report} is no report on {trace}: use programs of one version")
                 if answer.endswith(b" allowed\n"):
                     self._take(record)
                 elif b" refused " in answer and (origin := of_policy(record)) is not None:
@@ -169,10 +169,10 @@ def _refused(record: Record, origin: Mapping[str, Any]) -> Problem:
     """That the kernel refuses a call of the policy's own."""
     where = ", ".join([f"layer {origin['layer']}", *([origin["rule"]] if "rule" in origin else [])])
     if record["op"] == "add_path":
-        return Problem(f"{where}, parent {origin['parent']}: the kernel refuses this rule, as it is on no directory and has "
-                       "rights of directories alone: give it a rule of its own, with a group or rights of files")
-    return Problem(f"{where}: the kernel refuses its {record['op']}, as the program has too many layers of its own: try "
-                   "a policy of fewer layers")
+        return Problem(f"{where}, parent {origin['parent']}: the kernel refuses this rule, as it is on no directory "
+                       "and has rights of directories alone: give it a rule of its own, by a group or rights of files")
+    return Problem(f"{where}: the kernel refuses its {record['op']}, as the program has too many layers of its own: "
+                   "try a policy of fewer layers")
 
 
 def call_of(record: Record) -> Call:
@@ -184,5 +184,6 @@ def call_of(record: Record) -> Call:
 def text(call: Call, member: str, number: int) -> str:
     """A call as a line of a trace has it behind its process, with the number of its descriptor or its ruleset."""
     op, *values = call
-    said = [("op", op), *((name, value) for name, value in zip(_MEMBERS[op], values) if value is not None), (member, number)]
+    named = [(name, value) for name, value in zip(_MEMBERS[op], values) if value is not None]
+    said = [("op", op), *named, (member, number)]
     return ",".join(f'"{name}":{jsonl.value(list(of) if isinstance(of, tuple) else of)}' for name, of in said)

@@ -32,7 +32,8 @@ def _by_kind(rule: PathRule, layer: Layer, tree: Tree) -> Iterator[PathRule]:
     """A rule, or one for its directories and one for its files where its rights can't be in the same words for both."""
     access, handled = rule.allowed_access, layer.handled_access_fs.rights
     named = set(_words(access, FS, handled)) - set(FS.groups)
-    files = [parent for parent in rule.parents if tree.kind(tree.resolved(parent, before_run=True)) not in ("dir", None)]
+    kinds = {parent: tree.kind(tree.resolved(parent, before_run=True)) for parent in rule.parents}
+    files = [parent for parent, kind in kinds.items() if kind not in ("dir", None)]
     if not files or not (named - access.outright) - FILE_RIGHTS:
         yield rule
         return

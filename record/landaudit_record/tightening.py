@@ -10,6 +10,7 @@ from __future__ import annotations
 import tempfile
 from collections.abc import Collection, Iterable, Iterator, Mapping, Sequence
 from dataclasses import dataclass, replace
+from itertools import chain
 from pathlib import Path, PurePosixPath
 
 from . import landaudit
@@ -23,6 +24,10 @@ from .trying import Tried
 
 MOST_RECORDS = 900_000
 """How many records a trace is given at most; landaudit reads some more."""
+
+MOST_PROCESSES = 60_000
+MOST_QUESTIONS = 200_000
+"""How many questions are asked together under a policy."""
 
 Refused = frozenset[tuple[int, int]]
 """Questions that are refused: on which tree each was asked, and its number there."""
@@ -39,9 +44,9 @@ class Unit:
 
 @dataclass(frozen=True)
 class Tightened:
-    """A policy, how many calls need each right and each rule of it, how many rights were taken away, by how many audits.
+    """A policy, how many calls need each right and each rule of it, and how many rights were taken away.
 
-    An audit is counted by all that it was made for.
+    `audits` is how many there were so far, those for other policies too.
     """
 
     policy: Policy
@@ -76,15 +81,16 @@ def _layer_without(layer: Layer, gone: dict[tuple[int, str], set[str]]) -> Layer
         return Access(access.outright - taken, access.grouped - taken)
 
     handled = layer.handled_access_fs.rights | layer.handled_access_net.rights
+    rules = layer.path_beneath
     return replace(
         layer,
-        path_beneath=tuple(replace(it, allowed_access=left(it)) for it in layer.path_beneath if left(it).rights & handled),
+        path_beneath=tuple(replace(it, allowed_access=left(it)) for it in rules if left(it).rights & handled),
         net_port=tuple(replace(it, allowed_access=left(it)) for it in layer.net_port if left(it).rights & handled),
     )
 
 
 def _wide_first(policy: Policy, some: Iterable[Unit]) -> list[Unit]:
-    """Rights by how near to the root their rules are: of two rules that grant what a call needs the wider one goes."""
+    """Rights by how near to the root their rules are: of two rules that grant what is needed the wider goes."""
     depths = {
         (layer.number, rule.place): min(len(PurePosixPath(parent).parts) for parent in rule.parents)
         for layer in policy.layers
@@ -213,19 +219,25 @@ class Tightening:
         found: list[set[tuple[int, int]]] = [set() for _ in gone]
         for where, asked in enumerate(self._asked):
             whole = asked.tried.inserted(policy, self._abi)
-            trials = (
-                _Trial(choice, asked.tried.inserted(without(policy, some), self._abi), asked.touched(whole, some))
-                for choice, some in enumerate(gone)
-            )
-            for choice, number in self._tried(asked, trials):
+            trials = (self._trials(asked, policy, whole, choice, some) for choice, some in enumerate(gone))
+            for choice, number in self._tried(asked, chain.from_iterable(trials)):
                 found[choice].add((where, number))
         return [frozenset(refused) for refused in found]
+
+    def _trials(
+        self, asked: Asked, policy: Policy, whole: Sequence[Record], choice: int, some: Sequence[Unit]
+    ) -> Iterator[_Trial]:
+        """What is asked without some rights of a policy; `whole` are its records with them."""
+        questions = asked.touched(whole, some)
+        inserted = asked.tried.inserted(without(policy, some), self._abi) if questions else []
+        for first in range(0, len(questions), MOST_QUESTIONS):
+            yield _Trial(choice, inserted, questions[first : first + MOST_QUESTIONS])
 
     def _tried(self, asked: Asked, trials: Iterable[_Trial]) -> Iterator[tuple[int, int]]:
         """The questions that are refused, each with the choice that it is refused under."""
         trace = _Trace(asked)
         for trial in trials:
-            if trace.lines and len(trace.lines) + trace.weight(trial) > MOST_RECORDS:
+            if trace.lines and not trace.has_room(trial):
                 yield from self._judged(trace)
                 trace = _Trace(asked)
             trace.add(trial)
@@ -257,12 +269,13 @@ class _Trace:
         self.decided: dict[int, tuple[int, int]] = {}
         self._pid = 0
 
-    def weight(self, trial: _Trial) -> int:
-        """How many lines a trial has at most."""
+    def has_room(self, trial: _Trial) -> bool:
+        """Whether landaudit reads the trace with one trial more: a domain has no more lines than it is counted for."""
         domains = {self.asked.questions[number].domain for number in trial.questions}
         own = sum(1 + sum(len(trial.inserted) if isinstance(layer, int) else 3 + len(layer) for layer in domain)
                   for domain in domains)
-        return own + sum(len(self.asked.bodies[number]) for number in trial.questions)
+        lines = len(self.lines) + own + sum(len(self.asked.bodies[number]) for number in trial.questions)
+        return lines <= MOST_RECORDS and self._pid + len(domains) <= MOST_PROCESSES
 
     def add(self, trial: _Trial) -> None:
         """Adds the processes of a trial: one for all questions that are asked under the same layers."""

@@ -165,7 +165,9 @@ class Auditing:
                 judged = tried.write(policy or tried.policy, abis[-1], number, part)
             for files in judged:
                 self.progress.say(f"judging at ABI {span(abis)}{self._of_all(own)}")
-                self.status |= landaudit.audit(self.program, abis, *files, best_effort=self.best_effort, explain=explain)
+                self.status |= landaudit.audit(
+                    self.program, abis, *files, best_effort=self.best_effort, explain=explain
+                )
                 yield files
 
     def _of_all(self, part: Part) -> str:

@@ -28,6 +28,7 @@ if __name__ == "__main__":
 
 from landaudit_record import asking, cli, jsonl, landaudit  # noqa: E402
 from landaudit_record.jsonl import Record  # noqa: E402
+from landaudit_record.problems import Problem  # noqa: E402
 from landaudit_record.rights import FS, NET, NEWEST_ABI, OLDEST_ABI, alone  # noqa: E402
 from landaudit_record.trees import ROOT  # noqa: E402
 from tests import covering  # noqa: E402
@@ -44,6 +45,8 @@ RULES = 10
 APART = 1000
 """How far the numbers of processes are apart that are under different policies."""
 MOST_SHOWN = 3
+ENDED = 128
+"""From here on a status says that a signal ended the command, and so it ends this program."""
 Abis = frozenset[int]
 
 
@@ -78,6 +81,8 @@ def run(words: Sequence[str], program: cli.Program) -> tuple[int, str, str]:
     """The status of a command, and what it writes to standard output and to standard error."""
     with contextlib.redirect_stdout(io.StringIO()) as out, contextlib.redirect_stderr(io.StringIO()) as errors:
         status = cli.main(words, program)
+    if status >= ENDED:
+        sys.exit(status)
     return status, out.getvalue(), errors.getvalue()
 
 
@@ -117,7 +122,9 @@ class Pair:
         assert status in (0, 1), errors
         return covering.read(status, out, str(paths[0]), str(paths[1]), ABIS)
 
-    def passing(self, program: Path, folder: Path, kinds: Kinds, calls: Sequence[Call]) -> Iterator[tuple[Call, Abis, Abis]]:
+    def passing(
+        self, program: Path, folder: Path, kinds: Kinds, calls: Sequence[Call]
+    ) -> Iterator[tuple[Call, Abis, Abis]]:
         """Each call on a tree, and at which ABIs the old policy lets it pass, and the new one."""
         asked = [record for call in calls for record in call.records]
         records: list[Record] = []
@@ -253,7 +260,8 @@ def units(policy: Policy, abi: int) -> Iterator[Unit]:
         for kind, family, words, rules in (("path", FS, layer.fs, layer.paths), ("port", NET, layer.net, layer.ports)):
             handled = meant(words, family) & family.known(abi)
             for place, rule in enumerate(rules, start=1):
-                yield from ((number, f"{kind} {place}", right) for right in family.ordered(meant(rule.words, family) & handled))
+                rights = family.ordered(meant(rule.words, family) & handled)
+                yield from ((number, f"{kind} {place}", right) for right in rights)
 
 
 def without(records: Iterable[Record], gone: Iterable[Unit]) -> list[Record]:
@@ -347,11 +355,17 @@ def main() -> int:
         parser.add_argument(f"--{name}", type=int, default=value, help=f"{text} ({value} if it is left out)")
     parser.add_argument("--landaudit", metavar="PATH", help="landaudit itself")
     wanted = parser.parse_args()
-    program = landaudit.find(wanted.landaudit)
+    try:
+        program = landaudit.find(wanted.landaudit)
+    except Problem as problem:
+        print(problem, file=sys.stderr)
+        return problem.status
     faults = 0
+    of_pairs = "pairs: {calls:,} calls, {differ:,} differ, {faults:,} faults"
+    of_policies = "policies: {calls:,} records, {differ:,} rights are left, {faults:,} faults"
     for what, said, count, each in (
-        (compared, "pairs: {calls:,} calls, {differ:,} differ, {faults:,} faults", wanted.pairs, wanted.calls),
-        (tightened, "policies: {calls:,} records, {differ:,} rights are left, {faults:,} faults", wanted.policies, wanted.records),
+        (compared, of_pairs, wanted.pairs, wanted.calls),
+        (tightened, of_policies, wanted.policies, wanted.records),
     ):
         total = Tried(0, 0, [])
         for seed in range(wanted.first, wanted.first + count):

@@ -45,9 +45,11 @@ class Area:
         found = _AREA.fullmatch(text)
         assert found is not None, text
         out = found[2].split(", ") if found[2] else []
-        ending = {end: frozenset(it.removesuffix(end) for it in out if it.endswith(end)) for end in (" as a file", " itself")}
-        whole = frozenset(it for it in out if not it.endswith(tuple(ending)))
-        return cls(found[1], whole, ending[" as a file"], ending[" itself"])
+        as_file, itself = (
+            frozenset(it.removesuffix(end) for it in out if it.endswith(end)) for end in (" as a file", " itself")
+        )
+        whole = frozenset(it for it in out if not it.endswith((" as a file", " itself")))
+        return cls(found[1], whole, as_file, itself)
 
     def covers(self, path: str) -> bool:
         """Whether a path is under the area's top and not under what it is without."""

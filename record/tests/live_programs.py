@@ -38,9 +38,11 @@ PROGRAMS = {
     "gzip": "gzip -k in && gzip -dc in.gz && rm in.gz",
     "ls": "ls -R d && ls -d in new",
     "make": "make -s all && cat one && make -s clean",
-    "openssl": "openssl dgst -sha256 in && openssl enc -aes-128-cbc -pass pass:x -pbkdf2 -nosalt -in in -out e && wc -c e",
+    "openssl": "openssl dgst -sha256 in && "
+               "openssl enc -aes-128-cbc -pass pass:x -pbkdf2 -nosalt -in in -out e && wc -c e",
     "perl": "perl -pi -e 's/b/B/' in && perl -MFile::Find -e 'find(sub { print \"$_\\n\" if -f }, \"d\")' | sort",
-    "python": f"{PYTHON} -B -c 'import json, shutil; shutil.copytree(\"d\", \"c\"); print(json.dumps(open(\"in\").read()))'",
+    "python": f"{PYTHON} -B -c 'import json, shutil; shutil.copytree(\"d\", \"c\"); "
+              "print(json.dumps(open(\"in\").read()))'",
     "sed": "sed -i -e s/a/A/ in && cat in",
     "sort": "sort -o out in && uniq -c out && join in new; comm out new",
     "sqlite": "sqlite3 db 'create table t (a); insert into t values (1), (2); select sum(a) from t' && rm db",
@@ -73,13 +75,15 @@ class LivePrograms(unittest.TestCase):
         """The folder in which programs work, as it is before each of them."""
         shutil.rmtree(self.work, ignore_errors=True)
         (self.work / "d" / "e").mkdir(parents=True)
-        for name, text in (("in", "b\na\nc\n"), ("new", "a\nb\n"), ("m.c", SOURCE), ("Makefile", MAKEFILE), ("d/one", "one\n"),
-                           ("d/e/two", "two\n")):
+        for name, text in (("in", "b\na\nc\n"), ("new", "a\nb\n"), ("m.c", SOURCE), ("Makefile", MAKEFILE),
+                           ("d/one", "one\n"), ("d/e/two", "two\n")):
             (self.work / name).write_text(text)
 
     def run_in_work(self, words: Sequence[str | Path]) -> subprocess.CompletedProcess[str]:
         environment = {**ENVIRONMENT, "HOME": str(self.work), "TMPDIR": str(self.work)}
-        return subprocess.run(words, cwd=self.work, capture_output=True, text=True, env=environment, stdin=subprocess.DEVNULL)
+        return subprocess.run(
+            words, cwd=self.work, capture_output=True, text=True, env=environment, stdin=subprocess.DEVNULL, check=False
+        )
 
     def done(self, *words: str | Path) -> tuple[Done, str]:
         """What a program does in a new folder, and what it says on standard error."""

@@ -124,7 +124,8 @@ class Caller:
         return Call(({"op": "open", "path": path, "mode": mode, "fd": fd, "trunc": trunc},), tuple(asked))
 
     def _by_mode(self, mode: str, path: str, is_file: bool) -> list[Right]:
-        return [Right(name, path, is_file) for letter, name in (("r", "read_file"), ("w", "write_file")) if letter in mode]
+        named = (("r", "read_file"), ("w", "write_file"))
+        return [Right(name, path, is_file) for letter, name in named if letter in mode]
 
     def _file(self, fd: int) -> Call | None:
         path = self.some(("reg",))
@@ -145,14 +146,14 @@ class Caller:
             return None
         mode, judged = self.of.choice(("r", "w", "rw")), self.of.random() < 0.8
         asked = self._by_mode(mode, path, is_file=True) + ([Right("ioctl_dev", path, True)] if judged else [])
-        return Call(
-            ({"op": "open", "path": path, "mode": mode, "fd": fd}, {"op": "ioctl", "fd": fd, "driver": judged}), tuple(asked)
-        )
+        opened: Record = {"op": "open", "path": path, "mode": mode, "fd": fd}
+        return Call((opened, {"op": "ioctl", "fd": fd, "driver": judged}), tuple(asked))
 
     def _create(self, fd: int) -> Call:
         path, mode = self.new(), self.of.choice(("r", "w", "rw"))
         over = directory_of(path)
-        made: Record = {"op": "open", "path": path, "mode": mode, "fd": fd, "create": True, "trunc": self.of.random() < 0.5}
+        made: Record = {"op": "open", "path": path, "mode": mode, "fd": fd, "create": True}
+        made["trunc"] = self.of.random() < 0.5
         asked = [_making("reg", over), *self._by_mode(mode, over, is_file=False)]
         if "w" in mode and self.of.random() < 0.5:
             return Call((made, {"op": "ftruncate", "fd": fd}), (*asked, Right("truncate", over)))

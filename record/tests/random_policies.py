@@ -60,7 +60,9 @@ class Layer:
     def toml(self) -> Iterator[str]:
         """The layer's lines in a policy's file."""
         yield "[[layer]]"
-        yield from (f"handled_access_{key} = {_listed(words)}" for key, words in (("fs", self.fs), ("net", self.net)) if words)
+        for key, words in (("fs", self.fs), ("net", self.net)):
+            if words:
+                yield f"handled_access_{key} = {_listed(words)}"
         for table, place, rules in (("path_beneath", "parent", self.paths), ("net_port", "port", self.ports)):
             for rule in rules:
                 yield f"[[layer.{table}]]\nallowed_access = {_listed(rule.words)}\n{place} = {_listed(rule.on)}"
@@ -73,11 +75,12 @@ class Layer:
             for path in map(plain, map(str, rule.on)):
                 rights = _granted(rule.words, handled, kinds.get(path))
                 if path in kinds and rights:
-                    yield {"op": "add_path", "rs": RULESET, "path": path, "fs": FS.ordered(rights), "rule": f"path {number}"}
+                    of_rule: Record = {"op": "add_path", "rs": RULESET, "path": path, "rule": f"path {number}"}
+                    yield {**of_rule, "fs": FS.ordered(rights)}
         for number, rule in enumerate(self.ports, start=1):
             for port in rule.on:
-                rights = meant(rule.words, NET) & handled_net
-                yield {"op": "add_port", "rs": RULESET, "port": port, "net": NET.ordered(rights), "rule": f"port {number}"}
+                of_rule = {"op": "add_port", "rs": RULESET, "port": port, "rule": f"port {number}"}
+                yield {**of_rule, "net": NET.ordered(meant(rule.words, NET) & handled_net)}
         yield {"op": "restrict", "rs": RULESET}
         yield {"op": "close_rs", "rs": RULESET}
 
@@ -97,8 +100,9 @@ def _granted(words: Sequence[str], handled: Rights, kind: str | None) -> Rights:
     return named | (groups if kind == "dir" else groups & FILE_RIGHTS)
 
 
-def _is_taken(rights: Rights, kind: str | None) -> bool:
-    """Whether the kernel takes a rule with these rights on an object."""
+def _is_taken(rule: Rule, layer: Layer, kind: str | None) -> bool:
+    """Whether the kernel takes a rule on an object of a kind."""
+    rights = _granted(rule.words, meant(layer.fs, FS), kind)
     return kind in ("dir", None) or bool(rights) and rights <= FILE_RIGHTS
 
 
@@ -127,11 +131,9 @@ class Policy:
         """The policy without rules on files that the kernel refuses: those with none of their rights, or others."""
         layers = []
         for layer in self.layers:
-            handled = meant(layer.fs, FS)
             rules = []
             for rule in layer.paths:
-                on = tuple(path for path in rule.on if _is_taken(_granted(rule.words, handled, kinds.get(plain(str(path)))),
-                                                                 kinds.get(plain(str(path)))))
+                on = tuple(path for path in rule.on if _is_taken(rule, layer, kinds.get(plain(str(path)))))
                 rules.append(replace(rule, on=on))
             layers.append(replace(layer, paths=tuple(rules)).mended())
         return Policy(tuple(layers))

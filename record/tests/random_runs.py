@@ -40,7 +40,7 @@ class Run:
             self._start()
         for _ in range(count):
             pid = self.of.choice(list(self.open))
-            for call, record in enumerate(self._call(pid)):
+            for record in self._call(pid):
                 self._add(pid, record)
         return self
 
@@ -58,8 +58,8 @@ class Run:
         self._add(pid, {"op": "exec", "path": PROGRAM, "call": call})
 
     def _call(self, pid: int) -> Iterator[Record]:
-        kind = self.of.choice(("open",) * 6 + ("path",) * 10 + ("use",) * 6 + ("close",) * 2 + ("dup", "dup", "fork", "own"))
-        match kind:
+        often = ("open",) * 6 + ("path",) * 10 + ("use",) * 6 + ("close",) * 2
+        match self.of.choice((*often, "dup", "dup", "fork", "own")):
             case "open":
                 yield from self._open(pid)
             case "path":

@@ -1,4 +1,4 @@
-"""Policies compared on every tree: regions in words, the command as it is called, and random policies by random calls."""
+"""Policies compared on every tree: regions in words, the command as it is called, random policies by random calls."""
 
 from __future__ import annotations
 
@@ -97,8 +97,9 @@ class Differing(unittest.TestCase):
         self.assertEqual(self.said(OLD, other + OLD)[0], 0)
 
     def test_rights_by_region_ports_and_moves(self) -> None:
+        port = '[[layer.net_port]]\nallowed_access = ["connect_tcp"]\nport = 443\n'
         new = OLD.replace('parent = ["/srv", "/data/shared"]', 'parent = ["/srv", "/data"]').replace(
-            '"read", "write"]', '"read", "write", "execute"]') + '[[layer.net_port]]\nallowed_access = ["connect_tcp"]\nport = 443\n'
+            '"read", "write"]', '"read", "write", "execute"]') + port
         status, lines, _ = self.said(OLD, new, "--abi", "4-5")
         self.assertEqual(status, 1)
         self.assertEqual(lines[0], "new lets pass what old refuses:")
@@ -115,7 +116,8 @@ class Differing(unittest.TestCase):
 
     def test_less_is_no_fault(self) -> None:
         status, lines, _ = self.said(OLD, OLD + "[[layer]]\nhandled_access_fs = [\"read_dir\"]\n")
-        self.assertEqual((status, lines[0], lines[1]), (0, "new lets nothing pass that old refuses", "old lets pass what new refuses:"))
+        heads = ["new lets nothing pass that old refuses", "old lets pass what new refuses:"]
+        self.assertEqual((status, lines[:2]), (0, heads))
         self.assertIn("  read_dir under /data/in", lines)
 
     def test_mounts_and_ports_without_a_rule(self) -> None:
@@ -148,7 +150,7 @@ class Differing(unittest.TestCase):
         rule = f'[[layer.path_beneath]]\nallowed_access = ["read"]\nparent = "{self.folder}/link"\n'
         status, _, errors = self.said(OLD, OLD + rule)
         self.assertEqual(status, 1)
-        told = "landaudit-policy: note: new: layer 1, path_beneath 4: link leads to /usr here, and is compared by its name"
+        told = "landaudit-policy: note: new: layer 1, path_beneath 4: link leads to /usr here, and is compared by its"
         self.assertTrue(errors.startswith(told), errors)
 
     def test_what_does_not_read(self) -> None:
@@ -156,8 +158,9 @@ class Differing(unittest.TestCase):
 
     def test_ports_but_for_one_with_a_rule(self) -> None:
         """Every port is not every port where one with a rule does not differ."""
-        on = '[[layer]]\nhandled_access_net = ["bind_tcp"]\n[[layer.net_port]]\nallowed_access = ["bind_tcp"]\nport = 80\n'
-        _, lines, _ = self.said(on, '[[layer]]\nhandled_access_net = ["connect_tcp"]\n', "--abi", "5")
+        rule = '[[layer.net_port]]\nallowed_access = ["bind_tcp"]\nport = 80\n'
+        on = '[[layer]]\nhandled_access_net = ["bind_tcp"]\n'
+        _, lines, _ = self.said(on + rule, '[[layer]]\nhandled_access_net = ["connect_tcp"]\n', "--abi", "5")
         self.assertIn("  bind_tcp on every port, but for port 80", lines)
         self.assertIn("  connect_tcp on every port", lines)
 

@@ -36,7 +36,8 @@ class Distilled(unittest.TestCase):
             trace = write_lines(Path(folder, "trace.jsonl"), lines)
             report = Path(folder, "report.txt")
             said = ["refused EACCES 1" if at in refused else "allowed" for at in range(1, len(lines) + 1)]
-            rows = [f"{at} {line['pid']} {line['op']} {answer}" for at, (line, answer) in enumerate(zip(lines, said), start=1)]
+            numbered = enumerate(zip(lines, said), start=1)
+            rows = [f"{at} {line['pid']} {line['op']} {answer}" for at, (line, answer) in numbered]
             report.write_text("\n".join([*rows, "total"]) + "\n")
             found = Distilling()
             found.follow(trace, report)
@@ -57,15 +58,19 @@ class Distilled(unittest.TestCase):
         """By another number, in a child, and not by one that was opened again."""
         calls: list[Record] = [
             opened(WRITE, 3), {"op": "dup", "fd": 3, "to": 5}, {"op": "fork", "child": 11}, {"op": "close", "fd": 3},
-            {"op": "adopt", "fd": 3, "kind": "reg"}, {"op": "ftruncate", "fd": 3}, {"pid": 11, "op": "ftruncate", "fd": 3},
-            {"pid": 11, "op": "ftruncate", "fd": 5},
+            {"op": "adopt", "fd": 3, "kind": "reg"}, {"op": "ftruncate", "fd": 3},
+            {"pid": 11, "op": "ftruncate", "fd": 3}, {"pid": 11, "op": "ftruncate", "fd": 5},
         ]
         used = Question((1,), (WRITE, ("ftruncate",)))
         self.assertEqual(self.asked(START, *OF_POLICY, *calls), {Question((1,), (WRITE,)): 1, used: 2})
 
     def test_a_descriptor_is_judged_by_the_layers_that_were_there_when_it_was_opened(self) -> None:
-        own: list[Record] = [{"op": "create", "rs": 7, "fs": ["truncate"]}, {"op": "add_path", "rs": 7, "path": "/g", "fs": ["truncate"]},
-                             {"op": "restrict", "rs": 7}, {"op": "close_rs", "rs": 7}]
+        own: list[Record] = [
+            {"op": "create", "rs": 7, "fs": ["truncate"]},
+            {"op": "add_path", "rs": 7, "path": "/g", "fs": ["truncate"]},
+            {"op": "restrict", "rs": 7},
+            {"op": "close_rs", "rs": 7},
+        ]
         found = self.asked(START, *OF_POLICY, opened(WRITE, 3), *own, {"op": "ftruncate", "fd": 3}, opened(READ, 4))
         layer = (("create", ("truncate",), None), ("add_path", "/g", ("truncate",)))
         self.assertEqual(found, {Question((1,), (WRITE,)): 1, Question((1,), (WRITE, ("ftruncate",))): 1,
@@ -76,13 +81,14 @@ class Distilled(unittest.TestCase):
         self.assertEqual(found, {Question((1,), (WRITE, ("ftruncate",))): 1})
 
     def test_what_a_question_is_about(self) -> None:
-        move = Question((1,), (("rename", "/a/f", "/b/g", None),))
-        self.assertEqual([list(it.about) for it in (move, Question((1,), (("connect", 80),)), Question((1,), (("mount",),)))],
-                         [["/a/f", "/b/g"], [80], []])
+        calls = (("rename", "/a/f", "/b/g", None), ("connect", 80), ("mount",))
+        about = [list(Question((1,), (call,)).about) for call in calls]
+        self.assertEqual(about, [["/a/f", "/b/g"], [80], []])
 
     def test_a_call_as_a_line_has_it(self) -> None:
         self.assertEqual(text(WRITE, "fd", 9), '"op":"open","path":"/g","mode":"w","fd":9')
-        self.assertEqual(text(("create", ("read_file",), ()), "rs", 1), '"op":"create","fs":["read_file"],"net":[],"rs":1')
+        created = '"op":"create","fs":["read_file"],"net":[],"rs":1'
+        self.assertEqual(text(("create", ("read_file",), ()), "rs", 1), created)
 
     def test_a_policy_that_the_kernel_refuses(self) -> None:
         rule: Record = {"op": "add_path", "rs": 1, "path": "/f", "fs": ["read_dir"],

@@ -171,8 +171,8 @@ port = [80, 443]
 
     def rules(self, *rules: tuple[str, str]) -> str:
         """A policy that handles all, with rules that have rights and parents, each as TOML has it."""
-        head = '[[layer]]\nhandled_access_fs = ["all"]\n'
-        return head + "".join(f"[[layer.path_beneath]]\nallowed_access = {rights}\nparent = {parent}\n" for rights, parent in rules)
+        texts = (f"[[layer.path_beneath]]\nallowed_access = {rights}\nparent = {parent}\n" for rights, parent in rules)
+        return '[[layer]]\nhandled_access_fs = ["all"]\n' + "".join(texts)
 
     def left(self, text: str, *folders: Path) -> list[tuple[str, ...]]:
         """The rules on paths that are left of a policy: the parents of each behind its rights."""
@@ -200,8 +200,9 @@ port = [80, 443]
     def test_a_rule_of_which_nothing_is_left_for_a_file_is_not_written_for_it(self) -> None:
         """Of the group `write` the layer handles nothing that a file can have once `truncate` is gone."""
         one = self.recording("one", TREE, [{"op": "exec", "path": PROGRAM}, CALLS[3]])
-        self.assertEqual(self.left('[[layer]]\nhandled_access_fs = ["make_dir", "make_sym", "truncate"]\n[[layer.path_beneath]]\n'
-                                   'allowed_access = ["write"]\nparent = ["/a/f", "/a"]\n', one), [("make_dir", "/a")])
+        handled = '[[layer]]\nhandled_access_fs = ["make_dir", "make_sym", "truncate"]\n'
+        rule = '[[layer.path_beneath]]\nallowed_access = ["write"]\nparent = ["/a/f", "/a"]\n'
+        self.assertEqual(self.left(handled + rule, one), [("make_dir", "/a")])
 
     def test_calls_on_a_number_that_another_refusal_would_leave_open_on_something_else(self) -> None:
         """Were /a/f refused, the number 6 would stay open on /a/g, and the call on it would need a right there.
@@ -209,8 +210,13 @@ port = [80, 443]
         Nothing refuses /a/g while it has two rules.
         """
         tree = [*TREE, {"path": "/a/g", "kind": "reg"}]
-        opened: list[Record] = [{"op": "open", "path": f"/a/{name}", "fd": fd, "mode": "w"} for name, fd in (("g", 6), ("f", 5))]
-        calls: list[Record] = [{"op": "exec", "path": PROGRAM}, *opened, {"op": "dup", "fd": 5, "to": 6}, {"op": "ftruncate", "fd": 6}]
+        calls: list[Record] = [
+            {"op": "exec", "path": PROGRAM},
+            {"op": "open", "path": "/a/g", "fd": 6, "mode": "w"},
+            {"op": "open", "path": "/a/f", "fd": 5, "mode": "w"},
+            {"op": "dup", "fd": 5, "to": 6},
+            {"op": "ftruncate", "fd": 6},
+        ]
         rules = self.rules(('["execute"]', f'"{PROGRAM}"'), ('["write_file"]', '"/a/f"'), ('["write_file"]', '"/a/g"'),
                            ('["write_file"]', '"/a/g"'), ('["truncate"]', '"/a/f"'), ('["truncate"]', '"/a/g"'))
         wanted = [("execute", PROGRAM), ("write_file", "/a/f"), ("write_file", "/a/g"), ("truncate", "/a/f")]
@@ -221,15 +227,21 @@ port = [80, 443]
         tree = [*TREE, {"path": "/b", "kind": "dir"}]
         calls: list[Record] = [{"op": "exec", "path": PROGRAM}, {"op": "link", "from": "/a/f", "to": "/b/new"}]
         self.policy.write_text(self.rules(('["execute"]', f'"{PROGRAM}"'), ('["make_reg", "refer"]', '["/a", "/b"]')))
-        rows = [line.split()[:2] for line in self.said("--list", self.recording("one", tree, calls))[1].splitlines()[1:]]
+        _, out, _ = self.said("--list", self.recording("one", tree, calls))
+        rows = [line.split()[:2] for line in out.splitlines()[1:]]
         self.assertEqual(rows, [["1", right] for right in ("execute", "make_reg", "refer")])
 
     def test_a_layer_of_the_programs_own_is_there_for_what_comes_behind_it(self) -> None:
         """What the program's own layer refuses needs no right of the policy."""
-        own: list[Record] = [{"op": "create", "rs": 1, "fs": ["read_file"]}, {"op": "restrict", "rs": 1}, {"op": "close_rs", "rs": 1}]
+        own: list[Record] = [
+            {"op": "create", "rs": 1, "fs": ["read_file"]},
+            {"op": "restrict", "rs": 1},
+            {"op": "close_rs", "rs": 1},
+        ]
         calls = [{"op": "exec", "path": PROGRAM}, *own, CALLS[2], CALLS[3]]
         rules = self.rules(('["execute"]', f'"{PROGRAM}"'), ('["read_file", "make_dir"]', '"/a"'))
-        self.assertEqual(self.left(rules, self.recording("one", TREE, calls)), [("execute", PROGRAM), ("make_dir", "/a")])
+        wanted = [("execute", PROGRAM), ("make_dir", "/a")]
+        self.assertEqual(self.left(rules, self.recording("one", TREE, calls)), wanted)
 
     def test_a_policy_of_sixteen_layers(self) -> None:
         self.policy.write_text(self.rules(('["read_file", "execute"]', '"/"')) * 16)

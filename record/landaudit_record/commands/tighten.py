@@ -3,12 +3,13 @@
 from __future__ import annotations
 
 import argparse
+from collections import Counter
 from collections.abc import Iterable, Iterator
 from dataclasses import replace
 from pathlib import Path
 
 from .. import comments, landaudit, policies, policy_text, together
-from ..distilling import Distilling
+from ..distilling import Distilling, Question
 from ..options import add_abi, add_as_recorded, add_landaudit, add_program, add_recordings
 from ..policies import Policy
 from ..problems import WANTING, Problem
@@ -44,12 +45,13 @@ def run(arguments: argparse.Namespace) -> int:
     together.note_policy(members, alone(arguments.abi))
     tried = [member.tried for member in members if member.tried is not None]
     with together.audits(members, program, NAME, best_effort=not arguments.as_recorded) as audits:
-        asked = [of for audit, one in zip(audits, tried) for of in _asked(audit, one, policy, arguments.abi)]
+        counted = [_questions(audit, one, policy, arguments.abi) for audit, one in zip(audits, tried)]
+        asked = [Asked.of(one, tree, found) for one, of in zip(tried, counted) for tree, found in of.items()]
         audits[0].progress.say("trying each right")
         done = _tightened(Tightening(program, arguments.abi, asked, best_effort=not arguments.as_recorded), policy,
                           None if arguments.list else _tree_of(tried))
-        again = [of for audit, one in zip(audits, tried) for of in _asked(audit, one, done.policy, arguments.abi)]
-        if [dict(of.counted) for of in asked] != [dict(of.counted) for of in again]:
+        again = [_questions(audit, one, done.policy, arguments.abi) for audit, one in zip(audits, tried)]
+        if again != counted:
             raise Problem("of the recordings something more is refused without what no call needs: report this fault",
                           WANTING)
     together.note_missing(members)
@@ -76,13 +78,13 @@ def _tree_of(tried: Iterable[Tried]) -> Tree:
     return tree
 
 
-def _asked(audit: Auditing, tried: Tried, policy: Policy, abi: int) -> Iterator[Asked]:
+def _questions(audit: Auditing, tried: Tried, policy: Policy, abi: int) -> dict[Path, Counter[Question]]:
     """What a recording asks a policy, for each tree by itself."""
     by_tree: dict[Path, Distilling] = {}
     for files in audit.judged(alone(abi), tried, policy, explain=False):
         audit.progress.say("reading what is asked")
         by_tree.setdefault(files.tree, Distilling()).follow(files.trace, files.report)
-    yield from (Asked.of(tried, tree, found.questions) for tree, found in by_tree.items())
+    return {tree: found.questions for tree, found in by_tree.items()}
 
 
 def _toml(policy: Policy, done: Tightened) -> Iterator[str]:
