@@ -174,7 +174,7 @@ class Words(unittest.TestCase):
         return status, error.getvalue()
 
     def test_no_command(self) -> None:
-        hint = "landaudit-policy: give a command behind '--', as 'landaudit-policy confine policy.toml -- ls'\n"
+        hint = "landaudit-policy: give a command after '--', as in 'landaudit-policy confine policy.toml -- ls'\n"
         self.assertEqual(self.said("confine", "P.toml"), (2, hint))
 
     def test_no_policy(self) -> None:
@@ -185,7 +185,7 @@ class Words(unittest.TestCase):
         with tempfile.TemporaryDirectory() as folder, mock.patch.object(confining, "known_abi", lambda asked: asked):
             policy = Path(folder, "P.toml")
             policy.write_text('[[layer]]\nhandled_access_fs = ["all"]\n')
-            told = (4, "landaudit-policy: no-such-command is not found, or is no program\n")
+            told = (4, "landaudit-policy: no-such-command is not found, or is not a program\n")
             self.assertEqual(self.said("confine", str(policy), "--", "no-such-command"), told)
 
 
