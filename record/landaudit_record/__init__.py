@@ -6,7 +6,7 @@ landaudit-policy, beside it, is for what needs no recording. Both programs are o
 import sys
 from pathlib import Path
 
-VERSION = "0.1"
+VERSION = "0.2"
 
 RECORDER = "landaudit-record"
 POLICIES = "landaudit-policy"

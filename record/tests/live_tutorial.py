@@ -1,4 +1,4 @@
-"""Runs every command of docs/TUTORIAL.md and of the README's way, and compares what they print.
+"""Runs every command of docs/TUTORIAL.md, docs/CI.md and of the README's way, and compares what they print.
 
 It needs strace, git and a built landaudit, and says which of them is missing.
 """
@@ -11,6 +11,7 @@ import shutil
 import subprocess
 import tempfile
 import unittest
+from collections.abc import Sequence
 from dataclasses import dataclass, field
 from pathlib import Path
 
@@ -68,10 +69,18 @@ class Tutorial(unittest.TestCase):
     def test_every_command_of_the_readme(self) -> None:
         self.run_document(TOP / "README.md")
 
-    def run_document(self, document: Path) -> None:
+    def test_every_command_of_the_page_on_ci(self) -> None:
+        """Behind the page's own commands come the lines of its jobs that check, in the repository as it was."""
+        document = TOP / "docs" / "CI.md"
+        jobs = set(re.findall(r"^ +- (?:run: )?(sandbox/.*)$", document.read_text(encoding="utf-8"), re.MULTILINE))
+        self.assertEqual(jobs, {"sandbox/check.sh origin/main"})
+        again = ["git -C app checkout -q tests", "git -C app update-ref refs/remotes/origin/main main", "rm -r app/build"]
+        self.run_document(document, [*again, *(f"cd app && {line}" for line in sorted(jobs))])
+
+    def run_document(self, document: Path, behind: Sequence[str] = ()) -> None:
         environment = {**os.environ, "PATH": f"{TOP / 'record'}:{BUILT.parent}:{os.environ['PATH']}"}
         with tempfile.TemporaryDirectory() as folder:
-            for step in steps(document):
+            for step in [*steps(document), *map(Step, behind)]:
                 with self.subTest(step.command):
                     self.run_step(step, folder, environment)
 

@@ -46,9 +46,9 @@ pub enum Plan<'a> {
 }
 
 /// What `--version` prints behind the name: the version, and the line of the toolchain that proves and builds it.
-const VERSION: &str = "0.1 (rattle-kit-13f logic dac8208d650f15bf)";
+const VERSION: &str = "0.2 (rattle-kit-13f logic dac8208d650f15bf)";
 
-const ABOUT: &str = "Says for each call of a trace what Landlock answers";
+const ABOUT: &str = "Says what Landlock answers to each system call of a trace";
 
 /// What help says of an argument: a line for `-h`, and the whole for `--help`.
 #[derive(Clone, Copy)]
@@ -76,67 +76,62 @@ effect, or - for standard input:
 };
 
 const ABI_HELP: Help = Help {
-    short: with_abi_numbers!(
-        "Version of Landlock's interface, ",
-        ", or a range of them: 2-5"
-    ),
+    short: with_abi_numbers!("Landlock's ABI, ", ", or an ascending range such as 2-5"),
     whole: with_abi_numbers!(
-        "Version of Landlock's interface, ",
-        ", or a range of them, the older
-first: 2-5. Over a range each version answers by itself, and
-neighbouring versions with the same answer are named together."
+        "Landlock's ABI, ",
+        ", or an ascending range such as 2-5. Over a range
+each ABI answers by itself, and neighbouring ABIs with the same answer
+are printed together."
     ),
 };
 
 const WORKERS_HELP: Help = Help {
-    short: "Number of threads, 1 to 64",
+    short: "Number of judging threads, 1 to 64",
     whole: "\
-Number of threads beside the first that judge the trace's processes, 1
-to 64; where it is two or more, threads read the trace too. No more
-start than there can be work for. The report is the same for every
-number.",
+Number of judging threads besides the main one, 1 to 64. With two or
+more, threads also read the trace. The report does not depend on it.",
 };
 
 const GRAIN_HELP: Help = Help {
     short: "Fewest records of a forked process that may go to another thread",
     whole: "\
-Fewest records of a forked process that may go to another thread. Set
-it lower where many short processes keep few threads busy, higher
-where handing them out takes longer than judging them. The report is
-the same for every number.",
+Fewest records of a forked process that may go to another thread.
+Lower it if many short processes keep few threads busy; raise it if
+handing them out takes longer than judging them. The report does not
+depend on it.",
 };
 
 const EFFORT_HELP: Help = Help {
-    short: "Drop the rights that the version lacks, as a program does that asks its kernel",
+    short: "Drop the rights that the ABI lacks, as a program does that asks its kernel",
     whole: "\
-Drop the rights that the version lacks, as a program does that asks
-its kernel for the version and uses what this supports. Without it
-rulesets are judged as they were recorded, and a right that the
-version lacks is an error: a recording of such a program would
-mislead at a version older than its kernel's.",
+Judge rulesets as a program makes them that asks its kernel for the
+ABI and drops the rights that this ABI lacks. Without this option
+rulesets are judged as recorded, and a right that the ABI lacks is an
+error. Give it to judge such a program at ABIs older than the one at
+which it was recorded.",
 };
 
 const REFUSED_HELP: Help = Help {
-    short: "Print only the records that some version refuses",
+    short: "Print only the records that some ABI refuses",
     whole: "\
-Print only the records that some version refuses. The totals count
-all.",
+Print only the records that some ABI refuses. The totals count all
+records.",
 };
 
 const DIFFERS_HELP: Help = Help {
-    short: "Print only the records whose answer differs between the versions of the range",
+    short: "Print only the records whose answer differs between the ABIs of the range",
     whole: "\
-Print only the records whose answer differs between the versions of
-the range. The totals count all.",
+Print only the records whose answer differs between the ABIs of the
+range. The totals count all records.",
 };
 
 const EXPLAIN_HELP: Help = Help {
-    short: "Print behind each refused or moot record why it is so",
+    short: "Print below each refused or moot record why it is so",
     whole: "\
-Print behind each refused or moot record why it is so: the layers that
-refuse it, the line of the restrict that made each of them, and what
-is missing on which path or port; or the condition of its error; or
-why the policy is not asked.",
+Print below each refused or moot record why it is so: each layer that
+refuses it, the line of the restrict that made the layer, and what is
+missing on which path or port; or the condition of its error; or why
+the policy is not asked.",
 };
 
 const MORE_HELP: &str = "\
@@ -145,7 +140,7 @@ Example: what some ABI refuses of a recording, and why
 
 Status:
   0  no call is refused, or this help or the version was asked for
-  1  some version refuses some call
+  1  some ABI refuses some call
   2  the command line is wrong
   3  a file can't be read, or a line of it is wrong
   4  no memory or no thread is left, or the report can't be written

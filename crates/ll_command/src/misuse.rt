@@ -16,8 +16,8 @@ impl fmt::Display for Misuse {
     fn fmt<W: fmt::Write>(&self, f: &mut fmt::Formatter<W>) -> fmt::Result {
         f.write_str(match self {
             Misuse::Versions => with_abi_numbers!(
-                "--abi takes a version of Landlock's interface, ",
-                ", or a range of them, the older first: 2 or 2-5"
+                "--abi: expected an ABI (",
+                ") or an ascending range such as 2-5"
             ),
             Misuse::StandardInput => "TREE and TRACE can't both be standard input",
         })

@@ -9,8 +9,8 @@ use std::test::Fail;
 use std::thread::Threads;
 
 /// What the line says that names no versions.
-const NO_VERSIONS: &str = "landaudit: --abi takes a version of Landlock's interface, 1 to 5, \
-    or a range of them, the older first: 2 or 2-5\n";
+const NO_VERSIONS: &str =
+    "landaudit: --abi: expected an ABI (1 to 5) or an ascending range such as 2-5\n";
 
 const BOTH_INPUTS: &str = "landaudit: TREE and TRACE can't both be standard input\n";
 
@@ -51,9 +51,9 @@ fn is_printed<R: Threads + Wait + AllocGlobal + Sync>(
     )
 }
 
-const ABOUT: &str = "Says for each call of a trace what Landlock answers\n";
+const ABOUT: &str = "Says what Landlock answers to each system call of a trace\n";
 
-const VERSION: &str = "landaudit 0.1 (rattle-kit-13f logic dac8208d650f15bf)\n";
+const VERSION: &str = "landaudit 0.2 (rattle-kit-13f logic dac8208d650f15bf)\n";
 
 #[test]
 fn help_and_the_version_are_told(rt: HostRuntime) -> Result<(), Fail> {
