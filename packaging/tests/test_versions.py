@@ -13,8 +13,8 @@ from .places import TOP
 COMMAND = TOP / "crates" / "ll_command" / "src" / "command.rt"
 #: The version of landaudit, without the toolchain that proves it.
 OF_LANDAUDIT = re.compile(r'^const VERSION: &str = "([\d.]+) ', re.MULTILINE)
-#: The headings of the changelog.
-RELEASED = re.compile(r"^## ([\d.]+)", re.MULTILINE)
+#: The headings of the changelog; what is not released yet is said to be so.
+VERSIONS = re.compile(r"^## (?:Unreleased: )?([\d.]+)$", re.MULTILINE)
 
 
 class Version(unittest.TestCase):
@@ -28,8 +28,7 @@ class Version(unittest.TestCase):
         self.assertEqual(settings["tool"]["setuptools"]["dynamic"]["version"], {"attr": "landaudit_record.VERSION"})
 
     def test_the_changelog_begins_with_it(self) -> None:
-        """Behind what is not released yet."""
-        self.assertEqual(RELEASED.findall((TOP / "CHANGELOG.md").read_text(encoding="utf-8"))[:1], [VERSION])
+        self.assertEqual(VERSIONS.findall((TOP / "CHANGELOG.md").read_text(encoding="utf-8"))[:1], [VERSION])
 
 
 if __name__ == "__main__":
