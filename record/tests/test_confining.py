@@ -137,13 +137,13 @@ class Confining(unittest.TestCase):
         problem = self.fault(text.replace('"{folder}", ', ""), Kernel(5, {"path": errno.EINVAL}))
         self.assertEqual(problem.status, UNREADABLE)
         where = f"{self.folder}/P.toml: layer 1, path_beneath 1, parent {self.folder}/file"
-        why = "it is not a directory, and only directories have read_dir: leave that out, or name a group"
+        why = "it is not a directory, and only directories have read_dir: leave these out, or name a group"
         self.assertEqual(str(problem), f"{where}: {why}")
 
     def test_too_many_layers(self) -> None:
         problem = self.fault(LAYERS, Kernel(5, {"restrict": errno.E2BIG}))
         self.assertEqual(problem.status, WANTING)
-        self.assertIn("layer 1 can't be put in force: a process has sixteen layers at most", str(problem))
+        self.assertIn("layer 1 can't be put in force: a process has at most sixteen layers", str(problem))
 
 
 class Known(unittest.TestCase):
