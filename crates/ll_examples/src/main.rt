@@ -1,7 +1,7 @@
 //! Audits the worked examples, and says of each whether its reports, plain and explained, are the documented ones.
 #![tactic(auto)]
 
-use anyhow::{Context, Result};
+use anyhow::{Result, bail};
 use ll_audit::{ALL_LINES, AbiRange, Cut, Effort, Idle, Options, Shown, audit_with};
 use ll_rights::Abi;
 use serde_json::Value;
@@ -113,7 +113,9 @@ fn run<R: Files + Print + AllocGlobal + Threads + Wait + Sync>(rt: &R) -> Result
     let mut all = true;
     for line in index.lines() {
         let value = Value::from_str(rt.alloc(), line)?;
-        let example = example_of(&value).context("a line of the index")?;
+        let Some(example) = example_of(&value) else {
+            bail!("a line of the index names no example");
+        };
         let documented = is_documented(rt, &example)?;
         let verdict = if documented {
             "as documented"
