@@ -10,6 +10,8 @@ from landaudit_record.rights import NEWEST_ABI, OLDEST_ABI
 from .places import MAN, TOP
 
 VERSIONS = TOP / "crates" / "ll_rights" / "src" / "abi.rt"
+#: The oldest and the newest, where a page says what an ABI is.
+NAMED = re.compile(r"(?:Landlock's interface|Landlock's ABI|ABI of Landlock), (\d+) to (\d+)")
 PAGES = (*MAN.glob("*.1"), TOP / "docs" / "FORMATS.md", TOP / "docs" / "GLOSSARY.md")
 
 
@@ -21,5 +23,5 @@ class Versions(unittest.TestCase):
     def test_pages_name_the_newest(self) -> None:
         for page in PAGES:
             with self.subTest(page.name):
-                named = re.findall(r"interface(?: that answers)?, (\d+) to (\d+)", page.read_text(encoding="utf-8"))
+                named = NAMED.findall(page.read_text(encoding="utf-8"))
                 self.assertEqual(set(named), {(str(OLDEST_ABI), str(NEWEST_ABI))})

@@ -12,8 +12,8 @@ from .places import TOP
 CRATES = TOP / "crates"
 READING = (TOP / "docs" / "READING.md").read_text(encoding="utf-8")
 #: The part that lists the definitions of the claim, and the part on types.
-DEFINITIONS, REST = READING.split("`audit_with`, which", 1)
-TYPES = REST.split("## The types of the code", 1)[1].split("\n## ", 1)[0]
+DEFINITIONS, REST = READING.split("\n## The other public functions", 1)
+TYPES = REST.split("\n## The types of the code", 1)[1].split("\n## ", 1)[0]
 SPAN = re.compile(r"`([^`\n]+)`")
 ROW = re.compile(r"^\| (.*?) \| (.*?) \|$", re.MULTILINE)
 #: What a definition takes from a type's declaration: the crate, the file's module and the type.
@@ -52,12 +52,12 @@ class Types(unittest.TestCase):
         self.assertEqual(named(), declared())
 
     def test_as_many_as_are_counted(self) -> None:
-        counted = re.search(r"the declarations of (\d+) types", READING)
+        counted = re.search(r"the\s+declarations\s+of\s+(\d+)\s+types", READING)
         assert counted is not None
         self.assertEqual(int(counted[1]), len(declared()))
 
     def test_the_variants_of_op(self) -> None:
-        counted = re.search(r"`Op` with its (\d+) variants", TYPES)
+        counted = re.search(r"`Op`\s+with\s+its\s+(\d+)\s+variants", TYPES)
         assert counted is not None
         source = (CRATES / "ll_trace" / "src" / "op.rt").read_text(encoding="utf-8")
         body = source.split("pub enum Op {", 1)[1].split("\n}", 1)[0]

@@ -3,6 +3,7 @@
 landaudit-policy, beside it, is for what needs no recording. Both programs are of this one package.
 """
 
+import sys
 from pathlib import Path
 
 VERSION = "0.2"
@@ -10,5 +11,11 @@ VERSION = "0.2"
 RECORDER = "landaudit-record"
 POLICIES = "landaudit-policy"
 
-PROGRAMS = Path(__file__).resolve().parents[1]
-"""Where both programs are, beside this package."""
+
+def _programs() -> Path:
+    """The folder of both programs: beside this package, or, where pip installed them, that of the running one."""
+    beside = Path(__file__).resolve().parents[1]
+    return beside if (beside / POLICIES).exists() else Path(sys.argv[0]).resolve().parent
+
+
+PROGRAMS = _programs()

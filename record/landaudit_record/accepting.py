@@ -34,13 +34,13 @@ def _accepted(table: Mapping[str, Any], place: Place) -> Accepted:
     call, reason = (_text(table, key, place) for key in ("call", "reason"))
     given = [key for key in ("path", "from", "port") if key in table]
     if len(given) > 1 or ("from" in table) != ("to" in table):
-        place.fault("one place at most: give a path, from and to, or a port")
+        place.fault("give at most one place: a path, from and to, or a port")
     if "from" in table:
         return Accepted(call, f"{_text(table, 'from', place)} -> {_text(table, 'to', place)}", reason)
     if "port" in table:
         port = table["port"]
         if type(port) is not int or not 0 <= port <= HIGHEST_PORT:
-            (place / "port").fault(f"{port!r} is no port: write a number from 0 to {HIGHEST_PORT}")
+            (place / "port").fault(f"{port!r} is not a port: write a number from 0 to {HIGHEST_PORT}")
         return Accepted(call, f"port {port}", reason)
     return Accepted(call, _text(table, "path", place) if given else "-", reason)
 
@@ -50,7 +50,7 @@ def _text(table: Mapping[str, Any], key: str, place: Place) -> str:
     if value is None:
         place.fault(f"{key} is missing")
     if not isinstance(value, str) or not value.strip():
-        (place / key).fault(f"{value!r} is no text: write one in quotes")
+        (place / key).fault(f"{value!r} is not a text: write it in quotes")
     return " ".join(value.split()) if key == "call" else value
 
 

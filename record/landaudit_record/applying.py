@@ -164,7 +164,7 @@ def places(trace: Path, tree: Tree, program: str | None) -> Plan:
 def _number(trace: Path, line: int, record: Record, member: str) -> int:
     value = record.get(member)
     if type(value) is not int:
-        raise Problem(f"{trace} line {line} is no record: its {member} is no number")
+        raise Problem(f"{trace} line {line} is not a record: its {member} is not a number")
     return value
 
 

@@ -153,7 +153,7 @@ class _Reader:
     def _port(self) -> int:
         port = self.table["port"]
         if type(port) is not int or not 0 <= port <= HIGHEST_PORT:
-            (self.place / "port").fault(f"{port!r} is no port: write a number from 0 to {HIGHEST_PORT}")
+            (self.place / "port").fault(f"{port!r} is not a port: write a number from 0 to {HIGHEST_PORT}")
         return port
 
     def _on_path(self, op: str, words: list[str]) -> Question:
@@ -187,7 +187,7 @@ class _Reader:
         if given is not None and given not in KINDS:
             (self.place / kind_key).fault(f"unknown kind {unknown(str(given), KINDS)}")
         if given is not None and seen is not None and given != seen.kind:
-            (self.place / kind_key).fault(f"{path} is here of kind {seen.kind!r}: leave {kind_key} out")
+            (self.place / kind_key).fault(f"{path} has kind {seen.kind!r} on this machine: leave out {kind_key}")
         kind = given if seen is None else seen.kind
         if kind is None and or_new:
             return self._new(key)
@@ -207,7 +207,7 @@ class _Reader:
         """A path without links, as the kernel walks it."""
         path = self.table[key]
         if not isinstance(path, str) or not path.startswith("/") or "\0" in path or len(path.encode()) > LONGEST_PATH:
-            (self.place / key).fault(f"{path!r} is no absolute path: write it as \"/usr\"")
+            (self.place / key).fault(f"{path!r} is not an absolute path: write it as \"/usr\"")
         if follows:
             return os.path.realpath(path)
         directory, _, name = path.rstrip("/").rpartition("/")
@@ -220,7 +220,7 @@ class _Reader:
         while True:
             known = self.tree.kinds.setdefault(path, kind)
             if known != kind:
-                (self.place / key).fault(f"{path} is of kind {known!r} by another case, and here of kind {kind!r}")
+                (self.place / key).fault(f"{path} has kind {known!r} in another case, and kind {kind!r} here")
             if path == ROOT:
                 return
             path, kind = directory_of(path), "dir"

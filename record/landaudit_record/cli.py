@@ -96,3 +96,8 @@ def main(words: Sequence[str] | None = None, program: Program = RECORD) -> int:
         where = f"{error.filename}: " if error.filename else ""
         print(f"{program.name}: {where}{error.strerror}", file=sys.stderr)
         return 4
+
+
+def policy_main() -> int:
+    """Runs one subcommand of landaudit-policy and gives the status that it ends with."""
+    return main(program=POLICY)

@@ -30,8 +30,8 @@ ABI_OF_SCOPES = 6
 NOT_THERE = (errno.ENOENT, errno.ENOTDIR, errno.EACCES, errno.ELOOP)
 GIVEN_ENVIRONMENT = Path("/proc/self/environ")
 _MISSING = {
-    errno.ENOSYS: "it is older than Linux 5.13 or was built without: run this on another",
-    errno.EOPNOTSUPP: "it is off: have 'landlock' in the boot parameter lsm=",
+    errno.ENOSYS: "it is older than Linux 5.13 or was built without Landlock: run this on another kernel",
+    errno.EOPNOTSUPP: "it is switched off: add 'landlock' to the boot parameter lsm=",
 }
 
 
@@ -71,7 +71,7 @@ def _restrict(policy: Policy, layer: FittedLayer, scoped: Sequence[str], abi: in
     try:
         landlock.restrict_self(ruleset)
     except OSError as error:
-        at_most = "a process has sixteen layers at most, with those that it is under already"
+        at_most = "a process has at most sixteen layers, including those that it is under already"
         why = at_most if error.errno == errno.E2BIG else error.strerror
         raise Problem(f"{policy.path}: layer {layer.number} can't be put in force: {why}", WANTING) from error
     os.close(ruleset)
@@ -104,7 +104,7 @@ def _add(policy: Policy, ruleset: int, where: str, rule: FittedPathRule, place: 
         why = error.strerror
         if error.errno == errno.EINVAL and not is_directory:
             of_directories = ", ".join(right for right in allowed if right not in FILE_RIGHTS)
-            why = f"it is not a directory, and only directories have {of_directories}: leave that out, or name a group"
+            why = f"it is not a directory, and only directories have {of_directories}: leave these out, or name a group"
         raise Problem(f"{policy.path}: {where}: {why}") from error
 
 
@@ -129,6 +129,6 @@ def become(command: Sequence[str], environment: Mapping[bytes, bytes]) -> NoRetu
     try:
         os.execvpe(command[0], list(command), environment)
     except OSError as error:
-        hint = ": does the policy let it, its interpreter or loader be read and executed?"
+        hint = ": does the policy allow reading and executing it, its interpreter and its loader?"
         denied = error.errno == errno.EACCES
         raise Problem(f"{command[0]}: {error.strerror}{hint if denied else ''}", WANTING) from error

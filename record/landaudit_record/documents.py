@@ -31,14 +31,14 @@ class Place:
 
 
 def read(path: Path) -> Mapping[str, Any]:
-    """The document in a file; a file that can't be read, or is no TOML, is a Problem."""
+    """The document in a file; a file that can't be read, or is not TOML, is a Problem."""
     try:
         with open(path, "rb") as file:
             return tomllib.load(file)
     except OSError as error:
         raise Problem(f"cannot read {path}: {error.strerror}") from error
     except (tomllib.TOMLDecodeError, UnicodeDecodeError, RecursionError) as error:
-        raise Problem(f"{path}: no TOML: {error}") from error
+        raise Problem(f"{path}: not TOML: {error}") from error
 
 
 def one_or_several(value: Any, one: Callable[[Any, Place], T], place: Place) -> tuple[T, ...]:

@@ -147,7 +147,7 @@ def opened(folder: str) -> Finished:
              for part, size in zip(numbered(path, len(converted.parts)), converted.parts)]
     for part, size in zip(parts, converted.parts):
         if not part.tree.is_file() or not part.trace.is_file() or part.trace.stat().st_size != size.bytes:
-            raise Problem(f"{part.trace} is not what was converted: {_mending(path)}")
+            raise Problem(f"{part.trace} is missing or has changed since the conversion: {_mending(path)}")
     return Finished(path, tuple(parts), converted.unsaid, converted.holes, converted.ended)
 
 
@@ -180,7 +180,7 @@ def _by_hand(path: Path) -> Finished:
         if not file.is_file():
             if path.exists():
                 raise Problem(f"{path} has no {file.name}: name a folder that 'landaudit-record run' made")
-            raise Problem(f"{path} is not there: record first, by landaudit-record run {path} -- COMMAND")
+            raise Problem(f"{path} does not exist: record it first by landaudit-record run {path} -- COMMAND")
     unsaid, holes = _unsaid(path / "unsaid.jsonl")
     return Finished(path, (part,), unsaid, holes, True)
 

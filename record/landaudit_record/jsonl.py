@@ -34,9 +34,9 @@ def read(path: Path, number: int, line: bytes) -> Record:
     try:
         value = json.loads(line.decode())
     except ValueError as error:
-        raise Problem(f"{path} line {number} is no JSON: {error}") from error
+        raise Problem(f"{path} line {number} is not JSON: {error}") from error
     if not isinstance(value, dict):
-        raise Problem(f"{path} line {number} is no JSON object")
+        raise Problem(f"{path} line {number} is not a JSON object")
     return value
 
 

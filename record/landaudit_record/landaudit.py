@@ -50,13 +50,13 @@ def find(named: str | None) -> Path:
     if named is not None:
         if os.access(named, os.X_OK) and Path(named).is_file():
             return Path(named)
-        raise Problem(f"{named} is no program: give --landaudit the path of landaudit", WANTING)
+        raise Problem(f"{named} is not a program: give --landaudit the path of landaudit", WANTING)
     for program in (BUILT, Path(sys.argv[0]).parent / "landaudit"):
         if os.access(program, os.X_OK) and program.is_file():
             return program
     found = shutil.which("landaudit")
     if found is None:
-        raise Problem("landaudit is not built: run 'make landaudit', or name it by --landaudit", WANTING)
+        raise Problem("landaudit is not built: run 'make landaudit', or give its path by --landaudit", WANTING)
     return Path(found)
 
 
@@ -156,8 +156,8 @@ def _answered(text: str, abi: int | None, line: str) -> str:
     found = next((found for found in _ANSWERED.finditer(text) if _is_among(abi, found)), None)
     if found is None:
         at = "without an ABI" if abi is None else f"at ABI {abi}"
-        raise Problem(f"landaudit's answer {line.strip()!r} can't be read {at}: use landaudit and landaudit-record of "
-                      "one version")
+        raise Problem(f"landaudit's answer {line.strip()!r} can't be read {at}: use one version of landaudit and "
+                      "landaudit-record")
     return found[3]
 
 

@@ -14,7 +14,7 @@ from .rights import NEWEST_ABI, OLDEST_ABI
 
 #: The words for single ABIs.
 _ABI_OF = {str(abi): abi for abi in range(OLDEST_ABI, NEWEST_ABI + 1)}
-OF_POLICY = "of the policy, rights that it does not have are dropped"
+OF_POLICY = "rights of the policy that it does not have are dropped"
 
 
 def add_recordings(parser: argparse.ArgumentParser) -> None:
@@ -29,7 +29,7 @@ def add_abi(parser: argparse.ArgumentParser, besides: str = OF_POLICY) -> None:
         type=abi,
         choices=range(OLDEST_ABI, NEWEST_ABI + 1),
         default=NEWEST_ABI,
-        help=f"Landlock's ABI ({NEWEST_ABI} if it is left out); {besides}",
+        help=f"Landlock's ABI (default: {NEWEST_ABI}); {besides}",
     )
 
 
@@ -37,7 +37,7 @@ def abi(text: str) -> int:
     """The ABI that a word stands for."""
     if text not in _ABI_OF:
         raise argparse.ArgumentTypeError(
-            f"{text!r} is no ABI: give one from {OLDEST_ABI} to {NEWEST_ABI} (audit alone takes a range)"
+            f"{text!r} is not an ABI: give one from {OLDEST_ABI} to {NEWEST_ABI} (audit and diff take a range)"
         )
     return _ABI_OF[text]
 
@@ -48,8 +48,8 @@ def abis(text: str) -> range:
     oldest, newest = _ABI_OF.get(first), _ABI_OF.get(last if dash else first)
     if oldest is None or newest is None or oldest > newest:
         raise argparse.ArgumentTypeError(
-            f"{text!r} is no ABI and no range of them: give one from {OLDEST_ABI} to {NEWEST_ABI}, or a range of these "
-            "as N-M, the older one first"
+            f"{text!r} is neither an ABI nor a range: give one from {OLDEST_ABI} to {NEWEST_ABI}, or an ascending "
+            "range such as 2-5"
         )
     return range(oldest, newest + 1)
 
@@ -66,13 +66,13 @@ class _Once(argparse.Action):
     ) -> None:
         """Keeps the value, where there is none yet but the default."""
         if getattr(namespace, self.dest) is not self.default:
-            raise argparse.ArgumentError(self, "is given twice: give one ABI, or a range of them as N-M")
+            raise argparse.ArgumentError(self, "is given twice: give one ABI, or a range such as 2-5")
         setattr(namespace, self.dest, values)
 
 
 OF_SUMMARY = (
-    "Landlock's ABI, or a range of them ({all} if it is left out): the newest is described in full, after it comes what "
-    "breaks at each; of the policy, rights that an ABI does not have are dropped"
+    "Landlock's ABI, or a range (default: {all}): the newest is described in full, followed by what breaks at each; "
+    "rights of the policy that an ABI does not have are dropped"
 )
 
 
@@ -94,8 +94,8 @@ def add_as_recorded(parser: argparse.ArgumentParser) -> None:
     parser.add_argument(
         "--as-recorded",
         action="store_true",
-        help="judge the rulesets that the program makes itself as they were recorded (if it is left out, as a program "
-        "makes them that drops the rights which the ABI does not have)",
+        help="judge the rulesets that the program makes itself as they were recorded (default: as a program makes them "
+        "that drops the rights which the ABI does not have)",
     )
 
 
@@ -114,8 +114,8 @@ def add_program(parser: argparse.ArgumentParser) -> None:
     parser.add_argument(
         "--program",
         metavar="NAME",
-        help="put the policy before each run of this program, by its name or whole path, "
-        "and not before the first program of each process that the recording starts",
+        help="put the policy before each run of this program, given by its name or whole path "
+        "(default: before the first program of each process that the recording starts)",
     )
 
 
@@ -124,7 +124,7 @@ def add_landaudit(parser: argparse.ArgumentParser) -> None:
     parser.add_argument(
         "--landaudit",
         metavar="PATH",
-        help="landaudit itself (if it is left out, where 'make landaudit' puts it, else beside landaudit-record, "
+        help="the program landaudit (default: where 'make landaudit' puts it, else beside landaudit-record, "
         "else on PATH)",
     )
 

@@ -230,7 +230,7 @@ def _access(value: Any, family: Family, place: Place) -> Access:
     grouped: set[str] = set()
     for word in value:
         if not isinstance(word, str):
-            place.fault(f"{word!r} is no name of a right: use {listed(family.words())}")
+            place.fault(f"{word!r} is not the name of a right: use {listed(family.words())}")
         elif word in family.groups:
             grouped |= family.groups[word]
         elif word in family.since:
@@ -242,7 +242,7 @@ def _access(value: Any, family: Family, place: Place) -> Access:
 
 def _parent(value: Any, place: Place) -> str:
     if not isinstance(value, str):
-        place.fault(f"{value!r} is no path: write it as a text, as \"/usr\"")
+        place.fault(f"{value!r} is not a path: write it as a text, as \"/usr\"")
     if not value.startswith("/"):
         place.fault(f"{value!r} is not absolute: begin it with /")
     if "\0" in value:
@@ -254,5 +254,5 @@ def _parent(value: Any, place: Place) -> str:
 
 def _port(value: Any, place: Place) -> int:
     if type(value) is not int or not 0 <= value <= HIGHEST_PORT:
-        place.fault(f"{value!r} is no port: write a number from 0 to {HIGHEST_PORT}")
+        place.fault(f"{value!r} is not a port: write a number from 0 to {HIGHEST_PORT}")
     return value

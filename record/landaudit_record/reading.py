@@ -64,7 +64,7 @@ def judged(trace: Path, report: Path, abi: int | None = None) -> Iterator[Judged
 
 
 def _other(trace: Path, report: Path) -> Problem:
-    return Problem(f"{report} is no report on {trace}: audit it again")
+    return Problem(f"{report} is not a report on {trace}: audit it again")
 
 
 @dataclass(frozen=True, slots=True)

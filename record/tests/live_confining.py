@@ -55,7 +55,7 @@ class LiveConfining(unittest.TestCase):
     def test_a_command_that_the_policy_does_not_let_run(self) -> None:
         self.policy.write_text('[[layer]]\nhandled_access_fs = ["execute"]\n')
         run = self.confined("true")
-        why = "Permission denied: does the policy let it, its interpreter or loader be read and executed?"
+        why = "Permission denied: does the policy allow reading and executing it, its interpreter and its loader?"
         self.assertEqual((run.returncode, run.stderr), (4, f"landaudit-policy: true: {why}\n"))
 
     def test_scopes(self) -> None:

@@ -93,7 +93,7 @@ class Applying(unittest.TestCase):
             self.before([START])
 
     def test_a_line_that_is_no_record(self) -> None:
-        with self.assertRaisesRegex(Problem, "line 1 is no record: its pid"):
+        with self.assertRaisesRegex(Problem, "line 1 is not a record: its pid"):
             self.before([{"op": "start"}])
 
     def test_a_number_that_the_trace_never_uses(self) -> None:

@@ -71,7 +71,7 @@ class CommandLine(unittest.TestCase):
                 self.assertEqual(list(cli.parse(["audit", "rec", *words]).abis), abis)
 
     def test_what_is_no_range_of_abis(self) -> None:
-        what = "is no ABI and no range of them: give one from 1 to 5, or a range of these as N-M, the older one first"
+        what = "is neither an ABI nor a range: give one from 1 to 5, or an ascending range such as 2-5"
         for word in ("0-3", "5-1", "1-6", "1-", "-", "a-b", "-3", "1-2-3", "1 - 2", "1,2", "0", "01", "", "٣", "1--2"):
             with self.subTest(word):
                 status, error = said("audit", "rec", f"--abi={word}")
@@ -84,7 +84,7 @@ class CommandLine(unittest.TestCase):
             with self.subTest(first=first, second=second):
                 status, error = said("audit", "rec", "--abi", first, "--abi", second)
                 self.assertEqual(status, 2)
-                self.assertIn("--abi: is given twice: give one ABI, or a range of them as N-M", error)
+                self.assertIn("--abi: is given twice: give one ABI, or a range such as 2-5", error)
 
     def test_the_other_subcommands_take_one_abi(self) -> None:
         for words in (["suggest", "rec", "--policy", "p"], ["apply", "p", "rec"], ["compare", "rec"]):
@@ -94,7 +94,7 @@ class CommandLine(unittest.TestCase):
                 for word in ("1-2", "6", "x", "", "03"):
                     status, error = said(*words, "--abi", word)
                     self.assertEqual(status, 2)
-                    what = f"{word!r} is no ABI: give one from 1 to 5 (audit alone takes a range)\n"
+                    what = f"{word!r} is not an ABI: give one from 1 to 5 (audit and diff take a range)\n"
                     self.assertTrue(error.endswith(f"argument --abi: {what}"), error)
 
     def test_a_run_without_a_command(self) -> None:
@@ -102,7 +102,7 @@ class CommandLine(unittest.TestCase):
             with self.subTest(words):
                 status, error = said("run", *words)
                 self.assertEqual(status, 2)
-                self.assertIn("give a command behind '--', as 'landaudit-record run rec -- ls'", error)
+                self.assertIn("give a command after '--', as in 'landaudit-record run rec -- ls'", error)
         self.assertIn("unrecognized arguments: sort -r '/a b' (give a command", error)
 
     def test_words_that_a_subcommand_does_not_have(self) -> None:
@@ -121,7 +121,7 @@ class CommandLine(unittest.TestCase):
     def test_a_command_that_is_not_found(self) -> None:
         self.assertEqual(
             said("run", "rec", "--", "no-such-command"),
-            (4, "landaudit-record: no-such-command is not found, or is no program\n"),
+            (4, "landaudit-record: no-such-command is not found, or is not a program\n"),
         )
 
     def test_strace_missing(self) -> None:
@@ -149,7 +149,7 @@ class CommandLine(unittest.TestCase):
         ):
             status, error = said("run", folder, "--", "true")
         self.assertEqual(status, 2)
-        self.assertIn("is there already: name a new folder", error)
+        self.assertIn("exists already: name a new folder", error)
 
     def test_what_is_no_recording(self) -> None:
         with tempfile.TemporaryDirectory() as folder:

@@ -137,13 +137,13 @@ class Confining(unittest.TestCase):
         problem = self.fault(text.replace('"{folder}", ', ""), Kernel(5, {"path": errno.EINVAL}))
         self.assertEqual(problem.status, UNREADABLE)
         where = f"{self.folder}/P.toml: layer 1, path_beneath 1, parent {self.folder}/file"
-        why = "it is not a directory, and only directories have read_dir: leave that out, or name a group"
+        why = "it is not a directory, and only directories have read_dir: leave these out, or name a group"
         self.assertEqual(str(problem), f"{where}: {why}")
 
     def test_too_many_layers(self) -> None:
         problem = self.fault(LAYERS, Kernel(5, {"restrict": errno.E2BIG}))
         self.assertEqual(problem.status, WANTING)
-        self.assertIn("layer 1 can't be put in force: a process has sixteen layers at most", str(problem))
+        self.assertIn("layer 1 can't be put in force: a process has at most sixteen layers", str(problem))
 
 
 class Known(unittest.TestCase):
@@ -174,7 +174,7 @@ class Words(unittest.TestCase):
         return status, error.getvalue()
 
     def test_no_command(self) -> None:
-        hint = "landaudit-policy: give a command behind '--', as 'landaudit-policy confine policy.toml -- ls'\n"
+        hint = "landaudit-policy: give a command after '--', as in 'landaudit-policy confine policy.toml -- ls'\n"
         self.assertEqual(self.said("confine", "P.toml"), (2, hint))
 
     def test_no_policy(self) -> None:
@@ -185,7 +185,7 @@ class Words(unittest.TestCase):
         with tempfile.TemporaryDirectory() as folder, mock.patch.object(confining, "known_abi", lambda asked: asked):
             policy = Path(folder, "P.toml")
             policy.write_text('[[layer]]\nhandled_access_fs = ["all"]\n')
-            told = (4, "landaudit-policy: no-such-command is not found, or is no program\n")
+            told = (4, "landaudit-policy: no-such-command is not found, or is not a program\n")
             self.assertEqual(self.said("confine", str(policy), "--", "no-such-command"), told)
 
 

@@ -95,8 +95,8 @@ class Faults(unittest.TestCase):
             policies.read(Path("/nowhere/P.toml"))
 
     def test_what_is_no_toml(self) -> None:
-        self.assert_fault("[[layer]", "no TOML", "line 1")
-        self.assert_fault(b"# \xff\n", "no TOML")
+        self.assert_fault("[[layer]", "not TOML", "line 1")
+        self.assert_fault(b"# \xff\n", "not TOML")
 
     def test_an_unknown_key_names_a_near_one_and_all(self) -> None:
         self.assert_fault('[[layers]]\nhandled_access_fs = ["all"]\n', "'layers', did you mean 'layer'?")
@@ -120,7 +120,7 @@ class Faults(unittest.TestCase):
         self.assert_fault("layer = 1\n", "write each as [[layer]]")
         self.assert_fault('[layer]\nhandled_access_fs = ["all"]\n', "write each as [[layer]]")
         self.assert_fault('[[layer]]\nhandled_access_fs = "all"\n', "layer 1, handled_access_fs", "must be a list")
-        self.assert_fault("[[layer]]\nhandled_access_fs = [1]\n", "1 is no name of a right")
+        self.assert_fault("[[layer]]\nhandled_access_fs = [1]\n", "1 is not the name of a right")
         self.assert_fault(READING + 'path_beneath = "/usr"\n', "layer 1: layer.path_beneath must be tables")
 
     def test_what_is_empty(self) -> None:
@@ -164,7 +164,7 @@ class Faults(unittest.TestCase):
         ):
             with self.subTest(word=word):
                 self.assert_fault(rule + f'parent = ["/a", "{parent}"]\n', "path_beneath 1, parent", word)
-        self.assert_fault(rule + "parent = 3\n", "path_beneath 1, parent", "3 is no path")
+        self.assert_fault(rule + "parent = 3\n", "path_beneath 1, parent", "3 is not a path")
 
     def test_seventeen_layers(self) -> None:
         self.assertEqual(len(read(READING * 16).layers), 16)

@@ -351,7 +351,7 @@ class Joining(unittest.TestCase):
             with self.subTest(rows=rows), tempfile.TemporaryDirectory() as folder:
                 report = Path(folder, "report.txt")
                 report.write_text("\n".join(rows) + "\n")
-                with self.assertRaisesRegex(Problem, "is no report on"):
+                with self.assertRaisesRegex(Problem, "is not a report on"):
                     list(judged(write_lines(Path(folder, "trace.jsonl"), trace), report))
 
 

@@ -113,10 +113,10 @@ class Trying(StandIn):
         for text, wanted in (
             ('path = "/a"\nreason = "x"', "accepted 1: call is missing"),
             ('call = "exec"\npath = "/a"', "accepted 1: reason is missing"),
-            ('call = "exec"\npath = "/a"\nport = 1\nreason = "x"', "accepted 1: one place at most"),
-            ('call = "link"\nfrom = "/a"\nreason = "x"', "accepted 1: one place at most"),
-            ('call = "bind"\nport = -1\nreason = "x"', "accepted 1, port: -1 is no port"),
-            ('call = "exec"\npath = 1\nreason = "x"', "accepted 1, path: 1 is no text"),
+            ('call = "exec"\npath = "/a"\nport = 1\nreason = "x"', "accepted 1: give at most one place"),
+            ('call = "link"\nfrom = "/a"\nreason = "x"', "accepted 1: give at most one place"),
+            ('call = "bind"\nport = -1\nreason = "x"', "accepted 1, port: -1 is not a port"),
+            ('call = "exec"\npath = 1\nreason = "x"', "accepted 1, path: 1 is not a text"),
             ('call = "exec"\nwhy = 1\nreason = "x"', "accepted 1: unknown key 'why'"),
         ):
             with self.subTest(text):
@@ -286,7 +286,7 @@ parent = ["/none", "/a"]
     def test_a_folder_without_a_recording(self) -> None:
         made = "has no tree.jsonl: name a folder that 'landaudit-record run' made\n"
         absent = self.folder / "absent"
-        first = f"is not there: record first, by landaudit-record run {absent} -- COMMAND\n"
+        first = f"does not exist: record it first by landaudit-record run {absent} -- COMMAND\n"
         for folder, what in ((self.folder, made), (self.policy, made), (absent, first)):
             for words in (["audit", folder], ["suggest", folder, "--policy", self.policy]):
                 with self.subTest(words):

@@ -116,7 +116,7 @@ class Whole(KeptLogs):
     def test_files_that_were_not_put_in_place_are_not_audited(self) -> None:
         self.convert_it(Limits(own=20))
         (self.recording / "trace-2.jsonl").unlink()
-        with self.assertRaisesRegex(Problem, r"trace-2.jsonl is not what was converted: run landaudit-record convert"):
+        with self.assertRaisesRegex(Problem, r"trace-2.jsonl is missing or has changed since the conversion: run"):
             finished.opened(str(self.recording))
 
     def test_a_trace_that_was_cut_later_is_not_audited(self) -> None:

@@ -20,11 +20,12 @@ and [[layer.net_port]] with allowed_access and port (one or several). In a layer
 or before all, include = ["base"] stands for a group of rules: of these there are
 base, nameservice, ssl, tmp, and some for languages.
 
-Rights have Landlock's names, as read_file, or groups stand for them: all, read,
-write, execute. In a rule a group means those of its rights that the layer
-handles and, on a parent that is a file, that apply to files. A right that a
-rule names must be handled by its layer. What the ABI does not know is dropped,
-as the kernel's document advises, with a note if it was named."""
+A right has its name in Landlock, such as read_file. The groups all, read, write
+and execute stand for several rights. In a rule a group means those of its
+rights that the layer handles and, on a parent that is a file, that apply to
+files. The layer must handle each right that one of its rules names. Rights that
+the ABI does not know are dropped, as the kernel's document advises, with a note
+if they were named."""
 
 
 def add_arguments(parser: argparse.ArgumentParser) -> None:
@@ -32,8 +33,8 @@ def add_arguments(parser: argparse.ArgumentParser) -> None:
     parser.description = f"{HELP}\n{POLICIES}"
     parser.add_argument("policy", metavar="POLICY.toml", help="the policy: layers, what they handle, and their rules")
     parser.add_argument("trace", metavar="TRACE", help="a recording's folder, or its trace.jsonl")
-    parser.add_argument("--out", metavar="FILE", help="where the trace goes (standard output if it is left out)")
-    parser.add_argument("--tree", metavar="TREE", help="the tree (tree.jsonl beside the trace if it is left out)")
+    parser.add_argument("--out", metavar="FILE", help="where to write the trace (default: standard output)")
+    parser.add_argument("--tree", metavar="TREE", help="the tree (default: tree.jsonl beside the trace)")
     add_program(parser)
     add_abi(parser)
 

@@ -28,9 +28,9 @@ def add_arguments(parser: argparse.ArgumentParser) -> None:
     """Names the words of the subcommand."""
     parser.add_argument("recording", metavar="OUT", help="the folder of a recording that was made under a policy")
     add_abi(
-        parser, "where the recording names a right that is newer, its 'create' is EINVAL, and no layer comes of it"
+        parser, "if the recording names a newer right, its 'create' is EINVAL, and no layer is made"
     )
-    parser.add_argument("--json", action="store_true", help="print the same as data")
+    parser.add_argument("--json", action="store_true", help="print the result as JSON")
     parser.add_argument("--differences", metavar="FILE", type=Path, help="write each difference, as JSON Lines")
     add_landaudit(parser)
 

@@ -23,7 +23,7 @@ from . import audit, convert
 NAME = "run"
 HELP = "record a command: run it under strace, and write its tree and its trace"
 EXAMPLE = "landaudit-record run rec --watch /tmp/work -- tar xf archive.tar -C /tmp/work"
-BEHIND_DASHES = "give a command behind '--', as 'landaudit-record run rec -- ls'"
+BEHIND_DASHES = "give a command after '--', as in 'landaudit-record run rec -- ls'"
 
 
 def add_arguments(parser: argparse.ArgumentParser) -> None:
@@ -37,8 +37,8 @@ def add_arguments(parser: argparse.ArgumentParser) -> None:
         metavar="DIR",
         action="append",
         default=[],
-        help="list DIR before the run, so that what the command overwrites, moves and removes there is known"
-        " (the working directory is listed by itself; may be given several times)",
+        help="list DIR before the run, to know what the command overwrites, moves and removes there"
+        " (the working directory is listed in any case; may be given several times)",
     )
     parser.add_argument(
         "--policy",
@@ -47,7 +47,7 @@ def add_arguments(parser: argparse.ArgumentParser) -> None:
         help="run the command under this policy (landaudit-policy confine), keep the policy in OUT/policy.toml, and say"
         " at the end what it refused",
     )
-    add_abi(parser, "with --policy, the rights that it, or the kernel, does not have are dropped")
+    add_abi(parser, "with --policy, rights that it or the kernel does not have are dropped")
     convert.add_port_rules(parser)
 
 
@@ -57,7 +57,7 @@ def run(arguments: argparse.Namespace) -> int:
     if not command:
         raise Problem(BEHIND_DASHES, USAGE)
     if shutil.which(command[0]) is None:
-        raise Problem(f"{command[0]} is not found, or is no program", WANTING)
+        raise Problem(f"{command[0]} is not found, or is not a program", WANTING)
     policy = None if arguments.policy is None else _InForce.of(arguments.policy, arguments.abi)
     strace = tracing.version()
     tracing.may_trace()
@@ -119,7 +119,7 @@ def _made(folder: Path) -> Iterator[Path]:
     try:
         folder.mkdir(parents=True)
     except FileExistsError:
-        raise Problem(f"{folder} is there already: name a new folder", USAGE) from None
+        raise Problem(f"{folder} exists already: name a new folder", USAGE) from None
     try:
         yield folder.resolve()
     except BaseException:

@@ -24,15 +24,15 @@ EXAMPLE = "landaudit-policy check policy.toml cases.toml"
 CASES = """
 Cases are TOML: each [[refused]] or [[allowed]] has a call in the words of a
 trace (open r, open w create, exec, mknod fifo, rename, connect, ..) with path,
-from and to, or port; abi, one or a range, if it isn't about all; and kind for a
-path that is not on this machine. The output is TAP, version 14."""
+from and to, or port; abi (one or a range) unless it is about all of them; and
+kind for a path that is not on this machine. The output is TAP, version 14."""
 
 
 def add_arguments(parser: argparse.ArgumentParser) -> None:
     """Names the words of the subcommand."""
     parser.description = f"{HELP}\n{CASES}"
     add_policy(parser)
-    parser.add_argument("cases", metavar="CASES.toml", type=Path, help="what must be allowed, and what refused")
+    parser.add_argument("cases", metavar="CASES.toml", type=Path, help="what the policy must allow and refuse")
     add_landaudit(parser)
 
 

@@ -12,14 +12,14 @@ from ..problems import USAGE, WANTING, Problem
 NAME = "confine"
 HELP = "run a command under a policy"
 EXAMPLE = "landaudit-policy confine policy.toml -- sort /etc/passwd"
-BEHIND_DASHES = "give a command behind '--', as 'landaudit-policy confine policy.toml -- ls'"
+BEHIND_DASHES = "give a command after '--', as in 'landaudit-policy confine policy.toml -- ls'"
 
 
 def add_arguments(parser: argparse.ArgumentParser) -> None:
     """Names the words of the subcommand."""
     parser.usage = "landaudit-policy confine [-h] POLICY.toml [--abi N] -- COMMAND.."
     add_policy(parser)
-    add_abi(parser, "rights that it, or the kernel, does not have are dropped")
+    add_abi(parser, "rights that it or the kernel does not have are dropped")
 
 
 def run(arguments: argparse.Namespace) -> int:
@@ -30,7 +30,7 @@ def run(arguments: argparse.Namespace) -> int:
     policy = policies.read(arguments.policy)
     abi = confining.known_abi(arguments.abi)
     if shutil.which(command[0]) is None:
-        raise Problem(f"{command[0]} is not found, or is no program", WANTING)
+        raise Problem(f"{command[0]} is not found, or is not a program", WANTING)
     environment = confining.given_environment()
     note(confining.confine(policy, abi), POLICIES)
     confining.become(command, environment)

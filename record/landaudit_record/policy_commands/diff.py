@@ -19,9 +19,9 @@ EXAMPLE = "landaudit-policy diff old.toml new.toml"
 
 def add_arguments(parser: argparse.ArgumentParser) -> None:
     """Names the words of the subcommand."""
-    parser.add_argument("old", metavar="OLD.toml", type=Path, help="a policy")
-    parser.add_argument("new", metavar="NEW.toml", type=Path, help="the policy that is to take its place")
-    add_abis(parser, "Landlock's ABI, or a range of them ({all} if it is left out)")
+    parser.add_argument("old", metavar="OLD.toml", type=Path, help="the old policy")
+    parser.add_argument("new", metavar="NEW.toml", type=Path, help="the new policy, which replaces it")
+    add_abis(parser, "Landlock's ABI, or a range (default: {all})")
     add_landaudit(parser)
 
 
@@ -33,7 +33,7 @@ def run(arguments: argparse.Namespace) -> int:
         note(_links(policy), POLICIES)
     scoped = [frozenset().union(*(layer.scoped for layer in policy.layers)) for policy in (old, new)]
     if scoped[0] != scoped[1]:
-        note([f"{old.path} and {new.path} have other scopes, which are not judged"], POLICIES)
+        note([f"{old.path} and {new.path} have different scopes, which are not judged"], POLICIES)
     found = differing.differences(program, old, new, arguments.abis)
     for line in differing_text.lines(found, old, new, arguments.abis):
         print(line)
@@ -48,5 +48,5 @@ def _links(policy: Policy) -> Iterator[str]:
                 path = as_named(parent)
                 real = os.path.realpath(path)
                 if real != path:
-                    yield (f"{policy.path}: layer {layer.number}, {rule.place}: {parent} leads to {real} here, and is "
-                           f"compared by its name: name {real}, if that is meant")
+                    yield (f"{policy.path}: layer {layer.number}, {rule.place}: {parent} leads to {real} on this "
+                           f"machine, and is compared by its name: write {real} if you mean that")

@@ -19,7 +19,7 @@ def add_arguments(parser: argparse.ArgumentParser) -> None:
         "--c",
         action="store_true",
         required=True,
-        help="print C99: int confine_by_policy(void), which gives 0 or an errno, and needs the kernel's headers alone",
+        help="print C99: int confine_by_policy(void), which returns 0 or an errno, and needs only the kernel's headers",
     )
 
 
