@@ -403,7 +403,8 @@ class Rounds(unittest.TestCase):
 
     def test_it_comes_to_an_end(self) -> None:
         again = [*layer(), reading("/a/f")]
-        self.assertFalse(suggested(*[again] * 50).finished)
+        found = suggested(*[again] * 50)
+        self.assertEqual((found.finished, found.rounds), (False, 2))
 
 
 class Text(unittest.TestCase):
