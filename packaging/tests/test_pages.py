@@ -8,6 +8,8 @@ import subprocess
 import unittest
 from pathlib import Path
 
+from landaudit_record import policies
+
 from .places import MAN, TOP, script
 
 PAGES = sorted(MAN.iterdir())
@@ -50,6 +52,12 @@ class Contents(unittest.TestCase):
             made,
             "docs/FORMATS.md was changed: run packaging/formats-page > man/landaudit.5",
         )
+
+    def test_the_groups_of_rules_are_listed(self) -> None:
+        document = formats_page.DOCUMENT.read_text(encoding="utf-8")
+        rows = document.partition("| Group | ")[2].partition("\n\n")[0].splitlines()[2:]
+        named = [name for row in rows for name in re.findall(r"`(\w+)`", row.split("|")[1])]
+        self.assertEqual(sorted(named), policies.group_names())
 
     def test_the_example_is_the_first_of_the_examples(self) -> None:
         page = (MAN / "landaudit.1").read_text(encoding="utf-8")

@@ -47,9 +47,10 @@ def kind_of(right: str) -> str:
 
 
 class Objects:
-    """The objects under directories, each directory counted once."""
+    """The objects under directories, each directory counted once; what is counted stays as it is."""
 
     def __init__(self, trees: Sequence[Tree]) -> None:
+        self._found: dict[str, Count] = {}
         self._counts: dict[str, Count] = {}
         self._elsewhere: dict[str, Count] = {}
         listed = {path: kind for tree in trees for path, kind in tree.kinds.items() if path not in tree.made}
@@ -62,10 +63,11 @@ class Objects:
         """What is at a path and under it."""
         if path in UNCOUNTED:
             return Count(WITHOUT_END, WITHOUT_END, WITHOUT_END)
-        found = Count()
-        found.add(self._on_disk(path))
-        found.add(self._elsewhere.get(path, Count()))
-        return found
+        if path not in self._found:
+            self._found[path] = found = Count()
+            found.add(self._on_disk(path))
+            found.add(self._elsewhere.get(path, Count()))
+        return self._found[path]
 
     def _on_disk(self, path: str) -> Count:
         """What is on the disk, each directory behind those that are in it."""

@@ -47,7 +47,8 @@ class Placing:
 
     def new(self, recording: int, directory: str, path: str) -> Spot:
         """Where the rule is for a real path that a call of a recording was to make in a directory."""
-        return Spot(self.spot(recording, directory).place, path, _cause_of_made(path))
+        place = self.spot(recording, directory).place
+        return Spot(place, path, _cause_of_made(place, path))
 
     def _before(self, own: Tree, path: str) -> Spot:
         """Where a rule can be before the run: by the recording's own tree, then by those of the others."""
@@ -56,7 +57,7 @@ class Placing:
         made = next((over for over in down if any(over in tree.made for tree in self._trees)), None)
         if made is None:
             return spot
-        return Spot(directory_of(made), spot.path, spot.cause or _cause_of_made(made))
+        return Spot(directory_of(made), spot.path, spot.cause or _cause_of_made(directory_of(made), spot.path))
 
 
 def _there_before(tree: Tree, path: str) -> Spot:
@@ -72,18 +73,13 @@ def _there_before(tree: Tree, path: str) -> Spot:
     there = directory_of(path) if is_link else path
     place, cause = tree.before(there), Cause.LINK if is_link else None
     if place != tree.first.get(there, there) and cause is None:
-        cause = Cause.REPLACED if tree.is_replaced(real) else _cause_of_made(_beneath(place, real))
+        cause = Cause.REPLACED if tree.is_replaced(real) else _cause_of_made(place, real)
     return Spot(place, real, cause)
 
 
-def _beneath(directory: str, path: str) -> str:
-    """What is just beneath a directory on the way to a path; the path itself where it is elsewhere."""
-    return next((over for over in upwards(path) if directory_of(over) == directory and over != ROOT), path)
-
-
-def _cause_of_made(path: str) -> Cause:
-    """Why a rule is over what is made at a path, by its name."""
-    return Cause.MADE_UP if varying.looks_made_up(path.rpartition("/")[2]) else Cause.MADE
+def _cause_of_made(directory: str, path: str) -> Cause:
+    """Why a rule is on a directory over what is made at a path, by the names on the way."""
+    return Cause.MADE_UP if any(map(varying.looks_made_up, path.removeprefix(directory).split("/"))) else Cause.MADE
 
 
 def remarks(place: str, spots: Sequence[Spot]) -> Iterator[str]:

@@ -96,7 +96,7 @@ def suggest(
     """Rules until no layer of the policy refuses what a rule would fix.
 
     `audit` answers each part of each recording under a policy, with the recording's index. Under the rules of one round
-    the next may show refusals that were behind those which they fix.
+    the next may show refusals that were behind those which they fix. A round that shows nothing new is the last.
     """
     found = Round()
     groups: dict[int, Mapping[str, int]] = {}
@@ -106,11 +106,12 @@ def suggest(
     trees = [one.tree for one in recorded]
     for rounds in range(1, MOST_ROUNDS + 1):
         found = _Look(recorded, policy, abi).over(audit(with_rules(policy, rules, groups)))
-        if not found.wants:
-            break
+        known = _number_of(lacked)
         for number, by_recording in found.wants.items():
             for index, more in by_recording.items():
                 wants.unite(lacked[number][index], more)
+        if _number_of(lacked) == known:
+            break
         for index, by_directory in found.new.items():
             for directory, paths in by_directory.items():
                 new[index].setdefault(directory, set()).update(paths)
@@ -121,6 +122,11 @@ def suggest(
                 groups[layer.number], rules[layer.number] = making.rules(layer, wanted, trees)
     finished = not found.wants
     return Suggestion(rules, found.unmended, found.of_program, rounds, finished, found.failed, groups)
+
+
+def _number_of(lacked: Mapping[int, list[Wants]]) -> int:
+    """How many rights are lacking on places."""
+    return sum(len(rights) for by_recording in lacked.values() for some in by_recording for rights in some.values())
 
 
 def needs_refer(layer: Layer, rules: Iterable[Rule]) -> bool:

@@ -204,6 +204,14 @@ class Remarks(unittest.TestCase):
         (rule,) = suggested([*layer(), reading("/a/x.Ab3dEf")], recorded=Recorded(tree)).rules[1]
         self.assertEqual((rule.place, rule.remarks), ("/a", ("(for names that differ in each run, as x.Ab3dEf)",)))
 
+    def test_names_beneath_a_made_up_one(self) -> None:
+        make = (opened("/a/x.Ab3dEf/~new~", "w", create=True, shown="/a/x.Ab3dEf/n"),
+                refused("make_reg on /a/x.Ab3dEf"))
+        tree = Tree({**TREE.kinds, "/a/x.Ab3dEf": "dir"}, made={*TREE.made, "/a/x.Ab3dEf"})
+        (rule,) = suggested([*layer(), make], recorded=Recorded(tree)).rules[1]
+        told = "(for names that differ in each run, as x.Ab3dEf, x.Ab3dEf/n)"
+        self.assertEqual((rule.place, rule.remarks), ("/a", (told,)))
+
     def test_a_name_that_looks_so_and_was_there(self) -> None:
         tree = Tree({**TREE.kinds, "/a/x.Ab3dEf": "dir", "/a/x.Ab3dEf/f": "reg"})
         (rule,) = suggested([*layer(), reading("/a/x.Ab3dEf/f")], recorded=Recorded(tree)).rules[1]
@@ -403,7 +411,8 @@ class Rounds(unittest.TestCase):
 
     def test_it_comes_to_an_end(self) -> None:
         again = [*layer(), reading("/a/f")]
-        self.assertFalse(suggested(*[again] * 50).finished)
+        found = suggested(*[again] * 50)
+        self.assertEqual((found.finished, found.rounds), (False, 2))
 
 
 class Text(unittest.TestCase):

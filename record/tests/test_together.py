@@ -10,7 +10,7 @@ from pathlib import Path
 from typing import Any
 
 from landaudit_record import together
-from landaudit_record.finished import Finished
+from landaudit_record.finished import Converted, Finished, Size
 from landaudit_record.summary import Accepted, Refusal, Summary
 
 from .recorded import PID, refused, write_lines
@@ -138,6 +138,20 @@ class Several(StandIn):
         status, out, errors = self.audited("audit", self.recording, self.folder / "none")
         self.assertEqual((status, out, errors.count("\n")), (3, "", 1))
         self.assertIn("record first", errors)
+
+    def test_recordings_of_different_formats(self) -> None:
+        (self.second / "converted.json").write_text('{"format": 2}')
+        status, out, errors = self.both("audit")
+        self.assertEqual((status, out, errors.count("\n")), (3, "", 1))
+        self.assertIn(f"of another version of landaudit-record: run landaudit-record convert {self.second}", errors)
+
+    def test_a_recording_that_is_cut(self) -> None:
+        size = (self.second / "trace.jsonl").stat().st_size
+        part = Size(records=5, again=0, objects=3, bytes=size)
+        Converted((part,), processes=1, objects=3, ended=False).write(self.second)
+        status, out, _ = self.both("audit")
+        self.assertEqual(status, 5)
+        self.assertIn(f"NOT ALL IS JUDGED: {self.second}: the recording is cut", out.splitlines()[-1])
 
     def test_what_one_of_them_did_not_meet_is_no_note(self) -> None:
         rule = '[[layer.path_beneath]]\nallowed_access = ["read_dir"]\nparent = "/b"\n'
