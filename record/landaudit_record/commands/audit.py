@@ -8,7 +8,7 @@ import shlex
 import sys
 from pathlib import Path
 
-from .. import accepting, by_abi, finished, landaudit, policies, summary_text, trying
+from .. import accepting, by_abi, finished, landaudit, page, policies, summary_text, trying
 from ..options import add_abis, add_as_recorded, add_landaudit, add_program, note
 from ..problems import NOT_ALL_JUDGED
 from ..recorder.progress import Progress
@@ -40,6 +40,9 @@ def add_arguments(parser: argparse.ArgumentParser) -> None:
     add_abis(parser)
     add_as_recorded(parser)
     parser.add_argument("--json", action="store_true", help="print the same as data: that of each ABI is in 'abis'")
+    parser.add_argument(
+        "--html", metavar="FILE", type=Path, help="write all of it as a page for a browser too, which is one file"
+    )
     add_landaudit(parser)
 
 
@@ -74,6 +77,9 @@ def run(arguments: argparse.Namespace) -> int:
         note([f"{recording.folder} can't be written: report and tried trace are not kept"])
     for one in accepting.set_apart(accepted, summaries):
         note([f"accepted and refused no more: {one} ({one.reason})"])
+    if arguments.html:
+        about = page.About(arguments.recording, arguments.policy, arguments.as_recorded)
+        page.write(arguments.html, about, summaries, recording.parts, tried)
     _print(summaries, arguments)
     if any(summary.others_refused for summary in summaries):
         return 1
