@@ -17,6 +17,7 @@ ABI := 4
 PREFIX := /usr/local
 ROOT := $(DESTDIR)$(PREFIX)
 SCRIPTS := landaudit-record landaudit-policy
+MODULES := -name '*.py' -o -name 'page.css' -o -name 'page.js'
 COMMANDS := landaudit $(SCRIPTS)
 INSTALLED := share/man/man5/landaudit.5 $(foreach command,$(COMMANDS),bin/$(command) share/man/man1/$(command).1 \
 	share/bash-completion/completions/$(command) share/zsh/site-functions/_$(command) \
@@ -41,7 +42,7 @@ landaudit:
 install:
 	$(if $(wildcard $(PROGRAM)),,$(error landaudit is not built: run 'make landaudit' first))
 	@rm -rf '$(ROOT)/share/landaudit'
-	@for file in $(SCRIPTS) $$(cd record && find landaudit_record -name '*.py'); do \
+	@for file in $(SCRIPTS) $$(cd record && find landaudit_record $(MODULES)); do \
 	install -D -m 644 record/$$file '$(ROOT)'/share/landaudit/$$file || exit 1; done
 	@cd '$(ROOT)' && mkdir -p $(sort $(dir $(INSTALLED)))
 	@for script in $(SCRIPTS); do chmod 755 '$(ROOT)'/share/landaudit/$$script && \

@@ -50,7 +50,8 @@ class Install(unittest.TestCase):
 
     def test_what_goes_where(self) -> None:
         self.assertEqual(self.make("install").returncode, 0)
-        modules = [path.relative_to(TOP / "record") for path in (TOP / "record" / "landaudit_record").rglob("*.py")]
+        modules = [path.relative_to(TOP / "record") for path in (TOP / "record" / "landaudit_record").rglob("*")
+                   if path.is_file() and path.suffix != ".pyc"]
         self.assertEqual(
             files(self.prefix),
             {

@@ -243,8 +243,7 @@ def call_text(record: Record) -> str:
 def place_of(record: Record) -> Place | None:
     """What Landlock was asked about by name; None for a call on neither paths nor ports, and one that was not asked."""
     if record["op"] in PATH_CALLS and record.get("kernel") in ASKED_LANDLOCK:
-        paths = (shown(record, member) for member in ("path", "from", "to"))
-        return tuple(path for path in paths if path is not None)
+        return tuple(str(shown(record, member)) for member in ("path", "from", "to") if member in record)
     return int(record["port"]) if record["op"] in PORT_CALLS else None
 
 

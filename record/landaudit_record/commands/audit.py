@@ -77,7 +77,7 @@ def run(arguments: argparse.Namespace) -> int:
         note([f"{recording.folder} can't be written: report and tried trace are not kept"])
     for one in accepting.set_apart(accepted, summaries):
         note([f"accepted and refused no more: {one} ({one.reason})"])
-    if arguments.html:
+    if arguments.html is not None:
         about = page.About(arguments.recording, arguments.policy, arguments.as_recorded)
         page.write(arguments.html, about, summaries, recording.parts, tried)
     _print(summaries, arguments)

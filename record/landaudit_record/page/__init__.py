@@ -8,6 +8,7 @@ ever text (`markup`), and the page's own policy lets no style and no script work
 from __future__ import annotations
 
 import base64
+import contextlib
 import hashlib
 import os
 from collections.abc import Iterable, Iterator, Sequence
@@ -20,7 +21,7 @@ from ..summary import Summary
 from ..trying import Tried
 from . import by_version, sections
 from .counting import Paths, asked
-from .markup import Markup, element
+from .markup import Markup, element, together
 from .sections import Section
 
 _HERE = Path(__file__).resolve().parent
@@ -77,7 +78,7 @@ def _link(part: Section) -> Markup:
 
 def _head(about: About, newest: int) -> Markup:
     """What is not seen: among it the policy of the page itself, by which nothing works but its own style and script."""
-    style = own("page.css") + by_version.rules(newest)
+    style = together((own("page.css"), by_version.rules(newest)))
     script = own("page.js")
     only = f"default-src 'none'; style-src {_hash(style)}; script-src {_hash(script)}; base-uri 'none'; form-action 'none'"
     return element(
@@ -111,13 +112,14 @@ def _judged(about: About) -> str:
 
 def _put(file: Path, text: bytes) -> None:
     """Writes a file so that nobody ever sees half of it; a link, or what is no regular file, is written into."""
-    if file.is_symlink() or file.exists() and not file.is_file():
-        file.write_bytes(text)
-        return
-    beside = file.with_name(f".page-{os.getpid()}.new")
+    in_place = file.is_symlink() or (file.exists() and not file.is_file())
+    written = file if in_place else file.with_name(f".page-{os.getpid()}.new")
     try:
-        beside.write_bytes(text)
-        beside.replace(file)
+        written.write_bytes(text)
+        if not in_place:
+            written.replace(file)
     except OSError as error:
-        beside.unlink(missing_ok=True)
+        if not in_place:
+            with contextlib.suppress(OSError):
+                written.unlink()
         raise OSError(error.errno, error.strerror, str(file)) from error

@@ -28,9 +28,10 @@ def choice(abi: int) -> str:
     return f"abi-{abi}"
 
 
-def rules(newest: int) -> str:
+def rules(newest: int) -> Markup:
     """The rules of style by which what is chosen is shown, without a script; an old browser shows the newest ABI."""
     chosen = (f"body:has(#{choice(abi)}:checked) .a:not(.a{abi}){{display:none}}\n"
               f"body:has(#{choice(abi)}:checked) .t{abi}{{background:var(--chosen)}}\n"
               for abi in range(OLDEST_ABI, NEWEST_ABI + 1))
-    return "".join(chosen) + f"@supports not selector(:has(a)){{.a:not(.a{newest}),.abis{{display:none}}}}\n"
+    old = f"@supports not selector(:has(a)){{.a:not(.a{newest}),.abis{{display:none}}}}\n"
+    return Markup("".join((*chosen, old)))

@@ -16,7 +16,7 @@ from ..trying import Tried
 from ..wording import counted
 from .by_version import choice, kinds, varied
 from .counting import Counts, Paths
-from .markup import Markup, element, together
+from .markup import Markup, element, text, together
 from .tree import bar, bars, columns, tree
 
 #: A longer text has a box of its own to scroll in.
@@ -55,8 +55,7 @@ def row(*cells: str, kind: str = "") -> Markup:
 
 def named(plain: str) -> Markup:
     """A name from a recording; a long one is in a box that scrolls, by keys too."""
-    ways = {"dir": "ltr", **({"tabindex": "0"} if len(plain) > LONGEST else {})}
-    return element("span", plain, kind="path long" if len(plain) > LONGEST else "path", attributes=ways)
+    return text(plain) if len(plain) <= LONGEST else element("div", plain, kind="long", attributes={"tabindex": "0"})
 
 
 def paragraph(*inside: str, kind: str = "") -> Markup:
@@ -86,7 +85,7 @@ def _figures(summary: Summary) -> Markup:
     accepted = summary.accepted.total()
     of_these = f", {accepted:,} of them accepted" if accepted else ""
     figures = (
-        (f"{summary.records:,}", f"calls at ABI {summary.abi}", ""),
+        (f"{summary.records:,}", f"records at ABI {summary.abi}", ""),
         (f"{verdicts['allowed']:,}", "allowed", "allowed"),
         (f"{verdicts['refused']:,}", f"refused{of_these}", "refused" if summary.others_refused else "none"),
         (f"{verdicts['moot']:,}", "moot", "moot"),
@@ -97,18 +96,18 @@ def _figures(summary: Summary) -> Markup:
 
 def not_judged(summary: Summary) -> Markup:
     """What could not be judged, so that the page looks like no more than it is."""
-    return together(paragraph(element("b", "Not all is judged. "), text, kind="alarm") for text in summary.missing)
+    return together(paragraph(element("b", "Not all is judged. "), told, kind="alarm") for told in summary.missing)
 
 
 def warnings(summaries: Sequence[Summary]) -> Markup:
     """The warnings of each ABI."""
     found: dict[str, dict[int, int]] = {}
     for summary in summaries:
-        for text, times in summary.warnings.items():
-            found.setdefault(text, {})[summary.abi] = times
+        for told, times in summary.warnings.items():
+            found.setdefault(told, {})[summary.abi] = times
     items = (
-        element("li", text, _times([by_abi.get(abi, 1) for abi in by_abi], list(by_abi)), kind=kinds(by_abi))
-        for text, by_abi in found.items()
+        element("li", told, _times(list(by_abi.values()), list(by_abi)), kind=kinds(by_abi))
+        for told, by_abi in found.items()
     )
     return element("ul", *items, kind="warnings") if found else Markup()
 
@@ -142,7 +141,7 @@ def _changes(step: Step) -> Markup:
 
 def _some(title: str, some: Sequence[Kind]) -> Markup:
     """The first of some kinds, which open behind their number."""
-    items = [element("li", named(" ".join(word for word in (kind.call, kind.place, kind.error) if word != "-")))
+    items = [element("li", element("code", " ".join(word for word in (kind.call, kind.place, kind.error) if word != "-")))
              for kind in some[:MOST_KINDS]]
     if len(some) > MOST_KINDS:
         items.append(element("li", f"and {counted(len(some) - MOST_KINDS, 'kind')} more"))
@@ -170,7 +169,7 @@ def _by_refusal(summaries: Sequence[Summary]) -> list[tuple[Refusal, dict[int, C
 def _how_many(summary: Summary) -> str:
     if not summary.refusals:
         return f"Nothing is refused at ABI {summary.abi}{' that is not accepted' if summary.accepted else ''}."
-    number = summary.verdicts["refused"] - summary.accepted.total()
+    number = sum(programs.total() for programs in summary.refusals.values())
     calls = "1 call" if number == 1 else f"{number:,} calls"
     return f"{calls} at ABI {summary.abi}, in {counted(len(summary.refusals), 'kind')}."
 

@@ -13,7 +13,7 @@ from .counting import Counts, Node
 from .markup import Markup, element, together
 
 #: How many rows the tree has at most, and how many of them are seen before a reader opens or closes any.
-MOST_ROWS = 4_000
+MOST_ROWS = 1_500
 SEEN_ROWS = 24
 #: The least of a bar's hundred parts that what is there at all has.
 LEAST = 2
