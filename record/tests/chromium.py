@@ -78,10 +78,10 @@ class Tab:
             raise AssertionError(f"{expression}: {answer['exceptionDetails']}")
         return answer["result"].get("value")
 
-    def press(self, key: str, code: str, number: int) -> None:
-        """Presses a key and lets it go."""
-        for kind in ("rawKeyDown", "keyUp"):
-            self("Input.dispatchKeyEvent", type=kind, key=key, code=code, windowsVirtualKeyCode=number)
+    def press(self, key: str, code: str, number: int, text: str = "") -> None:
+        """Presses a key, which may stand for a text, and lets it go."""
+        for kind in ("keyDown" if text else "rawKeyDown", "keyUp"):
+            self("Input.dispatchKeyEvent", type=kind, key=key, code=code, windowsVirtualKeyCode=number, text=text)
 
     def wide(self, width: int, height: int = 1000) -> None:
         """Makes the window as wide as this."""
