@@ -23,7 +23,10 @@ INSTALLED := share/man/man5/landaudit.5 $(foreach command,$(COMMANDS),bin/$(comm
 	share/bash-completion/completions/$(command) share/zsh/site-functions/_$(command) \
 	share/fish/vendor_completions.d/$(command).fish)
 
-.PHONY: example landaudit install uninstall test live
+# Where `make deb` and `make dist` put the packages.
+PACKAGES := packaging/out
+
+.PHONY: example landaudit install uninstall deb dist test live
 
 # Builds landaudit without its proofs, and runs it; a refused call (status 1) is an answer as good as another.
 example:
@@ -60,6 +63,12 @@ uninstall:
 	@rm -f $(foreach file,$(INSTALLED),'$(ROOT)/$(file)')
 	@rm -rf '$(ROOT)/share/landaudit'
 	@echo '$(COMMANDS) are gone from $(ROOT)'
+
+# A Debian package, and a tar for other Linuxes, of what `make install` installs; each says inside what was proved.
+deb dist:
+	$(if $(wildcard $(PROGRAM)),,$(error landaudit is not built: run 'make landaudit' first))
+	$(if $(wildcard $(CHECK)),,$(error nothing says that $(PROGRAM) is proved: run 'make landaudit' first))
+	@packaging/package $@ '$(PROGRAM)' '$(CHECK)' '$(PACKAGES)'
 
 # Tests the recorder and the packaging, proves everything and runs every test; then refuses the built program, and
 # the tests made for it, each of their requests for memory, and drives the program through faults of the system

@@ -1,0 +1,217 @@
+"""`make deb` and `make dist`, with a small program in the place of the proved one, which would take minutes."""
+
+from __future__ import annotations
+
+import gzip
+import hashlib
+import io
+import os
+import re
+import shutil
+import subprocess
+import tarfile
+import tempfile
+import unittest
+from pathlib import Path
+
+from landaudit_record import VERSION
+
+from .places import TOP
+from .test_trusted import LINES
+
+TOOLCHAIN = "rattle-kit-13f logic dac8208d650f15bf"
+STAND_IN = """#include <stdio.h>
+int main(void) { puts("landaudit %s (%s)"); return 0; }
+"""
+DEB, TAR = f"landaudit_{VERSION}_amd64.deb", f"landaudit-{VERSION}-x86_64-linux-glibc*.tar.xz"
+DOC = "./usr/share/doc/landaudit"
+
+
+def wanting(*programs: str) -> str | None:
+    """Which program is not here, or that this is no repository."""
+    absent = [program for program in (*programs, "cc", "objdump", "git") if shutil.which(program) is None]
+    if absent:
+        return f"{absent[0]} is not installed"
+    return None if (TOP / ".git").exists() else "the sources are no repository"
+
+
+OF_DEBIAN = wanting("dpkg-deb", "dpkg-shlibdeps")
+
+
+def ran(*words: str | Path, **variables: str) -> subprocess.CompletedProcess[str]:
+    """What a command does, at the top of the sources."""
+    environment = {name: value for name, value in os.environ.items() if not name.startswith("MAKE")}
+    return subprocess.run(words, capture_output=True, text=True, check=False, env={**environment, **variables}, cwd=TOP)
+
+
+class Packages(unittest.TestCase):
+    def setUp(self) -> None:
+        self.folder = Path(self.enterContext(tempfile.TemporaryDirectory())).resolve()
+        self.out = self.folder / "out"
+        self.check = self.folder / "check.txt"
+        self.check.write_text(LINES, encoding="utf-8")
+
+    def program(self, version: str = VERSION) -> Path:
+        """A small program of a version."""
+        source, program = self.folder / "stand-in.c", self.folder / "stand-in"
+        source.write_text(STAND_IN % (version, TOOLCHAIN), encoding="utf-8")
+        subprocess.run(["cc", "-o", program, source], check=True)
+        return program
+
+    def make(self, target: str, program: Path, **variables: str) -> subprocess.CompletedProcess[str]:
+        """Makes a package."""
+        files = (f"PROGRAM={program}", f"CHECK={self.check}", f"PACKAGES={self.out}")
+        return ran("make", "--no-print-directory", target, *files, **variables)
+
+    def made(self, target: str, **variables: str) -> Path:
+        """The package that is made."""
+        run = self.make(target, self.program(), **variables)
+        self.assertEqual((run.returncode, run.stderr), (0, ""))
+        (package,) = self.out.iterdir()
+        self.assertTrue(run.stdout.startswith(f"{package}: needs the GNU C library 2."), run.stdout)
+        return package
+
+    def installed(self) -> set[str]:
+        """What `make install` installs, from its prefix on."""
+        root = self.folder / "installed"
+        run = ran("make", "--no-print-directory", "install", f"DESTDIR={root}", "PREFIX=/", f"PROGRAM={self.program()}")
+        self.assertEqual(run.returncode, 0, run.stderr)
+        return {str(path.relative_to(root)) for path in root.rglob("*") if path.is_symlink() or not path.is_dir()}
+
+    def alike(self, target: str) -> None:
+        """A package has the same bytes another day, elsewhere, and by another who makes it."""
+        first = self.made(target).read_bytes()
+        shutil.rmtree(self.out)
+        words = ["sh", "-c", 'umask 077; exec "$@"', "sh", "make", "--no-print-directory", target]
+        files = [f"PROGRAM={self.program()}", f"CHECK={self.check}", f"PACKAGES={self.out}"]
+        run = ran(*words, *files, TZ="Asia/Tokyo", LC_ALL="C", HOME=str(self.folder))
+        self.assertEqual((run.returncode, run.stderr), (0, ""))
+        (package,) = self.out.iterdir()
+        self.assertEqual(package.read_bytes(), first)
+
+
+@unittest.skipIf(OF_DEBIAN, OF_DEBIAN or "")
+class Refused(Packages):
+    """No package is made of what is not the proved program, and one line says why."""
+
+    def refused(self, program: Path, why: str) -> None:
+        for target in ("deb", "dist"):
+            with self.subTest(target):
+                run = self.make(target, program)
+                lines = [line for line in run.stderr.splitlines() if not re.match(r"make: .* Error \d+$", line)]
+                self.assertEqual((run.returncode, run.stdout, len(lines)), (2, "", 1), run.stderr)
+                self.assertIn(why, lines[0])
+                self.assertFalse(self.out.exists())
+
+    def test_no_program(self) -> None:
+        self.refused(self.folder / "absent", "landaudit is not built: run 'make landaudit' first")
+
+    def test_no_word_of_a_proof(self) -> None:
+        self.check.unlink()
+        self.refused(self.program(), "nothing says that ")
+
+    def test_a_check_that_proved_nothing(self) -> None:
+        for text in ("", LINES.replace("logic=proved", "logic=unproved"), LINES.replace("crate landaudit", "crate ll_tree")):
+            self.check.write_text(text)
+            self.refused(self.program(), "does not say that landaudit is proved")
+
+    def test_another_version(self) -> None:
+        self.refused(self.program("9.9"), f"and not of version {VERSION}")
+
+    def test_a_script_in_the_place_of_the_program(self) -> None:
+        script = self.folder / "script"
+        script.write_text(f"#!/bin/sh\necho 'landaudit {VERSION} ({TOOLCHAIN})'\n")
+        script.chmod(0o755)
+        self.refused(script, "objdump: ")
+
+
+@unittest.skipIf(OF_DEBIAN, OF_DEBIAN or "")
+class Deb(Packages):
+    def contents(self, package: Path) -> tarfile.TarFile:
+        """The files of a package."""
+        data = subprocess.run(["dpkg-deb", "--fsys-tarfile", package], capture_output=True, check=True).stdout
+        return tarfile.open(fileobj=io.BytesIO(data))
+
+    def text(self, files: tarfile.TarFile, name: str) -> str:
+        found = files.extractfile(name)
+        assert found is not None
+        data = found.read()
+        return (gzip.decompress(data) if name.endswith(".gz") else data).decode()
+
+    def test_it_has_what_make_install_installs(self) -> None:
+        names = {entry.name for entry in self.contents(self.made("deb")).getmembers() if not entry.isdir()}
+        wanted = {f"./usr/{name}".replace("zsh/site-functions", "zsh/vendor-completions") for name in self.installed()}
+        wanted = {f"{name}.gz" if "/man/" in name else name for name in wanted}
+        own = {f"{DOC}/PROOF", f"{DOC}/copyright", f"{DOC}/changelog.gz", "./usr/share/lintian/overrides/landaudit"}
+        self.assertEqual(names, wanted | own)
+
+    def test_what_it_needs(self) -> None:
+        said = ran("dpkg-deb", "--field", self.made("deb")).stdout
+        fields = dict(re.findall(r"^(\S+): (.*)$", said, re.MULTILINE))
+        self.assertEqual((fields["Package"], fields["Version"], fields["Architecture"]), ("landaudit", VERSION, "amd64"))
+        self.assertRegex(fields["Depends"], r"\Alibc6 \(>= 2\.\d+\), python3 \(>= 3\.11\)\Z")
+        self.assertEqual(fields["Recommends"], "strace (>= 6.1)")
+
+    def test_it_says_what_was_proved(self) -> None:
+        files = self.contents(self.made("deb"))
+        text = self.text(files, f"{DOC}/PROOF")
+        commit = ran("git", "rev-parse", "HEAD").stdout.strip()
+        digest = hashlib.sha256((self.folder / "stand-in").read_bytes()).hexdigest()
+        for words in (commit, TOOLCHAIN, digest, LINES):
+            self.assertIn(words, text)
+        self.assertIn(commit, self.text(files, f"{DOC}/changelog.gz"))
+
+    def test_nobody_owns_it_and_it_is_as_old_as_its_commit(self) -> None:
+        entries = self.contents(self.made("deb", SOURCE_DATE_EPOCH="1700000000")).getmembers()
+        self.assertEqual({(entry.uid, entry.gid, entry.mtime) for entry in entries}, {(0, 0, 1_700_000_000)})
+        self.assertEqual({entry.mode for entry in entries if entry.isfile()}, {0o644, 0o755})
+
+    def test_the_same_sources_make_the_same_bytes(self) -> None:
+        self.alike("deb")
+
+    @unittest.skipUnless(shutil.which("lintian"), "lintian is not installed")
+    def test_lintian_finds_no_error(self) -> None:
+        run = ran("lintian", "--fail-on", "error", "--allow-root", self.made("deb"))
+        self.assertEqual((run.returncode, run.stdout), (0, ""))
+
+
+@unittest.skipIf(wanting(), wanting() or "")
+class Dist(Packages):
+    def test_it_has_what_make_install_installs_and_runs_where_it_is_unpacked(self) -> None:
+        package = self.made("dist")
+        with tarfile.open(package) as files:
+            entries = files.getmembers()
+            files.extractall(self.folder / "un packed", filter="tar")
+        top = package.name.removesuffix(".tar.xz")
+        names = {entry.name for entry in entries if not entry.isdir()}
+        self.assertEqual(names, {f"{top}/{name}" for name in (*self.installed(), "PROOF", "README")})
+        self.assertEqual([entry.name for entry in entries], sorted(entry.name for entry in entries))
+        self.assertEqual({(entry.uid, entry.gid, entry.uname, entry.gname) for entry in entries}, {(0, 0, "", "")})
+        for script in ("landaudit-record", "landaudit-policy"):
+            run = ran(self.folder / "un packed" / top / "bin" / script, "--version")
+            self.assertEqual(run.stdout, f"{script} {VERSION}\n")
+
+    @unittest.skipUnless(shutil.which("readelf"), "readelf is not installed")
+    def test_it_names_the_oldest_library_that_will_do(self) -> None:
+        package = self.made("dist")
+        found = re.findall(r"Name: GLIBC_2\.(\d+)", ran("readelf", "--version-info", self.folder / "stand-in").stdout)
+        newest = f"2.{max(map(int, found))}"
+        self.assertEqual(package.name, TAR.replace("*", newest))
+        with tarfile.open(package) as files:
+            for name in ("README", "PROOF"):
+                text = files.extractfile(f"{package.name.removesuffix('.tar.xz')}/{name}")
+                assert text is not None
+                self.assertIn(f"the GNU C library {newest}", text.read().decode())
+
+    def test_the_same_sources_make_the_same_bytes(self) -> None:
+        self.alike("dist")
+
+
+class Versions(unittest.TestCase):
+    def test_landaudit_and_the_scripts_have_one_version(self) -> None:
+        source = (TOP / "crates" / "ll_command" / "src" / "command.rt").read_text(encoding="utf-8")
+        self.assertEqual(re.findall(r'^const VERSION: &str = "(\S+) \(', source, re.MULTILINE), [VERSION])
+
+
+if __name__ == "__main__":
+    unittest.main()
