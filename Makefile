@@ -26,6 +26,10 @@ INSTALLED := share/man/man5/landaudit.5 $(foreach command,$(COMMANDS),bin/$(comm
 # Where `make deb` and `make dist` put the packages.
 PACKAGES := packaging/out
 
+# Each ends make with one line where its file is missing.
+IS_BUILT = $(if $(wildcard $(PROGRAM)),,$(error landaudit is not built: run 'make landaudit' first))
+IS_PROVED = $(if $(wildcard $(CHECK)),,$(error nothing says that $(PROGRAM) is proved: run 'make landaudit' first))
+
 .PHONY: example landaudit install uninstall deb dist test live
 
 # Builds landaudit without its proofs, and runs it; a refused call (status 1) is an answer as good as another.
@@ -43,7 +47,7 @@ landaudit:
 
 # The scripts and their modules stay together in share/landaudit; they find landaudit beside them in bin.
 install:
-	$(if $(wildcard $(PROGRAM)),,$(error landaudit is not built: run 'make landaudit' first))
+	$(IS_BUILT)
 	@rm -rf '$(ROOT)/share/landaudit'
 	@for file in $(SCRIPTS) $$(cd record && find landaudit_record $(MODULES)); do \
 	install -D -m 644 record/$$file '$(ROOT)'/share/landaudit/$$file || exit 1; done
@@ -64,11 +68,17 @@ uninstall:
 	@rm -rf '$(ROOT)/share/landaudit'
 	@echo '$(COMMANDS) are gone from $(ROOT)'
 
-# A Debian package, and a tar for other Linuxes, of what `make install` installs; each says inside what was proved.
-deb dist:
-	$(if $(wildcard $(PROGRAM)),,$(error landaudit is not built: run 'make landaudit' first))
-	$(if $(wildcard $(CHECK)),,$(error nothing says that $(PROGRAM) is proved: run 'make landaudit' first))
-	@packaging/package $@ '$(PROGRAM)' '$(CHECK)' '$(PACKAGES)'
+# A Debian package of what `make install` installs; it says inside what was proved.
+deb:
+	$(IS_BUILT)
+	$(IS_PROVED)
+	@packaging/package deb '$(PROGRAM)' '$(CHECK)' '$(PACKAGES)'
+
+# The same as a tar for other Linuxes, which is unpacked anywhere.
+dist:
+	$(IS_BUILT)
+	$(IS_PROVED)
+	@packaging/package dist '$(PROGRAM)' '$(CHECK)' '$(PACKAGES)'
 
 # Tests the recorder and the packaging, proves everything and runs every test; then refuses the built program, and
 # the tests made for it, each of their requests for memory, and drives the program through faults of the system
