@@ -111,7 +111,8 @@ class Refused(Packages):
         self.refused(self.program(), "nothing says that ")
 
     def test_a_check_that_proved_nothing(self) -> None:
-        for text in ("", LINES.replace("logic=proved", "logic=unproved"), LINES.replace("crate landaudit", "crate ll_tree")):
+        other = LINES.replace("crate landaudit", "crate ll_tree")
+        for text in ("", other, LINES.replace("logic=proved", "logic=unproved")):
             self.check.write_text(text)
             self.refused(self.program(), "does not say that landaudit is proved")
 
@@ -148,7 +149,8 @@ class Deb(Packages):
     def test_what_it_needs(self) -> None:
         said = ran("dpkg-deb", "--field", self.made("deb")).stdout
         fields = dict(re.findall(r"^(\S+): (.*)$", said, re.MULTILINE))
-        self.assertEqual((fields["Package"], fields["Version"], fields["Architecture"]), ("landaudit", VERSION, "amd64"))
+        named = [fields[name] for name in ("Package", "Version", "Architecture")]
+        self.assertEqual(named, ["landaudit", VERSION, "amd64"])
         self.assertRegex(fields["Depends"], r"\Alibc6 \(>= 2\.\d+\), python3 \(>= 3\.11\)\Z")
         self.assertEqual(fields["Recommends"], "strace (>= 6.1)")
 

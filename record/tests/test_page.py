@@ -43,14 +43,14 @@ HOSTILE = (
 ABOUT = page.About("rec", "policy.toml", False)
 #: Elements that a page is made of, and the attributes that its elements may have.
 ELEMENTS = {
-    "", "html", "head", "meta", "title", "style", "script", "body", "header", "h1", "h2", "p", "nav", "fieldset", "legend",
-    "label", "input", "span", "ul", "li", "a", "main", "div", "b", "svg", "rect", "section", "table", "thead", "tbody",
-    "tr", "th", "td", "details", "summary", "code", "button", "footer",
+    "", "html", "head", "meta", "title", "style", "script", "body", "header", "h1", "h2", "p", "nav", "fieldset",
+    "legend", "label", "input", "span", "ul", "li", "a", "main", "div", "b", "svg", "rect", "section", "table", "thead",
+    "tbody", "tr", "th", "td", "details", "summary", "code", "button", "footer",
 }
 ATTRIBUTES = {
-    "lang", "charset", "http-equiv", "content", "name", "type", "class", "id", "value", "checked", "href", "for", "scope",
-    "hidden", "autocomplete", "spellcheck", "role", "dir", "tabindex", "open", "aria-labelledby", "aria-hidden", "viewbox",
-    "preserveaspectratio", "x", "width", "height",
+    "lang", "charset", "http-equiv", "content", "name", "type", "class", "id", "value", "checked", "href", "for",
+    "scope", "hidden", "autocomplete", "spellcheck", "role", "dir", "tabindex", "open", "aria-labelledby",
+    "aria-hidden", "viewbox", "preserveaspectratio", "x", "width", "height",
 }
 
 
@@ -124,7 +124,8 @@ class Data(unittest.TestCase):
 
     def test_what_each_abi_answers(self) -> None:
         steps = by_abi.as_data(by_abi.steps(self.summaries))
-        wanted = [[str(step["abi"]), *(f"{step[verdict]:,}" for verdict in ("allowed", "refused", "moot"))] for step in steps]
+        verdicts = ("allowed", "refused", "moot")
+        wanted = [[str(step["abi"]), *(f"{step[verdict]:,}" for verdict in verdicts)] for step in steps]
         self.assertEqual([row[:4] for row in self.page.rows("totals", 4)], wanted)
         (changes,) = (row[5] for row in self.page.rows("totals", 4) if row[0] == "4")
         self.assertIn("1 kind refused here and not before", changes)
@@ -143,7 +144,8 @@ class Data(unittest.TestCase):
 
     def test_what_is_accepted(self) -> None:
         for abi in (2, 3, 4):
-            wanted = [[str(one["times"]), one["call"], one["place"], one["reason"]] for one in self.data(abi)["accepted"]]
+            accepted = self.data(abi)["accepted"]
+            wanted = [[str(one["times"]), one["call"], one["place"], one["reason"]] for one in accepted]
             self.assertEqual(self.page.rows("accepted", abi), wanted)
 
     def test_what_was_moot_at_the_newest_abi(self) -> None:
@@ -192,7 +194,8 @@ class Hostile(unittest.TestCase):
     def test_a_page_has_its_own_elements_and_attributes_alone(self) -> None:
         self.assertLessEqual({one.name for one in self.page.elements()}, ELEMENTS)
         self.assertLessEqual({name for one in self.page.elements() for name in one.attributes}, ATTRIBUTES)
-        self.assertEqual([len(self.page.all(name)) for name in ("html", "head", "body", "main", "script", "style")], [1] * 6)
+        for name in ("html", "head", "body", "main", "script", "style"):
+            self.assertEqual(len(self.page.all(name)), 1, name)
 
     def test_links_lead_to_the_page_itself(self) -> None:
         names = {one.attributes.get("id") for one in self.page.elements()}
@@ -249,7 +252,8 @@ class OwnPolicy(unittest.TestCase):
             self.assertEqual(self.policy[f"{name}-src"], f"'sha256-{digest}'")
 
     def test_it_comes_before_style_and_script(self) -> None:
-        names = ["policy" if "http-equiv" in one.attributes else one.name for one in self.page.all("head")[0].elements()]
+        (head,) = self.page.all("head")
+        names = ["policy" if "http-equiv" in one.attributes else one.name for one in head.elements()]
         self.assertLess(names.index("policy"), min(names.index("style"), names.index("script")))
 
     def test_style_and_script_ask_for_nothing(self) -> None:
@@ -290,7 +294,8 @@ class Counting(unittest.TestCase):
 
     def test_a_call_counts_once_wherever_it_is_below(self) -> None:
         found = self.paths()
-        wanted = {"/": 25, "/a": 24, "/a/f": 20, "/a/h": 3, "/a/d": 4, "/a/d/g": 4, "/b": 3, "/b/f": 2, "/c": 0, "/a/f/x": 0}
+        wanted = {"/": 25, "/a": 24, "/a/f": 20, "/a/h": 3, "/a/d": 4, "/a/d/g": 4, "/b": 3, "/b/f": 2, "/c": 0,
+                  "/a/f/x": 0}
         self.assertEqual({path: found.below(path).all for path in wanted}, wanted)
 
     def test_what_is_not_allowed(self) -> None:
@@ -324,10 +329,15 @@ class TreeOfPaths(unittest.TestCase):
         return Paths(calls, summaries)
 
     def test_ways_are_joined_and_names_without_refusals_are_one_row(self) -> None:
-        calls: Counter[Place] = Counter({("/usr/lib/x/one",): 2, ("/usr/lib/x/two",): 5, ("/usr/lib/x/three",): 1, ("/f",): 1})
+        calls: Counter[Place] = Counter(
+            {("/usr/lib/x/one",): 2, ("/usr/lib/x/two",): 5, ("/usr/lib/x/three",): 1, ("/f",): 1}
+        )
         found = self.paths(calls, Counter(), Counter({("/usr/lib/x/two",): 5}))
         self.assertEqual(self.rows(found), [
-            ["/", "4", "5", "0"], ["usr/lib/x/", "3", "5", "0"], ["two", "0", "5", "0"], ["2 names more", "3", "0", "0"],
+            ["/", "4", "5", "0"],
+            ["usr/lib/x/", "3", "5", "0"],
+            ["two", "0", "5", "0"],
+            ["2 names more", "3", "0", "0"],
             ["1 name more", "1", "0", "0"],
         ])
         self.assertEqual([row[2] for row in self.rows(found, 4)], ["0"] * 5)

@@ -80,7 +80,8 @@ def _head(about: About, newest: int) -> Markup:
     """What is not seen: among it the policy of the page itself, by which nothing works but its own style and script."""
     style = together((own("page.css"), by_version.rules(newest)))
     script = own("page.js")
-    only = f"default-src 'none'; style-src {_hash(style)}; script-src {_hash(script)}; base-uri 'none'; form-action 'none'"
+    own_alone = f"style-src {_hash(style)}; script-src {_hash(script)}"
+    only = f"default-src 'none'; {own_alone}; base-uri 'none'; form-action 'none'"
     return element(
         "head",
         element("meta", attributes={"charset": "utf-8"}),

@@ -90,13 +90,15 @@ def _figures(summary: Summary) -> Markup:
         (f"{verdicts['refused']:,}", f"refused{of_these}", "refused" if summary.others_refused else "none"),
         (f"{verdicts['moot']:,}", "moot", "moot"),
     )
-    told = (element("div", element("b", number), " ", element("span", what), kind=kind) for number, what, kind in figures)
+    told = (element("div", element("b", number), " ", element("span", what), kind=kind)
+            for number, what, kind in figures)
     return together((*told, bar(verdicts["allowed"], verdicts["refused"], verdicts["moot"])))
 
 
 def not_judged(summary: Summary) -> Markup:
     """What could not be judged, so that the page looks like no more than it is."""
-    return together(paragraph(element("b", "Not all is judged. "), told, kind="alarm") for told in summary.missing)
+    title = element("b", "Not all is judged. ")
+    return together(paragraph(title, named(told), kind="alarm") for told in summary.missing)
 
 
 def warnings(summaries: Sequence[Summary]) -> Markup:
@@ -106,7 +108,7 @@ def warnings(summaries: Sequence[Summary]) -> Markup:
         for told, times in summary.warnings.items():
             found.setdefault(told, {})[summary.abi] = times
     items = (
-        element("li", told, _times(list(by_abi.values()), list(by_abi)), kind=kinds(by_abi))
+        element("li", named(told), _times(list(by_abi.values()), list(by_abi)), kind=kinds(by_abi))
         for told, by_abi in found.items()
     )
     return element("ul", *items, kind="warnings") if found else Markup()
@@ -141,8 +143,8 @@ def _changes(step: Step) -> Markup:
 
 def _some(title: str, some: Sequence[Kind]) -> Markup:
     """The first of some kinds, which open behind their number."""
-    items = [element("li", element("code", " ".join(word for word in (kind.call, kind.place, kind.error) if word != "-")))
-             for kind in some[:MOST_KINDS]]
+    words = ((kind.call, kind.place, kind.error) for kind in some[:MOST_KINDS])
+    items = [element("li", element("code", " ".join(word for word in each if word != "-"))) for each in words]
     if len(some) > MOST_KINDS:
         items.append(element("li", f"and {counted(len(some) - MOST_KINDS, 'kind')} more"))
     return element("details", element("summary", title), element("ul", *items))
@@ -187,8 +189,8 @@ def _refusal(refusal: Refusal, by_abi: dict[int, Counter[str]]) -> Markup:
     abis = sorted(by_abi)
     times = varied(abis, [f"{by_abi[abi].total():,}" for abi in abis])
     layers = ", ".join(layer.name for layer in refusal.layers) or "-"
-    programs = varied(abis, [names(by_abi[abi]) for abi in abis])
-    cells = (times, refusal.call, named(refusal.place), refusal.error, named(why(refusal)), layers, programs)
+    programs = varied(abis, [named(names(by_abi[abi])) for abi in abis])
+    cells = (times, refusal.call, named(refusal.place), refusal.error, named(why(refusal)), named(layers), programs)
     return row(*cells, kind=kinds(abis))
 
 
@@ -200,9 +202,12 @@ def accepted(summaries: Sequence[Summary]) -> Markup:
             found.setdefault(one, {})[summary.abi] = times
     if not found:
         return Markup()
-    rows = (row(varied(list(by_abi), [f"{times:,}" for times in by_abi.values()]), one.call, named(one.place), one.reason,
-                kind=kinds(by_abi)) for one, by_abi in found.items())
-    return table("accepted", ("times", "call", "place", "reason"), rows)
+    return table("accepted", ("times", "call", "place", "reason"), (_accepted(*one) for one in found.items()))
+
+
+def _accepted(one: Accepted, by_abi: dict[int, int]) -> Markup:
+    times = varied(list(by_abi), [f"{times:,}" for times in by_abi.values()])
+    return row(times, one.call, named(one.place), named(one.reason), kind=kinds(by_abi))
 
 
 def moot(summary: Summary) -> Markup:
@@ -210,7 +215,7 @@ def moot(summary: Summary) -> Markup:
     if not summary.moot:
         return Markup()
     found = sorted(summary.moot.items(), key=lambda item: -item[1].total())
-    rows = (row(f"{at.total():,}", why_moot, named(names(at))) for why_moot, at in found)
+    rows = (row(f"{at.total():,}", named(why_moot), named(names(at))) for why_moot, at in found)
     told = paragraph(f"{MOOT} These are the moot calls at ABI {summary.abi}.")
     return together((told, table("moot", ("times", "why", "at"), rows)))
 
@@ -228,9 +233,9 @@ def paths(abis: Sequence[int], found: Paths) -> Markup:
 def rules(abis: Sequence[int], tried: Tried, found: Paths) -> Markup:
     """The rules of the policy, with how many calls are at or below the place of each."""
     rows = (_rule(abis, *one) for one in _rules(tried.policy, tried.tree, found))
-    told = paragraph("How many calls are at a rule's place or below it, whichever rules and layers they pass or fail by. "
-                     "A rule with no calls did nothing in this recording; landaudit-record tighten says which rights no "
-                     "call needs.")
+    told = paragraph("How many calls are at a rule's place or below it, whichever rules and layers they pass or fail "
+                     "by. A rule with no calls did nothing in this recording; landaudit-record tighten says which "
+                     "rights no call needs.")
     heads = ("layer", "rule", "place", "rights", "allowed", "refused", "moot", "")
     return together((told, table("rules", heads, rows)))
 
@@ -259,6 +264,6 @@ def unsaid(summary: Summary) -> Markup:
     """What was not recorded, and so is in none of the numbers."""
     if not summary.unsaid:
         return paragraph("The recording left nothing out that it knows of.")
-    rows = (row(f"{times:,}", name) for name, times in summary.unsaid.most_common())
+    rows = (row(f"{times:,}", named(name)) for name, times in summary.unsaid.most_common())
     told = paragraph("Calls that the recording has no words for, by class; they are in none of the numbers above.")
     return together((told, table("unsaid", ("times", "class"), rows)))

@@ -35,7 +35,7 @@ def tree(abis: Sequence[int], root: Node) -> Markup:
 
 
 def _shape(root: Node) -> Shape:
-    """Lists what is in directories, those first of which most is refused, until there are as many rows as there may be."""
+    """Lists what is in directories, where most is refused first, until there are as many rows as there may be."""
     found, rows, seen, turn = Shape(), 1, 0, count()
     waiting = [((0, 0), next(turn), root)]
     while waiting:
