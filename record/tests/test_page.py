@@ -197,6 +197,13 @@ class Hostile(unittest.TestCase):
         for name in ("html", "head", "body", "main", "script", "style"):
             self.assertEqual(len(self.page.all(name)), 1, name)
 
+    def test_within_a_line_are_elements_of_lines_alone(self) -> None:
+        """Else a browser would end the outer one (HTML, 3.2.5.2.5)."""
+        for name in ("p", "span", "code", "b", "label", "button", "summary", "a"):
+            inside = {one.name for outer in self.page.all(name) for one in outer.elements() if one is not outer}
+            with self.subTest(name):
+                self.assertLessEqual(inside, {"span", "b", "code", "svg", "rect", "input"})
+
     def test_links_lead_to_the_page_itself(self) -> None:
         names = {one.attributes.get("id") for one in self.page.elements()}
         links = [one.attributes["href"] or "" for one in self.page.all("a")]
@@ -218,7 +225,7 @@ class Hostile(unittest.TestCase):
         self.text.encode()
 
     def test_a_long_name_has_a_box_of_its_own_that_keys_reach(self) -> None:
-        boxes = [one for one in self.page.all("div", "long") if one.text(5) == "/a/" + "x" * 4096]
+        boxes = [one for one in self.page.all("span", "long") if one.text(5) == "/a/" + "x" * 4096]
         self.assertTrue(boxes)
         self.assertEqual({one.attributes["tabindex"] for one in boxes}, {"0"})
 

@@ -55,7 +55,7 @@ def row(*cells: str, kind: str = "") -> Markup:
 
 def named(plain: str) -> Markup:
     """A name from a recording; a long one is in a box that scrolls, by keys too."""
-    return text(plain) if len(plain) <= LONGEST else element("div", plain, kind="long", attributes={"tabindex": "0"})
+    return text(plain) if len(plain) <= LONGEST else element("span", plain, kind="long", attributes={"tabindex": "0"})
 
 
 def paragraph(*inside: str, kind: str = "") -> Markup:
