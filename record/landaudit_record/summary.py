@@ -129,7 +129,7 @@ class Summaries:
 
     def _count_place(self, told: Told) -> None:
         """Counts what is not allowed at the path or port that a record is about."""
-        place = place_of(told.record)
+        place = place_of(told.record) if told.answered else None
         if place is not None:
             for some, answer in told.answered:
                 for abi in some:
