@@ -129,7 +129,7 @@ class LivePage(unittest.TestCase):
             pictures = {}
             for scheme, ground in (("light", "rgb(255, 255, 255)"), ("dark", "rgb(21, 24, 28)")):
                 with self.subTest(width=width, scheme=scheme):
-                    self.tab.wide(width)
+                    self.tab.wide(width, 760)
                     self.tab.scheme(scheme)
                     self.tab.open(file)
                     pictures[scheme] = self.tab.picture()
