@@ -13,6 +13,7 @@ import tarfile
 import tempfile
 import unittest
 from pathlib import Path
+from typing import ClassVar
 
 from landaudit_record import VERSION
 
@@ -23,7 +24,8 @@ TOOLCHAIN = "rattle-kit-13f logic dac8208d650f15bf"
 STAND_IN = """#include <stdio.h>
 int main(void) { puts("landaudit %s (%s)"); return 0; }
 """
-DEB, TAR = f"landaudit_{VERSION}_amd64.deb", f"landaudit-{VERSION}-x86_64-linux-glibc*.tar.xz"
+EPOCH = 1_700_000_000
+TAR = f"landaudit-{VERSION}-x86_64-linux-glibc*.tar.xz"
 DOC = "./usr/share/doc/landaudit"
 
 
@@ -44,50 +46,67 @@ def ran(*words: str | Path, **variables: str) -> subprocess.CompletedProcess[str
     return subprocess.run(words, capture_output=True, text=True, check=False, env={**environment, **variables}, cwd=TOP)
 
 
+def stand_in(folder: Path, version: str = VERSION) -> Path:
+    """A small program of a version."""
+    source, program = folder / "stand-in.c", folder / "stand-in"
+    source.write_text(STAND_IN % (version, TOOLCHAIN), encoding="utf-8")
+    subprocess.run(["cc", "-o", program, source], check=True)
+    return program
+
+
 class Packages(unittest.TestCase):
+    """Packages in a scratch folder."""
+
     def setUp(self) -> None:
         self.folder = Path(self.enterContext(tempfile.TemporaryDirectory())).resolve()
         self.out = self.folder / "out"
         self.check = self.folder / "check.txt"
         self.check.write_text(LINES, encoding="utf-8")
 
-    def program(self, version: str = VERSION) -> Path:
-        """A small program of a version."""
-        source, program = self.folder / "stand-in.c", self.folder / "stand-in"
-        source.write_text(STAND_IN % (version, TOOLCHAIN), encoding="utf-8")
-        subprocess.run(["cc", "-o", program, source], check=True)
-        return program
-
-    def make(self, target: str, program: Path, **variables: str) -> subprocess.CompletedProcess[str]:
+    def make(self, target: str, program: Path) -> subprocess.CompletedProcess[str]:
         """Makes a package."""
         files = (f"PROGRAM={program}", f"CHECK={self.check}", f"PACKAGES={self.out}")
-        return ran("make", "--no-print-directory", target, *files, **variables)
+        return ran("make", "--no-print-directory", target, *files)
 
-    def made(self, target: str, **variables: str) -> Path:
-        """The package that is made."""
-        run = self.make(target, self.program(), **variables)
-        self.assertEqual((run.returncode, run.stderr), (0, ""))
-        (package,) = self.out.iterdir()
-        self.assertTrue(run.stdout.startswith(f"{package}: needs the GNU C library 2."), run.stdout)
-        return package
+
+class Made(unittest.TestCase):
+    """One package for all tests of it."""
+
+    TARGET: ClassVar[str]
+    folder: ClassVar[Path]
+    program: ClassVar[Path]
+    package: ClassVar[Path]
+
+    @classmethod
+    def setUpClass(cls) -> None:
+        cls.folder = Path(cls.enterClassContext(tempfile.TemporaryDirectory())).resolve()
+        cls.program = stand_in(cls.folder)
+        (cls.folder / "check.txt").write_text(LINES, encoding="utf-8")
+        run, cls.package = cls.made("out")
+        assert run.stdout.startswith(f"{cls.package}: needs the GNU C library 2."), run.stdout
+
+    @classmethod
+    def made(cls, out: str, *before: str, **variables: str) -> tuple[subprocess.CompletedProcess[str], Path]:
+        """Makes the package, with its time by SOURCE_DATE_EPOCH."""
+        files = (f"PROGRAM={cls.program}", f"CHECK={cls.folder}/check.txt", f"PACKAGES={cls.folder}/{out}")
+        words = (*before, "make", "--no-print-directory", cls.TARGET, *files)
+        run = ran(*words, SOURCE_DATE_EPOCH=str(EPOCH), **variables)
+        assert (run.returncode, run.stderr) == (0, ""), run.stderr
+        (package,) = (cls.folder / out).iterdir()
+        return run, package
 
     def installed(self) -> set[str]:
         """What `make install` installs, from its prefix on."""
         root = self.folder / "installed"
-        run = ran("make", "--no-print-directory", "install", f"DESTDIR={root}", "PREFIX=/", f"PROGRAM={self.program()}")
+        run = ran("make", "--no-print-directory", "install", f"DESTDIR={root}", "PREFIX=/", f"PROGRAM={self.program}")
         self.assertEqual(run.returncode, 0, run.stderr)
         return {str(path.relative_to(root)) for path in root.rglob("*") if path.is_symlink() or not path.is_dir()}
 
-    def alike(self, target: str) -> None:
-        """A package has the same bytes another day, elsewhere, and by another who makes it."""
-        first = self.made(target).read_bytes()
-        shutil.rmtree(self.out)
-        words = ["sh", "-c", 'umask 077; exec "$@"', "sh", "make", "--no-print-directory", target]
-        files = [f"PROGRAM={self.program()}", f"CHECK={self.check}", f"PACKAGES={self.out}"]
-        run = ran(*words, *files, TZ="Asia/Tokyo", LC_ALL="C", HOME=str(self.folder))
-        self.assertEqual((run.returncode, run.stderr), (0, ""))
-        (package,) = self.out.iterdir()
-        self.assertEqual(package.read_bytes(), first)
+    def assert_alike(self) -> None:
+        """The package has the same bytes another day, elsewhere, and by another who makes it."""
+        other = ("sh", "-c", 'umask 077; exec "$@"', "sh")
+        _, again = self.made("again", *other, TZ="Asia/Tokyo", LC_ALL="C", HOME=str(self.folder))
+        self.assertEqual(again.read_bytes(), self.package.read_bytes())
 
 
 @unittest.skipIf(OF_DEBIAN, OF_DEBIAN or "")
@@ -108,16 +127,16 @@ class Refused(Packages):
 
     def test_no_word_of_a_proof(self) -> None:
         self.check.unlink()
-        self.refused(self.program(), "nothing says that ")
+        self.refused(stand_in(self.folder), "nothing says that ")
 
     def test_a_check_that_proved_nothing(self) -> None:
         other = LINES.replace("crate landaudit", "crate ll_tree")
         for text in ("", other, LINES.replace("logic=proved", "logic=unproved")):
             self.check.write_text(text)
-            self.refused(self.program(), "does not say that landaudit is proved")
+            self.refused(stand_in(self.folder), "does not say that landaudit is proved")
 
     def test_another_version(self) -> None:
-        self.refused(self.program("9.9"), f"and not of version {VERSION}")
+        self.refused(stand_in(self.folder, "9.9"), f"and not of version {VERSION}")
 
     def test_a_script_in_the_place_of_the_program(self) -> None:
         script = self.folder / "script"
@@ -127,10 +146,12 @@ class Refused(Packages):
 
 
 @unittest.skipIf(OF_DEBIAN, OF_DEBIAN or "")
-class Deb(Packages):
-    def contents(self, package: Path) -> tarfile.TarFile:
-        """The files of a package."""
-        data = subprocess.run(["dpkg-deb", "--fsys-tarfile", package], capture_output=True, check=True).stdout
+class Deb(Made):
+    TARGET = "deb"
+
+    def contents(self) -> tarfile.TarFile:
+        """The files of the package."""
+        data = subprocess.run(["dpkg-deb", "--fsys-tarfile", self.package], capture_output=True, check=True).stdout
         return tarfile.open(fileobj=io.BytesIO(data))
 
     def text(self, files: tarfile.TarFile, name: str) -> str:
@@ -140,14 +161,14 @@ class Deb(Packages):
         return (gzip.decompress(data) if name.endswith(".gz") else data).decode()
 
     def test_it_has_what_make_install_installs(self) -> None:
-        names = {entry.name for entry in self.contents(self.made("deb")).getmembers() if not entry.isdir()}
+        names = {entry.name for entry in self.contents().getmembers() if not entry.isdir()}
         wanted = {f"./usr/{name}".replace("zsh/site-functions", "zsh/vendor-completions") for name in self.installed()}
         wanted = {f"{name}.gz" if "/man/" in name else name for name in wanted}
         own = {f"{DOC}/PROOF", f"{DOC}/copyright", f"{DOC}/changelog.gz", "./usr/share/lintian/overrides/landaudit"}
         self.assertEqual(names, wanted | own)
 
     def test_what_it_needs(self) -> None:
-        said = ran("dpkg-deb", "--field", self.made("deb")).stdout
+        said = ran("dpkg-deb", "--field", self.package).stdout
         fields = dict(re.findall(r"^(\S+): (.*)$", said, re.MULTILINE))
         named = [fields[name] for name in ("Package", "Version", "Architecture")]
         self.assertEqual(named, ["landaudit", VERSION, "amd64"])
@@ -155,58 +176,60 @@ class Deb(Packages):
         self.assertEqual(fields["Recommends"], "strace (>= 6.1)")
 
     def test_it_says_what_was_proved(self) -> None:
-        files = self.contents(self.made("deb"))
+        files = self.contents()
         text = self.text(files, f"{DOC}/PROOF")
         commit = ran("git", "rev-parse", "HEAD").stdout.strip()
-        digest = hashlib.sha256((self.folder / "stand-in").read_bytes()).hexdigest()
+        digest = hashlib.sha256(self.program.read_bytes()).hexdigest()
         for words in (commit, TOOLCHAIN, digest, LINES):
             self.assertIn(words, text)
         self.assertIn(commit, self.text(files, f"{DOC}/changelog.gz"))
 
     def test_nobody_owns_it_and_it_is_as_old_as_its_commit(self) -> None:
-        entries = self.contents(self.made("deb", SOURCE_DATE_EPOCH="1700000000")).getmembers()
-        self.assertEqual({(entry.uid, entry.gid, entry.mtime) for entry in entries}, {(0, 0, 1_700_000_000)})
+        entries = self.contents().getmembers()
+        self.assertEqual({(entry.uid, entry.gid, entry.mtime) for entry in entries}, {(0, 0, EPOCH)})
         self.assertEqual({entry.mode for entry in entries if entry.isfile()}, {0o644, 0o755})
 
     def test_the_same_sources_make_the_same_bytes(self) -> None:
-        self.alike("deb")
+        self.assert_alike()
 
     @unittest.skipUnless(shutil.which("lintian"), "lintian is not installed")
     def test_lintian_finds_no_error(self) -> None:
-        run = ran("lintian", "--fail-on", "error", "--allow-root", self.made("deb"))
+        run = ran("lintian", "--fail-on", "error", "--allow-root", self.package)
         self.assertEqual((run.returncode, run.stdout), (0, ""))
 
 
 @unittest.skipIf(wanting(), wanting() or "")
-class Dist(Packages):
+class Dist(Made):
+    TARGET = "dist"
+
     def test_it_has_what_make_install_installs_and_runs_where_it_is_unpacked(self) -> None:
-        package = self.made("dist")
-        with tarfile.open(package) as files:
+        with tarfile.open(self.package) as files:
             entries = files.getmembers()
-            files.extractall(self.folder / "un packed", filter="tar")
-        top = package.name.removesuffix(".tar.xz")
+        unpacked = self.folder / "un packed"
+        unpacked.mkdir()
+        subprocess.run(["tar", "-C", unpacked, "-xf", self.package], check=True)
+        top = self.package.name.removesuffix(".tar.xz")
         names = {entry.name for entry in entries if not entry.isdir()}
         self.assertEqual(names, {f"{top}/{name}" for name in (*self.installed(), "PROOF", "README")})
         self.assertEqual([entry.name for entry in entries], sorted(entry.name for entry in entries))
         self.assertEqual({(entry.uid, entry.gid, entry.uname, entry.gname) for entry in entries}, {(0, 0, "", "")})
         for script in ("landaudit-record", "landaudit-policy"):
-            run = ran(self.folder / "un packed" / top / "bin" / script, "--version")
+            run = ran(unpacked / top / "bin" / script, "--version")
             self.assertEqual(run.stdout, f"{script} {VERSION}\n")
 
     @unittest.skipUnless(shutil.which("readelf"), "readelf is not installed")
     def test_it_names_the_oldest_library_that_will_do(self) -> None:
-        package = self.made("dist")
-        found = re.findall(r"Name: GLIBC_2\.(\d+)", ran("readelf", "--version-info", self.folder / "stand-in").stdout)
+        found = re.findall(r"Name: GLIBC_2\.(\d+)", ran("readelf", "--version-info", self.program).stdout)
         newest = f"2.{max(map(int, found))}"
-        self.assertEqual(package.name, TAR.replace("*", newest))
-        with tarfile.open(package) as files:
+        self.assertEqual(self.package.name, TAR.replace("*", newest))
+        with tarfile.open(self.package) as files:
             for name in ("README", "PROOF"):
-                text = files.extractfile(f"{package.name.removesuffix('.tar.xz')}/{name}")
+                text = files.extractfile(f"{self.package.name.removesuffix('.tar.xz')}/{name}")
                 assert text is not None
                 self.assertIn(f"the GNU C library {newest}", text.read().decode())
 
     def test_the_same_sources_make_the_same_bytes(self) -> None:
-        self.alike("dist")
+        self.assert_alike()
 
 
 class Versions(unittest.TestCase):

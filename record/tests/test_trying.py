@@ -265,8 +265,9 @@ class Trying(unittest.TestCase):
         for file, why in ((self.folder / "none" / "page.html", "No such file or directory"), (folder, "Is a directory"),
                           (Path("/dev/full"), "No space left on device")):
             with self.subTest(why):
-                status, _, errors = self.audited("audit", self.recording, "--html", file)
+                status, out, errors = self.audited("audit", self.recording, "--html", file)
                 self.assertEqual((status, errors), (4, f"landaudit-record: {file}: {why}\n"))
+                self.assertIn("3 records: 3 allowed", out)
         left = {path.name for path in self.folder.rglob("*")} - {path.name for path in before}
         self.assertEqual(left, {"runs", "report.txt"})
 

@@ -77,10 +77,10 @@ def run(arguments: argparse.Namespace) -> int:
         note([f"{recording.folder} can't be written: report and tried trace are not kept"])
     for one in accepting.set_apart(accepted, summaries):
         note([f"accepted and refused no more: {one} ({one.reason})"])
+    _print(summaries, arguments)
     if arguments.html is not None:
         about = page.About(arguments.recording, arguments.policy, arguments.as_recorded)
         page.write(arguments.html, about, summaries, recording.parts, tried)
-    _print(summaries, arguments)
     if any(summary.others_refused for summary in summaries):
         return 1
     return NOT_ALL_JUDGED if recording.missing else 0
