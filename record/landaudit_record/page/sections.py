@@ -234,8 +234,8 @@ def rules(abis: Sequence[int], tried: Tried, found: Paths) -> Markup:
     """The rules of the policy, with how many calls are at or below the place of each."""
     rows = (_rule(abis, *one) for one in _rules(tried.policy, tried.tree, found))
     told = paragraph("How many calls are at a rule's place or below it, whichever rules and layers they pass or fail "
-                     "by. A rule with no calls did nothing in this recording; landaudit-record tighten says which "
-                     "rights no call needs.")
+                     "by; those on what is there under another name are not among them. Which rights no call needs, "
+                     "landaudit-record tighten says.")
     heads = ("layer", "rule", "place", "rights", "allowed", "refused", "moot", "")
     return together((told, table("rules", heads, rows)))
 
