@@ -17,12 +17,20 @@ ABI := 4
 PREFIX := /usr/local
 ROOT := $(DESTDIR)$(PREFIX)
 SCRIPTS := landaudit-record landaudit-policy
+MODULES := -name '*.py' -o -name '*.toml' -o -name 'page.css' -o -name 'page.js'
 COMMANDS := landaudit $(SCRIPTS)
 INSTALLED := share/man/man5/landaudit.5 $(foreach command,$(COMMANDS),bin/$(command) share/man/man1/$(command).1 \
 	share/bash-completion/completions/$(command) share/zsh/site-functions/_$(command) \
 	share/fish/vendor_completions.d/$(command).fish)
 
-.PHONY: example landaudit install uninstall test live
+# Where `make deb` and `make dist` put the packages.
+PACKAGES := packaging/out
+
+# Each ends make with one line where its file is missing.
+IS_BUILT = $(if $(wildcard $(PROGRAM)),,$(error landaudit is not built: run 'make landaudit' first))
+IS_PROVED = $(if $(wildcard $(CHECK)),,$(error nothing says that $(PROGRAM) is proved: run 'make landaudit' first))
+
+.PHONY: example landaudit install uninstall deb dist test live
 
 # Builds landaudit without its proofs, and runs it; a refused call (status 1) is an answer as good as another.
 example:
@@ -40,9 +48,9 @@ landaudit:
 # The scripts, their modules and the groups of rules stay together in share/landaudit; they find landaudit beside them in
 # bin.
 install:
-	$(if $(wildcard $(PROGRAM)),,$(error landaudit is not built: run 'make landaudit' first))
+	$(IS_BUILT)
 	@rm -rf '$(ROOT)/share/landaudit'
-	@for file in $(SCRIPTS) $$(cd record && find landaudit_record -name '*.py' -o -name '*.toml'); do \
+	@for file in $(SCRIPTS) $$(cd record && find landaudit_record $(MODULES)); do \
 	install -D -m 644 record/$$file '$(ROOT)'/share/landaudit/$$file || exit 1; done
 	@cd '$(ROOT)' && mkdir -p $(sort $(dir $(INSTALLED)))
 	@for script in $(SCRIPTS); do chmod 755 '$(ROOT)'/share/landaudit/$$script && \
@@ -60,6 +68,18 @@ uninstall:
 	@rm -f $(foreach file,$(INSTALLED),'$(ROOT)/$(file)')
 	@rm -rf '$(ROOT)/share/landaudit'
 	@echo '$(COMMANDS) are gone from $(ROOT)'
+
+# A Debian package of what `make install` installs; it says inside what was proved.
+deb:
+	$(IS_BUILT)
+	$(IS_PROVED)
+	@packaging/package deb '$(PROGRAM)' '$(CHECK)' '$(PACKAGES)'
+
+# The same as a tar for other Linuxes, which is unpacked anywhere.
+dist:
+	$(IS_BUILT)
+	$(IS_PROVED)
+	@packaging/package dist '$(PROGRAM)' '$(CHECK)' '$(PACKAGES)'
 
 # Tests the recorder and the packaging, proves everything and runs every test; then refuses the built program, and
 # the tests made for it, each of their requests for memory, and drives the program through faults of the system

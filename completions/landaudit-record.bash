@@ -6,7 +6,7 @@ _landaudit_record_words() {
         run) echo '-h --help --watch --policy --abi --port-rules --' ;;
         convert) echo '-h --help --port-rules' ;;
         apply) echo '-h --help --out --tree --program --abi' ;;
-        audit) echo '-h --help --policy --accepted --program --abi --as-recorded --json --landaudit' ;;
+        audit) echo '-h --help --policy --accepted --program --abi --as-recorded --json --html --landaudit' ;;
         compare) echo '-h --help --abi --json --differences --landaudit' ;;
         tighten) echo '-h --help --policy --list --program --abi --as-recorded --landaudit' ;;
         suggest) echo '-h --help --policy --rules --style --program --abi --as-recorded --landaudit' ;;
@@ -58,7 +58,7 @@ _landaudit_record() {
             compopt -o filenames 2> /dev/null
             mapfile -t COMPREPLY < <(compgen -d -- "$cur")
             ;;
-        --out | --tree | --differences | --landaudit | --rules) ;;
+        --out | --tree | --differences | --html | --landaudit | --rules) ;;
         *)
             if [[ -z $sub || $cur == -* ]]; then
                 mapfile -t COMPREPLY < <(compgen -W "$(_landaudit_record_words "$sub")" -- "$cur")

@@ -50,8 +50,8 @@ class Install(unittest.TestCase):
 
     def test_what_goes_where(self) -> None:
         self.assertEqual(self.make("install").returncode, 0)
-        package = TOP / "record" / "landaudit_record"
-        modules = [path.relative_to(TOP / "record") for end in ("py", "toml") for path in package.rglob(f"*.{end}")]
+        modules = [path.relative_to(TOP / "record") for path in (TOP / "record" / "landaudit_record").rglob("*")
+                   if path.is_file() and path.suffix != ".pyc"]
         self.assertIn(Path("landaudit_record/groups/base.toml"), modules)
         self.assertEqual(
             files(self.prefix),

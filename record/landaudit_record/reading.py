@@ -22,6 +22,8 @@ from .recorder.processes import FIRST_MADE_UP
 from .recorder.progress import Progress
 
 Judged = tuple[Record, Answer, Process]
+#: What a call is about by name: its path or both paths, as a person knows them, or its port.
+Place = tuple[str, ...] | int
 
 #: Calls on paths, and what the kernel answers to those of them that it asked Landlock about.
 PATH_CALLS = frozenset(
@@ -30,6 +32,9 @@ PATH_CALLS = frozenset(
 ASKED_LANDLOCK = (None, "ok", "EACCES", "EPERM", "EXDEV")
 #: Calls that a process makes on its way to a layer.
 ASKS_FOR_LAYERS = frozenset({"create", "restrict"})
+
+#: Calls on TCP ports.
+PORT_CALLS = frozenset({"bind", "connect"})
 
 #: Operations whose records are taken apart whatever their answers are.
 _TELLING = ASKS_FOR_LAYERS | {"start", "fork", "exit", "exec", "add_path", "add_port"}
@@ -240,6 +245,13 @@ def call_text(record: Record) -> str:
     words = [op, record.get("mode"), record["kind"] if op == "mknod" else None]
     words += [flag for flag in ("create", "trunc") if op == "open" and record.get(flag)]
     return " ".join(word for word in words if word)
+
+
+def place_of(record: Record) -> Place | None:
+    """What Landlock was asked about by name; None for a call on neither paths nor ports, and one that was not asked."""
+    if record["op"] in PATH_CALLS and record.get("kernel") in ASKED_LANDLOCK:
+        return tuple(str(shown(record, member)) for member in ("path", "from", "to") if member in record)
+    return int(record["port"]) if record["op"] in PORT_CALLS else None
 
 
 def place_text(record: Record, opened: str | None = None) -> str:

@@ -12,7 +12,7 @@ from .explanations import Condition, Kept, Missing, Objection
 from .jsonl import Record
 from .landaudit import Answer
 from .processes import of_policy, shown_path
-from .reading import ASKED_LANDLOCK, Told, Walk, call_text, place_text
+from .reading import ASKED_LANDLOCK, Place, Told, Walk, call_text, place_of, place_text
 
 #: The members of a record by which refused calls are alike, beside their explanation.
 _TELLS = ("op", "path", "shown", "from", "to", "shown_to", "mode", "create", "trunc", "kind", "exchange", "port", "rs")
@@ -63,7 +63,8 @@ class Summary:
     """All that is said of an audit; `missing` is what it can't say, with which it is no all clear.
 
     Refusals that are accepted are apart, with how many calls there are of each. `untouched` are the warnings of rules
-    on what was never touched; `recordings` says, where several were audited, in which each refusal occurs.
+    on what was never touched; `recordings` says, where several were audited, in which each refusal occurs;
+    `not_allowed` counts by verdict the calls on each path or port, accepted ones among them.
     """
 
     abi: int
@@ -79,6 +80,7 @@ class Summary:
     accepted: Counter[Accepted] = field(default_factory=Counter)
     untouched: set[str] = field(default_factory=set)
     recordings: dict[Refusal, list[str]] = field(default_factory=dict)
+    not_allowed: dict[str, Counter[Place]] = field(default_factory=lambda: {"refused": Counter(), "moot": Counter()})
 
     @property
     def others_refused(self) -> bool:
@@ -113,6 +115,7 @@ class Summaries:
         for told in walk:
             for abi in abis if "policy" in told.record else ():
                 _told_of_rule(self._by_abi[abi], told.record)
+            self._count_place(told)
             for some, answer in told.answered:
                 if _is_left_out(told.record, answer):
                     left_out.update(some)
@@ -126,6 +129,14 @@ class Summaries:
             summary.path_calls += walk.path_calls
             # What is neither refused nor moot was let through.
             summary.seen += walk.records - left_out[abi]
+
+    def _count_place(self, told: Told) -> None:
+        """Counts what is not allowed at the path or port that a record is about."""
+        place = place_of(told.record) if told.answered else None
+        if place is not None:
+            for some, answer in told.answered:
+                for abi in some:
+                    self._by_abi[abi].not_allowed[answer.verdict][place] += 1
 
     def _refused(
         self, walk: Walk, told: Told, answer: Answer, abis: Iterable[int], known: dict[Hashable, Refusal]

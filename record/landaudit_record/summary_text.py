@@ -139,10 +139,10 @@ def _refusal_row(refusal: Refusal, programs: Counter[str], summary: Summary) -> 
     layers = ", ".join(layer.name for layer in refusal.layers) or "-"
     where = (some_of(summary.recordings[refusal]),) if summary.recordings else ()
     told = (str(programs.total()), refusal.call, refusal.place, refusal.error, layers)
-    return *told, *where, _names(programs), _why(refusal)
+    return *told, *where, names(programs), why(refusal)
 
 
-def _why(refusal: Refusal) -> str:
+def why(refusal: Refusal) -> str:
     """What the layers object to, once if it is the same for all; or the condition by which the calls fail."""
     if refusal.condition is not None:
         return refusal.condition
@@ -174,10 +174,10 @@ def _moot(summary: Summary, style: Style) -> Iterator[str]:
     yield ""
     yield style.bold("moot: the policy was not asked")
     found = sorted(summary.moot.items(), key=lambda item: -item[1].total())
-    yield from _table(("times", "why", "at"), [(str(at.total()), why, _names(at)) for why, at in found])
+    yield from _table(("times", "why", "at"), [(str(at.total()), why, names(at)) for why, at in found])
 
 
-def _names(counted: Counter[str]) -> str:
+def names(counted: Counter[str]) -> str:
     """The most frequent names, and how many are left."""
     return some_of([name for name, _ in counted.most_common()])
 

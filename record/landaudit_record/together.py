@@ -5,10 +5,10 @@ from __future__ import annotations
 from collections import Counter
 from collections.abc import Iterator, Sequence
 from contextlib import ExitStack, contextmanager
-from dataclasses import dataclass
+from dataclasses import dataclass, replace
 from pathlib import Path
 
-from . import finished, trying
+from . import finished, trees, trying
 from .finished import Finished
 from .options import note
 from .policies import Policy
@@ -51,6 +51,12 @@ def opened(names: Sequence[str], policy: Policy | None = None, program: str | No
         recording = finished.opened(name)
         members.append(Member(name, recording, None if policy is None else trying.tried(recording, policy, program)))
     return members
+
+
+def tried_of(members: Sequence[Member]) -> Tried | None:
+    """The policy as it is tried, over the objects of all recordings."""
+    tried = [member.tried for member in members if member.tried is not None]
+    return replace(tried[0], tree=trees.united(one.tree for one in tried)) if tried else None
 
 
 def note_missing(members: Sequence[Member]) -> None:
@@ -112,6 +118,8 @@ def _add(found: Summary, name: str, one: Summary) -> None:
         found.recordings.setdefault(refusal, []).append(name)
     for why, at in one.moot.items():
         found.moot.setdefault(why, Counter()).update(at)
+    for verdict, places in one.not_allowed.items():
+        found.not_allowed[verdict].update(places)
     for text, times in one.warnings.items():
         found.warnings[text] = found.warnings.get(text, 0) + times
     found.untouched |= one.untouched

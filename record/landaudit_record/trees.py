@@ -2,7 +2,7 @@
 
 from __future__ import annotations
 
-from collections.abc import Iterator
+from collections.abc import Iterable, Iterator
 from dataclasses import dataclass, field
 from functools import cached_property
 from pathlib import Path
@@ -138,6 +138,20 @@ def read(*paths: Path) -> Tree:
                 tree.targets[listed] = target
             _note_names(tree, listed, entry)
     return tree
+
+
+def united(trees: Iterable[Tree]) -> Tree:
+    """The objects of several recordings; what two of them say of one path is what the last one says."""
+    found = Tree()
+    for tree in trees:
+        found.kinds.update(tree.kinds)
+        found.targets.update(tree.targets)
+        found.made.update(tree.made)
+        found.first.update(tree.first)
+        found.shown.update(tree.shown)
+    for name, first in found.first.items():
+        found.others.setdefault(first, []).append(name)
+    return found
 
 
 def _note_names(tree: Tree, listed: str, entry: jsonl.Record) -> None:

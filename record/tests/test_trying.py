@@ -2,12 +2,16 @@
 
 from __future__ import annotations
 
+import errno
 import json
+import os
 import unittest
 from typing import Any
+from unittest import mock
 
 from landaudit_record.jsonl import Record
 
+from . import pages
 from .recorded import PID, failed, refused, write_lines
 from .stand_in import OLDER_OPS, OPS, POLICY, TRACE, TREE, StandIn
 
@@ -142,6 +146,57 @@ class Trying(StandIn):
         lacking = "landaudit-record: note: ABI {0} is missing rights of the policy: see --abi {0} (3 notes)"
         self.assertEqual(errors.splitlines(), [lacking.format(abi) for abi in (1, 2)])
         self.assertEqual(self.ran(), ["1-4 --best-effort --explain"])
+
+    def test_a_page_is_written_beside_what_is_printed(self) -> None:
+        file = self.folder / "page.html"
+        words = ["audit", self.recording, "--policy", self.policy]
+        for more in ([], ["--json"], ["--as-recorded"]):
+            file.unlink(missing_ok=True)
+            plain = self.audited(*words, *more, abi="1-4")
+            self.assertEqual(self.audited(*words, *more, "--html", file, abi="1-4"), plain)
+            shown = pages.read(file.read_text(encoding="utf-8"))
+            refused = {abi: [row[:4] for row in shown.rows("refusals", abi)] for abi in range(1, 5)}
+            write = [["1", "open w", "/a", "EACCES"]]
+            self.assertEqual(refused, {1: [["1", "exec", "/bin", "EACCES"]], 2: write, 3: write, 4: write})
+            self.assertEqual([row[4:7] for row in shown.rows("rules", 4)], [["0", "1", "0"]])
+            self.assertEqual([row[4:7] for row in shown.rows("rules", 1)], [["1", "0", "0"]])
+
+    def test_the_calls_on_paths_of_a_page_are_those_of_the_data(self) -> None:
+        file = self.folder / "page.html"
+        _, out, _ = self.audited("audit", self.recording, "--json", "--html", file)
+        shown = pages.read(file.read_text(encoding="utf-8"))
+        (top,) = (row for row in shown.all("summary", "row") if row.text(3).startswith("/") and "/" in row.text(3)[:1])
+        self.assertEqual(top.text(3), f"/{json.loads(out)['path_calls']}00")
+
+    def test_a_page_that_can_not_be_written(self) -> None:
+        folder = self.folder / "folder.html"
+        folder.mkdir()
+        before = sorted(self.folder.rglob("*"))
+        for file, why in ((self.folder / "none" / "page.html", "No such file or directory"), (folder, "Is a directory"),
+                          (Path("/dev/full"), "No space left on device")):
+            with self.subTest(why):
+                status, out, errors = self.audited("audit", self.recording, "--html", file)
+                self.assertEqual((status, errors), (4, f"landaudit-record: {file}: {why}\n"))
+                self.assertIn("3 records: 3 allowed", out)
+        left = {path.name for path in self.folder.rglob("*")} - {path.name for path in before}
+        self.assertEqual(left, {"runs", "report.txt"})
+
+    def test_a_page_takes_the_place_of_the_one_before_it_whole_or_not_at_all(self) -> None:
+        file = self.folder / "page.html"
+        file.write_text("the page before")
+
+        def half(self: Path, text: bytes) -> None:
+            """Writes as much as there is room for."""
+            with open(self, "wb") as out:
+                out.write(text[: len(text) // 2])
+            raise OSError(errno.ENOSPC, os.strerror(errno.ENOSPC))
+
+        with mock.patch.object(Path, "write_bytes", half):
+            self.assertEqual(self.audited("audit", self.recording, "--html", file)[0], 4)
+        self.assertEqual(file.read_text(), "the page before")
+        self.audited("audit", self.recording, "--html", file)
+        self.assertTrue(file.read_text().startswith("<!DOCTYPE html>"))
+        self.assertEqual(list(self.folder.glob(".*")), [])
 
     def test_what_is_said_of_a_range_is_said_of_each_abi_by_itself(self) -> None:
         words = ["audit", self.recording, "--policy", self.policy, "--json"]

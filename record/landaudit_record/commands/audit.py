@@ -10,7 +10,7 @@ from collections.abc import Sequence
 from pathlib import Path
 from typing import Any
 
-from .. import accepting, by_abi, landaudit, policies, summary_text, together
+from .. import accepting, by_abi, landaudit, page, policies, summary_text, together
 from ..options import add_abis, add_as_recorded, add_landaudit, add_program, add_recordings, note
 from ..problems import NOT_ALL_JUDGED
 from ..rights import NEWEST_ABI
@@ -48,6 +48,9 @@ def add_arguments(parser: argparse.ArgumentParser) -> None:
         help="print the same as data: that of each ABI is in 'abis' and, of several recordings, that of each in "
         "'recordings'",
     )
+    parser.add_argument(
+        "--html", metavar="FILE", type=Path, help="write all of it as a page for a browser too, which is one file"
+    )
     add_landaudit(parser)
 
 
@@ -74,8 +77,13 @@ def run(arguments: argparse.Namespace) -> int:
          for auditing in audits if not auditing.stays)
     for one in accepting.set_apart(accepted, [summary for _, summaries in each for summary in summaries]):
         note([f"accepted and refused no more: {one} ({one.reason})"])
-    _print(each, arguments)
-    if any(summary.others_refused for _, summaries in each for summary in summaries):
+    summaries = [together.united(list(zip(members, of_abi))) for of_abi in zip(*(found for _, found in each))]
+    _print(each, summaries, arguments)
+    if arguments.html is not None:
+        about = page.About(", ".join(arguments.recordings), arguments.policy, arguments.as_recorded)
+        parts = [part for member in members for part in member.recording.parts]
+        page.write(arguments.html, about, summaries, parts, together.tried_of(members))
+    if any(summary.others_refused for _, found in each for summary in found):
         return 1
     return NOT_ALL_JUDGED if any(member.recording.missing for member in members) else 0
 
@@ -90,10 +98,8 @@ def _summaries(member: Member, auditing: Auditing, abis: range) -> list[Summary]
     return found.done(member.recording.unsaid, member.recording.missing)
 
 
-def _print(each: Each, arguments: argparse.Namespace) -> None:
+def _print(each: Each, summaries: list[Summary], arguments: argparse.Namespace) -> None:
     """Prints the summary of the newest ABI, and what changes from ABI to ABI."""
-    members = [member for member, _ in each]
-    summaries = [together.united(list(zip(members, of_abi))) for of_abi in zip(*(found for _, found in each))]
     if arguments.json:
         print(json.dumps(_data(each, summaries, arguments), indent=2))
         return

@@ -4,11 +4,11 @@ from __future__ import annotations
 
 import argparse
 from collections import Counter
-from collections.abc import Iterable, Iterator
+from collections.abc import Iterator
 from dataclasses import replace
 from pathlib import Path
 
-from .. import comments, landaudit, policies, policy_text, together
+from .. import comments, landaudit, policies, policy_text, together, trees
 from ..distilling import Distilling, Question
 from ..options import add_abi, add_as_recorded, add_landaudit, add_program, add_recordings
 from ..policies import Policy
@@ -49,7 +49,7 @@ def run(arguments: argparse.Namespace) -> int:
         asked = [Asked.of(one, tree, found) for one, of in zip(tried, counted) for tree, found in of.items()]
         audits[0].progress.say("trying each right")
         done = _tightened(Tightening(program, arguments.abi, asked, best_effort=not arguments.as_recorded), policy,
-                          None if arguments.list else _tree_of(tried))
+                          None if arguments.list else trees.united(one.tree for one in tried))
         again = [_questions(audit, one, done.policy, arguments.abi) for audit, one in zip(audits, tried)]
         if again != counted:
             raise Problem("of the recordings something more is refused without what no call needs: report this fault",
@@ -67,15 +67,6 @@ def _tightened(tightening: Tightening, policy: Policy, tree: Tree | None) -> Tig
         less = tightening.tightened(written)
         done = replace(less, taken=done.taken + less.taken)
     return done
-
-
-def _tree_of(tried: Iterable[Tried]) -> Tree:
-    """The objects of all recordings."""
-    tree = Tree()
-    for one in tried:
-        tree.kinds.update(one.tree.kinds)
-        tree.targets.update(one.tree.targets)
-    return tree
 
 
 def _questions(audit: Auditing, tried: Tried, policy: Policy, abi: int) -> dict[Path, Counter[Question]]:

@@ -1,0 +1,126 @@
+"""An audit as one page of HTML, which opens from the disk and takes nothing from elsewhere.
+
+It has the data of `audit --json`, of every ABI. All that it says is in tables and lists that read without a script; the
+buttons that choose an ABI work by style alone, and a script adds a filter and sorting. Names from a recording are only
+ever text (`markup`), and the page's own policy lets no style and no script work but the page's own.
+"""
+
+from __future__ import annotations
+
+import base64
+import contextlib
+import hashlib
+import os
+from collections.abc import Iterable, Iterator, Sequence
+from dataclasses import dataclass
+from pathlib import Path
+
+from .. import RECORDER, VERSION, by_abi
+from ..finished import Part
+from ..summary import Summary
+from ..trying import Tried
+from . import by_version, sections
+from .counting import Paths, asked
+from .markup import Markup, element, together
+from .sections import Section
+
+_HERE = Path(__file__).resolve().parent
+
+
+@dataclass(frozen=True)
+class About:
+    """What was audited, in the words of the command line."""
+
+    recording: str
+    policy: str | None
+    as_recorded: bool
+
+    @property
+    def title(self) -> str:
+        """What the page is about."""
+        return f"{self.recording} under {self.policy}" if self.policy else self.recording
+
+
+def write(file: Path, about: About, summaries: Sequence[Summary], parts: Iterable[Part], tried: Tried | None) -> None:
+    """Writes the page of an audit, all of it or nothing."""
+    paths = Paths(asked(part.trace for part in parts), summaries)
+    _put(file, made(about, summaries, paths, tried).encode())
+
+
+def made(about: About, summaries: Sequence[Summary], found: Paths, tried: Tried | None = None) -> str:
+    """The page of an audit; the last summary is that of the newest ABI."""
+    newest = summaries[-1]
+    top = element("header", element("h1", about.title), element("p", _judged(about), kind="quiet"))
+    parts = [part for part in _parts(summaries, found, tried) if part.inside]
+    bar = element("nav", sections.switch(summaries), element("ul", *map(_link, parts)))
+    first = (sections.in_short(summaries), sections.not_judged(newest), sections.warnings(summaries))
+    main = element("main", *first, *(part.markup() for part in parts))
+    maker = element("footer", element("p", f"Made by {RECORDER} {VERSION}.", kind="quiet"))
+    page = element("html", _head(about, newest.abi), element("body", top, bar, main, maker), attributes={"lang": "en"})
+    return f"<!DOCTYPE html>\n{page}\n"
+
+
+def _parts(summaries: Sequence[Summary], found: Paths, tried: Tried | None) -> Iterator[Section]:
+    """All parts that a page may have, in their order."""
+    newest, abis = summaries[-1], [summary.abi for summary in summaries]
+    yield Section("refused", "Refused", sections.refused(summaries))
+    yield Section("accepted", "Refused and accepted", sections.accepted(summaries))
+    yield Section("totals", "By ABI", sections.totals(by_abi.steps(summaries)))
+    yield Section("paths", "Paths", sections.paths(abis, found))
+    yield Section("rules", "Rules of the policy", sections.rules(abis, tried, found) if tried else Markup())
+    yield Section("moot", "Moot", sections.moot(newest))
+    yield Section("unsaid", "Not recorded", sections.unsaid(newest))
+
+
+def _link(part: Section) -> Markup:
+    return element("li", element("a", part.title, attributes={"href": f"#{part.name}"}))
+
+
+def _head(about: About, newest: int) -> Markup:
+    """What is not seen: among it the policy of the page itself, by which nothing works but its own style and script."""
+    style = together((own("page.css"), by_version.rules(newest)))
+    script = own("page.js")
+    own_alone = f"style-src {_hash(style)}; script-src {_hash(script)}"
+    only = f"default-src 'none'; {own_alone}; base-uri 'none'; form-action 'none'"
+    return element(
+        "head",
+        element("meta", attributes={"charset": "utf-8"}),
+        element("meta", attributes={"http-equiv": "Content-Security-Policy", "content": only}),
+        element("meta", attributes={"name": "viewport", "content": "width=device-width, initial-scale=1"}),
+        element("meta", attributes={"name": "color-scheme", "content": "light dark"}),
+        element("title", f"{about.title} - landaudit"),
+        element("style", style),
+        element("script", script, attributes={"type": "module"}),
+    )
+
+
+def own(name: str) -> Markup:
+    """A file that is beside this module."""
+    return Markup((_HERE / name).read_text(encoding="utf-8"))
+
+
+def _hash(text: str) -> str:
+    """A text as the policy of a page names it (CSP 3, 2.3.1)."""
+    return f"'sha256-{base64.b64encode(hashlib.sha256(text.encode()).digest()).decode()}'"
+
+
+def _judged(about: About) -> str:
+    """What was judged, and how."""
+    what = "What the policy would refuse of the recording" if about.policy else "What the program's own layers refuse"
+    how = "as they were recorded" if about.as_recorded else "as a program makes them that drops rights the ABI has not"
+    return f"{what}. Rulesets that the program makes itself are judged {how}."
+
+
+def _put(file: Path, text: bytes) -> None:
+    """Writes a file so that nobody ever sees half of it; a link, or what is no regular file, is written into."""
+    in_place = file.is_symlink() or (file.exists() and not file.is_file())
+    written = file if in_place else file.with_name(f".page-{os.getpid()}.new")
+    try:
+        written.write_bytes(text)
+        if not in_place:
+            written.replace(file)
+    except OSError as error:
+        if not in_place:
+            with contextlib.suppress(OSError):
+                written.unlink()
+        raise OSError(error.errno, error.strerror, str(file)) from error

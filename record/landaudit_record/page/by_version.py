@@ -1,0 +1,37 @@
+"""What differs from ABI to ABI: said once for those that say the same, of which the page shows one at a time."""
+
+from __future__ import annotations
+
+from collections.abc import Iterable, Sequence
+
+from ..rights import NEWEST_ABI, OLDEST_ABI
+from .markup import Markup, element, together
+
+
+def kinds(abis: Iterable[int]) -> str:
+    """The classes of what is shown at some ABIs alone."""
+    return " ".join(("a", *(f"a{abi}" for abi in abis)))
+
+
+def varied(abis: Sequence[int], said: Sequence[str]) -> Markup:
+    """What each ABI says, of which the page shows that of the one which is chosen."""
+    if len(set(said)) == 1:
+        return together(said[:1])
+    groups: dict[str, list[int]] = {}
+    for abi, one in zip(abis, said):
+        groups.setdefault(one, []).append(abi)
+    return together(element("span", one, kind=kinds(some)) for one, some in groups.items())
+
+
+def choice(abi: int) -> str:
+    """The name in the page of the button that chooses an ABI."""
+    return f"abi-{abi}"
+
+
+def rules(newest: int) -> Markup:
+    """The rules of style by which what is chosen is shown, without a script; an old browser shows the newest ABI."""
+    chosen = (f"body:has(#{choice(abi)}:checked) .a:not(.a{abi}){{display:none}}\n"
+              f"body:has(#{choice(abi)}:checked) .t{abi}{{background:var(--chosen)}}\n"
+              for abi in range(OLDEST_ABI, NEWEST_ABI + 1))
+    old = f"@supports not selector(:has(a)){{.a:not(.a{newest}),.abis{{display:none}}}}\n"
+    return Markup("".join((*chosen, old)))

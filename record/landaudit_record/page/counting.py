@@ -1,0 +1,128 @@
+"""How many calls there are at or below each path, and on each port: all of them, refused ones and moot ones."""
+
+from __future__ import annotations
+
+from collections import Counter
+from collections.abc import Iterable, Iterator, Sequence
+from dataclasses import dataclass, field
+from itertools import takewhile
+from operator import eq
+from pathlib import Path
+
+from .. import jsonl
+from ..reading import Place, place_of
+from ..summary import Summary
+
+#: A path with more names is kept as if its last ones were one: nobody opens so many directories by hand.
+MOST_NAMES = 64
+
+
+def asked(traces: Iterable[Path]) -> Counter[Place]:
+    """How many calls of a recording are about each path or port; those that its parts only write again count once."""
+    found: Counter[Place] = Counter()
+    for trace in traces:
+        for _, record in jsonl.numbered(trace):
+            place = None if record.get("again") is True else place_of(record)
+            if place is not None:
+                found[place] += 1
+    return found
+
+
+@dataclass
+class Counts:
+    """Calls: all, and at each ABI, the oldest first, those that are refused and those that are moot."""
+
+    all: int
+    refused: list[int]
+    moot: list[int]
+
+    def add(self, other: Counts, sign: int = 1) -> None:
+        """Counts others too, or with the sign -1 no longer."""
+        self.all += sign * other.all
+        for mine, more in ((self.refused, other.refused), (self.moot, other.moot)):
+            mine[:] = [old + sign * new for old, new in zip(mine, more)]
+
+    def allowed(self, at: int) -> int:
+        """How many are allowed at the ABI with this place among all."""
+        return self.all - self.refused[at] - self.moot[at]
+
+    @property
+    def weight(self) -> tuple[int, int]:
+        """By which a reader looks at it first: what the newest ABI refuses, then all."""
+        return self.refused[-1], self.all
+
+    @property
+    def ever_refused(self) -> bool:
+        """Whether an ABI refuses some."""
+        return any(self.refused)
+
+
+@dataclass(eq=False)
+class Node:
+    """A name of a directory, with what is at it or below it. A call on two paths counts once where both are below."""
+
+    name: str
+    counts: Counts
+    children: dict[str, Node] = field(default_factory=dict)
+
+    def by_weight(self) -> list[Node]:
+        """What is in the directory, and what is refused most first."""
+        return sorted(self.children.values(), key=lambda node: node.counts.weight, reverse=True)
+
+
+class Paths:
+    """The calls on paths as a tree, and the calls on ports, under some ABIs of which the newest is last."""
+
+    def __init__(self, calls: Counter[Place], summaries: Sequence[Summary]) -> None:
+        self._abis = len(summaries)
+        self.root = Node("/", self.none())
+        self._ports: dict[int, Counts] = {}
+        for place, number in calls.items():
+            verdicts = ([one.not_allowed[verdict][place] for one in summaries] for verdict in ("refused", "moot"))
+            counts = Counts(number, *verdicts)
+            if isinstance(place, int):
+                self._ports[place] = counts
+            else:
+                self._count(place, counts)
+
+    def none(self) -> Counts:
+        """No calls."""
+        return Counts(0, [0] * self._abis, [0] * self._abis)
+
+    def _count(self, place: tuple[str, ...], counts: Counts) -> None:
+        """Counts calls at each directory on the way to their path, or to either of their paths."""
+        ways = [_names(path) for path in place]
+        for way in ways:
+            for node in self._way(way):
+                node.counts.add(counts)
+        if len(ways) == 2:
+            both = sum(1 for _ in takewhile(bool, map(eq, *ways)))
+            for node in self._way(ways[0][:both]):
+                node.counts.add(counts, -1)
+
+    def _way(self, names: Sequence[str]) -> Iterator[Node]:
+        """The root, and each node on the way from there by names."""
+        node = self.root
+        yield node
+        for name in names:
+            known = node.children.get(name)
+            if known is None:
+                node.children[name] = known = Node(name, self.none())
+            node = known
+            yield node
+
+    def below(self, path: str) -> Counts:
+        """What is at a path or below it."""
+        node: Node | None = self.root
+        for name in _names(path):
+            node = None if node is None else node.children.get(name)
+        return self.none() if node is None else node.counts
+
+    def on(self, port: int) -> Counts:
+        """What is about a port."""
+        return self._ports.get(port) or self.none()
+
+
+def _names(path: str) -> list[str]:
+    """The names on the way to a path."""
+    return [name for name in path[1:].split("/", MOST_NAMES) if name]

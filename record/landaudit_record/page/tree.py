@@ -1,0 +1,141 @@
+"""The tree of paths in the page: for each directory how much is allowed, refused and moot at it or below it."""
+
+from __future__ import annotations
+
+import heapq
+from collections.abc import Iterator, Sequence
+from dataclasses import dataclass, field
+from itertools import count
+
+from ..wording import counted
+from .by_version import varied
+from .counting import Counts, Node
+from .markup import Markup, element, together
+
+#: How many rows the tree has at most, and how many of them are seen before a reader opens or closes any.
+MOST_ROWS = 1_500
+SEEN_ROWS = 24
+#: The least of a bar's hundred parts that what is there at all has.
+LEAST = 2
+
+
+@dataclass
+class Shape:
+    """Which directories have rows for what is in them, and of which of these the rows are seen at first."""
+
+    listed: set[Node] = field(default_factory=set)
+    opened: set[Node] = field(default_factory=set)
+
+
+def tree(abis: Sequence[int], root: Node) -> Markup:
+    """The whole tree, and what its columns are."""
+    names = ("at or below", "", "allowed", "refused", "moot")
+    heads = element("div", *(element("span", name) for name in names), kind="row heads")
+    return together((heads, element("ul", _row(abis, root, root.name, _shape(root)), kind="tree")))
+
+
+def _shape(root: Node) -> Shape:
+    """Lists what is in directories, where most is refused first, until there are as many rows as there may be."""
+    found, rows, seen, turn = Shape(), 1, 0, count()
+    waiting = [((0, 0), next(turn), root)]
+    while waiting:
+        _, _, node = heapq.heappop(waiting)
+        inside = [_joined(child)[0] for child in _named(node)]
+        if rows + len(inside) > MOST_ROWS:
+            continue
+        rows += len(inside)
+        found.listed.add(node)
+        if node is root or (node.counts.ever_refused and seen + len(inside) <= SEEN_ROWS):
+            found.opened.add(node)
+            seen += len(inside)
+        for child in inside:
+            if child.children:
+                refused, calls = child.counts.weight
+                heapq.heappush(waiting, ((-refused, -calls), next(turn), child))
+    return found
+
+
+def _named(node: Node) -> list[Node]:
+    """What in a directory has a row of its own: directories, and names at which an ABI refuses something."""
+    return [child for child in node.by_weight() if child.children or child.counts.ever_refused]
+
+
+def _joined(node: Node) -> tuple[Node, str]:
+    """The end of a way on which there is but one directory in another, and the name of the way."""
+    name = node.name
+    while len(node.children) == 1:
+        (child,) = node.children.values()
+        if not child.children or child.counts.all != node.counts.all:
+            break
+        node, name = child, f"{name}/{child.name}"
+    return node, name
+
+
+def _row(abis: Sequence[int], node: Node, name: str, shape: Shape) -> Markup:
+    """The row of a node, and in it those of what is in it."""
+    if not node.children:
+        return element("li", element("div", *_cells(abis, name, node.counts), kind="row"))
+    cells = _cells(abis, name if name.endswith("/") else f"{name}/", node.counts)
+    opened = {"open": ""} if node in shape.opened else {}
+    inside = element("ul", *_inside(abis, node, shape))
+    return element("li", element("details", element("summary", *cells, kind="row"), inside, attributes=opened))
+
+
+def _inside(abis: Sequence[int], node: Node, shape: Shape) -> Iterator[Markup]:
+    """The rows of what is in a directory; what has none is one row together."""
+    named = _named(node) if node in shape.listed else []
+    rest = Counts(0, [0] * len(abis), [0] * len(abis))
+    for child in node.children.values():
+        rest.add(child.counts)
+    for child in named:
+        rest.add(child.counts, -1)
+        end, name = _joined(child)
+        yield _row(abis, end, name, shape)
+    left = len(node.children) - len(named)
+    if left:
+        said = f"{counted(left, 'name')} more" if named else counted(left, "name")
+        yield element("li", element("div", *_cells(abis, said, rest, "rest"), kind="row"))
+
+
+def _cells(abis: Sequence[int], name: str, counts: Counts, kind: str = "path") -> Iterator[Markup]:
+    """The columns of a row."""
+    yield element("span", name, kind=kind, attributes={"dir": "ltr"})
+    yield bars(abis, counts)
+    for title, numbers in columns(abis, counts):
+        zero = " none" if not any(numbers) else ""
+        yield element("span", varied(abis, [f"{number:,}" for number in numbers]), kind=title + zero)
+
+
+def columns(abis: Sequence[int], counts: Counts) -> Iterator[tuple[str, list[int]]]:
+    """What is allowed, refused and moot at each ABI."""
+    yield "allowed", [counts.allowed(at) for at in range(len(abis))]
+    yield "refused", counts.refused
+    yield "moot", counts.moot
+
+
+def bars(abis: Sequence[int], counts: Counts) -> Markup:
+    """The bar of counts, of each ABI."""
+    verdicts = zip(*(numbers for _, numbers in columns(abis, counts)))
+    return element("span", varied(abis, [bar(*each) for each in verdicts]), kind="bars")
+
+
+def bar(allowed: int, refused: int, moot: int) -> Markup:
+    """What is allowed, refused and moot as parts of one bar; the numbers beside it say the same."""
+    parts = _parts((allowed, refused, moot))
+    left, drawn = 0.0, list[Markup]()
+    for part, kind in zip(parts, ("allowed", "refused", "moot")):
+        if part:
+            place = {"x": f"{left:g}", "width": f"{part:g}", "height": "1"}
+            drawn.append(element("rect", kind=kind, attributes=place))
+        left = round(left + part, 1)
+    shape = {"viewBox": "0 0 100 1", "preserveAspectRatio": "none", "aria-hidden": "true"}
+    return element("svg", *drawn, attributes=shape)
+
+
+def _parts(numbers: Sequence[int]) -> list[float]:
+    """Numbers as parts of a hundred, of which what is no zero has at least the least that is seen."""
+    whole = sum(numbers)
+    if not whole:
+        return [0.0] * len(numbers)
+    least = [max(100 * number / whole, LEAST) if number > 0 else 0.0 for number in numbers]
+    return [round(100 * part / sum(least), 1) for part in least]

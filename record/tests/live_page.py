@@ -1,0 +1,236 @@
+"""The page of an audit in a headless Chromium: opened from the disk, looked at, filtered, sorted, switched, with keys.
+
+Pictures of it go to the folder that LANDAUDIT_PICTURES names; where it names none, they are looked at and thrown away.
+"""
+
+from __future__ import annotations
+
+import os
+import struct
+import tempfile
+import unittest
+from collections import Counter
+from collections.abc import Iterator
+from contextlib import ExitStack
+from pathlib import Path
+from typing import Any, ClassVar
+
+from landaudit_record import page
+from landaudit_record.explanations import Missing
+from landaudit_record.page.counting import Paths
+from landaudit_record.reading import Place
+from landaudit_record.summary import Accepted, Refusal, RefusingLayer, Summary
+
+from .chromium import CHROMIUM, Tab, browser
+from .test_page import HOSTILE
+
+WIDTHS = (400, 1280, 2000)
+GROUPS = 5_000
+#: How long a page may keep the browser's main thread until it is there, in seconds.
+SOON = 1.0
+DIRECTORIES = ("/usr/lib/python3.11", "/usr/include/linux", "/home/builder/src/crypto/evp", "/etc/ssl/certs", "/tmp/cc")
+CALLS = (("open r", "read_file"), ("open w create", "make_reg"), ("exec", "execute"), ("open w trunc", "truncate"))
+VISIBLE = "[...document.querySelectorAll('table.refusals tbody tr')].filter(row => row.checkVisibility())"
+
+
+def refusals(groups: int, abi: int) -> Iterator[tuple[Refusal, int]]:
+    """Kinds of refused calls in some directories, with how many there are of each; ABI 3 brings truncate."""
+    for number in range(groups):
+        call, right = CALLS[number % len(CALLS)]
+        if right == "truncate" and abi < 3:
+            continue
+        place = f"{DIRECTORIES[number % len(DIRECTORIES)]}/{number % 7}/file_{number}"
+        layer = RefusingLayer(1, 1, (Missing((right,), place),))
+        yield Refusal(call, place, "EACCES", (layer,), None), 1 + number % 5
+
+
+def summary(abi: int, groups: int) -> Summary:
+    """What an ABI answers to a build."""
+    found = Summary(abi, Counter(allowed=90_210, moot=412))
+    for refusal, times in refusals(groups, abi):
+        found.refusals[refusal] = Counter({"/usr/bin/make": times})
+        found.not_allowed["refused"][(refusal.place,)] = times
+    found.verdicts["refused"] = sum(programs.total() for programs in found.refusals.values())
+    found.moot = {"is not in the tree": Counter({"/etc/ld.so.preload": 400, "/etc/nscd": 12})}
+    found.unsaid = Counter({"a line that is not understood": 3})
+    return found
+
+
+def written(folder: Path, summaries: list[Summary], name: str = "build.rec") -> Path:
+    """The page of summaries, as a file."""
+    calls: Counter[Place] = Counter()
+    for one in summaries:
+        for place, times in one.not_allowed["refused"].items():
+            calls[place] = times + 7
+    file = folder / "page.html"
+    about = page.About(name, "policy.toml", False)
+    file.write_text(page.made(about, summaries, Paths(calls, summaries)), encoding="utf-8")
+    return file
+
+
+def hostile() -> Summary:
+    """A summary in which each name is hostile."""
+    found = Summary(5, Counter(allowed=1, refused=len(HOSTILE)))
+    for name in HOSTILE:
+        layer = RefusingLayer(1, 1, (Missing((name,), name),))
+        found.refusals[Refusal(name, f"/a/{name}", name, (layer,), None)] = Counter({name: 1})
+        found.not_allowed["refused"][(f"/a/{name}",)] = 1
+        found.accepted[Accepted(name, name, name)] = 1
+        found.moot[name] = Counter({name: 1})
+    found.warnings, found.unsaid, found.missing = dict.fromkeys(HOSTILE, 1), Counter(HOSTILE), HOSTILE
+    return found
+
+
+def size(picture: bytes) -> tuple[int, int]:
+    """The width and height of a picture, by its header (PNG, 11.2.2)."""
+    width, height = struct.unpack(">II", picture[16:24])
+    return width, height
+
+
+@unittest.skipIf(CHROMIUM is None, "chromium is not installed")
+class LivePage(unittest.TestCase):
+    opened: ClassVar[ExitStack]
+    tab: ClassVar[Tab]
+
+    @classmethod
+    def setUpClass(cls) -> None:
+        cls.opened = ExitStack()
+        cls.addClassCleanup(cls.opened.close)
+        cls.tab = cls.opened.enter_context(browser())
+
+    def setUp(self) -> None:
+        self.folder = Path(self.enterContext(tempfile.TemporaryDirectory())).resolve()
+        self.tab.faults.clear()
+        self.tab.wide(1280)
+        self.tab.scheme("light")
+
+    def tearDown(self) -> None:
+        self.assertEqual(self.tab.faults, [])
+
+    def build(self, groups: int = 40) -> Path:
+        return written(self.folder, [summary(abi, groups) for abi in range(1, 6)])
+
+    def shown(self, column: int = 2) -> list[str]:
+        """What a column of the refusals says, of the rows that are seen."""
+        found: list[str] = self.tab.says(f"{VISIBLE}.map(row => row.cells[{column}].textContent)")
+        return found
+
+    def counted(self) -> Any:
+        return self.tab.says("document.getElementById('left').textContent")
+
+    def kept(self, name: str, picture: bytes) -> None:
+        """Keeps a picture where somebody wants to look at it."""
+        if folder := os.environ.get("LANDAUDIT_PICTURES"):
+            Path(folder, f"{name}.png").write_bytes(picture)
+
+    def test_pictures_at_three_widths_light_and_dark(self) -> None:
+        file = self.build()
+        for width in WIDTHS:
+            pictures = {}
+            for scheme, ground in (("light", "rgb(255, 255, 255)"), ("dark", "rgb(21, 24, 28)")):
+                with self.subTest(width=width, scheme=scheme):
+                    self.tab.wide(width, 760)
+                    self.tab.scheme(scheme)
+                    self.tab.open(file)
+                    pictures[scheme] = self.tab.picture()
+                    self.kept(f"page-{width}-{scheme}", pictures[scheme])
+                    self.assertEqual(size(pictures[scheme])[0], width)
+                    self.assertEqual(self.tab.says("getComputedStyle(document.body).backgroundColor"), ground)
+                    wider = self.tab.says("document.documentElement.scrollWidth - document.documentElement.clientWidth")
+                    self.assertEqual(wider, 0, "the page is wider than the window")
+            self.assertNotEqual(pictures["light"], pictures["dark"])
+
+    def test_many_groups_are_there_soon(self) -> None:
+        file = self.build(GROUPS)
+        self.tab("Performance.enable", timeDomain="threadTicks")
+        self.tab.open(file)
+        metrics = {one["name"]: one["value"] for one in self.tab("Performance.getMetrics")["metrics"]}
+        self.assertEqual(self.tab.says("document.querySelectorAll('table.refusals tbody tr').length"), GROUPS)
+        self.assertLess(metrics["TaskDuration"], SOON)
+
+    def test_the_filter_leaves_rows_that_have_all_words(self) -> None:
+        self.tab.open(self.build(), "#find=ssl+MAKE_REG")
+        self.assertEqual(self.shown(), ["/etc/ssl/certs/6/file_13", "/etc/ssl/certs/5/file_33"])
+        self.assertEqual(self.counted(), "2 kinds, 8 calls")
+        self.tab.says("find = document.getElementById('find'); find.value = ''; find.dispatchEvent(new Event('input'))")
+        self.assertEqual((len(self.shown()), self.counted()), (40, "40 kinds, 120 calls"))
+
+    def test_the_switch_shows_what_an_abi_refuses(self) -> None:
+        self.tab.open(self.build())
+        self.assertEqual(len(self.shown()), 40)
+        self.tab.says("document.getElementById('abi-2').click()")
+        self.assertEqual((len(self.shown()), self.counted()), (30, "30 kinds, 90 calls"))
+        self.assertNotIn("open w trunc", self.shown(1))
+        self.assertEqual(self.tab.says("location.hash"), "#abi=2")
+        self.tab.open(self.folder / "page.html", "#abi=2")
+        self.assertEqual(len(self.shown()), 30)
+
+    def test_sorting_by_a_column_and_back(self) -> None:
+        self.tab.open(self.build())
+        for name, column, first, last in (("place", 2, "/etc/ssl/certs/0/file_28", "/usr/lib/python3.11/6/file_20"),
+                                          ("times", 0, "5", "1")):
+            head = f"[...document.querySelectorAll('.refusals th')].find(head => head.textContent.startsWith('{name}'))"
+            for ends in ((first, last), (last, first)):
+                with self.subTest(name, ends=ends):
+                    self.tab.says(f"{head}.firstChild.click()")
+                    cells = self.shown(column)
+                    self.assertEqual((cells[0], cells[-1]), ends)
+                    self.assertEqual(len(cells), 40)
+        self.assertEqual(self.tab.says(f"{head}.getAttribute('aria-sort')"), "ascending")
+
+    def test_keys_alone_choose_an_abi_and_open_a_directory(self) -> None:
+        self.tab.open(self.build())
+        self.tab.press("Tab", "Tab", 9)
+        self.assertEqual(self.tab.says("document.activeElement.id"), "abi-5")
+        self.tab.press("ArrowLeft", "ArrowLeft", 37)
+        self.assertEqual(self.tab.says("document.querySelector('.abis :checked').value"), "4")
+        self.tab.says("document.querySelector('.tree summary').focus()")
+        for opened in (False, True):
+            self.tab.press("Enter", "Enter", 13, "\r")
+            self.assertIs(self.tab.says("document.querySelector('.tree details').open"), opened)
+
+    def test_all_reads_without_a_script(self) -> None:
+        self.tab("Emulation.setScriptExecutionDisabled", value=True)
+        try:
+            self.tab.open(self.build())
+            self.assertEqual(len(self.shown()), 40)
+            self.assertEqual(self.tab.says("getComputedStyle(document.getElementById('filter')).display"), "none")
+            self.kept("page-1280-no-script", self.tab.picture())
+            self.tab.says("document.getElementById('abi-2').click()")
+            self.assertEqual(len(self.shown()), 30)
+            self.tab.says("document.querySelector('.tree summary').click()")
+            self.assertIs(self.tab.says("document.querySelector('.tree details').open"), False)
+        finally:
+            self.tab("Emulation.setScriptExecutionDisabled", value=False)
+
+    def test_hostile_names_are_text(self) -> None:
+        for width in WIDTHS:
+            self.tab.wide(width)
+            self.tab.open(written(self.folder, [hostile()], HOSTILE[0]), "#find=%3Cimg+src%3Dx&sort=%3Cb%3E&abi=%22%3E")
+            self.assertEqual(self.tab.says("document.title"), f"{HOSTILE[0]} under policy.toml - landaudit")
+            foreign = self.tab.says("document.querySelectorAll('img, iframe, svg[onload], [onerror]').length")
+            self.assertEqual(foreign, 0)
+            self.assertEqual(self.tab.says("document.scripts.length"), 1)
+            self.assertEqual(self.shown(), [f"/a/{HOSTILE[1]}"])
+            wider = self.tab.says("document.documentElement.scrollWidth - document.documentElement.clientWidth")
+            self.assertEqual(wider, 0, f"a name is wider than the window of {width}")
+            self.kept(f"hostile-{width}", self.tab.picture(whole=True))
+
+    def test_the_pages_policy_lets_no_other_script_or_style_work(self) -> None:
+        file = self.build()
+        text = file.read_text(encoding="utf-8")
+        more = "<script>document.title = 'broken'</script><style>body { background: #010203 !important }</style>"
+        more += "<img src=x onerror=\"document.title = 'broken'\"><p style='color: #010203'>x</p>"
+        file.write_text(text.replace("<footer>", f"{more}<footer>"), encoding="utf-8")
+        self.tab.open(file)
+        self.assertEqual(self.tab.says("document.title"), "build.rec under policy.toml - landaudit")
+        self.assertEqual(self.tab.says("getComputedStyle(document.body).backgroundColor"), "rgb(255, 255, 255)")
+        self.assertEqual(self.tab.says("getComputedStyle(document.querySelector('main > p, body > p')).color"),
+                         self.tab.says("getComputedStyle(document.body).color"))
+        broken = [fault for fault in self.tab.faults if "Content Security Policy" in fault]
+        self.assertGreaterEqual(len(broken), 4)
+        self.tab.faults.clear()
+
+
+if __name__ == "__main__":
+    unittest.main()

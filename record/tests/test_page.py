@@ -1,0 +1,410 @@
+"""The page of an audit: what it says is what the data say, and no name of a recording is ever more than text."""
+
+from __future__ import annotations
+
+import base64
+import hashlib
+import tempfile
+import unittest
+from collections import Counter
+from pathlib import Path
+from typing import Any
+
+from landaudit_record import by_abi, page, policies, summary
+from landaudit_record.explanations import Closed, Missing
+from landaudit_record.page import tree
+from landaudit_record.page.counting import Counts, Paths, asked
+from landaudit_record.page.markup import element
+from landaudit_record.reading import Place
+from landaudit_record.summary import Accepted, Refusal, RefusingLayer, Summary
+from landaudit_record.trees import Tree
+from landaudit_record.trying import Tried
+
+from .pages import Element, read
+from .recorded import records, write_lines
+
+#: Names that would be markup, script, or another page, if they were not told as text.
+HOSTILE = (
+    "</script><script>document.title = 'broken'</script>",
+    "<img src=x onerror=\"document.title = 'broken'\">",
+    "\" onmouseover=\"document.title = 'broken'\" x='",
+    "'><svg onload=alert(1)>",
+    "<!-- ",
+    "]]> &lt;b&gt; &amp; &#60;",
+    "</td></tr></table></body></html>",
+    "</style><style>body { display: none }</style>",
+    "javascript:alert(1)",
+    "\u202egnp.exe",
+    "\u05d0\u05d1\u05d2",
+    "\x00\x1b[31m\r\n\t\x7f\x85",
+    "\udcff\udc80",
+    "x" * 4096,
+)
+ABOUT = page.About("rec", "policy.toml", False)
+#: Elements that a page is made of, and the attributes that its elements may have.
+ELEMENTS = {
+    "", "html", "head", "meta", "title", "style", "script", "body", "header", "h1", "h2", "p", "nav", "fieldset",
+    "legend", "label", "input", "span", "ul", "li", "a", "main", "div", "b", "svg", "rect", "section", "table", "thead",
+    "tbody", "tr", "th", "td", "details", "summary", "code", "button", "footer",
+}
+ATTRIBUTES = {
+    "lang", "charset", "http-equiv", "content", "name", "type", "class", "id", "value", "checked", "href", "for",
+    "scope", "hidden", "autocomplete", "spellcheck", "role", "dir", "tabindex", "open", "aria-labelledby",
+    "aria-hidden", "viewbox", "preserveaspectratio", "x", "width", "height",
+}
+
+
+def refusal(place: str, call: str = "open r", error: str = "EACCES", right: str = "read_file") -> Refusal:
+    """A kind of refused calls, by one layer of the policy."""
+    return Refusal(call, place, error, (RefusingLayer(1, 1, (Missing((right,), place),)),), None)
+
+
+READ, CUT = refusal("/a/f"), refusal("/b/g", "open w trunc", right="truncate")
+CALL = Refusal("connect", "port 443", "EACCES", (RefusingLayer(1, 1, (Closed(("connect_tcp",), 443),)),
+                                               RefusingLayer(2, None, (Closed(("connect_tcp",), 443),))), None)
+
+
+def summed(abi: int, refused: dict[Refusal, Counter[str]], moot: dict[str, Counter[str]] | None = None) -> Summary:
+    """A summary with a hundred calls allowed."""
+    found = Summary(abi, Counter(allowed=100), refusals=refused, moot=moot or {})
+    found.verdicts["refused"] = sum(programs.total() for programs in refused.values())
+    found.verdicts["moot"] = sum(at.total() for at in found.moot.values())
+    return found
+
+
+def three() -> list[Summary]:
+    """Three ABIs, which refuse other calls, or not as often."""
+    older = summed(2, {READ: Counter({"/bin/sort": 3})})
+    middle = summed(3, {READ: Counter({"/bin/sort": 3}), CUT: Counter({"/bin/cut": 1234})})
+    newer = summed(4, {CUT: Counter({"/bin/cut": 1234}), CALL: Counter({"/bin/nc": 2, "/bin/sort": 9})},
+                   {"is not in the tree": Counter({"/c": 7, "/d": 2})})
+    older.warnings = {"a ruleset is refused": 2}
+    for one in (older, middle, newer):
+        one.unsaid = Counter({"a call with no words": 4, "another <class>": 1})
+        one.missing = ("2 calls could not be recorded",)
+        one.accepted = Counter({Accepted("ioctl", "/dev/null", "shells ask"): one.abi})
+        one.verdicts["refused"] += one.abi
+    return [older, middle, newer]
+
+
+def made(summaries: list[Summary], calls: Counter[Place] | None = None) -> Element:
+    """The page of summaries, read."""
+    return read(page.made(ABOUT, summaries, Paths(calls or Counter(), summaries)))
+
+
+def number(text: str) -> int:
+    return int(text.replace(",", ""))
+
+
+class Data(unittest.TestCase):
+    """The page against the data that --json prints."""
+
+    def setUp(self) -> None:
+        self.summaries = three()
+        self.page = made(self.summaries)
+
+    def data(self, abi: int) -> dict[str, Any]:
+        (found,) = (one for one in self.summaries if one.abi == abi)
+        return summary.as_data(found)
+
+    def test_each_abi_shows_its_refusals(self) -> None:
+        for abi in (2, 3, 4):
+            wanted = [(one["times"], one["call"], one["place"], one["error"]) for one in self.data(abi)["refusals"]]
+            rows = [(number(row[0]), *row[1:4]) for row in self.page.rows("refusals", abi)]
+            with self.subTest(abi):
+                self.assertTrue(wanted)
+                self.assertEqual(sorted(rows), sorted(wanted))
+
+    def test_the_newest_abi_has_the_most_frequent_first(self) -> None:
+        self.assertEqual([row[0] for row in self.page.rows("refusals", 4)], ["1,234", "11"])
+
+    def test_a_row_says_why_and_who(self) -> None:
+        row = self.page.rows("refusals", 4)[1]
+        self.assertEqual(row[4:], ["connect_tcp", "policy's 1, program's 2", "/bin/sort, /bin/nc"])
+
+    def test_what_each_abi_answers(self) -> None:
+        steps = by_abi.as_data(by_abi.steps(self.summaries))
+        verdicts = ("allowed", "refused", "moot")
+        wanted = [[str(step["abi"]), *(f"{step[verdict]:,}" for verdict in verdicts)] for step in steps]
+        self.assertEqual([row[:4] for row in self.page.rows("totals", 4)], wanted)
+        (changes,) = (row[5] for row in self.page.rows("totals", 4) if row[0] == "4")
+        self.assertIn("1 kind refused here and not before", changes)
+        self.assertIn("1 kind refused no more", changes)
+        self.assertIn("open r /a/f EACCES", changes)
+
+    def test_the_figures_of_the_chosen_abi(self) -> None:
+        for abi in (2, 3, 4):
+            shown = [one.text(abi) for one in self.page.all("div", "figures") if one.seen(abi)]
+            of_abi = self.data(abi)
+            with self.subTest(abi):
+                self.assertEqual(shown, [
+                    f"{of_abi['records']:,} records at ABI {abi}{of_abi['allowed']:,} allowed"
+                    f"{of_abi['refused']:,} refused, {abi} of them accepted{of_abi['moot']:,} moot"
+                ])
+
+    def test_what_is_accepted(self) -> None:
+        for abi in (2, 3, 4):
+            accepted = self.data(abi)["accepted"]
+            wanted = [[str(one["times"]), one["call"], one["place"], one["reason"]] for one in accepted]
+            self.assertEqual(self.page.rows("accepted", abi), wanted)
+
+    def test_what_was_moot_at_the_newest_abi(self) -> None:
+        wanted = [[str(one["times"]), one["why"], ", ".join(one["at"])] for one in self.data(4)["moot_because"]]
+        self.assertEqual(self.page.rows("moot", 4), wanted)
+
+    def test_what_was_not_recorded(self) -> None:
+        wanted = [[str(times), name] for name, times in self.data(4)["unsaid"].items()]
+        self.assertEqual(self.page.rows("unsaid", 4), wanted)
+        (alarm,) = self.page.all("p", "alarm")
+        self.assertEqual(alarm.text(4), f"Not all is judged. {self.data(4)['not_judged'][0]}")
+
+    def test_warnings_are_those_of_the_chosen_abi(self) -> None:
+        (warnings,) = self.page.all("ul", "warnings")
+        self.assertEqual(warnings.text(2), "a ruleset is refused (2 times)")
+        self.assertEqual(warnings.text(4), "")
+
+    def test_the_newest_abi_is_chosen(self) -> None:
+        buttons = [(one.attributes["value"], "checked" in one.attributes) for one in self.page.all("input")
+                   if one.attributes["type"] == "radio"]
+        self.assertEqual(buttons, [("2", False), ("3", False), ("4", True)])
+
+    def test_nothing_is_refused(self) -> None:
+        found = made([summed(5, {})])
+        self.assertEqual(found.all("table", "refusals"), [])
+        self.assertIn("Nothing is refused at ABI 5.", found.text(5))
+
+
+class Hostile(unittest.TestCase):
+    """Names that hold anything."""
+
+    def setUp(self) -> None:
+        found = summed(5, {refusal(f"/a/{name}"): Counter({f"/bin/{name}": 1}) for name in HOSTILE})
+        found.warnings = dict.fromkeys(HOSTILE, 1)
+        found.moot = {f"{name} why": Counter({name: 1}) for name in HOSTILE}
+        found.unsaid = Counter(HOSTILE)
+        found.missing = HOSTILE
+        found.accepted = Counter({Accepted("open r", name, name): 1 for name in HOSTILE})
+        calls: Counter[Place] = Counter({(f"/a/{name}",): 1 for name in HOSTILE})
+        found.not_allowed["refused"] = calls
+        self.summary = found
+        about = page.About(HOSTILE[0], HOSTILE[1], True)
+        self.text = page.made(about, [found], Paths(calls, [found]))
+        self.page = read(self.text)
+
+    def test_a_page_has_its_own_elements_and_attributes_alone(self) -> None:
+        self.assertLessEqual({one.name for one in self.page.elements()}, ELEMENTS)
+        self.assertLessEqual({name for one in self.page.elements() for name in one.attributes}, ATTRIBUTES)
+        for name in ("html", "head", "body", "main", "script", "style"):
+            self.assertEqual(len(self.page.all(name)), 1, name)
+
+    def test_within_a_line_are_elements_of_lines_alone(self) -> None:
+        """Else a browser would end the outer one (HTML, 3.2.5.2.5)."""
+        for name in ("p", "span", "code", "b", "label", "button", "summary", "a"):
+            inside = {one.name for outer in self.page.all(name) for one in outer.elements() if one is not outer}
+            with self.subTest(name):
+                self.assertLessEqual(inside, {"span", "b", "code", "svg", "rect", "input"})
+
+    def test_links_lead_to_the_page_itself(self) -> None:
+        names = {one.attributes.get("id") for one in self.page.elements()}
+        links = [one.attributes["href"] or "" for one in self.page.all("a")]
+        self.assertTrue(links)
+        self.assertTrue(all(link.startswith("#") and link[1:] in names for link in links), links)
+
+    def test_names_are_told_as_they_are(self) -> None:
+        places = [row[2] for row in self.page.rows("refusals", 5)]
+        plain = [f"/a/{name}" for name in HOSTILE if name.isprintable()]
+        self.assertGreater(len(plain), 9)
+        self.assertLessEqual(set(plain), set(places))
+
+    def test_what_a_screen_would_act_on_is_escaped(self) -> None:
+        places = [row[2] for row in self.page.rows("refusals", 5)]
+        for escaped in ("/a/\\u202egnp.exe", "/a/\\x00\\x1b[31m\\r\\n\\t\\x7f\\x85", "/a/\\udcff\\udc80"):
+            self.assertIn(escaped, places)
+        body = self.page.all("body")[0].text(5)
+        self.assertEqual([letter for letter in body if not letter.isprintable()], [])
+        self.text.encode()
+
+    def test_a_long_name_has_a_box_of_its_own_that_keys_reach(self) -> None:
+        boxes = [one for one in self.page.all("span", "long") if one.text(5) == "/a/" + "x" * 4096]
+        self.assertTrue(boxes)
+        self.assertEqual({one.attributes["tabindex"] for one in boxes}, {"0"})
+
+    def test_every_kind_is_there(self) -> None:
+        self.assertEqual(len(self.page.rows("refusals", 5)), len(HOSTILE))
+        self.assertEqual(len(self.page.rows("unsaid", 5)), len(HOSTILE))
+        self.assertEqual(len(self.page.rows("accepted", 5)), len(HOSTILE))
+
+    def test_a_text_is_escaped_wherever_it_is_put(self) -> None:
+        self.assertEqual(element("b", "<&\"'>", attributes={"id": "<\"'"}),
+                         '<b id="&lt;&quot;&#x27;">&lt;&amp;&quot;&#x27;&gt;</b>')
+
+
+class OwnPolicy(unittest.TestCase):
+    """What the page itself may do."""
+
+    def setUp(self) -> None:
+        self.page = made(three())
+        (policy,) = (one.attributes["content"] for one in self.page.all("meta") if "http-equiv" in one.attributes)
+        assert policy is not None
+        self.policy = dict(part.strip().split(" ", 1) for part in policy.split(";"))
+
+    def test_nothing_else_is_allowed(self) -> None:
+        self.assertEqual({name: value for name, value in self.policy.items() if not value.startswith("'sha256-")},
+                         {"default-src": "'none'", "base-uri": "'none'", "form-action": "'none'"})
+
+    def test_style_and_script_are_the_pages_own(self) -> None:
+        for name in ("style", "script"):
+            (one,) = self.page.all(name)
+            digest = base64.b64encode(hashlib.sha256("".join(map(str, one.inside)).encode()).digest()).decode()
+            self.assertEqual(self.policy[f"{name}-src"], f"'sha256-{digest}'")
+
+    def test_it_comes_before_style_and_script(self) -> None:
+        (head,) = self.page.all("head")
+        names = ["policy" if "http-equiv" in one.attributes else one.name for one in head.elements()]
+        self.assertLess(names.index("policy"), min(names.index("style"), names.index("script")))
+
+    def test_style_and_script_ask_for_nothing(self) -> None:
+        for name in ("page.css", "page.js"):
+            text = page.own(name)
+            for word in ("url(", "@import", "fetch(", "innerHTML", "document.write", "eval(", "http:", "https:", "</"):
+                with self.subTest(name, word=word):
+                    self.assertNotIn(word, text)
+
+
+class Counting(unittest.TestCase):
+    """How many calls are at or below a path."""
+
+    def test_calls_about_which_landlock_was_asked(self) -> None:
+        trace = records(
+            {"op": "open", "path": "/a/f", "fd": 3, "mode": "r", "kernel": "ok", "again": True},
+            {"op": "open", "path": "/a/f", "fd": 3, "mode": "r", "kernel": "ok"},
+            {"op": "open", "path": "/a/f", "fd": 3, "mode": "r", "kernel": "EACCES"},
+            {"op": "open", "path": "/a/none", "fd": 3, "mode": "r", "kernel": "ENOENT"},
+            {"op": "open", "path": "/a/~n~", "shown": "/a/n", "fd": 3, "mode": "w", "kernel": "ok"},
+            {"op": "rename", "from": "/a/f", "to": "/b/~f~", "shown_to": "/b/f", "kernel": "ok"},
+            {"op": "connect", "port": 443, "kernel": "ECONNREFUSED"},
+            {"op": "close", "fd": 3, "kernel": "ok"},
+        )
+        with tempfile.TemporaryDirectory() as folder:
+            file = write_lines(Path(folder) / "trace.jsonl", trace)
+            found = asked([file, file])
+        self.assertEqual(found, {("/a/f",): 4, ("/a/n",): 2, ("/a/f", "/b/f"): 2, 443: 2})
+
+    def paths(self) -> Paths:
+        """Opens of three files and moves: beside each other, to another directory, and onto itself."""
+        calls: Counter[Place] = Counter({("/a/f",): 10, ("/a/d/g",): 4, ("/b",): 1, ("/a/f", "/a/h"): 3,
+                                         ("/a/f", "/b/f"): 2, ("/a/f", "/a/f"): 5, 443: 6})
+        older, newer = summed(4, {}), summed(5, {})
+        older.not_allowed = {"refused": Counter({("/a/f", "/b/f"): 2}), "moot": Counter()}
+        newer.not_allowed = {"refused": Counter({("/a/f",): 9, 443: 1}), "moot": Counter({("/a/d/g",): 3})}
+        return Paths(calls, [older, newer])
+
+    def test_a_call_counts_once_wherever_it_is_below(self) -> None:
+        found = self.paths()
+        wanted = {"/": 25, "/a": 24, "/a/f": 20, "/a/h": 3, "/a/d": 4, "/a/d/g": 4, "/b": 3, "/b/f": 2, "/c": 0,
+                  "/a/f/x": 0}
+        self.assertEqual({path: found.below(path).all for path in wanted}, wanted)
+
+    def test_what_is_not_allowed(self) -> None:
+        found = self.paths()
+        self.assertEqual(found.below("/"), Counts(25, [2, 9], [0, 3]))
+        self.assertEqual(found.below("/b"), Counts(3, [2, 0], [0, 0]))
+        self.assertEqual(found.below("/a/d"), Counts(4, [0, 0], [0, 3]))
+        self.assertEqual([found.below("/a").allowed(at) for at in (0, 1)], [22, 12])
+        self.assertEqual((found.on(443), found.on(80)), (Counts(6, [0, 1], [0, 0]), Counts(0, [0, 0], [0, 0])))
+
+    def test_a_path_of_very_many_names(self) -> None:
+        deep = "/" + "/".join("d" * 2048)
+        found = Paths(Counter({(deep,): 1, ("/d/x",): 1}), [summed(5, {})])
+        self.assertEqual((found.below(deep).all, found.below("/d").all), (1, 2))
+        self.assertLess(str(tree.tree([5], found.root)).count("<details"), 70)
+
+
+class TreeOfPaths(unittest.TestCase):
+    """The rows of the tree: their names and numbers."""
+
+    def rows(self, found: Paths, abi: int = 5) -> list[list[str]]:
+        """What each row says: its name, and what is allowed, refused and moot."""
+        shown = read(tree.tree([4, 5], found.root))
+        return [[cell.text(abi) for cell in row.inside if isinstance(cell, Element) and "bars" not in cell.kinds]
+                for row in shown.elements() if "row" in row.kinds and "heads" not in row.kinds]
+
+    def paths(self, calls: Counter[Place], *refused: Counter[Place]) -> Paths:
+        summaries = [summed(abi, {}) for abi in (4, 5)]
+        for one, some in zip(summaries, refused):
+            one.not_allowed["refused"] = some
+        return Paths(calls, summaries)
+
+    def test_ways_are_joined_and_names_without_refusals_are_one_row(self) -> None:
+        calls: Counter[Place] = Counter(
+            {("/usr/lib/x/one",): 2, ("/usr/lib/x/two",): 5, ("/usr/lib/x/three",): 1, ("/f",): 1}
+        )
+        found = self.paths(calls, Counter(), Counter({("/usr/lib/x/two",): 5}))
+        self.assertEqual(self.rows(found), [
+            ["/", "4", "5", "0"],
+            ["usr/lib/x/", "3", "5", "0"],
+            ["two", "0", "5", "0"],
+            ["2 names more", "3", "0", "0"],
+            ["1 name more", "1", "0", "0"],
+        ])
+        self.assertEqual([row[2] for row in self.rows(found, 4)], ["0"] * 5)
+
+    def test_where_most_is_refused_comes_first(self) -> None:
+        calls: Counter[Place] = Counter({("/a/f",): 50, ("/b/f",): 2, ("/c/f",): 9})
+        found = self.paths(calls, Counter(), Counter({("/c/f",): 1, ("/b/f",): 2}))
+        self.assertEqual([row[0] for row in self.rows(found) if row[0].endswith("/")], ["/", "b/", "c/", "a/"])
+
+    def test_a_tree_has_a_bounded_number_of_rows(self) -> None:
+        calls: Counter[Place] = Counter({(f"/d{one}/e{other}/f",): 1 for one in range(100) for other in range(100)})
+        rows = self.rows(self.paths(calls, calls, calls))
+        self.assertLess(len(rows), 2 * tree.MOST_ROWS)
+        self.assertGreater(len(rows), tree.MOST_ROWS / 2)
+        self.assertEqual(rows[0], ["/", "0", "10,000", "0"])
+        self.assertIn(["100 names", "0", "100", "0"], rows)
+
+    def test_bars_are_whole_and_show_the_least_part(self) -> None:
+        for numbers in ((1_000_000, 1, 0), (1, 1, 1), (0, 7, 0), (5, 0, 1_000_000)):
+            drawn = [one for one in read(tree.bar(*numbers)).elements() if one.name == "rect"]
+            parts = {kind: float(one.attributes["width"] or "") for one in drawn for kind in one.kinds}
+            wanted = {kind for kind, number in zip(("allowed", "refused", "moot"), numbers) if number}
+            with self.subTest(numbers):
+                self.assertEqual(set(parts), wanted)
+                self.assertAlmostEqual(sum(parts.values()), 100, delta=0.2)
+                self.assertGreaterEqual(min(parts.values()), 1.9)
+        self.assertEqual(read(tree.bar(0, 0, 0)).all("rect"), [])
+
+
+class Rules(unittest.TestCase):
+    """The rules of a policy, with the calls at or below their places."""
+
+    POLICY = """[[layer]]
+handled_access_fs = ["read_file", "write_file"]
+handled_access_net = ["connect_tcp"]
+[[layer.path_beneath]]
+allowed_access = ["read_file"]
+parent = ["/lib", "/never"]
+[[layer.net_port]]
+allowed_access = ["connect_tcp"]
+port = 443
+"""
+
+    def test_each_place_of_each_rule(self) -> None:
+        with tempfile.TemporaryDirectory() as folder:
+            file = Path(folder) / "P.toml"
+            file.write_text(self.POLICY)
+            policy = policies.read(file)
+        listed = Tree({"/": "dir", "/usr": "dir", "/usr/lib": "dir", "/lib": "sym"}, {"/lib": "usr/lib"})
+        found = summed(5, {})
+        found.not_allowed["refused"] = Counter({("/usr/lib/x",): 3})
+        calls: Counter[Place] = Counter({("/usr/lib/x",): 4, 443: 2})
+        tried = Tried(None, policy, None, listed, [])  # type: ignore[arg-type]
+        shown = read(page.made(ABOUT, [found], Paths(calls, [found]), tried))
+        self.assertEqual([row[:7] for row in shown.rows("rules", 5)], [
+            ["1", "path_beneath 1", "/lib", "read_file", "1", "3", "0"],
+            ["1", "path_beneath 1", "/never", "read_file", "0", "0", "0"],
+            ["1", "net_port 1", "port 443", "connect_tcp", "2", "0", "0"],
+        ])
+
+
+if __name__ == "__main__":
+    unittest.main()
