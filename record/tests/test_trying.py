@@ -6,6 +6,7 @@ import errno
 import json
 import os
 import unittest
+from pathlib import Path
 from typing import Any
 from unittest import mock
 
