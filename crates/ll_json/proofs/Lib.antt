@@ -1,0 +1,11 @@
+pub mod Telling
+pub mod Enclosing
+pub mod PathsSpelt
+pub mod NodeTexts
+pub mod NamesTold
+pub mod LayersTold
+pub mod NumbersTold
+pub mod LinesTold
+pub mod RecordsShown
+pub mod Explaining
+pub mod Totalled

@@ -1,0 +1,21 @@
+use Rattle.std.proofs.Common.{◌≡◌, ◌∙◌, ◌∷◌, ◌++◌, [], List, ap, map}
+use Rattle.json.specs.Json.{string}
+use Rattle.json.specs.Token as token
+use Rattle.json.specs.Token.{Token}
+use Rattle.ll_rights.specs.NetRights as network
+use Rattle.ll_explain.specs.Words.{word_for}
+use Rattle.ll_explanations.specs.Sets.{port_rights_in}
+use Rattle.ll_json.specs.Told.{Tells}
+use Rattle.ll_json.proofs.Enclosing.{array_tokens}
+use Rattle.ll_json.proofs.NamesTold.{port_names}
+use Rattle.ll_json.proofs.Telling.{told_3, told_as}
+use Rattle.ll_json.proofs.rights.write_port_rights.Goals as goal
+
+pub returns : goal.returns
+unfolding Tells
+returns c =
+    told_as c.args.out.now c.end_array.new.out _ _
+    (ap (λ (names : List Token). token.begin_array ∷ (names ++ token.end_array ∷ [])) (port_names c.args.rights c.all.result.now c.all.ensures)
+    ∙ array_tokens (map (λ right. string (word_for (network.name_of right))) (port_rights_in c.args.rights)))
+    (told_3 c.args.out.now c.begin_array.new.out c.write_port_names.new.out c.end_array.new.out _ _ _
+    c.in_ok-begin_array.ensures c.in_ok-write_port_names.ensures c.in_ok-end_array.ensures)

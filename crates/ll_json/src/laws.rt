@@ -1,0 +1,78 @@
+//! What some values say.
+
+ghost use Rattle.std.specs.Prelude.{◌≡◌, ◌∷◌, [], Some, codes, false};
+ghost use Rattle.json.specs.Print.{print};
+ghost use Rattle.json.specs.Tree.{json_tokens};
+ghost use Rattle.ll_rights.specs.declared.abi.Abi.TheVariants.{V1, V4};
+ghost use Rattle.ll_rights.specs.declared.kind.Kind.TheVariants.{Fifo};
+ghost use Rattle.ll_rights.specs.Rights.{other, read_file, refer, truncate, write_file};
+ghost use Rattle.ll_rights.specs.NetRights.{bind_tcp};
+ghost use Rattle.ll_rules.specs.declared.errno.Errno.TheVariants.{XDev};
+ghost use Rattle.ll_trace.specs.declared.op.Op.TheVariants.{Nnp, OpenFile};
+ghost use Rattle.ll_trace.specs.declared.op.Mode.TheVariants.{Write};
+ghost use Rattle.ll_semantics.specs.declared.answer.Answer.TheVariants.{Moot, Refused};
+ghost use Rattle.ll_reasons.specs.Conditions.{unhandled, unknown};
+ghost use Rattle.ll_reasons.specs.Explanations.{mootness, nothing, objections};
+ghost use Rattle.ll_reasons.specs.Objections.{closed, gained, kept, missing, mounting};
+ghost use Rattle.ll_reasons.specs.Reasons.{absent, of_kind, unsupported};
+ghost use Rattle.ll_json.specs.Records.{answer_json};
+ghost use Rattle.ll_json.specs.Why.{condition_json, objection_json, reason_json};
+
+/// The text of some objections.
+#[tactic(auto, unfolding(json::specs::Print::print_from, json::specs::Print::escape_byte, crate::specs::Why::objection_json, ll_lines::specs::PathTexts::text_of))]
+pub fn worked_objections()
+    ensures missing { print (json_tokens
+        (objection_json [] (missing (refer ∷ []) (codes "build" ∷ codes "tmp" ∷ []))))
+        ≡ codes "{\"missing\":[\"refer\"],\"on\":\"/build/tmp\"}" }
+    ensures nameless { print (json_tokens
+        (objection_json [] (missing (read_file ∷ other ∷ []) (codes "a\"" ∷ []))))
+        ≡ codes "{\"missing\":[\"read_file\",\"a right of another name\"],\"on\":\"/a\\\"\"}" }
+    ensures gained { print (json_tokens (objection_json []
+        (gained (codes "src" ∷ codes "main.c" ∷ []) (write_file ∷ []) (codes "tmp" ∷ []))))
+        ≡ codes "{\"gains\":[\"write_file\"],\"object\":\"/src/main.c\",\"in\":\"/tmp\"}" }
+    ensures port { print (json_tokens (objection_json [] (closed (bind_tcp ∷ []) 7)))
+        ≡ codes "{\"closed\":[\"bind_tcp\"],\"port\":7}" }
+    ensures mounting { print (json_tokens (objection_json [] mounting))
+        ≡ codes "{\"mounting\":true}" }
+    ensures kept { print (json_tokens (objection_json (record {
+      line = 5;
+      process = record { 0 = 0 };
+      pid = 10;
+      op = OpenFile (codes "/a/f") 4 Write false false;
+    } ∷ []) (kept truncate 0)))
+        ≡ codes "{\"missing\":[\"truncate\"],\"on\":\"/a/f\",\"opened\":5}" }
+{}
+
+/// The text of some conditions and reasons.
+#[tactic(auto, unfolding(json::specs::Print::print_from, json::specs::Print::escape_byte, crate::specs::Why::condition_json, crate::specs::Why::reason_json, ll_lines::specs::PathTexts::text_of))]
+pub fn worked_conditions()
+    ensures unhandled { print (json_tokens (condition_json (unhandled (write_file ∷ []))))
+        ≡ codes "{\"condition\":\"unhandled\",\"rights\":[\"write_file\"]}" }
+    ensures for_ports { print (json_tokens (condition_json (unknown V4 [])))
+        ≡ codes "{\"condition\":\"unknown\",\"abi\":4,\"rights\":[]}" }
+    ensures absent { print (json_tokens (reason_json (absent (codes "none" ∷ []))))
+        ≡ codes "{\"reason\":\"absent\",\"path\":\"/none\"}" }
+    ensures of_kind { print (json_tokens (reason_json (of_kind (codes "a" ∷ []) Fifo)))
+        ≡ codes "{\"reason\":\"of_kind\",\"path\":\"/a\",\"kind\":\"fifo\"}" }
+    ensures left_out { print (json_tokens (reason_json unsupported))
+        ≡ codes "{\"reason\":\"unsupported\"}" }
+{}
+
+/// The text of some answers, in a trace whose first record is on line 6.
+#[tactic(auto, unfolding(json::specs::Print::print_from, json::specs::Print::escape_byte, crate::specs::Why::objection_json, crate::specs::Why::layer_json, crate::specs::Why::reason_json, crate::specs::Records::answer_members, crate::specs::Records::layers_json, crate::specs::Records::why_members, ll_lines::specs::PathTexts::text_of))]
+pub fn worked_answers()
+    ensures explained { print (json_tokens (answer_json V1
+        (record { line = 6; process = record { 0 = 0 }; pid = 10; op = Nnp } ∷ []) (0 ∷ [])
+        (Refused XDev (1 ∷ []))
+        (objections ((1, missing (refer ∷ []) (codes "a" ∷ []) ∷ mounting ∷ []) ∷ []))))
+        ≡ codes
+        "{\"abi\":[1,1],\"answer\":\"refused\",\"error\":\"EXDEV\",\"layers\":[{\"layer\":1,\"line\":6,\"objections\":[{\"missing\":[\"refer\"],\"on\":\"/a\"},{\"mounting\":true}]}]}" }
+    ensures bare { print (json_tokens
+        (answer_json V1 [] [] (Refused XDev (1 ∷ 2 ∷ [])) nothing))
+        ≡ codes
+        "{\"abi\":[1,1],\"answer\":\"refused\",\"error\":\"EXDEV\",\"layers\":[{\"layer\":1},{\"layer\":2}]}" }
+    ensures moot { print (json_tokens
+        (answer_json V1 [] [] Moot (mootness (Some (absent (codes "none" ∷ []))))))
+        ≡ codes
+        "{\"abi\":[1,1],\"answer\":\"moot\",\"why\":{\"reason\":\"absent\",\"path\":\"/none\"}}" }
+{}

@@ -1,0 +1,16 @@
+//! The report as JSON, record after record of a trace that was judged.
+#![tactic(auto, unfolding(crate::specs::Told::Tells))]
+
+mod answers;
+mod conditions;
+mod laws;
+mod lines;
+mod objections;
+mod reasons;
+mod record;
+mod report;
+mod rights;
+mod words;
+
+pub use laws::{worked_answers, worked_conditions, worked_objections};
+pub use report::json_report;
