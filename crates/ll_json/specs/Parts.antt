@@ -1,7 +1,7 @@
 -- JSON values by lists of what is in them.
 -- Source: RFC 8259, sections 4 and 5.
 use Rattle.std.specs.Prelude.{ℕ, List, [], ◌∷◌, ◌++◌, codes, decimal}
-use Rattle.json.specs.Json.{Json, number, string, array, object, Items, no_items, item, Members, no_members, member}
+use Rattle.json.specs.Json.{Json, number, array, object, Items, no_items, item, Members, no_members, member}
 use Rattle.json.specs.Token as token
 use Rattle.json.specs.Token.{Token}
 use Rattle.json.specs.Print.{print}

@@ -1,6 +1,6 @@
 -- A record and its answer as JSON, with the explanation of the answer.
 -- Source: docs/FORMATS.md, "The report" and "Explanations".
-use Rattle.std.specs.Prelude.{ℕ, Bool, List, [], ◌∷◌, ◌++◌, map, Option, Some, None, codes, slice_get, if◌then◌else◌}
+use Rattle.std.specs.Prelude.{ℕ, Bool, List, [], ◌∷◌, map, Option, Some, None, codes, slice_get, if◌then◌else◌}
 use Rattle.json.specs.Json.{Json, string}
 use Rattle.ll_rights.specs.declared.abi.Abi.{Abi}
 use Rattle.ll_rights.specs.Abis.{number_of}

@@ -1,8 +1,7 @@
 -- Explanations as JSON: what layers object to, why a call fails by no layer, and why the policy isn't asked.
 -- Source: docs/FORMATS.md, "Explanations"; numbers and kinds have the names of "The trace file" and "The tree file".
-use Rattle.std.specs.Prelude.{ℕ, ◌-◌, List, [], ◌∷◌, map, Bool, true, Option, option_and_then, slice_get, codes}
+use Rattle.std.specs.Prelude.{ℕ, ◌-◌, List, [], ◌∷◌, map, true, Option, option_and_then, slice_get, codes}
 use Rattle.json.specs.Json.{Json, string, boolean}
-use Rattle.ll_rights.specs.declared.abi.Abi.{Abi}
 use Rattle.ll_rights.specs.declared.kind.Kind.{Kind}
 use Rattle.ll_rights.specs.declared.kind.Kind.TheVariants.{Dir, Reg, Sym, Char, Block, Fifo, Sock}
 use Rattle.ll_rights.specs.Abis.{number_of}

@@ -1,4 +1,4 @@
-use Rattle.std.proofs.Common.{◌≡◌, ◌∙◌, ℕ, ap, arith, length, sym}
+use Rattle.std.proofs.Common.{◌≡◌, ◌∙◌, ℕ, ap, arith, length}
 use Rattle.std.specs.List.{flat_map, range_with_len}
 use Rattle.ll_semantics.proofs.Steps.{length-judged}
 use Rattle.ll_report.proofs.Explaining.{among, given_at}

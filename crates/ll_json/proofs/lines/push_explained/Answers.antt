@@ -1,4 +1,4 @@
-use Rattle.std.proofs.Common.{◌∙◌, ◌++◌, List, ℕ, ap}
+use Rattle.std.proofs.Common.{◌∙◌, ◌++◌, ap}
 use Rattle.ll_process.specs.Cases.{CaseValue}
 use Rattle.ll_reasons.specs.Explanations.{origins_at}
 use Rattle.ll_explanations.specs.Explained.{IsExplanation}

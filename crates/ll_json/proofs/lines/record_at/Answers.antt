@@ -1,4 +1,4 @@
-use Rattle.std.proofs.Common.{◌≡◌, ◌∙◌, ◌<◌, ◌≤◌, List, length, arith, subst, sym}
+use Rattle.std.proofs.Common.{◌∙◌, ◌<◌, ◌≤◌, List, length, arith, subst, sym}
 use Rattle.ll_trace.specs.declared.reader.TheConstants.{MOST_RECORDS}
 use Rattle.ll_trace.specs.declared.record.Record.{Record}
 use Rattle.ll_trails.proofs.AtPlaces.{read_there}

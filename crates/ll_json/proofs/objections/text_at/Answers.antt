@@ -1,4 +1,4 @@
-use Rattle.std.proofs.Common.{arith, ◌≤◌, length}
+use Rattle.std.proofs.Common.{arith}
 use Rattle.ll_json.proofs.NodeTexts.{text_outside}
 use Rattle.ll_json.proofs.objections.text_at.Goals as goal
 

@@ -1,4 +1,4 @@
-use Rattle.std.proofs.Common.{◌≡◌, ◌∙◌, ◌∷◌, ◌++◌, [], List, ap, map}
+use Rattle.std.proofs.Common.{◌∙◌, ◌∷◌, ◌++◌, [], List, ap, map}
 use Rattle.json.specs.Json.{string}
 use Rattle.json.specs.Token as token
 use Rattle.json.specs.Token.{Token}
