@@ -10,6 +10,8 @@ mod reasons;
 mod record;
 mod report;
 mod rights;
+#[cfg(test)]
+mod tests;
 mod words;
 
 pub use laws::{worked_answers, worked_conditions, worked_objections};

@@ -139,8 +139,8 @@ fn follow(
     requires place { place < length case.now.records }
     requires answer { IsAnswerAt case.now place answer }
     requires trails { IfSome trails.old (AreTrailsAt case.now place) }
-    ensures { OnOk result ((is_some trails.new ≡ is_some trails.old)
-        × IfSome trails.new (AreTrailsAt case.now (place + 1))) }
+    ensures kept { OnOk result (is_some trails.new ≡ is_some trails.old) }
+    ensures trails { OnOk result (IfSome trails.new (AreTrailsAt case.now (place + 1))) }
 {
     match trails {
         Some(trails) => trails.follow(alloc, case, place, answer),

@@ -37,8 +37,8 @@ loop-place-preserved c =
     let cv = c.args.case.now in (
       one_line_more (shown_at c.args.shown cv.tree cv.abi cv.records) c.loop-place.place c.loop-place.text.items _
           c.loop-place.invariant.0 c.in_ok-push_shown.ensures,
-      c.in_ok-follow.ensures.0 ∙ c.loop-place.invariant.1,
-      c.in_ok-follow.ensures.1,
+      c.in_ok-follow.ensures.kept ∙ c.loop-place.invariant.1,
+      c.in_ok-follow.ensures.trails,
     )
 
 pub returns : goal.returns

@@ -1,0 +1,94 @@
+//! Reports as JSON, as the documents say them.
+
+use crate::json_report;
+use ll_options::Shown;
+use ll_pool::judge_alone;
+use ll_process::Case;
+use ll_report::Report;
+use ll_rights::Abi;
+use ll_trace::Trace;
+use ll_tree::Tree;
+use ll_worked::TREE;
+use std::alloc::Global;
+use std::test::Fail;
+
+/// A process with a layer, which has a rule for `/b`, and calls that are refused or moot.
+const TRACE: &str = "\
+{\"op\":\"start\",\"pid\":10,\"nnp\":true}\n\
+{\"op\":\"create\",\"pid\":10,\"rs\":3,\"fs\":[\"execute\",\"refer\",\"truncate\"],\"net\":[\"bind_tcp\"]}\n\
+{\"op\":\"add_path\",\"pid\":10,\"rs\":3,\"path\":\"/b\",\"fs\":[\"execute\"]}\n\
+{\"op\":\"restrict\",\"pid\":10,\"rs\":3}\n\
+{\"op\":\"open\",\"pid\":10,\"path\":\"/a/f\",\"fd\":4,\"mode\":\"w\"}\n\
+{\"op\":\"ftruncate\",\"pid\":10,\"fd\":4}\n\
+{\"op\":\"rename\",\"pid\":10,\"from\":\"/a/f\",\"to\":\"/b/h\"}\n\
+{\"op\":\"bind\",\"pid\":10,\"port\":80}\n\
+{\"op\":\"mount\",\"pid\":10}\n\
+{\"op\":\"add_path\",\"pid\":10,\"rs\":3,\"path\":\"/a\",\"fs\":[\"write_file\"]}\n\
+{\"op\":\"open\",\"pid\":10,\"path\":\"/q\\\"\\u0001\",\"fd\":5,\"mode\":\"r\"}\n\
+{\"op\":\"exec\",\"pid\":10,\"path\":\"/b/g\"}\n";
+
+/// The report under ABI 4, with explanations.
+const EXPLAINED: &str = "\
+{\"line\":1,\"pid\":10,\"op\":\"start\",\"answers\":[{\"abi\":[4,4],\"answer\":\"allowed\"}]}\n\
+{\"line\":2,\"pid\":10,\"op\":\"create\",\"answers\":[{\"abi\":[4,4],\"answer\":\"allowed\"}]}\n\
+{\"line\":3,\"pid\":10,\"op\":\"add_path\",\"answers\":[{\"abi\":[4,4],\"answer\":\"allowed\"}]}\n\
+{\"line\":4,\"pid\":10,\"op\":\"restrict\",\"answers\":[{\"abi\":[4,4],\"answer\":\"allowed\"}]}\n\
+{\"line\":5,\"pid\":10,\"op\":\"open\",\"answers\":[{\"abi\":[4,4],\"answer\":\"allowed\"}]}\n\
+{\"line\":6,\"pid\":10,\"op\":\"ftruncate\",\"answers\":[{\"abi\":[4,4],\"answer\":\"refused\",\"error\":\"EACCES\",\
+\"layers\":[{\"layer\":1,\"line\":4,\"objections\":[{\"missing\":[\"truncate\"],\"on\":\"/a/f\",\"opened\":5}]}]}]}\n\
+{\"line\":7,\"pid\":10,\"op\":\"rename\",\"answers\":[{\"abi\":[4,4],\"answer\":\"refused\",\"error\":\"EXDEV\",\
+\"layers\":[{\"layer\":1,\"line\":4,\"objections\":[{\"missing\":[\"refer\"],\"on\":\"/a\"},{\"missing\":[\"refer\"],\"on\":\"/b\"},\
+{\"gains\":[\"execute\"],\"object\":\"/a/f\",\"in\":\"/b\"}]}]}]}\n\
+{\"line\":8,\"pid\":10,\"op\":\"bind\",\"answers\":[{\"abi\":[4,4],\"answer\":\"refused\",\"error\":\"EACCES\",\
+\"layers\":[{\"layer\":1,\"line\":4,\"objections\":[{\"closed\":[\"bind_tcp\"],\"port\":80}]}]}]}\n\
+{\"line\":9,\"pid\":10,\"op\":\"mount\",\"answers\":[{\"abi\":[4,4],\"answer\":\"refused\",\"error\":\"EPERM\",\
+\"layers\":[{\"layer\":1,\"line\":4,\"objections\":[{\"mounting\":true}]}]}]}\n\
+{\"line\":10,\"pid\":10,\"op\":\"add_path\",\"answers\":[{\"abi\":[4,4],\"answer\":\"refused\",\"error\":\"EINVAL\",\
+\"layers\":[],\"why\":{\"condition\":\"unhandled\",\"rights\":[\"write_file\"]}}]}\n\
+{\"line\":11,\"pid\":10,\"op\":\"open\",\"answers\":[{\"abi\":[4,4],\"answer\":\"moot\",\
+\"why\":{\"reason\":\"absent\",\"path\":\"/q\\\"\\u0001\"}}]}\n\
+{\"line\":12,\"pid\":10,\"op\":\"exec\",\"answers\":[{\"abi\":[4,4],\"answer\":\"allowed\"}]}\n\
+{\"totals\":[{\"abi\":4,\"records\":12,\"allowed\":6,\"refused\":5,\"moot\":1}],\"version\":\"7.8.9\"}\n";
+
+/// What it shows of refused records without explanations.
+const REFUSED: &str = "\
+{\"line\":6,\"pid\":10,\"op\":\"ftruncate\",\"answers\":[{\"abi\":[4,4],\"answer\":\"refused\",\"error\":\"EACCES\",\"layers\":[{\"layer\":1}]}]}\n\
+{\"line\":7,\"pid\":10,\"op\":\"rename\",\"answers\":[{\"abi\":[4,4],\"answer\":\"refused\",\"error\":\"EXDEV\",\"layers\":[{\"layer\":1}]}]}\n\
+{\"line\":8,\"pid\":10,\"op\":\"bind\",\"answers\":[{\"abi\":[4,4],\"answer\":\"refused\",\"error\":\"EACCES\",\"layers\":[{\"layer\":1}]}]}\n\
+{\"line\":9,\"pid\":10,\"op\":\"mount\",\"answers\":[{\"abi\":[4,4],\"answer\":\"refused\",\"error\":\"EPERM\",\"layers\":[{\"layer\":1}]}]}\n\
+{\"line\":10,\"pid\":10,\"op\":\"add_path\",\"answers\":[{\"abi\":[4,4],\"answer\":\"refused\",\"error\":\"EINVAL\",\"layers\":[]}]}\n\
+{\"totals\":[{\"abi\":4,\"records\":12,\"allowed\":6,\"refused\":5,\"moot\":1}],\"version\":\"7.8.9\"}\n";
+
+/// The report on the trace.
+fn report_on_trace(alloc: Global, shown: Shown) -> Result<Report, Fail> {
+    let tree = Tree::read(alloc, TREE.as_bytes())?;
+    let trace = Trace::read(alloc, TRACE.as_bytes())?;
+    let case = Case::new(alloc, tree, trace, Abi::V4)?;
+    let answers = judge_alone(alloc, &case)?;
+    Ok(json_report(alloc, &case, &answers, shown, "7.8.9")?)
+}
+
+#[test]
+fn explained_records(rt: HostRuntime) -> Result<(), Fail> {
+    let shown = Shown {
+        explanations: true,
+        refused_alone: false,
+        differing_alone: false,
+    };
+    let report = report_on_trace(rt.alloc(), shown)?;
+    assert_eq!(rt; str::from_utf8(&report.bytes)?, EXPLAINED);
+    assert_eq!(rt; report.refused, 5);
+    Ok(())
+}
+
+#[test]
+fn refused_records_alone(rt: HostRuntime) -> Result<(), Fail> {
+    let shown = Shown {
+        explanations: false,
+        refused_alone: true,
+        differing_alone: false,
+    };
+    let report = report_on_trace(rt.alloc(), shown)?;
+    assert_eq!(rt; str::from_utf8(&report.bytes)?, REFUSED);
+    Ok(())
+}
