@@ -8,7 +8,8 @@ use Rattle.ll_json.specs.Parts.{Named, array_of, items_of, members_of, named_tok
 
 pub values_end : (values : List Json) → values_tokens values ++ token.end_array ∷ [] ≡ items_tokens (items_of values)
 values_end [] = refl
-values_end (value ∷ more) = append_assoc (json_tokens value) (values_tokens more) (token.end_array ∷ []) ∙ ap (λ rest. json_tokens value ++ rest) (values_end more)
+values_end (value ∷ more) =
+    append_assoc (json_tokens value) (values_tokens more) (token.end_array ∷ []) ∙ ap (λ rest. json_tokens value ++ rest) (values_end more)
 
 pub named_end : (members : List Named) → named_tokens members ++ token.end_object ∷ [] ≡ members_tokens (members_of members)
 named_end [] = refl

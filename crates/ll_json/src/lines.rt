@@ -86,8 +86,8 @@ fn push_explained(
     requires found { slice_get case.now.records place ≡ Some found.now }
     requires answer { IsAnswerAt case.now place answer.now }
     requires trails { AreTrailsAt case.now place trails.now }
-    ensures { OnOk result (text.new.items ≡ text.old.items
-        ++ record_line true case.now.tree case.now.abi case.now.records place found.now answer.now) }
+    ensures { OnOk result (text.new.items ≡ text.old.items ++ record_line true
+        case.now.tree case.now.abi case.now.records place found.now answer.now) }
 {
     let explanation = explain(alloc, case, trails, place, *answer)?;
     push_by(alloc, text, case, found, answer, &explanation)?;
