@@ -6,7 +6,8 @@ use Rattle.ll_semantics.specs.declared.answer.Answer.{Answer}
 use Rattle.ll_reasons.specs.Explanations as explanations
 use Rattle.ll_json.specs.Records.{line_with}
 
-pub same_line : (text : List ℕ) (abi cased : Abi) (records read : List Record) (layers : List ℕ) (r : Record) (answer : Answer) (said why : explanations.Explanation) →
+pub same_line : (text : List ℕ) (abi cased : Abi) (records read : List Record) (layers : List ℕ) (r : Record)
+    (answer : Answer) (said why : explanations.Explanation) →
     cased ≡ abi → read ≡ records → said ≡ why → text ++ line_with cased read layers r answer said ≡ text ++ line_with abi records layers r answer why
 same_line text abi cased records read layers r answer said why same_abi same_records same =
     ap (λ (a : Abi). text ++ line_with a read layers r answer said) same_abi

@@ -33,7 +33,8 @@ module _ (tree : List Entry) (records : List Record) where
       ap (λ t. t ++ rest) written ∙ append_assoc tokens (next_tokens tree records before one) rest
       ∙ ap (λ t. tokens ++ t) (sym (ap (left before) (drop_more all k one there ∙ ap (λ y. y ∷ drop (k + 1) all) (sym is)))) ∙ so_far
 
-  pub left_none : (tokens after whole : List Token) (before : ℕ) (all : List LayerObjection) (k : ℕ) → length all ≤ k → tokens ++ left before (drop k all) ≡ whole
+  pub left_none : (tokens after whole : List Token) (before : ℕ) (all : List LayerObjection) (k : ℕ) →
+      length all ≤ k → tokens ++ left before (drop k all) ≡ whole
       → after ≡ tokens ++ ending before → after ≡ whole
   unfolding left
   left_none tokens after whole before all k end so_far written =
@@ -74,7 +75,8 @@ module _ (tree : List Entry) (records : List Record) where
       go false = refl
 
     -- a layer's value is its head, its objections and its end
-    in_parts : (number : ℕ) (objections : List Objection) → json_tokens (layer_json records layers (number, objections)) ≡ head number ++ (each objections ++ tail)
+    in_parts : (number : ℕ) (objections : List Objection) →
+        json_tokens (layer_json records layers (number, objections)) ≡ head number ++ (each objections ++ tail)
     unfolding layer_json head_of
     in_parts number objections =
         let values = map (objection_json records) objections in

@@ -28,7 +28,8 @@ module _ {D R : Type 0} (right_of : D → R) (name_of : R → List ℕ) (test : 
   abbrev words : List R → List Token
   words rights = values_tokens (map (λ right. string (word right)) rights)
 
-  one : (b : Bool) (item : D) (rights : List R) → cond b (token.string (word (right_of item)) ∷ []) [] ++ words rights ≡ words (cond b (right_of item ∷ rights) rights)
+  one : (b : Bool) (item : D) (rights : List R) →
+      cond b (token.string (word (right_of item)) ∷ []) [] ++ words rights ≡ words (cond b (right_of item ∷ rights) rights)
   one true item rights = refl
   one false item rights = refl
 
@@ -39,9 +40,12 @@ module _ {D R : Type 0} (right_of : D → R) (name_of : R → List ℕ) (test : 
 pub file_names : (set : Fs) (all : List FsRight) → map fs_right all ≡ files.all_rights
     → flat_map (name_in set) all ≡ values_tokens (map (λ right. string (word_for (files.name_of right))) (rights_in set))
 unfolding name_in rights_in
-file_names set all is = names_are fs_right files.name_of (files.has set) all ∙ ap (λ rights. words fs_right files.name_of (files.has set) (filter (files.has set) rights)) is
+file_names set all is =
+    names_are fs_right files.name_of (files.has set) all ∙ ap (λ rights. words fs_right files.name_of (files.has set) (filter (files.has set) rights)) is
 
 pub port_names : (set : Net) (all : List NetRight) → map net_right all ≡ network.all_rights
     → flat_map (port_name_in set) all ≡ values_tokens (map (λ right. string (word_for (network.name_of right))) (port_rights_in set))
 unfolding port_name_in port_rights_in
-port_names set all is = names_are net_right network.name_of (network.has set) all ∙ ap (λ rights. words net_right network.name_of (network.has set) (filter (network.has set) rights)) is
+port_names set all is =
+    names_are net_right network.name_of (network.has set) all ∙
+    ap (λ rights. words net_right network.name_of (network.has set) (filter (network.has set) rights)) is

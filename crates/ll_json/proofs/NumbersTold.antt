@@ -1,5 +1,6 @@
 -- The layers of a set that are written by their numbers, up to a number.
-use Rattle.std.proofs.Common.{◌≡◌, ◌∙◌, ℕ, suc, ◌+◌, ◌-◌, ◌<◌, Bool, true, false, cond, ◌==◌, List, [], ◌∷◌, ◌++◌, length, map, refl, sym, ap, append_assoc, arith}
+use Rattle.std.proofs.Common.{◌≡◌, ◌∙◌, ℕ, suc, ◌+◌, ◌-◌, ◌<◌, Bool, true, false, cond, ◌==◌, List, [], ◌∷◌, ◌++◌, length, map}
+use Rattle.std.proofs.Common.{refl, sym, ap, append_assoc, arith}
 use Rattle.std.proofs.lemmas.List.{append-nil}
 use Rattle.std.proofs.lemmas.Bool.{ne_eqb, true≢false}
 use Rattle.json.specs.Token.{Token}
@@ -34,7 +35,8 @@ upto-suc : (numbers : List ℕ) (bound : ℕ) → upto numbers (suc bound) ≡ u
 unfolding upto passing_upto among_tokens
 upto-suc numbers bound =
     layers_tokens-append (passing_upto (λ number. is_among number numbers) bound) (cond (is_among (suc bound) numbers) (suc bound ∷ []) [])
-    ∙ ap (λ (rest : List Token). layers_tokens (passing_upto (λ number. is_among number numbers) bound) ++ rest) (one (is_among (suc bound) numbers) (suc bound))
+    ∙ ap (λ (rest : List Token). layers_tokens (passing_upto (λ number. is_among number numbers) bound) ++ rest)
+    (one (is_among (suc bound) numbers) (suc bound))
 
 upto-next : (numbers : List ℕ) (number : ℕ) → 0 < number → upto numbers (number + 1 - 1) ≡ upto numbers (number - 1) ++ among_tokens numbers number
 upto-next numbers number positive =

@@ -268,8 +268,9 @@ pub(crate) fn write_layers(
     records: &[Record],
     all: &[LayerObjection],
 ) -> Added
-    ensures { OnOk result ((layers : List ℕ) → All (IsMade layers) all.now → Told out.old out.new
-        (json_tokens (array_of (map (layer_json records.now layers) (by_layer tree.now all.now))))) }
+    ensures { OnOk result ((layers : List ℕ) → All (IsMade layers) all.now
+        → Told out.old out.new (json_tokens
+        (array_of (map (layer_json records.now layers) (by_layer tree.now all.now))))) }
 {
     begin_array(out)?;
     write_each(out, tree, records, all)?;

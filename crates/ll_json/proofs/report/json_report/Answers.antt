@@ -17,7 +17,8 @@ returns c =
     let counted = c.of-totals.ensures in
     record {
       text = c.in_ok-bytes.ensures
-          ∙ ap (λ (text : List ℕ). text ++ line_text (totals_json (total_with (number_of c.abi.result) totals.all totals.allowed totals.refused totals.moot ∷ []) program))
+          ∙ ap (λ (text : List ℕ).
+          text ++ line_text (totals_json (total_with (number_of c.abi.result) totals.all totals.allowed totals.refused totals.moot ∷ []) program))
           c.in_ok-lines.ensures
           ∙ ap (λ (line : List ℕ). lines_text c.args.shown cv.tree cv.abi cv.records ++ line)
           (totals_line program cv.abi c.abi.result c.args.answers.now (judged cv.tree cv.abi cv.records) totals.all totals.allowed totals.refused totals.moot
