@@ -183,9 +183,13 @@ class Names:
 
     def at_start(self, path: str) -> Node | None:
         """The object that is at a path when the run begins, as far as that is known."""
-        if path not in self._starts:
-            over, _, name = path.rpartition("/")
-            directory = self.at_start(over or "/")
+        unknown, over = [], path
+        while over not in self._starts:
+            unknown.append(over)
+            over = over.rpartition("/")[0] or "/"
+        for one in reversed(unknown):
+            over, _, name = one.rpartition("/")
+            directory = self._starts.get(over or "/")
             if directory is not None and directory.kind == "dir" and name not in directory.children:
                 directory.children[name] = self._initial(directory, name)
         return self._starts.get(path)

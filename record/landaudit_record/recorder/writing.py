@@ -32,6 +32,8 @@ POLICY_RECORDS = 1 + 16 * 1_003
 POLICY_OBJECTS = 16 * 1_000
 LONGEST_PATH = 4_096
 LONGEST_CALL = 200
+DEEP = 100
+"""Of a path with more names than this, the directories over it are listed by steps of so many."""
 ABSENT = "~new~"
 #: Before the name of a folder in which a conversion writes that is not done.
 UNDONE = ".converting-"
@@ -75,6 +77,8 @@ class Tree:
             self._places.clear()
         text = self._places.get((real, node))
         if text is None:
+            if real.count("/") > DEEP:
+                self._list_over(real)
             self._list_start(node)
             text = self._places[real, node] = "/" if real == "/" else self._named(self._wanted(real), real, node)
         return text
@@ -128,15 +132,23 @@ class Tree:
             return ""
         return self.place(real, node or self._lost.setdefault(real, Node("dir")))
 
+    def _list_over(self, real: str) -> None:
+        """Lists some of the directories over a deep path, the upper ones first, so that no call goes down all of them."""
+        names = real.split("/")
+        for count in range(DEEP, len(names) - 1, DEEP):
+            over = "/".join(names[: count + 1])
+            directory = self._names.at(over)
+            self._over(over, directory if directory is not None and directory.kind == "dir" else None)
+
     def _list_start(self, node: Node) -> None:
-        """Lists what was there when the run began by the path that it had then, as the directories over it."""
-        path = node.start
-        if not path or path in self._lines:
-            return
-        directory = self._names.at_start(path.rpartition("/")[0] or "/")
-        if directory is not None:
-            self._list_start(directory)
-        self._named(path, path, node)
+        """Lists what was there when the run began by the path that it had then, after the directories over it."""
+        unlisted: list[tuple[str, Node]] = []
+        over: Node | None = node
+        while over is not None and over.start and over.start not in self._lines:
+            unlisted.append((over.start, over))
+            over = self._names.at_start(over.start.rpartition("/")[0] or "/")
+        for path, one in reversed(unlisted):
+            self._named(path, path, one)
 
     def _named(self, wanted: str, real: str, node: Node) -> str:
         """The name of an object where one is wanted, listed."""
