@@ -17,6 +17,8 @@ import unittest
 from collections.abc import Callable
 from pathlib import Path
 
+from landaudit_record.recorder.writing import UNDONE
+
 RECORDER = Path(__file__).resolve().parents[1] / "landaudit-record"
 SOON = 20.0
 SLEEPS = "sleep 1000.25"
@@ -108,7 +110,7 @@ class LiveRun(unittest.TestCase):
         environment = {**os.environ, "PATH": f"{stand_in.parent}:{os.environ['PATH']}"}
         words = [sys.executable, str(RECORDER), "run", str(self.out), "--", "true"]
         run = subprocess.Popen(words, cwd=self.folder, env=environment, stderr=subprocess.PIPE, text=True)
-        until(lambda: (self.out / "trace.jsonl").exists(), "the conversion")
+        until(lambda: any(self.out.glob(f"{UNDONE}*")), "the conversion")
         run.send_signal(signal.SIGTERM)
         _, error = run.communicate(timeout=SOON)
         self.assertEqual(run.returncode, 128 + signal.SIGTERM, error)
