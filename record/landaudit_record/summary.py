@@ -18,6 +18,9 @@ from .reading import ASKED_LANDLOCK, Place, Told, Walk, call_text, place_of, pla
 _TELLS = ("op", "path", "shown", "from", "to", "shown_to", "mode", "create", "trunc", "kind", "exchange", "port", "rs")
 #: What landaudit says of what a program leaves out at an ABI that lacks all rights of it.
 LEFT_OUT = ((explanations.LEFT_OUT,), (explanations.UNENFORCED,))
+#: Why a call on a descriptor is moot whose opening would have been allowed otherwise.
+MISSED = f"{explanations.NOT_OPEN}, its opening was refused or moot"
+LISTED = "does the tree list what the run touched?"
 NO_LAYER = ("no process confines itself, so nothing is refused: try a policy by --policy, or record a program that "
             "confines itself")
 
@@ -58,12 +61,24 @@ class Accepted:
         return self.call if self.place == "-" else f"{self.call} {self.place}"
 
 
+@dataclass(frozen=True)
+class Brief:
+    """A warning in few words: what is said, of which path, and by which rule of the policy.
+
+    None is said of a path that the run never touched.
+    """
+
+    said: str | None
+    path: str = ""
+    rule: str = ""
+
+
 @dataclass
 class Summary:
     """All that is said of an audit; `missing` is what it can't say, with which it is no all clear.
 
     Refusals that are accepted are apart, with how many calls there are of each. `untouched` are the warnings of rules
-    on what was never touched; `recordings` says, where several were audited, in which each refusal occurs;
+    on what was never touched; `brief` has the shorter form that some warnings have; `recordings` says, where several were audited, in which each refusal occurs;
     `not_allowed` counts by verdict the calls on each path or port, accepted ones among them.
     """
 
@@ -79,6 +94,7 @@ class Summary:
     missing: tuple[str, ...] = ()
     accepted: Counter[Accepted] = field(default_factory=Counter)
     untouched: set[str] = field(default_factory=set)
+    brief: dict[str, Brief] = field(default_factory=dict)
     recordings: dict[Refusal, list[str]] = field(default_factory=dict)
     not_allowed: dict[str, Counter[Place]] = field(default_factory=lambda: {"refused": Counter(), "moot": Counter()})
 
@@ -181,7 +197,7 @@ class Summaries:
             if origin is not None:
                 text = (f"{_rule_text(origin, told.record)} is moot: {at} {why}; was it never touched in the run, or "
                         "is the name wrong?")
-                _warn(summary, text)
+                _warn(summary, text, _brief(told.record, None) if at.startswith("/") else None)
                 summary.untouched.add(text)
 
     def done(self, unsaid: Counter[str], missing: Sequence[str] = ()) -> list[Summary]:
@@ -189,9 +205,10 @@ class Summaries:
         for abi, summary in self._by_abi.items():
             summary.verdicts["allowed"] = summary.seen - summary.verdicts["refused"] - summary.verdicts["moot"]
             if not self._confines:
-                _warn(summary, NO_LAYER)
+                _warn(summary, NO_LAYER, Brief("no process confines itself: try a policy by --policy"))
             if 10 * summary.moot_path_calls > summary.path_calls:
-                _warn(summary, _many_moot(summary))
+                some = f"{summary.moot_path_calls} of {summary.path_calls} calls on paths"
+                _warn(summary, f"{some} are moot, so the policy was not asked: {LISTED}", Brief(f"{some} are not asked"))
             summary.unsaid = unsaid
             summary.missing = tuple(missing)
         return list(self._by_abi.values())
@@ -202,10 +219,12 @@ def _told_of_rule(summary: Summary, record: Record) -> None:
     origin = of_policy(record) or {}
     if "made" in origin:
         _warn(summary, f"{_rule_text(origin, record)}: the run makes it itself, so no sandboxer can put a rule on it: "
-                       f"grant it on {origin['made']}")
+                       f"grant it on {origin['made']}",
+              _brief(record, f"the run makes it: grant it on {origin['made']}"))
     if "replaced" in origin:
         _warn(summary, f"{_rule_text(origin, record)}: the run puts another object there, and the rule stays with the "
-                       f"first one: grant it on {origin['replaced']}")
+                       f"first one: grant it on {origin['replaced']}",
+              _brief(record, f"the run puts another there: grant it on {origin['replaced']}"))
 
 
 def _is_left_out(record: Record, answer: Answer) -> bool:
@@ -255,7 +274,7 @@ def _because(record: Record, answer: Answer, missed: bool) -> tuple[str, str]:
         return f"the call failed in the recording too: {kernel}", place_text(record)
     reason = explanations.reason(record, answer)
     not_opened = reason.why == explanations.NOT_OPEN and missed
-    why = f"{reason.why}, its opening was refused or moot" if not_opened else reason.why
+    why = MISSED if not_opened else reason.why
     return why, " -> ".join(shown_path(record, at) for at in reason.at)
 
 
@@ -267,13 +286,17 @@ def _rule_text(origin: dict[str, Any], record: Record) -> str:
     return "policy: " + ", ".join(words)
 
 
-def _many_moot(summary: Summary) -> str:
-    return (f"{summary.moot_path_calls} of {summary.path_calls} calls on paths are moot, so the policy was not asked: "
-            "does the tree list what the run touched?")
+def _brief(record: Record, said: str | None) -> Brief:
+    """A warning of a rule on a path of the policy in few words."""
+    origin = record["policy"]
+    where = [f"layer {origin['layer']}"] if "layer" in origin else []
+    return Brief(said, origin["parent"], ", ".join([*where, origin["rule"]]))
 
 
-def _warn(summary: Summary, text: str) -> None:
+def _warn(summary: Summary, text: str, brief: Brief | None = None) -> None:
     summary.warnings[text] = summary.warnings.get(text, 0) + 1
+    if brief is not None:
+        summary.brief[text] = brief
 
 
 def as_data(summary: Summary) -> dict[str, Any]:

@@ -4,28 +4,48 @@ from __future__ import annotations
 
 import os
 from collections import Counter
-from collections.abc import Iterator, Sequence
+from collections.abc import Callable, Iterator, Sequence
 from dataclasses import dataclass
 from typing import TextIO
 
+from . import explanations, grouping, layout
 from .by_abi import Kind, Step
 from .explanations import Closed, Kept, Missing, Objection
-from .summary import Refusal, RefusingLayer, Summary
-from .wording import counted, printable, some_of
+from .grouping import Group
+from .layout import Cell, Column, plain, table, wide, words
+from .recorder.processes import FIRST_MADE_UP
+from .summary import MISSED, Brief, Refusal, RefusingLayer, Summary
+from .trees import directory_of
+from .wording import counted, some_of
 
-MOST_ROWS = 50
+#: The answers in the order in which they are counted.
+VERDICTS = ("allowed", "refused", "moot")
 
+#: So many kinds of refused calls are told one by one; more of them in groups, of which so many are told.
+MOST_ROWS = 20
+#: So many warnings of rules that the run never used are told.
+MOST_UNUSED = 5
+#: What a person is told in the place of landaudit's words for why the policy is not asked.
+_IN_WORDS = {
+    "is not in the tree": "the file is not there",
+    "is in the tree already": "it is there already",
+    "is not a directory": "it is no directory",
+    explanations.NOT_OPEN: "its file is not open",
+    MISSED: "its opening was refused or not asked",
+}
+_FAILED_TOO = "the call failed in the recording too: "
 
 @dataclass(frozen=True)
 class Style:
-    """How words are marked; with `coloured` false they are plain."""
+    """How words are marked, and how wide lines are; with `coloured` false words are plain."""
 
     coloured: bool
+    width: int = layout.WIDTH
 
     @classmethod
     def of(cls, stream: TextIO) -> Style:
-        """Colours on a terminal alone, and none where NO_COLOR is set."""
-        return cls(stream.isatty() and not os.environ.get("NO_COLOR"))
+        """Colours on a terminal alone, and none where NO_COLOR is set; as wide as the terminal."""
+        return cls(stream.isatty() and not os.environ.get("NO_COLOR"), layout.width_of(stream))
 
     def bold(self, text: str) -> str:
         return self._marked("1", text)
@@ -40,66 +60,72 @@ class Style:
         return f"\033[{code}m{text}\033[0m" if self.coloured else text
 
 
-def lines(summary: Summary, title: str, style: Style) -> Iterator[str]:
-    """The lines of a summary, each without its line feed."""
-    yield style.bold(title)
-    verdicts = summary.verdicts
-    refused = f"{verdicts['refused']} refused"
-    not_all = ", and NOT ALL IS JUDGED (see the end)" if summary.missing else ""
-    yield (f"{summary.records} records: {verdicts['allowed']} allowed, "
-           f"{style.red(refused) if summary.others_refused else refused}{_of_these(summary)}, {verdicts['moot']} moot"
-           f"{not_all}")
-    for text, times in summary.warnings.items():
-        yield style.yellow("warning: ") + printable(text) + (f" ({counted(times, 'time')})" if times > 1 else "")
-    yield from _refusals(summary, style)
+@dataclass(frozen=True)
+class Beside:
+    """What is told beside a summary: notes, and the command that suggests rules; `each` asks for each kind of calls."""
+
+    notes: Sequence[str] = ()
+    suggesting: Sequence[str] = ()
+    each: bool = False
+
+
+def lines(summary: Summary, title: str, style: Style, beside: Beside = Beside()) -> Iterator[str]:
+    """The lines of a summary, each without its line feed and none wider than the style has it."""
+    yield from map(style.bold, layout.folded(title, style.width))
+    yield from _counts(summary, style)
+    yield from _warnings(summary, style, each=beside.each)
+    for text in beside.notes:
+        yield from layout.folded(f"note: {text}", style.width)
+    yield from _refusals(summary, style, each=beside.each)
+    if beside.suggesting:
+        yield from ("", "rules for these:", *layout.command(beside.suggesting, style.width))
     yield from _accepted(summary, style)
     yield from _moot(summary, style)
     if summary.unsaid:
-        yield ""
-        yield style.bold(f"not recorded: {counted(summary.unsaid.total(), 'call')}")
-        yield from _table(("times", "class"), [(str(times), name) for name, times in summary.unsaid.most_common()])
+        yield from _heading(f"not recorded: {counted(summary.unsaid.total(), 'call')}", style)
+        rows = [(words(str(times)), words(name)) for name, times in summary.unsaid.most_common()]
+        yield from table((_TIMES, Column("class", short=True)), rows, style.width)
 
 
 def ending(summary: Summary, style: Style) -> Iterator[str]:
     """The last lines of all: what could not be judged, so that no audit looks like more than it is."""
     for text in summary.missing:
-        yield style.red("NOT ALL IS JUDGED: ") + printable(text)
+        yield from _marked("NOT ALL IS JUDGED:", text, style.red, style.width)
 
 
 def by_recording(each: Sequence[tuple[str, Summary]], style: Style) -> Iterator[str]:
     """The lines of the table by recording, which is behind a summary of several."""
-    yield ""
-    yield style.bold("by recording")
+    yield from _heading("by recording", style)
     rows = []
     for name, summary in each:
-        counts = (summary.records, *(summary.verdicts[verdict] for verdict in ("allowed", "refused", "moot")))
-        rows.append((*map(str, counts), name))
-    yield from _table(("records", "allowed", "refused", "moot", "recording"), rows, numbers=4)
+        counts = (summary.records, *(summary.verdicts[verdict] for verdict in VERDICTS))
+        rows.append([words(str(cell)) for cell in (*counts, name)])
+    columns = [Column(head, number=True) for head in ("records", *VERDICTS)]
+    yield from table((*columns, Column("recording", short=True)), rows, style.width)
 
 
 def by_abi(steps: Sequence[Step], style: Style) -> Iterator[str]:
     """The lines of the table by ABI, which is behind a summary."""
-    yield ""
-    yield style.bold("by ABI: what breaks there first, and what is refused no more")
+    yield from _heading("by ABI: what breaks there first, and what is refused no more", style)
+    columns = [Column(head, number=True) for head in ("ABI", *VERDICTS)]
     rows = [row for step in steps for row in _step_rows(step)]
-    yield from _table(("ABI", "allowed", "refused", "moot", "what changes"), rows, numbers=4)
+    yield from table((*columns, Column("what changes", short=True)), rows, style.width)
 
 
-def _step_rows(step: Step) -> Iterator[tuple[str, ...]]:
+def _step_rows(step: Step) -> Iterator[list[Cell]]:
     """The rows of an ABI: its counts are in the first, and each says one thing that changes."""
-    verdicts = (str(step.verdicts[verdict]) for verdict in ("allowed", "refused", "moot"))
-    counts: tuple[str, ...] = (str(step.abi), *verdicts)
-    for said in _changes(step) or [""]:
-        yield *counts, said
-        counts = ("",) * len(counts)
+    counts = [words(str(number)) for number in (step.abi, *(step.verdicts[verdict] for verdict in VERDICTS))]
+    for said in _changes(step) or [words("")]:
+        yield [*counts, said]
+        counts = [words("")] * len(counts)
 
 
-def _changes(step: Step) -> list[str]:
+def _changes(step: Step) -> list[Cell]:
     """What an ABI changes, against the one before it."""
-    named = (("breaks", step.breaks), ("refused no more", step.no_more))
-    said = [f"{what}: {some_of([_kind(kind) for kind in kinds])}" for what, kinds in named if kinds]
+    named = (("breaks: ", step.breaks), ("refused no more: ", step.no_more))
+    said = [layout.names([_kind(kind) for kind in kinds], said=what) for what, kinds in named if kinds]
     if step.warnings:
-        said.append(f"{counted(len(step.warnings), 'warning')} more: see --abi {step.abi}")
+        said.append(words(f"{counted(len(step.warnings), 'warning')} more: see --abi {step.abi}"))
     return said
 
 
@@ -108,17 +134,118 @@ def _kind(kind: Kind) -> str:
     return " ".join(word for word in (kind.call, kind.place, kind.error) if word != "-")
 
 
-def _refusals(summary: Summary, style: Style) -> Iterator[str]:
-    found = summary.by_frequency()
-    if not found:
-        return
+def _heading(text: str, style: Style) -> Iterator[str]:
     yield ""
-    yield style.bold(f"refused, the most frequent first ({counted(len(found), 'kind')})")
-    rows = [_refusal_row(refusal, programs, summary) for refusal, programs in found[:MOST_ROWS]]
-    where = ("recordings",) if summary.recordings else ()
-    yield from _table(("times", "call", "place", "error", "layers", *where, "program", "why"), rows)
-    if len(found) > MOST_ROWS:
-        yield f"  and {counted(len(found) - MOST_ROWS, 'kind')} more: --json lists all"
+    yield from map(style.bold, layout.folded(text, style.width))
+
+
+def _marked(mark: str, text: str, marked: Callable[[str], str], width: int) -> Iterator[str]:
+    """A text on lines that fit, the mark before it in a colour where it stays whole."""
+    first, *others = layout.folded(f"{mark} {text}", width)
+    yield marked(mark) + first.removeprefix(mark) if first.startswith(mark) else first
+    yield from others
+
+
+def _counts(summary: Summary, style: Style) -> Iterator[str]:
+    """How many records there are of each answer."""
+    verdicts = summary.verdicts
+    refused = f"{verdicts['refused']} refused"
+    not_all = ", and NOT ALL IS JUDGED (see the end)" if summary.missing else ""
+    text = (f"{summary.records} records: {verdicts['allowed']} allowed, {refused}{_of_these(summary)}, "
+            f"{verdicts['moot']} not asked (moot){not_all}")
+    for line in layout.folded(text, style.width):
+        yield line.replace(refused, style.red(refused)) if summary.others_refused else line
+
+
+def _warnings(summary: Summary, style: Style, *, each: bool) -> Iterator[str]:
+    """The warnings, those of rules that the run never used behind the others, and of them some unless each is asked."""
+    used = [text for text in summary.warnings if text not in summary.untouched]
+    unused = sorted((text for text in summary.warnings if text in summary.untouched),
+                    key=lambda text: _is_here(summary.brief.get(text)))
+    shown = unused if each else unused[:MOST_UNUSED]
+    for text in (*used, *shown):
+        yield from _warning(summary.brief.get(text, Brief(text)), summary.warnings[text], style, with_rule=each)
+    if len(unused) > len(shown):
+        more = f"{counted(len(unused) - len(shown), 'rule')} more that this run never used: --all lists them"
+        yield from _marked("warning:", more, style.yellow, style.width)
+
+
+def _is_here(brief: Brief | None) -> bool:
+    return brief is not None and os.path.exists(brief.path)
+
+
+def _warning(brief: Brief, times: int, style: Style, *, with_rule: bool) -> Iterator[str]:
+    """A warning on one line where it fits, its path shortened for it."""
+    said = brief.said
+    if said is None:
+        said = "exists here, this run never used it" if _is_here(brief) else "no such path here"
+    said += f" ({counted(times, 'time')})" if times > 1 else ""
+    said += f" ({brief.rule})" if with_rule and brief.rule else ""
+    room = style.width - len("warning: ") - wide(plain(f": {said}"))
+    if brief.path and room >= layout.LEAST_COLUMN:
+        yield f"{style.yellow('warning:')} {layout.shortened(plain(brief.path), room)}: {plain(said)}"
+        return
+    yield from _marked("warning:", f"{brief.path}: {said}" if brief.path else said, style.yellow, style.width)
+
+
+def _refusals(summary: Summary, style: Style, *, each: bool) -> Iterator[str]:
+    if len(summary.refusals) > MOST_ROWS and not each:
+        yield from _groups(summary, style)
+    elif summary.refusals:
+        yield from _heading(f"refused, the most frequent first ({counted(len(summary.refusals), 'kind')})", style)
+        rows = [_refusal_row(refusal, programs, summary) for refusal, programs in summary.by_frequency()]
+        columns = (_TIMES, Column("call"), Column("place", short=True), *_behind(summary), _WHY)
+        yield from table(columns, rows, style.width)
+
+
+_TIMES = Column("times", number=True)
+_WHY = Column("why", short=True)
+
+
+def _behind(summary: Summary) -> tuple[Column, ...]:
+    """The columns of what most refused calls of an audit have in common."""
+    where = (Column("recordings", short=True, less=True, once=True),) if summary.recordings else ()
+    program = Column("program", short=True, less=True, once=True, none=" or none yet")
+    return Column("error", once=True), Column("layers", once=True), *where, program
+
+
+def _groups(summary: Summary, style: Style) -> Iterator[str]:
+    """Refused calls of many kinds in groups."""
+    groups = grouping.grouped(summary.refusals.items())
+    shown = groups[:MOST_ROWS]
+    yield from _heading(f"refused: {len(summary.refusals)} kinds in {counted(len(groups), 'group')}, the earliest first, "
+                        "then the most frequent", style)
+    columns = (_TIMES, _WHY, Column("where", short=True), *_behind(summary))
+    yield from table(columns, [_group_row(group, summary) for group in shown], style.width)
+    more = f"{counted(len(groups) - len(shown), 'group')} more, and " if len(groups) > len(shown) else ""
+    yield from (f"  {line}" for line in layout.folded(f"{more}each kind by itself: --all lists them", style.width - 2))
+
+
+def _group_row(group: Group, summary: Summary) -> list[Cell]:
+    """A group: how many calls, what they lack and where, and what else they have in common."""
+    lacking, programs = group.lacking, group.programs
+    named = dict.fromkeys(name for kind in group.kinds for name in summary.recordings.get(kind.refusal, ()))
+    where = (layout.names(list(named)),) if summary.recordings else ()
+    return [words(str(programs.total())), layout.parts(lacking.objections, "; ", head=0.7), _where(group),
+            words(lacking.error), words(", ".join(lacking.layers) or "-"), *where, _programs(programs)]
+
+
+def _where(group: Group) -> Cell:
+    """Where the calls of a group lack something: the one path, or how many below which directory."""
+    spots, kinds = group.spots, group.kinds
+    if not spots:
+        return words(_person(kinds[0].refusal.place) if len(kinds) == 1 else counted(len(kinds), "kind"))
+    if group.lacking.on_ports:
+        ports = sorted(map(int, spots))
+        few = len(ports) == 1
+        return words(f"port {ports[0]}" if few else f"{len(ports)} ports from {ports[0]} to {ports[-1]}")
+    if group.others:
+        return layout.parts([group.directory, *group.others], "; ")
+    if len(spots) == 1:
+        return words(spots[0])
+    things = "files" if group.lacking.of_files else "directories"
+    inside = all(directory_of(spot) == group.directory for spot in spots)
+    return layout.behind(f"{len(spots)} {things} {'in' if inside else 'under'} ", group.directory)
 
 
 def _of_these(summary: Summary) -> str:
@@ -129,17 +256,19 @@ def _of_these(summary: Summary) -> str:
 
 def _accepted(summary: Summary, style: Style) -> Iterator[str]:
     if summary.accepted:
-        yield ""
-        yield style.bold(f"refused and accepted ({counted(len(summary.accepted), 'kind')})")
-        rows = [(str(times), one.call, one.place, one.reason) for one, times in summary.accepted.most_common()]
-        yield from _table(("times", "call", "place", "reason"), rows)
+        yield from _heading(f"refused and accepted ({counted(len(summary.accepted), 'kind')})", style)
+        rows = [[words(cell) for cell in (str(times), one.call, one.place, one.reason)]
+                for one, times in summary.accepted.most_common()]
+        columns = (_TIMES, Column("call"), Column("place", short=True), Column("reason", short=True))
+        yield from table(columns, rows, style.width)
 
 
-def _refusal_row(refusal: Refusal, programs: Counter[str], summary: Summary) -> tuple[str, ...]:
+def _refusal_row(refusal: Refusal, programs: Counter[str], summary: Summary) -> list[Cell]:
     layers = ", ".join(layer.name for layer in refusal.layers) or "-"
-    where = (some_of(summary.recordings[refusal]),) if summary.recordings else ()
-    told = (str(programs.total()), refusal.call, refusal.place, refusal.error, layers)
-    return *told, *where, names(programs), why(refusal)
+    where = (layout.names(summary.recordings[refusal]),) if summary.recordings else ()
+    told = (words(str(programs.total())), words(refusal.call), layout.parts(_person(refusal.place).split(" -> "), " -> "))
+    return [*told, words(refusal.error), words(layers), *where, _programs(programs),
+            layout.parts(why(refusal).split("; "), "; ", head=0.7)]
 
 
 def why(refusal: Refusal) -> str:
@@ -171,22 +300,41 @@ def _objection(objection: Objection, place: str) -> str:
 def _moot(summary: Summary, style: Style) -> Iterator[str]:
     if not summary.moot:
         return
-    yield ""
-    yield style.bold("moot: the policy was not asked")
+    yield from _heading("not asked (moot), and why", style)
     found = sorted(summary.moot.items(), key=lambda item: -item[1].total())
-    yield from _table(("times", "why", "at"), [(str(at.total()), why, names(at)) for why, at in found])
+    rows = [[words(str(at.total())), words(_in_words(why)), layout.names(_known(at))] for why, at in found]
+    yield from table((_TIMES, Column("why"), Column("at", short=True)), rows, style.width)
+
+
+def _in_words(why: str) -> str:
+    """Why the policy is not asked, as a person says it."""
+    if why.startswith(_FAILED_TOO):
+        return f"it failed when recorded too: {why.removeprefix(_FAILED_TOO)}"
+    return _IN_WORDS.get(why, f"it {why}")
+
+
+def _known(at: Counter[str]) -> list[str]:
+    """The most frequent names, without the numbers of descriptors that no program had."""
+    return [name for name in _most(at) if _person(name) == name] or ["-"]
+
+
+def _person(place: str) -> str:
+    """What a call is about, without the number of a descriptor that no program had."""
+    word, _, number = place.partition(" ")
+    made_up = word == "descriptor" and number.isdecimal() and int(number) >= FIRST_MADE_UP
+    return "a file of its own" if made_up else place
+
+
+def _programs(programs: Counter[str]) -> Cell:
+    """The most frequent programs, by their names alone where that is to fit; a process without one is told last."""
+    return layout.names(sorted(_most(programs), key=lambda name: name == "-"), brief=os.path.basename)
+
+
+def _most(counted: Counter[str]) -> list[str]:
+    """Names, the most frequent first."""
+    return [name for name, _ in counted.most_common()]
 
 
 def names(counted: Counter[str]) -> str:
     """The most frequent names, and how many are left."""
-    return some_of([name for name, _ in counted.most_common()])
-
-
-def _table(heads: Sequence[str], rows: Sequence[Sequence[str]], numbers: int = 1) -> Iterator[str]:
-    """Rows under heads: the first columns are numbers and are flush right, the last is as long as it is."""
-    shown = [[printable(cell) for cell in row] for row in (heads, *rows)]
-    widths = [max(map(len, column)) for column in zip(*shown)]
-    for row in shown:
-        cells = [cell.rjust(width) for cell, width in zip(row[:numbers], widths)]
-        cells += [cell.ljust(width) for cell, width in zip(row[numbers:], widths[numbers:])]
-        yield "  " + "  ".join(cells).rstrip()
+    return some_of(_most(counted))

@@ -65,13 +65,14 @@ def note_missing(members: Sequence[Member]) -> None:
     note(f"NOT ALL IS JUDGED: {text}" for it in members for text in (it.recording.missing if alone else it.of_several))
 
 
-def note_policy(members: Sequence[Member], abis: range) -> None:
-    """Prints notes on what of the policy is not judged, and what of it the ABIs do not have.
+def policy_notes(members: Sequence[Member], abis: range, *, here: bool = False) -> list[str]:
+    """Notes on what of the policy is not judged, and what of it the ABIs do not have.
 
-    What is said of a path that a recording did not meet is told if none of them met it.
+    What is said of a path that a recording did not meet is told if none of them met it; `here` has it looked for on
+    this machine.
     """
-    notes = [list(trying.notes(member.tried, abis)) for member in members if member.tried is not None]
-    note(text for text in (notes[0] if notes else ()) if all(text in others for others in notes))
+    notes = [list(trying.notes(member.tried, abis, here=here)) for member in members if member.tried is not None]
+    return [text for text in (notes[0] if notes else ()) if all(text in others for others in notes)]
 
 
 @contextmanager
@@ -123,6 +124,7 @@ def _add(found: Summary, name: str, one: Summary) -> None:
     for text, times in one.warnings.items():
         found.warnings[text] = found.warnings.get(text, 0) + times
     found.untouched |= one.untouched
+    found.brief.update(one.brief)
     found.unsaid.update(one.unsaid)
     found.accepted.update(one.accepted)
     found.seen += one.seen

@@ -3,6 +3,7 @@
 from __future__ import annotations
 
 import errno
+import os
 import tempfile
 from collections.abc import Iterable, Iterator
 from contextlib import contextmanager
@@ -182,12 +183,13 @@ class Auditing:
                     made.replace(place)
 
 
-def notes(tried: Tried, abis: range) -> Iterator[str]:
+def notes(tried: Tried, abis: range, *, here: bool = False) -> Iterator[str]:
     """Notes on what of a policy is not judged, and what of it the ABIs do not have.
 
-    Of the newest ABI all is said, of each older one how many notes there are.
+    Of the newest ABI all is said, of each older one how many notes there are. What the recording did not meet is looked
+    for on this machine if `here` asks for it.
     """
-    yield from _not_judged(tried.policy, tried.tree)
+    yield from _not_judged(tried.policy, tried.tree, here=here)
     for abi in abis:
         _, dropped = fitting.fit(tried.policy, abi)
         if abi == abis[-1]:
@@ -196,7 +198,7 @@ def notes(tried: Tried, abis: range) -> Iterator[str]:
             yield f"ABI {abi} is missing rights of the policy: see --abi {abi} ({counted(len(dropped), 'note')})"
 
 
-def _not_judged(policy: Policy, tree: Tree) -> Iterator[str]:
+def _not_judged(policy: Policy, tree: Tree, *, here: bool) -> Iterator[str]:
     """What no ABI here judges of a policy, and rules that the kernel may understand otherwise than their author."""
     for layer in policy.layers:
         if layer.scoped:
@@ -206,13 +208,16 @@ def _not_judged(policy: Policy, tree: Tree) -> Iterator[str]:
             for parent in rule.parents:
                 if tree.kind(tree.resolved(parent, before_run=True)) is None:
                     where = f"layer {layer.number}, {rule.place}, parent {parent}"
-                    yield from _notes_on_absent(where, parent, named)
+                    yield from _notes_on_absent(where, parent, named, here=here)
 
 
-def _notes_on_absent(where: str, parent: str, named: list[str]) -> Iterator[str]:
+def _notes_on_absent(where: str, parent: str, named: list[str], *, here: bool) -> Iterator[str]:
     """What to know of a rule on a path that the recording did not meet."""
     if any(letter in parent for letter in GLOB):
         yield f"{where}: Landlock has no patterns: name the directory, or each file"
+    elif named and here:
+        if os.path.exists(parent) and not os.path.isdir(parent):
+            yield f"{where}: no directory here, so the kernel refuses {', '.join(named)} with EINVAL"
     elif named:
         yield (f"{where}: not in the tree, so it is not known whether it is a directory: on anything else the kernel "
                f"refuses {', '.join(named)} with EINVAL")

@@ -4,17 +4,17 @@ from __future__ import annotations
 
 import argparse
 import json
-import shlex
 import sys
-from collections.abc import Sequence
+from collections.abc import Iterator, Sequence
 from pathlib import Path
 from typing import Any
 
-from .. import accepting, by_abi, landaudit, page, policies, summary_text, together
+from .. import accepting, by_abi, landaudit, layout, page, policies, summary_text, together
 from ..options import add_abis, add_as_recorded, add_landaudit, add_program, add_recordings, note
 from ..problems import NOT_ALL_JUDGED
 from ..rights import NEWEST_ABI
 from ..summary import Summaries, Summary, as_data
+from ..summary_text import Beside
 from ..together import Member
 from ..trying import Auditing
 
@@ -43,6 +43,12 @@ def add_arguments(parser: argparse.ArgumentParser) -> None:
     add_abis(parser)
     add_as_recorded(parser)
     parser.add_argument(
+        "--all",
+        action="store_true",
+        help=f"show each kind of refused calls, where more than {summary_text.MOST_ROWS} are shown in groups, and each "
+        "rule that the run never used",
+    )
+    parser.add_argument(
         "--json",
         action="store_true",
         help="print the same as data: that of each ABI is in 'abis' and, of several recordings, that of each in "
@@ -68,17 +74,17 @@ def run(arguments: argparse.Namespace) -> int:
     accepted = [*(accepting.read(policy.path, only=False) if policy else ()),
                 *(accepting.read(arguments.accepted) if arguments.accepted else ())]
     members = together.opened(arguments.recordings, policy, arguments.program)
-    together.note_policy(members, arguments.abis)
+    notes = together.policy_notes(members, arguments.abis, here=not arguments.json)
     with together.audits(members, program, NAME, best_effort=not arguments.as_recorded) as audits:
         each = [(it, _summaries(it, auditing, arguments.abis)) for it, auditing in zip(members, audits)]
         for auditing in audits:
             auditing.keep()
-    note(f"{auditing.recording.folder} can't be written: report and tried trace are not kept"
-         for auditing in audits if not auditing.stays)
-    for one in accepting.set_apart(accepted, [summary for _, summaries in each for summary in summaries]):
-        note([f"accepted and refused no more: {one} ({one.reason})"])
+    notes += (f"{auditing.recording.folder} can't be written: report and tried trace are not kept"
+              for auditing in audits if not auditing.stays)
+    notes += (f"accepted and refused no more: {one} ({one.reason})" for one in accepting.set_apart(
+        accepted, [summary for _, summaries in each for summary in summaries]))
     summaries = [together.united(list(zip(members, of_abi))) for of_abi in zip(*(found for _, found in each))]
-    _print(each, summaries, arguments)
+    _print(each, summaries, arguments, notes)
     if arguments.html is not None:
         about = page.About(", ".join(arguments.recordings), arguments.policy, arguments.as_recorded)
         parts = [part for member in members for part in member.recording.parts]
@@ -98,26 +104,32 @@ def _summaries(member: Member, auditing: Auditing, abis: range) -> list[Summary]
     return found.done(member.recording.unsaid, member.recording.missing)
 
 
-def _print(each: Each, summaries: list[Summary], arguments: argparse.Namespace) -> None:
-    """Prints the summary of the newest ABI, and what changes from ABI to ABI."""
+def _print(each: Each, summaries: list[Summary], arguments: argparse.Namespace, notes: list[str]) -> None:
+    """Prints what is told; as data, with the notes apart from them."""
     if arguments.json:
+        note(notes)
         print(json.dumps(_data(each, summaries, arguments), indent=2))
         return
+    for line in _lines(each, summaries, arguments, notes):
+        print(layout.encodable(line, sys.stdout))
+
+
+def _lines(
+    each: Each, summaries: list[Summary], arguments: argparse.Namespace, notes: list[str]
+) -> Iterator[str]:
+    """The summary of the newest ABI, and what changes from ABI to ABI."""
     newest, steps = summaries[-1], by_abi.steps(summaries)
     under = f" under {arguments.policy}" if arguments.policy else ""
     style = summary_text.Style.of(sys.stdout)
     title = f"{', '.join(arguments.recordings)}{under} at ABI {newest.abi}"
-    for line in summary_text.lines(newest, title, style):
-        print(line)
-    if any(layer.policy for refusal in newest.refusals for layer in refusal.layers):
-        print(f"\nrules for these: {shlex.join(_suggesting(arguments, newest.abi))}")
-    by_name = [(member.name, found[-1]) for member, found in each]
-    for line in summary_text.by_recording(by_name, style) if len(each) > 1 else ():
-        print(line)
-    for line in summary_text.by_abi(steps, style) if len(steps) > 1 else ():
-        print(line)
-    for line in summary_text.ending(newest, style):
-        print(line)
+    of_policy = any(layer.policy for refusal in newest.refusals for layer in refusal.layers)
+    suggesting = _suggesting(arguments, newest.abi) if of_policy else []
+    yield from summary_text.lines(newest, title, style, Beside(notes, suggesting, arguments.all))
+    if len(each) > 1:
+        yield from summary_text.by_recording([(member.name, found[-1]) for member, found in each], style)
+    if len(steps) > 1:
+        yield from summary_text.by_abi(steps, style)
+    yield from summary_text.ending(newest, style)
 
 
 def _data(each: Each, summaries: list[Summary], arguments: argparse.Namespace) -> dict[str, Any]:

@@ -8,7 +8,7 @@ from pathlib import Path
 
 from .. import landaudit, leaving, policies, suggestion_text, together
 from ..objects import Objects
-from ..options import add_abi, add_as_recorded, add_landaudit, add_program, add_recordings
+from ..options import add_abi, add_as_recorded, add_landaudit, add_program, add_recordings, note
 from ..policies import Policy
 from ..reading import Walk
 from ..rights import alone
@@ -53,7 +53,7 @@ def run(arguments: argparse.Namespace) -> int:
     policy = policies.read(Path(arguments.policy))
     members = together.opened(arguments.recordings, policy, arguments.program)
     abis = alone(arguments.abi)
-    together.note_policy(members, abis)
+    note(together.policy_notes(members, abis))
     with together.audits(members, program, NAME, best_effort=not arguments.as_recorded) as audits:
 
         def audit(extended: Policy) -> Iterator[tuple[int, Walk]]:

@@ -10,7 +10,7 @@ from pathlib import Path
 
 from .. import comments, landaudit, policies, policy_text, together, trees
 from ..distilling import Distilling, Question
-from ..options import add_abi, add_as_recorded, add_landaudit, add_program, add_recordings
+from ..options import add_abi, add_as_recorded, add_landaudit, add_program, add_recordings, note
 from ..policies import Policy
 from ..problems import WANTING, Problem
 from ..rights import alone
@@ -42,7 +42,7 @@ def run(arguments: argparse.Namespace) -> int:
     program = landaudit.find(arguments.landaudit)
     policy = policies.read(arguments.policy)
     members = together.opened(arguments.recordings, policy, arguments.program)
-    together.note_policy(members, alone(arguments.abi))
+    note(together.policy_notes(members, alone(arguments.abi)))
     tried = [member.tried for member in members if member.tried is not None]
     with together.audits(members, program, NAME, best_effort=not arguments.as_recorded) as audits:
         counted = [_questions(audit, one, policy, arguments.abi) for audit, one in zip(audits, tried)]

@@ -1,0 +1,170 @@
+"""Many kinds of refused calls in few groups: what is lacking, and the directory that it is lacking below.
+
+A group is what a reader would write one rule for. Its directory is the deepest one over all its paths. One that is near
+the root, or of which one directory has most, is taken apart while the groups are few.
+"""
+
+from __future__ import annotations
+
+import posixpath
+from collections import Counter, defaultdict
+from collections.abc import Iterable, Sequence
+from dataclasses import dataclass
+from typing import NamedTuple
+
+from .explanations import Closed, Gained, Kept, Missing, Objection
+from .rights import FILE_RIGHTS
+from .summary import Refusal
+from .trees import ROOT
+
+#: So many groups are made at most by taking larger ones apart.
+FEW = 12
+#: A directory so near the root says little.
+_NEAR_ROOT = 2
+#: A directory that has so much of a group says more than the one over it.
+_MOST = 0.75
+
+
+class Lacking(NamedTuple):
+    """What the calls of a group have in common: what is objected to, by which error, and by which layers."""
+
+    objections: tuple[str, ...]
+    error: str
+    layers: tuple[str, ...]
+    of_files: bool
+    on_ports: bool
+
+
+@dataclass(frozen=True)
+class Kind:
+    """A kind of refused calls: where each objection is, its calls by program, and its place in the order of the trace."""
+
+    spots: tuple[str, ...]
+    programs: Counter[str]
+    order: int
+    refusal: Refusal
+
+
+@dataclass(frozen=True)
+class Group:
+    """Kinds of refused calls that lack the same; each has its first spot at or below the directory."""
+
+    lacking: Lacking
+    directory: str
+    kinds: tuple[Kind, ...]
+
+    @property
+    def programs(self) -> Counter[str]:
+        """The programs of its calls, with how many each makes."""
+        return sum((kind.programs for kind in self.kinds), Counter[str]())
+
+    @property
+    def order(self) -> int:
+        """The place of its first call in the order of the trace."""
+        return min(kind.order for kind in self.kinds)
+
+    @property
+    def spots(self) -> list[str]:
+        """The paths or ports of its first objection, each once."""
+        return list(dict.fromkeys(kind.spots[0] for kind in self.kinds if kind.spots))
+
+    @property
+    def others(self) -> list[str]:
+        """The directory over the paths of each further objection."""
+        return [common([kind.spots[index] for kind in self.kinds]) for index in range(1, len(self.kinds[0].spots))]
+
+
+def grouped(refusals: Iterable[tuple[Refusal, Counter[str]]]) -> list[Group]:
+    """The groups of some refusals, which are in the order of the trace.
+
+    That of the first call comes first, since there the program breaks; of the others those with the most calls.
+    """
+    found: defaultdict[Lacking, list[Kind]] = defaultdict(list)
+    for order, (refusal, programs) in enumerate(refusals):
+        lacking, spots = _lacking(refusal)
+        found[lacking].append(Kind(spots, programs, order, refusal))
+    groups = _apart([_group(lacking, kinds) for lacking, kinds in found.items()])
+    return sorted(groups, key=lambda group: (group.order > 0, -group.programs.total(), group.order))
+
+
+def _lacking(refusal: Refusal) -> tuple[Lacking, tuple[str, ...]]:
+    """What a refusal lacks, and where."""
+    if refusal.condition is not None:
+        return Lacking((refusal.condition,), refusal.error, (), False, False), ()
+    by_layer = [(f"{layer.name}: ", layer.objections) for layer in refusal.layers]
+    if len({objections for _, objections in by_layer}) == 1:
+        by_layer = [("", by_layer[0][1])]
+    said = [(name, *_objection(one)) for name, objections in by_layer for one in objections]
+    objections = [one for _, objections in by_layer for one in objections]
+    rights = {right for one in objections if isinstance(one, Missing) for right in one.rights}
+    lacking = Lacking(
+        tuple(name + text for name, text, _ in said),
+        refusal.error,
+        tuple(layer.name for layer in refusal.layers),
+        rights <= FILE_RIGHTS,
+        any(isinstance(one, Closed) for one in objections),
+    )
+    return lacking, tuple(spot for _, _, spot in said if spot)
+
+
+def _objection(objection: Objection) -> tuple[str, str]:
+    """What a layer objects to, and where."""
+    match objection:
+        case Missing(rights=rights, path=path):
+            return ", ".join(rights), path
+        case Closed(rights=rights, port=port):
+            return ", ".join(rights), str(port)
+        case Gained(rights=rights, directory=directory):
+            return f"would gain {', '.join(rights)}", directory
+        case Kept(rights=rights, path=path):
+            return f"{', '.join(rights)} when it was opened", path
+    return str(objection), ""
+
+
+def common(paths: Sequence[str]) -> str:
+    """The deepest directory over some paths, or the one path that they are."""
+    return posixpath.commonpath(paths)
+
+
+def _group(lacking: Lacking, kinds: Sequence[Kind]) -> Group:
+    on_paths = kinds[0].spots and not lacking.on_ports
+    return Group(lacking, common([kind.spots[0] for kind in kinds]) if on_paths else "", tuple(kinds))
+
+
+def _apart(groups: list[Group]) -> list[Group]:
+    """Groups of which the loosest ones are taken apart: the nearest to the root first, while there are few."""
+    done: list[Group] = []
+    waiting = list(groups)
+    while waiting:
+        waiting.sort(key=lambda group: (_depth(group.directory), -len(group.kinds)))
+        group = waiting.pop(0)
+        smaller = _branches(group)
+        few = len(done) + len(waiting) + len(smaller) <= FEW
+        if len(smaller) > 1 and (group.directory == ROOT or few and _is_loose(group, smaller)):
+            waiting += smaller
+        else:
+            done.append(group)
+    return done
+
+
+def _depth(directory: str) -> int:
+    return len([name for name in directory.split("/") if name])
+
+
+def _is_loose(group: Group, smaller: Sequence[Group]) -> bool:
+    """Whether a group says too little: it is near the root, or one directory has most of it."""
+    below = [len(one.kinds) for one in smaller if one.directory != group.directory]
+    return _depth(group.directory) < _NEAR_ROOT or max(below, default=0) >= _MOST * len(group.kinds)
+
+
+def _branches(group: Group) -> list[Group]:
+    """The groups below a group's directory, and what is in the directory itself."""
+    if not group.directory:
+        return [group]
+    found: defaultdict[str, list[Kind]] = defaultdict(list)
+    start = len(group.directory.rstrip("/")) + 1
+    for kind in group.kinds:
+        branch, slash, _ = kind.spots[0][start:].partition("/")
+        found[branch if slash else ""].append(kind)
+    return [Group(group.lacking, group.directory if not branch else common([kind.spots[0] for kind in kinds]),
+                  tuple(kinds)) for branch, kinds in found.items()]
