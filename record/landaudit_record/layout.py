@@ -11,6 +11,7 @@ import shutil
 import unicodedata
 from collections.abc import Callable, Iterator, Sequence
 from dataclasses import dataclass
+from itertools import product
 from typing import TextIO
 
 from .wording import MOST_NAMES, printable
@@ -26,6 +27,8 @@ LEAST_PATH = 7
 _MARGIN = "  "
 _BETWEEN = "  "
 _NATURAL = 1 << 30
+#: How much of what is shown of a long text is its beginning: the end of a path tells more.
+_HEAD = 0.3
 #: How Unicode names the directions of letters and digits that a terminal may draw from right to left.
 _RIGHT_TO_LEFT = frozenset({"R", "AL", "AN"})
 
@@ -62,7 +65,7 @@ def _wide(character: str) -> int:
     return 2 if unicodedata.east_asian_width(character) in "WF" else 1
 
 
-def shortened(text: str, width: int, *, head: float = 0.4) -> str:
+def shortened(text: str, width: int, *, head: float = _HEAD) -> str:
     """A text with an ellipsis in the place of its middle, where it does not fit; `head` is the share of its beginning."""
     if wide(text) <= width:
         return text
@@ -107,7 +110,7 @@ def command(words: Sequence[str], width: int) -> list[str]:
     return lines
 
 
-def words(text: str, *, head: float = 0.4) -> Cell:
+def words(text: str, *, head: float = _HEAD) -> Cell:
     """A cell with a text."""
     shown = plain(text)
     return lambda width: shortened(shown, width, head=head)
@@ -119,7 +122,7 @@ def behind(said: str, path: str) -> Cell:
     return lambda width: shortened(said + shortened(shown, max(LEAST_PATH, width - wide(said))), width, head=0.7)
 
 
-def parts(texts: Sequence[str], between: str, *, head: float = 0.4) -> Cell:
+def parts(texts: Sequence[str], between: str, *, head: float = _HEAD) -> Cell:
     """A cell with several texts, each of which is shortened."""
     shown = [plain(text) for text in texts]
 
@@ -137,15 +140,14 @@ def names(texts: Sequence[str], *, said: str = "", brief: Callable[[str], str] |
     forms = [whole, *([[plain(brief(text)) for text in texts]] if brief else [])]
 
     def some(width: int) -> str:
-        for shown in forms:
+        for shown, more in product(forms, (" and {} more", " +{}")):
             for number in range(min(MOST_NAMES, len(shown)), 0, -1):
                 left = len(shown) - number
-                for more in (f" and {left} more", f" +{left}") if left else ("",):
-                    told = said + ", ".join(shown[:number]) + more
-                    if wide(told) <= width:
-                        return told
-        more = f" +{len(whole) - 1}" if len(whole) > 1 else ""
-        return shortened(behind(said, forms[-1][0])(width - len(more)) + more, width) if whole else ""
+                told = said + ", ".join(shown[:number]) + (more.format(left) if left else "")
+                if wide(told) <= width:
+                    return told
+        rest = f" +{len(whole) - 1}" if len(whole) > 1 else ""
+        return shortened(behind(said, forms[-1][0])(width - len(rest)) + rest, width) if whole else ""
 
     return some
 
@@ -213,7 +215,7 @@ def _widths(columns: Sequence[Column], rows: Sequence[Sequence[Cell]], width: in
     for less in (True, False):
         short = [index for index, column in enumerate(columns) if column.short and column.less == less]
         room = width - _total(widths) + sum(widths[index] for index in short)
-        room = max(room, LEAST_COLUMN * len(short))
+        room = max(room, sum(min(widths[index], LEAST_COLUMN) for index in short))
         for index, given in zip(short, shared([widths[index] for index in short], room)):
             widths[index] = given
     return widths if _total(widths) <= width else None

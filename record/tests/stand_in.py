@@ -3,15 +3,20 @@
 from __future__ import annotations
 
 import json
+import os
 import tempfile
 import unittest
 from contextlib import redirect_stderr, redirect_stdout
 from io import BytesIO, StringIO, TextIOWrapper
 from pathlib import Path
+from unittest import mock
 
 from landaudit_record import cli
 
 from .recorded import PID, moot, refused, write_lines
+
+#: How wide lines are where a test is not about that.
+WIDE = "1000"
 
 TREE = [{"path": "/bin", "kind": "reg"}, {"path": "/a", "kind": "reg"}]
 TRACE = [
@@ -95,7 +100,8 @@ class StandIn(unittest.TestCase):
 
     def audited(self, *words: object, abi: str | None = "3") -> tuple[int, str, str]:
         chosen = [] if abi is None else ["--abi", abi]
-        return self.called(*words, *chosen, "--landaudit", self.landaudit)
+        with mock.patch.dict(os.environ, COLUMNS=WIDE):
+            return self.called(*words, *chosen, "--landaudit", self.landaudit)
 
     def ran(self) -> list[str]:
         """How landaudit was called, each time: the ABI and the flags."""

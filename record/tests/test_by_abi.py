@@ -31,9 +31,9 @@ def changes(*summaries: Summary) -> list[tuple[tuple[Kind, ...], tuple[Kind, ...
     return [(step.breaks, step.no_more) for step in by_abi.steps(summaries)]
 
 
-def table(*summaries: Summary) -> list[str]:
+def table(*summaries: Summary, width: int = 80) -> list[str]:
     """The rows of the table, with its heads."""
-    empty, title, *rows = summary_text.by_abi(by_abi.steps(summaries), Style(False))
+    empty, title, *rows = summary_text.by_abi(by_abi.steps(summaries), Style(False, width))
     assert (empty, title) == ("", "by ABI: what breaks there first, and what is refused no more")
     return rows
 
@@ -79,9 +79,10 @@ class Written(unittest.TestCase):
 
     def test_a_few_kinds_are_named(self) -> None:
         kinds = [Kind("bind", f"port {port}", "EACCES") for port in range(5)]
-        row = table(summary(4, *kinds), summary(5))[1]
+        row = table(summary(4, *kinds), summary(5), width=120)[1]
         self.assertTrue(row.endswith("  breaks: bind port 0 EACCES, bind port 1 EACCES, bind port 2 EACCES and 2 more"))
-        self.assertTrue(table(summary(4, *kinds[:3]), summary(5))[1].endswith(", bind port 2 EACCES"))
+        self.assertTrue(table(summary(4, *kinds[:3]), summary(5), width=120)[1].endswith(", bind port 2 EACCES"))
+        self.assertTrue(table(summary(4, *kinds), summary(5))[1].endswith("  breaks: bind port 0 EACCES and 4 more"))
 
     def test_a_call_that_is_about_nothing_by_name(self) -> None:
         row = table(summary(1, Kind("restrict", "-", "EBADF")), summary(2))[1]

@@ -4,21 +4,23 @@ from __future__ import annotations
 
 import json
 import os
+import subprocess
 import tempfile
 import unittest
 from collections import Counter
 from collections.abc import Sequence
 from io import StringIO
+from itertools import product
 from pathlib import Path
 from unittest import mock
 
-from landaudit_record import summary, summary_text
+from landaudit_record import layout, summary, summary_text
 from landaudit_record.jsonl import Record
 from landaudit_record.problems import Problem
 from landaudit_record.reading import Walk, judged
-from landaudit_record.rights import alone
+from landaudit_record.rights import FS, alone
 from landaudit_record.summary import Summary
-from landaudit_record.summary_text import Style
+from landaudit_record.summary_text import Beside, Style
 
 from .recorded import PID, failed, moot, records, refused, write_lines, write_report
 
@@ -57,8 +59,8 @@ def rule(path: str, *rights: str, parent: str | None = None) -> Record:
     return {"op": "add_path", "rs": 3, "path": path, "fs": list(rights), "policy": origin}
 
 
-def text(found: Summary, coloured: bool = False) -> str:
-    return "\n".join(summary_text.lines(found, "rec", Style(coloured)))
+def text(found: Summary, coloured: bool = False, width: int = 80, beside: Beside = Beside()) -> str:
+    return "\n".join(summary_text.lines(found, "rec", Style(coloured, width), beside))
 
 
 class Refusals(unittest.TestCase):
@@ -119,7 +121,7 @@ class Whys(unittest.TestCase):
 
     def why(self, *calls: Call) -> str:
         """The last column of a summary's one row."""
-        lines = text(summed([NNP, *LAYER, *calls])).splitlines()
+        lines = text(summed([NNP, *LAYER, *calls]), width=200).splitlines()
         heads = next(number for number, line in enumerate(lines) if line.startswith("  times  call"))
         return lines[heads + 1][lines[heads].index("why"):]
 
@@ -292,13 +294,13 @@ class Text(unittest.TestCase):
                             unsaid=Counter(splice=2, scopes=1))
 
     def test_totals(self) -> None:
-        self.assertIn("7 records: 5 allowed, 1 refused, 1 moot", text(self.found))
+        self.assertIn("7 records: 5 allowed, 1 refused, 1 not asked (moot)", text(self.found))
 
     def test_a_row_of_the_table(self) -> None:
         rows = [line.split() for line in text(self.found).splitlines()]
         self.assertIn(["times", "call", "place", "error", "layers", "program", "why"], rows)
         self.assertIn(["1", "open", "r", "/a/f", "EACCES", "policy's", "1", "/bin", "read_file"], rows)
-        self.assertIn(["1", "is", "not", "open", "descriptor", "9"], rows)
+        self.assertIn(["1", "its", "file", "is", "not", "open", "descriptor", "9"], rows)
 
     def test_what_was_not_recorded(self) -> None:
         self.assertIn("not recorded: 3 calls", text(self.found))
@@ -311,9 +313,61 @@ class Text(unittest.TestCase):
         self.assertNotIn("\x1b", text(found))
         self.assertIn(r"/a/\x1b[2J\n", text(found))
 
-    def test_many_kinds_are_cut(self) -> None:
-        many = [({"op": "bind", "port": port}, refused(f"bind_tcp on port {port}")) for port in range(60)]
-        self.assertIn("and 10 kinds more", text(summed([NNP, *LAYER, *many])))
+    def test_up_to_twenty_kinds_are_told_one_by_one_and_more_in_groups(self) -> None:
+        many = [({"op": "bind", "port": port}, refused(f"bind_tcp on port {port}")) for port in range(21)]
+        self.assertIn("refused, the most frequent first (20 kinds)", text(summed([NNP, *LAYER, *many[:20]])))
+        lines = text(summed([NNP, *LAYER, *many])).splitlines()
+        self.assertIn("refused: 21 kinds in 1 group, the earliest first, then the most frequent", lines)
+        self.assertIn("     21  bind_tcp  21 ports from 0 to 20  EACCES  policy's 1  -", lines)
+        self.assertIn("  each kind by itself: --all lists them", lines)
+        each = text(summed([NNP, *LAYER, *many]), beside=Beside(each=True))
+        self.assertIn("refused, the most frequent first (21 kinds)", each)
+        self.assertEqual(each.count("  bind  port "), 21)
+
+    def test_so_many_groups_are_told(self) -> None:
+        """Each of 25 moves has rights of its own; 20 groups are shown and 5 are not."""
+        some = [right for right in FS.since if right.startswith(("make_", "remove_"))]
+        pairs = [(one, other) for one in some for other in some if one != other][:25]
+        moves = [({"op": "rename", "from": "/a/f", "to": "/b/f"}, refused(f"{one} on /a; {other} on /b"))
+                 for one, other in pairs]
+        told = text(summed([NNP, *LAYER, *moves]))
+        self.assertIn("refused: 25 kinds in 25 groups", told)
+        self.assertIn("  5 groups more, and each kind by itself: --all lists them", told)
+
+    def test_the_command_for_rules_is_one_command_on_lines_that_fit(self) -> None:
+        command = ["landaudit-record", "suggest", "a recording", "--policy", "/" + "long/" * 30 + "p.toml"]
+        for width in (20, 40, 80):
+            lines = text(self.found, width=width, beside=Beside(suggesting=command)).splitlines()
+            start = lines.index("rules for these:") + 1
+            told = lines[start:lines.index("", start)]
+            self.assertLessEqual(max(map(len, told)), width)
+            printing = ["sh", "-c", "printf '%s\\n' " + "\n".join(told)]
+            shown = subprocess.run(printing, stdout=subprocess.PIPE, check=True).stdout
+            self.assertEqual(shown.decode().splitlines(), command)
+
+    def test_numbers_of_descriptors_that_no_program_had_are_not_told(self) -> None:
+        """1,000,001 is the first number that a recording makes up; 1,000,000 is a program's own."""
+        closed = [({"op": "close", "fd": fd}, moot(f"descriptor {fd} is not open")) for fd in (1_000_001, 1_000_000)]
+        told = text(summed([NNP, *LAYER, *closed]))
+        self.assertNotIn("1000001", told)
+        self.assertIn("      2  its file is not open  descriptor 1000000", told.splitlines())
+        alone = text(summed([NNP, *LAYER, closed[0]]))
+        self.assertIn("      1  its file is not open  -", alone.splitlines())
+
+    def test_why_a_call_is_not_asked_is_said_in_words(self) -> None:
+        absent = ({**READ, "path": "/none"}, moot("/none is not in the tree"))
+        tried = ({**READ, "path": "/none", "kernel": "ENOENT"}, moot("/none is not in the tree"))
+        made = ({"op": "mkdir", "path": "/a"}, moot("/a is in the tree already"))
+        closed = [(READ, REFUSED), ({"op": "close", "fd": 5}, moot("descriptor 5 is not open"))]
+        lines = text(summed([NNP, *LAYER, absent, absent, tried, made, *closed])).splitlines()
+        start = lines.index("not asked (moot), and why")
+        self.assertEqual(lines[start + 1:start + 6], [
+            "  times  why                                   at",
+            "      2  the file is not there                 /none",
+            "      1  it failed when recorded too: ENOENT   /none",
+            "      1  it is there already                   /a",
+            "      1  its opening was refused or not asked  descriptor 5",
+        ])
 
     def test_colours_on_a_terminal_alone(self) -> None:
         stream = StringIO()
@@ -325,6 +379,75 @@ class Text(unittest.TestCase):
                 self.assertFalse(Style.of(stream).coloured)
         self.assertIn("\x1b[31m1 refused\x1b[0m", text(self.found, coloured=True))
         self.assertNotIn("\x1b", text(self.found))
+
+
+class ShortWarnings(unittest.TestCase):
+    """Warnings as a person reads them: a line for each, in few words."""
+
+    def told(self, *calls: Call, width: int = 80, each: bool = False) -> list[str]:
+        lines = text(summed([NNP, *LAYER, *calls]), width=width, beside=Beside(each=each)).splitlines()
+        return [line for line in lines if line.startswith("warning:")]
+
+    def unused(self, parent: str) -> Call:
+        return rule(parent, "read_file"), moot(f"{parent} is not in the tree")
+
+    def test_a_rule_that_the_run_never_used_by_whether_its_path_is_here(self) -> None:
+        with tempfile.TemporaryDirectory() as here:
+            self.assertEqual(self.told(self.unused(here), self.unused("/none")), [
+                "warning: /none: no such path here",
+                f"warning: {here}: exists here, this run never used it",
+            ])
+
+    def test_some_of_many_and_each_with_its_rule_where_that_is_asked(self) -> None:
+        calls = [self.unused(f"/none/{number}") for number in range(7)]
+        self.assertEqual(self.told(*calls)[4:], [
+            "warning: /none/4: no such path here",
+            "warning: 2 rules more that this run never used: --all lists them",
+        ])
+        each = self.told(*calls, each=True)
+        self.assertEqual((len(each), each[6]), (7, "warning: /none/6: no such path here (layer 1, path_beneath 1)"))
+
+    def test_a_long_path_is_shortened_in_its_middle(self) -> None:
+        (line,) = self.told(self.unused("/none/" + "x" * 100 + "/end"), width=60)
+        self.assertEqual((len(line), line[:15], line[-24:]), (60, "warning: /none/", "x/end: no such path here"))
+
+    def test_rules_on_what_the_run_makes_and_replaces(self) -> None:
+        made, replaced = rule("/a/made", "read_file"), rule("/a/conf", "read_file")
+        made |= {"path": "/~new~", "policy": {**made["policy"], "made": "/a"}}
+        replaced["policy"]["replaced"] = "/a"
+        self.assertEqual(self.told((made, moot("/~new~ is not in the tree")), (replaced, "allowed")), [
+            "warning: /a/made: the run makes it: grant it on /a",
+            "warning: /a/conf: the run puts another there: grant it on /a",
+        ])
+
+    def test_a_recording_without_layers(self) -> None:
+        lines = text(summed([NNP, RUN])).splitlines()
+        self.assertIn("warning: no process confines itself: try a policy by --policy", lines)
+
+
+class Narrow(unittest.TestCase):
+    """No line is wider than the screen, whatever is in it."""
+
+    NAMES = ("/a/f", "/" + "x" * 4096, "/a/\udcff\udcfe", "/a/\x1b[2J\n\t\x07", "/a/\u05d0\u05d1\u05d2", "/a/\u202ef",
+             "/a/" + "\u6f22" * 99, "/a/ -> /b; c", "/" + "d/" * 500)
+
+    def summary(self) -> Summary:
+        calls: list[Call] = []
+        for name in self.NAMES:
+            written = json.dumps(name)[1:-1]
+            calls += [({**READ, "path": name}, refused(f"read_file on {written}")),
+                      ({"op": "rename", "from": "/a/f", "to": name, "pid": PID}, moot(f"{written} is in the tree already")),
+                      (rule(name, "read_file"), moot(f"{written} is not in the tree"))]
+        return summed([NNP, *LAYER, RUN, *calls], unsaid=Counter({name: 1 for name in self.NAMES}))
+
+    def test_no_line_is_too_wide_and_why_is_seen(self) -> None:
+        found = self.summary()
+        for width, most in product((20, 33, 47, 80, 132), (1, 20)):
+            with self.subTest(width=width, most=most), mock.patch.object(summary_text, "MOST_ROWS", most):
+                lines = text(found, width=width).splitlines()
+                self.assertLessEqual(max(map(layout.wide, lines)), width)
+                self.assertTrue(all(line.isprintable() for line in lines))
+                self.assertTrue(any("read_file" in line and "warning" not in line for line in lines))
 
 
 class Data(unittest.TestCase):

@@ -17,6 +17,11 @@ from .recorded import PID, failed, refused, write_lines
 from .stand_in import OLDER_OPS, OPS, POLICY, TRACE, TREE, StandIn
 
 
+def notes_in(out: str) -> list[str]:
+    """The notes of an audit, which are told with its summary."""
+    return [line for line in out.splitlines() if line.startswith("note: ")]
+
+
 class Trying(StandIn):
     def test_apply_writes_the_trace_to_standard_output(self) -> None:
         status, out, errors = self.called("apply", self.policy, self.recording, "--abi", "3")
@@ -47,13 +52,13 @@ class Trying(StandIn):
     def test_audit_without_a_policy(self) -> None:
         status, out, _ = self.audited("audit", self.recording)
         self.assertEqual(status, 0)
-        self.assertIn("3 records: 3 allowed, 0 refused, 0 moot", out)
+        self.assertIn("3 records: 3 allowed, 0 refused, 0 not asked (moot)", out)
         self.assertEqual((self.recording / "report.txt").read_text().splitlines()[0], f"1 {PID} start allowed")
 
     def test_audit_of_a_policy(self) -> None:
         status, out, _ = self.audited("audit", self.recording, "--policy", self.policy)
         self.assertEqual(status, 1)
-        self.assertIn("8 records: 7 allowed, 1 refused, 0 moot", out)
+        self.assertIn("8 records: 7 allowed, 1 refused, 0 not asked (moot)", out)
         self.assertIn("open w  /a     EACCES  policy's 1  /bin     write_file", out)
         tried = (self.recording / "tried.jsonl").read_text().splitlines()
         self.assertEqual([json.loads(line)["op"] for line in tried], OPS)
@@ -61,7 +66,7 @@ class Trying(StandIn):
     def test_audit_names_the_command_that_suggests_rules(self) -> None:
         _, out, _ = self.audited("audit", self.recording, "--policy", self.policy, "--program", "bin")
         command = f"landaudit-record suggest {self.recording} --policy {self.policy} --program bin --abi 3"
-        self.assertEqual(out.splitlines()[-1], f"rules for these: {command}")
+        self.assertEqual(out.splitlines()[-2:], ["rules for these:", command])
         _, out, _ = self.audited("audit", self.recording)
         self.assertNotIn("rules for these", out)
 
@@ -77,7 +82,7 @@ class Trying(StandIn):
     def test_the_command_that_suggests_rules_judges_as_this_audit_did(self) -> None:
         _, out, _ = self.audited("audit", self.recording, "--policy", self.policy, "--as-recorded")
         command = f"landaudit-record suggest {self.recording} --policy {self.policy} --abi 3 --as-recorded"
-        self.assertEqual(out.splitlines()[-1], f"rules for these: {command}")
+        self.assertEqual(out.splitlines()[-2:], ["rules for these:", command])
 
     def test_compare_judges_what_was_recorded(self) -> None:
         self.audited("compare", self.recording)
@@ -98,10 +103,11 @@ class Trying(StandIn):
         beside.write_text(other)
         status, out, errors = self.audited("audit", self.recording, "--policy", self.policy, "--accepted", beside)
         self.assertEqual(status, 0)
-        self.assertIn("8 records: 7 allowed, 1 refused (1 accepted), 0 moot\n", out)
+        self.assertIn("8 records: 7 allowed, 1 refused (1 accepted), 0 not asked (moot)\n", out)
         self.assertRegex(out, r"refused and accepted \(1 kind\)\n.*\n +1  open w  /a +it is only tried\n")
         self.assertNotIn("most frequent first", out)
-        self.assertIn("note: accepted and refused no more: connect port 80 (no updates here)\n", errors)
+        self.assertIn("note: accepted and refused no more: connect port 80 (no updates here)\n", out)
+        self.assertEqual(errors, "")
         _, out, _ = self.audited("audit", self.recording, "--policy", self.policy, "--json")
         data = json.loads(out)
         wanted = [{"times": 1, "call": "open w", "place": "/a", "reason": "it is only tried"}]
@@ -111,8 +117,9 @@ class Trying(StandIn):
         self.policy.write_text(POLICY + '[[accepted]]\ncall = "open r"\npath = "/a"\nreason = "x"\n')
         status, out, errors = self.audited("audit", self.recording, "--policy", self.policy)
         self.assertEqual(status, 1)
-        self.assertIn("1 refused, 0 moot", out)
-        self.assertIn("accepted and refused no more: open r /a (x)", errors)
+        self.assertIn("1 refused, 0 not asked (moot)", out)
+        self.assertIn("note: accepted and refused no more: open r /a (x)\n", out)
+        self.assertEqual(errors, "")
 
     def test_an_acceptance_with_a_fault(self) -> None:
         for text, wanted in (
@@ -133,9 +140,9 @@ class Trying(StandIn):
     def test_audit_of_a_policy_at_a_range(self) -> None:
         status, out, errors = self.audited("audit", self.recording, "--policy", self.policy, abi="1-4")
         self.assertEqual((status, out.splitlines()[0]), (1, f"{self.recording} under {self.policy} at ABI 4"))
-        self.assertIn("8 records: 7 allowed, 1 refused, 0 moot", out)
+        self.assertIn("8 records: 7 allowed, 1 refused, 0 not asked (moot)", out)
         command = f"landaudit-record suggest {self.recording} --policy {self.policy} --abi 4"
-        self.assertIn(f"\nrules for these: {command}\n", out)
+        self.assertIn(f"\nrules for these:\n{command}\n", out)
         self.assertEqual(self.table(out), [
             "  ABI  allowed  refused  moot  what changes",
             "    1        6        1     0  breaks: exec /bin EACCES",
@@ -144,8 +151,9 @@ class Trying(StandIn):
             "    3        7        1     0",
             "    4        7        1     0",
         ])
-        lacking = "landaudit-record: note: ABI {0} is missing rights of the policy: see --abi {0} (3 notes)"
-        self.assertEqual(errors.splitlines(), [lacking.format(abi) for abi in (1, 2)])
+        lacking = "note: ABI {0} is missing rights of the policy: see --abi {0} (3 notes)"
+        self.assertEqual(notes_in(out), [lacking.format(abi) for abi in (1, 2)])
+        self.assertEqual(errors, "")
         self.assertEqual(self.ran(), ["1-4 --best-effort --explain"])
 
     def test_a_page_is_written_beside_what_is_printed(self) -> None:
@@ -288,10 +296,24 @@ parent = ["/none", "/a"]
             "layer 1, path_beneath 2, parent /none: not in the tree, so it is not known whether it is a directory: on "
             "anything else the kernel refuses read_dir with EINVAL",
         ]
-        for command in ("audit", "suggest"):
+        for command in (["audit", "--json"], ["suggest"]):
             with self.subTest(command):
-                errors = self.audited(command, self.recording, "--policy", self.policy)[2]
+                errors = self.audited(*command, self.recording, "--policy", self.policy)[2]
                 self.assertEqual(errors.splitlines(), [f"landaudit-record: note: {note}" for note in notes])
+        _, out, errors = self.audited("audit", self.recording, "--policy", self.policy)
+        self.assertEqual((notes_in(out), errors), ([f"note: {note}" for note in notes[:2]], ""))
+
+    def test_a_rule_on_a_file_of_this_machine_that_no_rule_for_directories_can_be_on(self) -> None:
+        """The recording met neither of the two parents, and this machine has a file and a directory there."""
+        file, directory = self.folder / "file", self.folder / "directory"
+        file.touch()
+        directory.mkdir()
+        self.policy.write_text('[[layer]]\nhandled_access_fs = ["write_file", "read_dir"]\n[[layer.path_beneath]]\n'
+                               f'allowed_access = ["read_dir"]\nparent = ["{file}", "{directory}"]\n')
+        (self.folder / "answers.json").write_text(json.dumps({"9": ["allowed"] * 9}))
+        _, out, _ = self.audited("audit", self.recording, "--policy", self.policy)
+        self.assertEqual(notes_in(out), [f"note: layer 1, path_beneath 1, parent {file}: no directory here, so the "
+                                         "kernel refuses read_dir with EINVAL"])
 
     def test_suggest_audits_until_nothing_is_refused(self) -> None:
         status, out, _ = self.audited("suggest", self.recording, "--policy", self.policy)
@@ -334,7 +356,7 @@ parent = ["/none", "/a"]
         self.policy.write_text('include = ["tmp"]\n[[layer]]\nhandled_access_fs = ["write_file", "truncate"]\n')
         status, out, errors = self.audited("audit", self.recording, "--policy", self.policy)
         self.assertEqual((status, errors), (1, ""))
-        self.assertIn("8 records: 7 allowed, 1 refused, 0 moot", out)
+        self.assertIn("8 records: 7 allowed, 1 refused, 0 not asked (moot)", out)
         tried = [json.loads(line) for line in (self.recording / "tried.jsonl").read_text().splitlines()]
         self.assertEqual([(it["path"], it["fs"]) for it in tried if it["op"] == "add_path"],
                          [("/tmp", ["write_file", "truncate"])])

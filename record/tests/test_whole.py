@@ -23,6 +23,7 @@ from landaudit_record.recorder.writing import Limits, Recording, Tree
 
 from .kept_logs import KeptLogs
 from .recorded import write_lines
+from .stand_in import WIDE
 from .stories import names
 
 RECORD = Path(__file__).resolve().parents[1]
@@ -53,7 +54,8 @@ class Whole(KeptLogs):
     def audited(self, *words: str) -> tuple[int, str, str]:
         """The status of an audit, and what it wrote to standard output and standard error."""
         out, errors = StringIO(), StringIO()
-        with redirect_stdout(out), redirect_stderr(errors):
+        wide = mock.patch.dict(os.environ, COLUMNS=WIDE)
+        with redirect_stdout(out), redirect_stderr(errors), wide:
             status = cli.main(["audit", str(self.recording), "--landaudit", str(self.landaudit), *words])
         return status, out.getvalue(), errors.getvalue()
 
@@ -190,7 +192,8 @@ class Whole(KeptLogs):
             status, out, errors = self.audited()
         self.assertEqual((status, self.names()), (0, before))
         self.assertIn("records:", out)
-        self.assertIn("can't be written: report and tried trace are not kept\n", errors)
+        self.assertIn("can't be written: report and tried trace are not kept\n", out)
+        self.assertEqual(errors, "")
 
 
 class Said(unittest.TestCase):
