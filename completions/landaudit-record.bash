@@ -6,7 +6,7 @@ _landaudit_record_words() {
         run) echo '-h --help --watch --policy --abi --port-rules --' ;;
         convert) echo '-h --help --port-rules' ;;
         apply) echo '-h --help --out --tree --program --abi' ;;
-        audit) echo '-h --help --policy --accepted --program --abi --as-recorded --json --html --landaudit' ;;
+        audit) echo '-h --help --policy --accepted --program --abi --as-recorded --all --json --html --landaudit' ;;
         compare) echo '-h --help --abi --json --differences --landaudit' ;;
         tighten) echo '-h --help --policy --list --program --abi --as-recorded --landaudit' ;;
         suggest) echo '-h --help --policy --rules --style --program --abi --as-recorded --landaudit' ;;

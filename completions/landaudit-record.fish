@@ -38,6 +38,7 @@ complete -c landaudit-record -n '__landaudit_record_has audit' -l abi -x -a '1 2
 complete -c landaudit-record -n '__landaudit_record_has audit suggest tighten' -l as-recorded -d 'Judge the rulesets of the program as they were recorded'
 complete -c landaudit-record -n '__landaudit_record_has audit compare' -l json -d 'Print the same as data'
 complete -c landaudit-record -n '__landaudit_record_has audit compare suggest tighten' -l landaudit -r -F -d 'landaudit itself'
+complete -c landaudit-record -n '__landaudit_record_has audit' -l all -d 'Show each kind of refused calls'
 complete -c landaudit-record -n '__landaudit_record_has audit' -l html -r -F -d 'Write a page for a browser too'
 complete -c landaudit-record -n '__landaudit_record_has audit' -l accepted -r -F -d 'Refusals that are known and fine'
 complete -c landaudit-record -n '__landaudit_record_has tighten' -l list -d 'Print a table in its place'
