@@ -6,6 +6,7 @@ the root, or of which one directory has most, is taken apart while the groups ar
 
 from __future__ import annotations
 
+import heapq
 import posixpath
 from collections import Counter, defaultdict
 from collections.abc import Iterable, Sequence
@@ -37,7 +38,7 @@ class Lacking(NamedTuple):
 
 @dataclass(frozen=True)
 class Kind:
-    """A kind of refused calls: where each objection is, its calls by program, and its place in the order of the trace."""
+    """A kind of refused calls: where each objection is, its calls by program, and its place in the trace's order."""
 
     spots: tuple[str, ...]
     programs: Counter[str]
@@ -71,7 +72,7 @@ class Group:
     @property
     def others(self) -> list[str]:
         """The directory over the paths of each further objection."""
-        return [common([kind.spots[index] for kind in self.kinds]) for index in range(1, len(self.kinds[0].spots))]
+        return [_common([kind.spots[index] for kind in self.kinds]) for index in range(1, len(self.kinds[0].spots))]
 
 
 def grouped(refusals: Iterable[tuple[Refusal, Counter[str]]]) -> list[Group]:
@@ -121,30 +122,35 @@ def _objection(objection: Objection) -> tuple[str, str]:
     return str(objection), ""
 
 
-def common(paths: Sequence[str]) -> str:
-    """The deepest directory over some paths, or the one path that they are."""
-    return posixpath.commonpath(paths)
+def _common(paths: Sequence[str]) -> str:
+    """The deepest directory over some paths, or the one path that they are; nothing for what is no path."""
+    return posixpath.commonpath(paths) if paths and all(path.startswith(ROOT) for path in paths) else ""
 
 
 def _group(lacking: Lacking, kinds: Sequence[Kind]) -> Group:
-    on_paths = kinds[0].spots and not lacking.on_ports
-    return Group(lacking, common([kind.spots[0] for kind in kinds]) if on_paths else "", tuple(kinds))
+    return Group(lacking, _common([spot for kind in kinds for spot in kind.spots[:1]]), tuple(kinds))
 
 
 def _apart(groups: list[Group]) -> list[Group]:
     """Groups of which the loosest ones are taken apart: the nearest to the root first, while there are few."""
     done: list[Group] = []
-    waiting = list(groups)
+    waiting = [_loosest_first(group) for group in groups]
+    heapq.heapify(waiting)
     while waiting:
-        waiting.sort(key=lambda group: (_depth(group.directory), -len(group.kinds)))
-        group = waiting.pop(0)
+        group = heapq.heappop(waiting)[-1]
         smaller = _branches(group)
         few = len(done) + len(waiting) + len(smaller) <= FEW
         if len(smaller) > 1 and (group.directory == ROOT or few and _is_loose(group, smaller)):
-            waiting += smaller
+            for one in smaller:
+                heapq.heappush(waiting, _loosest_first(one))
         else:
             done.append(group)
     return done
+
+
+def _loosest_first(group: Group) -> tuple[int, int, int, Group]:
+    """A group in the order in which groups are taken apart; no two have the same first call."""
+    return _depth(group.directory), -len(group.kinds), group.order, group
 
 
 def _depth(directory: str) -> int:
@@ -166,5 +172,5 @@ def _branches(group: Group) -> list[Group]:
     for kind in group.kinds:
         branch, slash, _ = kind.spots[0][start:].partition("/")
         found[branch if slash else ""].append(kind)
-    return [Group(group.lacking, group.directory if not branch else common([kind.spots[0] for kind in kinds]),
-                  tuple(kinds)) for branch, kinds in found.items()]
+    inside = [Group(group.lacking, group.directory, tuple(found.pop("")))] if "" in found else []
+    return [*inside, *(_group(group.lacking, kinds) for kinds in found.values())]

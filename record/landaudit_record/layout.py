@@ -66,7 +66,7 @@ def _wide(character: str) -> int:
 
 
 def shortened(text: str, width: int, *, head: float = _HEAD) -> str:
-    """A text with an ellipsis in the place of its middle, where it does not fit; `head` is the share of its beginning."""
+    """A text with an ellipsis for its middle, where it does not fit; `head` is the share of its beginning."""
     if wide(text) <= width:
         return text
     before = _beginning(text, int((width - 1) * head))

@@ -20,7 +20,6 @@ _TELLS = ("op", "path", "shown", "from", "to", "shown_to", "mode", "create", "tr
 LEFT_OUT = ((explanations.LEFT_OUT,), (explanations.UNENFORCED,))
 #: Why a call on a descriptor is moot whose opening would have been allowed otherwise.
 MISSED = f"{explanations.NOT_OPEN}, its opening was refused or moot"
-LISTED = "does the tree list what the run touched?"
 NO_LAYER = ("no process confines itself, so nothing is refused: try a policy by --policy, or record a program that "
             "confines itself")
 
@@ -78,8 +77,8 @@ class Summary:
     """All that is said of an audit; `missing` is what it can't say, with which it is no all clear.
 
     Refusals that are accepted are apart, with how many calls there are of each. `untouched` are the warnings of rules
-    on what was never touched; `brief` has the shorter form that some warnings have; `recordings` says, where several were audited, in which each refusal occurs;
-    `not_allowed` counts by verdict the calls on each path or port, accepted ones among them.
+    on what was never touched; `brief` has the shorter form that some warnings have; `recordings` says, where several
+    were audited, in which each refusal occurs; `not_allowed` counts by verdict the calls on each path or port, accepted ones among them.
     """
 
     abi: int
@@ -207,8 +206,7 @@ class Summaries:
             if not self._confines:
                 _warn(summary, NO_LAYER, Brief("no process confines itself: try a policy by --policy"))
             if 10 * summary.moot_path_calls > summary.path_calls:
-                some = f"{summary.moot_path_calls} of {summary.path_calls} calls on paths"
-                _warn(summary, f"{some} are moot, so the policy was not asked: {LISTED}", Brief(f"{some} are not asked"))
+                _warn_of_many_moot(summary)
             summary.unsaid = unsaid
             summary.missing = tuple(missing)
         return list(self._by_abi.values())
@@ -284,6 +282,12 @@ def _rule_text(origin: dict[str, Any], record: Record) -> str:
     words.append(origin.get("rule", record["op"]))
     words += [f"{key} {origin[key]}" for key in ("parent", "port") if key in origin]
     return "policy: " + ", ".join(words)
+
+
+def _warn_of_many_moot(summary: Summary) -> None:
+    some = f"{summary.moot_path_calls} of {summary.path_calls} calls on paths are"
+    _warn(summary, f"{some} moot, so the policy was not asked: does the tree list what the run touched?",
+          Brief(f"{some} not asked: does the tree list them?"))
 
 
 def _brief(record: Record, said: str | None) -> Brief:

@@ -27,13 +27,16 @@ MOST_ROWS = 20
 MOST_UNUSED = 5
 #: What a person is told in the place of landaudit's words for why the policy is not asked.
 _IN_WORDS = {
-    "is not in the tree": "the file is not there",
+    "is not in the tree": "the recording has no such file",
     "is in the tree already": "it is there already",
     "is not a directory": "it is no directory",
     explanations.NOT_OPEN: "its file is not open",
     MISSED: "its opening was refused or not asked",
 }
 _FAILED_TOO = "the call failed in the recording too: "
+_TIMES = Column("times", number=True)
+_WHY = Column("why", short=True)
+
 
 @dataclass(frozen=True)
 class Style:
@@ -198,10 +201,6 @@ def _refusals(summary: Summary, style: Style, *, each: bool) -> Iterator[str]:
         yield from table(columns, rows, style.width)
 
 
-_TIMES = Column("times", number=True)
-_WHY = Column("why", short=True)
-
-
 def _behind(summary: Summary) -> tuple[Column, ...]:
     """The columns of what most refused calls of an audit have in common."""
     where = (Column("recordings", short=True, less=True, once=True),) if summary.recordings else ()
@@ -213,8 +212,8 @@ def _groups(summary: Summary, style: Style) -> Iterator[str]:
     """Refused calls of many kinds in groups."""
     groups = grouping.grouped(summary.refusals.items())
     shown = groups[:MOST_ROWS]
-    yield from _heading(f"refused: {len(summary.refusals)} kinds in {counted(len(groups), 'group')}, the earliest first, "
-                        "then the most frequent", style)
+    title = f"refused: {len(summary.refusals)} kinds in {counted(len(groups), 'group')}"
+    yield from _heading(f"{title}, the earliest first, then the most frequent", style)
     columns = (_TIMES, _WHY, Column("where", short=True), *_behind(summary))
     yield from table(columns, [_group_row(group, summary) for group in shown], style.width)
     more = f"{counted(len(groups) - len(shown), 'group')} more, and " if len(groups) > len(shown) else ""
@@ -233,12 +232,13 @@ def _group_row(group: Group, summary: Summary) -> list[Cell]:
 def _where(group: Group) -> Cell:
     """Where the calls of a group lack something: the one path, or how many below which directory."""
     spots, kinds = group.spots, group.kinds
-    if not spots:
-        return words(_person(kinds[0].refusal.place) if len(kinds) == 1 else counted(len(kinds), "kind"))
+    if len(kinds) == 1 and not group.directory:
+        return words(_person(kinds[0].refusal.place))
     if group.lacking.on_ports:
         ports = sorted(map(int, spots))
-        few = len(ports) == 1
-        return words(f"port {ports[0]}" if few else f"{len(ports)} ports from {ports[0]} to {ports[-1]}")
+        return words(f"{len(ports)} ports from {ports[0]} to {ports[-1]}")
+    if not group.directory:
+        return words(counted(len(kinds), "kind"))
     if group.others:
         return layout.parts([group.directory, *group.others], "; ")
     if len(spots) == 1:
@@ -266,9 +266,9 @@ def _accepted(summary: Summary, style: Style) -> Iterator[str]:
 def _refusal_row(refusal: Refusal, programs: Counter[str], summary: Summary) -> list[Cell]:
     layers = ", ".join(layer.name for layer in refusal.layers) or "-"
     where = (layout.names(summary.recordings[refusal]),) if summary.recordings else ()
-    told = (words(str(programs.total())), words(refusal.call), layout.parts(_person(refusal.place).split(" -> "), " -> "))
-    return [*told, words(refusal.error), words(layers), *where, _programs(programs),
-            layout.parts(why(refusal).split("; "), "; ", head=0.7)]
+    place = layout.parts(_person(refusal.place).split(" -> "), " -> ")
+    return [words(str(programs.total())), words(refusal.call), place, words(refusal.error), words(layers), *where,
+            _programs(programs), layout.parts(why(refusal).split("; "), "; ", head=0.7)]
 
 
 def why(refusal: Refusal) -> str:

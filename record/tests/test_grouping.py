@@ -75,8 +75,8 @@ class Groups(unittest.TestCase):
         self.assertEqual(len(groups(both)), 2)
 
     def test_a_move_has_what_it_lacks_in_both_directories(self) -> None:
-        moves = [refusal(f"/x/{name} -> /y/{name}/f", Missing(("remove_file",), "/x"), Missing(("make_reg",), f"/y/{name}"))
-                 for name in ("a", "b")]
+        lacking = [(Missing(("remove_file",), "/x"), Missing(("make_reg",), f"/y/{name}")) for name in ("a", "b")]
+        moves = [refusal(f"/x/f -> {made.path}/f", removed, made) for removed, made in lacking]
         (group,) = grouping.grouped([(one, Counter({"-": 1})) for one in moves])
         self.assertEqual((group.lacking.objections, group.directory, group.others),
                          (("remove_file", "make_reg"), "/x", ["/y"]))
@@ -91,7 +91,8 @@ class Groups(unittest.TestCase):
         self.assertEqual(groups(failed), [(1, "ruleset 8 is not held", "", 1), (1, "ruleset 9 is not held", "", 1)])
 
     def test_layers_that_object_to_different_things_are_named(self) -> None:
-        layers = RefusingLayer(1, 1, (Missing(("read_file",), "/x/a"),)), RefusingLayer(2, None, (Missing(("refer",), "/x"),))
+        own = RefusingLayer(2, None, (Missing(("refer",), "/x"),))
+        layers = RefusingLayer(1, 1, (Missing(("read_file",), "/x/a"),)), own
         found = groups([Refusal("open r", "/x/a", "EACCES", layers, None)])
         self.assertEqual(found[0][1], "policy's 1: read_file; program's 2: refer")
 

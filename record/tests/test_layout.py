@@ -58,7 +58,8 @@ class Texts(unittest.TestCase):
     def test_a_command_is_read_by_a_shell_as_it_was(self) -> None:
         words = ["run", "a b", "x" * 30, "--to", "it's"]
         lines = layout.command(words, 12)
-        self.assertEqual(lines, ["run 'a b' \\", "x" * 11 + "\\", "x" * 11 + "\\", "xxxxxxxx \\", "--to \\", "'it'\"'\"'s'"])
+        long = ["x" * 11 + "\\", "x" * 11 + "\\", "xxxxxxxx \\"]
+        self.assertEqual(lines, ["run 'a b' \\", *long, "--to \\", "'it'\"'\"'s'"])
         shown = subprocess.run(["sh", "-c", "printf '%s\\n' " + "\n".join(lines)], stdout=subprocess.PIPE, check=True)
         self.assertEqual(shown.stdout.decode().splitlines(), words)
 

@@ -363,7 +363,7 @@ class Text(unittest.TestCase):
         start = lines.index("not asked (moot), and why")
         self.assertEqual(lines[start + 1:start + 6], [
             "  times  why                                   at",
-            "      2  the file is not there                 /none",
+            "      2  the recording has no such file        /none",
             "      1  it failed when recorded too: ENOENT   /none",
             "      1  it is there already                   /a",
             "      1  its opening was refused or not asked  descriptor 5",
@@ -436,7 +436,7 @@ class Narrow(unittest.TestCase):
         for name in self.NAMES:
             written = json.dumps(name)[1:-1]
             calls += [({**READ, "path": name}, refused(f"read_file on {written}")),
-                      ({"op": "rename", "from": "/a/f", "to": name, "pid": PID}, moot(f"{written} is in the tree already")),
+                      ({"op": "mkdir", "path": name}, moot(f"{written} is in the tree already")),
                       (rule(name, "read_file"), moot(f"{written} is not in the tree"))]
         return summed([NNP, *LAYER, RUN, *calls], unsaid=Counter({name: 1 for name in self.NAMES}))
 
