@@ -50,9 +50,12 @@ def encodable(line: str, stream: TextIO) -> str:
 
 def plain(text: str) -> str:
     """A text on one line, with an escape for each character that a terminal acts on or draws from right to left."""
+    shown = printable(text)
+    if shown.isascii():
+        return shown
     return "".join(
         one.encode("unicode_escape").decode() if unicodedata.bidirectional(one) in _RIGHT_TO_LEFT else one
-        for one in printable(text)
+        for one in shown
     )
 
 

@@ -78,7 +78,8 @@ class Summary:
 
     Refusals that are accepted are apart, with how many calls there are of each. `untouched` are the warnings of rules
     on what was never touched; `brief` has the shorter form that some warnings have; `recordings` says, where several
-    were audited, in which each refusal occurs; `not_allowed` counts by verdict the calls on each path or port, accepted ones among them.
+    were audited, in which each refusal occurs; `not_allowed` counts by verdict the calls on each path or port, accepted
+    ones among them.
     """
 
     abi: int
