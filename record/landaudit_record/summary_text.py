@@ -134,7 +134,7 @@ def _changes(step: Step) -> list[Cell]:
 
 def _kind(kind: Kind) -> str:
     """A kind in a row: of a call that is about nothing by name, the call and the error."""
-    return " ".join(word for word in (kind.call, kind.place, kind.error) if word != "-")
+    return " ".join(word for word in (kind.call, _person(kind.place), kind.error) if word != "-")
 
 
 def _heading(text: str, style: Style) -> Iterator[str]:

@@ -88,6 +88,10 @@ class Written(unittest.TestCase):
         row = table(summary(1, Kind("restrict", "-", "EBADF")), summary(2))[1]
         self.assertTrue(row.endswith("  breaks: restrict EBADF"))
 
+    def test_a_descriptor_that_no_program_had_has_no_number(self) -> None:
+        row = table(summary(1, Kind("ioctl", "descriptor 1000001", "EACCES")), summary(2))[1]
+        self.assertTrue(row.endswith("  breaks: ioctl a file of its own EACCES"))
+
     def test_warnings_that_the_summary_does_not_show(self) -> None:
         rows = table(summary(1, warnings=("a", "b")), summary(2, warnings=("a",)), summary(3))
         self.assertEqual([row.partition("     1  ")[2] for row in rows[1:]],
