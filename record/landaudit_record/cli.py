@@ -4,6 +4,7 @@ from __future__ import annotations
 
 import argparse
 import contextlib
+import importlib
 import os
 import shlex
 import signal
@@ -18,12 +19,18 @@ from .problems import Problem
 
 @dataclass(frozen=True)
 class Program:
-    """A program of this package: its name, what its help says, and its subcommands, a module each."""
+    """A program of this package: its name, what its help says, and its subcommands, a module each of a package."""
 
     name: str
     description: str
     example: str
-    commands: Sequence[ModuleType]
+    package: str
+    commands: Sequence[str]
+
+    def modules(self, words: Sequence[str]) -> list[ModuleType]:
+        """All subcommands, or the one that comes first in some words: to import the others takes longer than to parse."""
+        named = [name for name in self.commands if name == words[0]] if words else []
+        return [importlib.import_module(f"{self.package}.{name}") for name in named or self.commands]
 
 
 RECORD = Program(
@@ -31,18 +38,20 @@ RECORD = Program(
     "Record a program, try a Landlock policy on the recording, and read what breaks.",
     """landaudit-record run rec -- sort /etc/passwd
   landaudit-record audit rec --policy policy.toml --abi 4""",
-    commands.ALL,
+    commands.__name__,
+    commands.NAMES,
 )
 POLICY = Program(
     POLICIES,
     "Put a Landlock policy in force, and see what it lets through where no program was recorded.",
     "landaudit-policy confine policy.toml -- sort /etc/passwd",
-    policy_commands.ALL,
+    policy_commands.__name__,
+    policy_commands.NAMES,
 )
 
 
-def parser(program: Program = RECORD) -> argparse.ArgumentParser:
-    """The parser of a program's whole command line, with a subcommand for each module of its commands."""
+def parser(program: Program = RECORD, words: Sequence[str] = ()) -> argparse.ArgumentParser:
+    """The parser of a program's command line, with all subcommands, or the one with which some words begin."""
     top = argparse.ArgumentParser(
         prog=program.name,
         description=program.description,
@@ -51,7 +60,7 @@ def parser(program: Program = RECORD) -> argparse.ArgumentParser:
     )
     top.add_argument("-V", "--version", action="version", version=f"{program.name} {VERSION}")
     subcommands = top.add_subparsers(dest="command", required=True, metavar="SUBCOMMAND")
-    for command in program.commands:
+    for command in program.modules(words):
         sub = subcommands.add_parser(
             command.NAME,
             help=command.HELP,
@@ -68,7 +77,7 @@ def parser(program: Program = RECORD) -> argparse.ArgumentParser:
 def parse(words: Sequence[str], program: Program = RECORD) -> argparse.Namespace:
     """The arguments of a subcommand; what is behind the first `--` is a command of its own, in `behind`."""
     end = words.index("--") if "--" in words else len(words)
-    arguments, left = parser(program).parse_known_args(words[:end])
+    arguments, left = parser(program, words[:end]).parse_known_args(words[:end])
     if left:
         arguments.fault(f"unrecognized arguments: {shlex.join(left)}{arguments.hint}")
     arguments.behind = list(words[end + 1 :])

@@ -1,5 +1,4 @@
 """The subcommands of landaudit-policy, one module each, of the same form as those of landaudit-record."""
 
-from . import check, confine, diff, export
-
-ALL = (confine, check, diff, export)
+#: The modules, which have the names of their subcommands.
+NAMES = ("confine", "check", "diff", "export")
