@@ -88,13 +88,11 @@ class Halves(WrittenLogs):
 
     def test_records_of_a_call_that_is_dropped(self) -> None:
         with Recording(self.out, Tree(names())) as recording:
-            with self.assertRaises(ZeroDivisionError), recording.call():
-                recording.write("open", 1, 1, "ok", path="/w/f", fd=1_000_001)
-                recording.write("close", 1, 1, fd=1_000_001)
-                recording.write("close", 1, 1, fd=3)
-                raise ZeroDivisionError
-            with recording.call():
-                recording.write("truncate", 1, 2, "ok", path="/w/f")
+            recording.write("open", 1, 1, "ok", path="/w/f", fd=1_000_001)
+            recording.write("close", 1, 1, fd=1_000_001)
+            recording.write("close", 1, 1, fd=3)
+            recording.drop()
+            recording.write("truncate", 1, 2, "ok", path="/w/f")
             self.assertEqual(recording.records, 2)
             recording.finish(ended=True)
         lines = (self.out / "trace.jsonl").read_text().splitlines()

@@ -24,7 +24,8 @@ class Lines(unittest.TestCase):
         assert isinstance(call, Call)
         self.assertEqual((call.tid, call.name, call.value, call.error), (12, "openat", 3, None))
         self.assertEqual(
-            call.arguments, ["-100 /* AT_FDCWD */</w>", '"a, b) = 7"', "0x241 /* O_WRONLY|O_CREAT */", "0666"]
+            [*call.arguments.values()],
+            ["-100 /* AT_FDCWD */</w>", '"a, b) = 7"', "0x241 /* O_WRONLY|O_CREAT */", "0666"],
         )
         self.assertEqual(call.note, "</w/a>")
 
@@ -41,24 +42,24 @@ class Lines(unittest.TestCase):
     def test_structures_and_lists_are_one_argument(self) -> None:
         (call,) = read('1  f([3, 4], {a=1, b=[2, 3]}, "}") = 0')
         assert isinstance(call, Call)
-        self.assertEqual(call.arguments, ["[3, 4]", "{a=1, b=[2, 3]}", '"}"'])
+        self.assertEqual([*call.arguments.values()], ["[3, 4]", "{a=1, b=[2, 3]}", '"}"'])
 
     def test_commas_and_brackets_of_names_part_no_arguments(self) -> None:
         (call,) = read(r'1  f(3</a, b>, "c, \"d", 4</e)>, 0 /* F, G */) = 5</h, i>')
         assert isinstance(call, Call)
-        self.assertEqual(call.arguments, ["3</a, b>", r'"c, \"d"', "4</e)>", "0 /* F, G */"])
+        self.assertEqual([*call.arguments.values()], ["3</a, b>", r'"c, \"d"', "4</e)>", "0 /* F, G */"])
         self.assertEqual((call.value, call.note), (5, "</h, i>"))
 
     def test_a_call_that_is_read_twice_is_told_twice(self) -> None:
         first, second = read("1  close(3</a>) = 0", "2  close(3</a>) = 0")
         assert isinstance(first, Call) and isinstance(second, Call)
-        self.assertEqual((first.line, first.tid, first.arguments), (1, 1, ["3</a>"]))
-        self.assertEqual((second.line, second.tid, second.arguments), (2, 2, ["3</a>"]))
+        self.assertEqual((first.line, first.tid, [*first.arguments.values()]), (1, 1, ["3</a>"]))
+        self.assertEqual((second.line, second.tid, [*second.arguments.values()]), (2, 2, ["3</a>"]))
 
     def test_a_call_without_arguments(self) -> None:
         (call,) = read("1  vfork() = 2")
         assert isinstance(call, Call)
-        self.assertEqual((call.arguments, call.value), ([], 2))
+        self.assertEqual(([*call.arguments.values()], call.value), ([], 2))
 
     def test_halves_are_put_together_where_the_call_ends(self) -> None:
         first, second = read(
@@ -68,7 +69,7 @@ class Lines(unittest.TestCase):
         )
         assert isinstance(first, Call) and isinstance(second, Call)
         self.assertEqual((first.tid, first.line), (2, 2))
-        self.assertEqual((second.tid, second.line, second.arguments), (1, 1, ["3</a>"]))
+        self.assertEqual((second.tid, second.line, [*second.arguments.values()]), (1, 1, ["3</a>"]))
 
     def test_a_close_takes_effect_where_it_begins(self) -> None:
         first, second = read(
@@ -93,7 +94,7 @@ class Lines(unittest.TestCase):
             "1  <... ftruncate resumed>) = -1 EACCES (Permission denied)",
         )
         assert isinstance(cut, Call) and isinstance(close, Call)
-        self.assertEqual((cut.name, cut.line, cut.error, cut.arguments), ("ftruncate", 1, "EACCES", ["3</a>", "0"]))
+        self.assertEqual((cut.name, cut.line, cut.error, [*cut.arguments.values()]), ("ftruncate", 1, "EACCES", ["3</a>", "0"]))
         self.assertEqual(close.name, "close")
 
     def test_a_call_that_is_restarted_has_no_value(self) -> None:

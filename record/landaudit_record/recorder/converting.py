@@ -59,15 +59,17 @@ def _take(scene: Scene, about: About, event: Event) -> None:
 
 
 def _take_call(scene: Scene, about: About, call: Call) -> None:
-    """A call, whose records are written whole or not at all."""
+    """A call, whose records are written whole or not at all; most are of a thread that is met already."""
     handler = HANDLERS.get(call.name)
     try:
-        thread = scene.known(call.tid, call.line, call.text) or _started(scene, about, call)
+        thread = scene.threads.get(call.tid)
+        if thread is None or scene.unmet:
+            thread = scene.known(call.tid, call.line, call.text) or _started(scene, about, call)
         thread.forked = None
         if handler is not None:
-            with scene.recording.call():
-                handler(scene, thread, call)
+            handler(scene, thread, call)
     except CannotSay as reason:
+        scene.recording.drop()
         scene.recording.leave_out(str(reason), call.line, call.tid, call.text, asks=reason.asks)
 
 

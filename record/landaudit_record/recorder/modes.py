@@ -2,7 +2,7 @@
 
 from __future__ import annotations
 
-from collections.abc import Callable, Iterator
+from collections.abc import Callable, Iterator, Mapping
 from dataclasses import dataclass
 from typing import Any
 
@@ -36,7 +36,7 @@ class Asker:
         return mode.bits >> shift & wanted == wanted
 
 
-def refuse(asker: Asker, mode_of: Callable[[str], Mode | None], op: str, members: dict[str, Any], runs: bool) -> bool:
+def refuse(asker: Asker, mode_of: Callable[[str], Mode | None], op: str, members: Mapping[str, Any], runs: bool) -> bool:
     """Whether modes refuse a call on paths; `runs` says that a file is opened to be run."""
     for path, wanted in _wanted(op, members, runs):
         if not asker.may(mode_of(path), wanted):
@@ -46,7 +46,7 @@ def refuse(asker: Asker, mode_of: Callable[[str], Mode | None], op: str, members
     return False
 
 
-def _wanted(op: str, members: dict[str, Any], runs: bool) -> Iterator[tuple[str, int]]:
+def _wanted(op: str, members: Mapping[str, Any], runs: bool) -> Iterator[tuple[str, int]]:
     """The objects that a call looks at, each with what its mode must let be done."""
     path: str | None = members.get("shown") or members.get("path") or members.get("from")
     target: str | None = members.get("shown_to") or members.get("to")

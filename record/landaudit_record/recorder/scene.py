@@ -8,6 +8,7 @@ from contextlib import suppress
 from dataclasses import dataclass, replace
 from typing import Any
 
+from ..living import Members
 from . import modes, values
 from .disk import Disk
 from .names import Found, Names, Node, join, split
@@ -107,6 +108,10 @@ class Scene:
 
     def say(self, thread: Thread, call: Call, op: str, **members: Any) -> None:
         """Writes a record of something that Landlock judges, with what the kernel answered."""
+        self.judged(thread, call, op, members)
+
+    def judged(self, thread: Thread, call: Call, op: str, members: Members) -> None:
+        """Writes a record as `say` does, from members that nobody changes afterwards."""
         process, error = thread.process, call.error
         if thread.layers < len(process.restricted):
             raise CannotSay("a call of a thread with fewer layers than its process")
@@ -114,7 +119,7 @@ class Scene:
             raise NotAsked(BY_MODES)
         self.recording.add(op, process.pid, call.line, error or "ok", members)
 
-    def _modes_refuse(self, call: Call, op: str, members: dict[str, Any]) -> bool:
+    def _modes_refuse(self, call: Call, op: str, members: Members) -> bool:
         """Whether file modes refuse a call, as far as they are known."""
         runs = call.name in ("execve", "execveat")
         return self.asker is not None and modes.refuse(self.asker, self.disk.mode, op, members, runs)
@@ -251,7 +256,7 @@ class Scene:
         if handle.ruleset:
             self.note(thread, call, "close_rs", rs=number)
         elif handle.in_trace:
-            self.note(thread, call, "close", fd=number)
+            self.recording.add("close", thread.process.pid, call.line, None, {"fd": number})
 
     def put(self, thread: Thread, call: Call, number: int, handle: Handle) -> None:
         """Puts a descriptor under a number; what was there unseen is closed."""

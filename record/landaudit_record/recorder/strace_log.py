@@ -18,7 +18,7 @@ from collections.abc import Iterator, Mapping
 from dataclasses import dataclass, field
 from functools import lru_cache
 from pathlib import Path
-from typing import SupportsIndex, TextIO, overload
+from typing import TextIO
 
 from . import values
 from .unsaid import NotUnderstood
@@ -65,20 +65,16 @@ _ENDS = re.compile(rf"(\d+) +<\.\.\. (?:{'|'.join(sorted(AT_BEGINNING))}) resume
 _FLAGS = re.compile(r"flags=([^,}]+)")
 
 
-class Arguments(list[str]):
-    """The arguments of a call; one that is missing is a text that is not understood."""
+class Arguments(dict[int, str]):
+    """The arguments of a call by their places, from 0; one that is missing is a text that is not understood.
 
-    @overload
-    def __getitem__(self, index: SupportsIndex) -> str: ...
+    A dict asks `__missing__` only for what it has not, so that no function runs for each argument that is read.
+    """
 
-    @overload
-    def __getitem__(self, index: slice) -> list[str]: ...
+    __slots__ = ()
 
-    def __getitem__(self, index: SupportsIndex | slice) -> str | list[str]:
-        try:
-            return super().__getitem__(index)
-        except IndexError:
-            raise NotUnderstood from None
+    def __missing__(self, _: int) -> str:
+        raise NotUnderstood
 
 
 @dataclass(slots=True)
@@ -348,7 +344,7 @@ def _said(text: str) -> _Said | None:
     ours = _IN_OUR_NAMESPACE.match(note)
     error = _ERROR.match(note) if value is None or value == -1 else None
     value = int(ours[1]) if ours is not None else value
-    return name, Arguments(arguments), value, error[1] if error is not None else None, note
+    return name, Arguments(enumerate(arguments)), value, error[1] if error is not None else None, note
 
 
 def _parts(text: str) -> tuple[str, list[str], str, str] | None:

@@ -240,7 +240,6 @@ class Recording:
         self._holes: Counter[str] = Counter()
         self._living = Living()
         self._call: list[_Waiting] = []
-        self._whole = _Call(self._call)
         self._parts: list[_PartInMaking] = []
         self._begin_part()
 
@@ -301,14 +300,12 @@ class Recording:
         if self.tree.fresh:
             self._list_fresh()
 
-    def call(self) -> _Call:
-        """Keeps the records of one call together, for a `with`.
+    def drop(self) -> None:
+        """Drops the records of a call that turns out not to be sayable.
 
-        Of a call that turns out not to be sayable none stays but those that keep the books on numbers of the process
-        itself, as the close of what a number stood for before.
+        Those stay that keep the books on numbers of the process itself, as the close of what a number stood for before.
         """
-        self._whole.first = len(self._call)
-        return self._whole
+        self._call[:] = [waiting for waiting in self._call if not _is_judged(waiting)]
 
     def leave_out(self, reason: str, line: int, pid: int, call: str, *, asks: bool = False) -> None:
         """Counts a call that could not be said; `asks` says that the kernel may refuse it by a policy."""
@@ -389,21 +386,6 @@ class Recording:
         self._list_fresh()
         self._trace.close()
         self._parts.append(_PartInMaking(self._part, self._objects, self._in_part, self._again))
-
-
-@dataclass(slots=True)
-class _Call:
-    """The records of a call, which are those from a number on among those that wait; one for all calls in turn."""
-
-    waiting: list[_Waiting]
-    first: int = 0
-
-    def __enter__(self) -> None:
-        pass
-
-    def __exit__(self, kind: type[BaseException] | None, error: BaseException | None, at: TracebackType | None) -> None:
-        if kind is not None:
-            self.waiting[self.first :] = [one for one in self.waiting[self.first :] if not _is_judged(one)]
 
 
 def _is_judged(waiting: _Waiting) -> bool:

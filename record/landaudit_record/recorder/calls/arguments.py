@@ -30,7 +30,8 @@ def path_at(call: Call, index: int) -> str:
 
 def number_at(call: Call, index: int) -> int:
     """The number that an argument is; 0 where the call has no such argument."""
-    return values.number(call.arguments[index]) if index < len(call.arguments) else 0
+    argument = call.arguments.get(index)
+    return 0 if argument is None else values.number(argument)
 
 
 def spot_at(scene: Scene, thread: Thread, call: Call, base: int | None, path: int, follow: bool) -> Spot:

@@ -3,6 +3,7 @@
 from __future__ import annotations
 
 from contextlib import suppress
+from typing import Any
 
 from .. import values
 from ..names import Node, join, split
@@ -163,17 +164,15 @@ def _after_failure(scene: Scene, call: Call, spot: Spot, flags: int) -> Spot:
 
 
 def _say_open(scene: Scene, thread: Thread, call: Call, spot: Spot, number: int, flags: int, create: bool) -> None:
-    scene.say(
-        thread,
-        call,
-        "open",
-        path=spot.path,
-        fd=number,
-        mode=MODES[flags & ACCESS_MODE],
-        create=create,
-        trunc=bool(flags & O_TRUNC) and flags & O_TMPFILE != O_TMPFILE,
-        **arguments.shown(spot),
-    )
+    """Says an open, the most frequent record of all: only with the members that say something."""
+    members: dict[str, Any] = {"path": spot.path, "fd": number, "mode": MODES[flags & ACCESS_MODE]}
+    if create:
+        members["create"] = True
+    if flags & O_TRUNC and flags & O_TMPFILE != O_TMPFILE:
+        members["trunc"] = True
+    if (shown := spot.shown) is not None:
+        members["shown"] = shown
+    scene.judged(thread, call, "open", members)
 
 
 #: Where each call has the descriptor of a directory, if it has one, and its path.
