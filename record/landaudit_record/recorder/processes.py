@@ -29,6 +29,26 @@ class Handle:
     foreign: bool = False
     placeless: bool = False
 
+    def copy(self) -> Handle:
+        """The same for another number or process; a fork copies all, and `dataclasses.replace` takes long."""
+        return Handle(
+            self.path,
+            self.node,
+            self.in_trace,
+            self.adopted,
+            self.close_on_exec,
+            self.ruleset,
+            self.tcp,
+            self.foreign,
+            self.placeless,
+        )
+
+    def duplicate(self, *, close_on_exec: bool) -> Handle:
+        """A copy that has a flag of its own (dup(2))."""
+        copy = self.copy()
+        copy.close_on_exec = close_on_exec
+        return copy
+
 
 @dataclass(slots=True)
 class Place:

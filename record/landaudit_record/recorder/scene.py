@@ -103,6 +103,7 @@ class Scene:
         self.ruled: list[tuple[str, Node]] = []
         self.handles: dict[str, str] = {}
         self._walked: set[tuple[str, str, str]] = set()
+        self._links: ThreadLinks | None = None
 
     # What is said
 
@@ -158,7 +159,10 @@ class Scene:
         if base is not None and base.number == AT_FDCWD and base.path is not None:
             thread.place.directory = base.path
         directory = base.path if base is not None and base.path is not None else thread.place.directory
-        return self.names.find(thread.place.root, directory, path, follow, ThreadLinks(self, thread))
+        links = self._links
+        if links is None or links.thread is not thread:
+            links = self._links = ThreadLinks(self, thread)
+        return self.names.find(thread.place.root, directory, path, follow, links)
 
     def list_links(self, thread: Thread, base: Descriptor | None, path: str) -> None:
         """Lists the symbolic links by which a path leads on, once for each directory and path."""
@@ -300,7 +304,7 @@ class Scene:
             restricted=list(maker.process.restricted),
             maker=maker.process,
         )
-        process.table = {number: replace(handle) for number, handle in maker.process.table.items()}
+        process.table = {number: handle.copy() for number, handle in maker.process.table.items()}
         process.next_made_up = maker.process.next_made_up
         self._join(Thread(tid, process, place, maker.layers))
         self.processes[tid] = process

@@ -103,7 +103,7 @@ class Tree:
     def gap(self, over: str, names: Sequence[str]) -> str:
         """The name of what is missing in an object: one that nothing ever has, with the names behind it.
 
-        The root is never missing: a log that says so is damaged.
+        The root is never missing: a log that says so is damaged. Names are kept for speed alone, so many at most.
         """
         if not names:
             raise NotUnderstood
@@ -114,6 +114,8 @@ class Tree:
             text = wanted
             while self._names.at_start(text) is not None:
                 text += ABSENT
+            if len(self._gaps) == KEPT:
+                self._gaps.clear()
             self._gaps[wanted] = checked_path(text)
         if len(names) == 1:
             return text
@@ -214,7 +216,7 @@ _value, _text = jsonl.value, jsonl.text
 #: A call has far less records: so many are kept free for the last one of a part.
 MOST_OF_A_CALL = 2_000
 _ADDS = b'{"op":"add_path"'
-_WITHOUT_PATH = ("start", "fork", "rename", "link")
+_WITHOUT_PATH = frozenset({"start", "fork", "rename", "link"})
 #: A record that waits for the rest of its call: operation, process, members, what the kernel answered, and the line.
 _Waiting = tuple[str, int, Members, str | None, str]
 
@@ -285,14 +287,14 @@ class Recording:
             self._begin_part()
         self._in_part += len(call)
         self._committed += len(call)
-        needed, follow, write = self._needed, self._living.follow, self._trace.write
+        objects, others, follow, write = self._objects, self._others, self._living.follow, self._trace.write
         for op, pid, members, kernel, line in call:
             write(line)
             path = members.get("path")
             if path is None:
                 if op in _WITHOUT_PATH:
                     self._count(op, members)
-            elif path not in needed:
+            elif path not in objects and path not in others:
                 self._need(path)
             if members.get("fd", 0) < FIRST_MADE_UP:
                 follow(op, pid, members, kernel)
@@ -343,7 +345,7 @@ class Recording:
         self._part = Part(self._undone, len(self._parts) + 1)
         self._trace = open(self._part.trace, "w", encoding="utf-8")
         self._objects: set[str] = set()
-        self._needed: set[str] = {ROOT}
+        self._others: set[str] = {ROOT}
         self._started = 0
         again = self._living.again()
         for record in again:
@@ -367,20 +369,21 @@ class Recording:
     def _list_fresh(self) -> None:
         """Lists what the call had listed in the tree."""
         for path in self.tree.fresh:
-            self._needed.discard(path)
+            self._others.discard(path)
             self._need(path)
         self.tree.fresh.clear()
 
     def _need(self, path: str) -> None:
         """Lists an object in the tree of the part, if it is one, and the directories over it.
 
-        What is needed and is no object is looked at once, unless it is listed later.
+        What is needed and is no object is not looked at each time: so many are kept, unless they are listed later.
         """
-        while path not in self._needed:
-            self._needed.add(path)
-            if path in self.tree:
-                self._objects.add(path)
+        while path not in self._objects and path not in self._others:
+            (self._objects if path in self.tree else self._others).add(path)
             path = directory_of(path)
+        if len(self._others) > KEPT:
+            self._others.clear()
+            self._others.add(ROOT)
 
     def _end_part(self) -> None:
         self._list_fresh()

@@ -10,7 +10,6 @@ when no other thread is left: where it ends.
 from __future__ import annotations
 
 import re
-from dataclasses import replace
 
 from .. import values
 from ..processes import Handle, Thread
@@ -92,14 +91,14 @@ def _duplicated(scene: Scene, thread: Thread, call: Call, close_on_exec: bool) -
         return
     table = thread.process.table
     if handle.ruleset or not handle.in_trace:
-        scene.put(thread, call, call.value, replace(handle, close_on_exec=close_on_exec))
+        scene.put(thread, call, call.value, handle.duplicate(close_on_exec=close_on_exec))
         if handle.ruleset:
             raise CannotSay("a duplicate of a ruleset's descriptor")
         return
     if call.value in table and table[call.value].ruleset:
         scene.close(thread, call, call.value)
     scene.note(thread, call, "dup", fd=of.number, to=call.value)
-    table[call.value] = replace(handle, close_on_exec=close_on_exec)
+    table[call.value] = handle.duplicate(close_on_exec=close_on_exec)
 
 
 def _fcntl(scene: Scene, thread: Thread, call: Call) -> None:
