@@ -260,7 +260,11 @@ class Scene:
         if handle.ruleset:
             self.note(thread, call, "close_rs", rs=number)
         elif handle.in_trace:
-            self.recording.add("close", thread.process.pid, call.line, None, {"fd": number})
+            self.note_close(thread, call, number)
+
+    def note_close(self, thread: Thread, call: Call, number: int) -> None:
+        """Writes that a descriptor is closed."""
+        self.recording.add("close", thread.process.pid, call.line, None, {"fd": number})
 
     def put(self, thread: Thread, call: Call, number: int, handle: Handle) -> None:
         """Puts a descriptor under a number; what was there unseen is closed."""

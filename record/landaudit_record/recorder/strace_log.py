@@ -183,27 +183,27 @@ def births(path: Path) -> Births:
                 forks.read(number, line)
             if line[-5:] == "...>\n":
                 ends.begin(number, line)
-            elif "resumed>" in line:
+            elif ends.wanted and "resumed>" in line:
                 ends.end(line)
     return found
 
 
 class _Ends:
-    """The second halves of the calls that take effect where they begin."""
+    """The second halves of the calls that take effect where they begin; `wanted` are the first halves without one."""
 
     def __init__(self, found: Births) -> None:
         self._found = found
-        self._begun: dict[str, int] = {}
+        self.wanted: dict[str, int] = {}
 
     def begin(self, number: int, line: str) -> None:
         """Takes up a first half, if it is that of such a call."""
         if begins := _BEGINS.match(line):
-            self._begun[begins[1]] = number
+            self.wanted[begins[1]] = number
 
     def end(self, line: str) -> None:
         """Takes up a second half, if it is that of such a call."""
         if ends := _ENDS.match(line):
-            first = self._begun.pop(ends[1], None)
+            first = self.wanted.pop(ends[1], None)
             if first is not None:
                 self._found.ends[first] = sys.intern(ends[2])
 

@@ -78,7 +78,7 @@ def _opened_and_closed(scene: Scene, thread: Thread, call: Call, spot: Spot, mod
     number = thread.process.made_up()
     scene.say(thread, call, "open", path=spot.path, fd=number, mode=mode, **arguments.shown(spot))
     if spot.node is not None:
-        scene.note(thread, call, "close", fd=number)
+        scene.note_close(thread, call, number)
 
 
 def _swapon(scene: Scene, thread: Thread, call: Call) -> None:

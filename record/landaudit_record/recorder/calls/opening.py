@@ -148,7 +148,7 @@ def _failed(scene: Scene, thread: Thread, call: Call, base: int | None, path: in
     number = thread.process.made_up()
     _say_open(scene, thread, call, spot, number, flags, create)
     if spot.node is not None or made:
-        scene.note(thread, call, "close", fd=number)
+        scene.note_close(thread, call, number)
 
 
 def _after_failure(scene: Scene, call: Call, spot: Spot, flags: int) -> Spot:

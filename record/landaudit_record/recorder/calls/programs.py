@@ -40,7 +40,7 @@ def _run(scene: Scene, thread: Thread, call: Call, spot: Spot) -> None:
     made_up = [_run_one(scene, thread, call, *file) for file in ([] if in_memory else [(spot, None)]) + files]
     for number in made_up:
         if number is not None:
-            scene.note(thread, call, "close", fd=number)
+            scene.note_close(thread, call, number)
     if call.ok:
         _became(scene, thread, call, spot)
 
