@@ -28,7 +28,7 @@ class Program:
     commands: Sequence[str]
 
     def modules(self, words: Sequence[str]) -> list[ModuleType]:
-        """All subcommands, or the one that comes first in some words: to import the others takes longer than to parse."""
+        """All subcommands, or the one that some words begin with: to import the others takes longer than to parse."""
         named = [name for name in self.commands if name == words[0]] if words else []
         return [importlib.import_module(f"{self.package}.{name}") for name in named or self.commands]
 

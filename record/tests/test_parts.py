@@ -8,16 +8,18 @@ import unittest
 from contextlib import redirect_stderr, redirect_stdout
 from io import StringIO
 from pathlib import Path
+from unittest import mock
 
 from landaudit_record import cli, policies
 from landaudit_record.policies import Policy
-from landaudit_record.recorder import converting
+from landaudit_record.recorder import converting, writing
 from landaudit_record.recorder.ports import Ports
-from landaudit_record.recorder.writing import LIMITS, Limits
+from landaudit_record.recorder.writing import LIMITS, Limits, Recording, Tree
 
 from .answers import answers, parts, wanting
 from .kept_logs import LOGS, KeptLogs
-from .stories import told
+from .stories import names, told
+from .written_logs import CWD, WrittenLogs
 
 TENTH = Limits(own=10)
 POLICIES = {
@@ -111,6 +113,78 @@ class Parts(KeptLogs):
         listed = [line for number in range(1, parts(cut) + 1)
                   for line in (cut / f"tree-{number}.jsonl").read_text().splitlines()]
         self.assertEqual(set(listed), set((one / "tree.jsonl").read_text().splitlines()))
+
+
+def _looked_for(number: int) -> str:
+    return f'openat({CWD}, "/w/d/h{number}", 0 /* O_RDONLY */) = -1 ENOENT (No such file or directory)'
+
+
+#: A program looks for files over and over that are not there, makes one of them, and moves it.
+SEARCH = (
+    *map(_looked_for, (*range(6), *range(6))),
+    f'openat({CWD}, "/w/d/h3", 0x41 /* O_WRONLY|O_CREAT */, 0644) = 3</w/d/h3>',
+    "close(3</w/d/h3>) = 0",
+    *map(_looked_for, (0, 1, 2, 4, 5)),
+    f'openat({CWD}, "/w/d/h3", 0 /* O_RDONLY */) = 3</w/d/h3>',
+    'rename("/w/d/h3", "/w/d/h4") = 0',
+    *map(_looked_for, (0, 1, 2, 3, 5)),
+    f'openat({CWD}, "d/h4", 0 /* O_RDONLY */) = 4</w/d/h4>',
+    "close(3</w/d/h4>) = 0",
+)
+#: The paths that this is to be in a trace: what is missing has a name that nothing ever has.
+MISSING = {f"/w/d/h{number}~new~" for number in range(6)}
+
+
+class Search(WrittenLogs):
+    """A log in which more is looked for than is there, in one part and in several."""
+
+    def setUp(self) -> None:
+        super().setUp()
+        self.conversion(*SEARCH)
+
+    def files(self, limits: Limits) -> dict[str, list[str]]:
+        """The lines of the traces and trees that the log becomes, by the files' names."""
+        converting.convert(self.out, Ports(), limits)
+        paths = [*self.out.glob("trace*.jsonl"), *self.out.glob("tree*.jsonl")]
+        return {path.name: path.read_text().splitlines() for path in sorted(paths)}
+
+    def test_what_is_missing_is_in_no_tree(self) -> None:
+        files = self.files(LIMITS)
+        named = {json.loads(line).get("path") for line in files["trace.jsonl"]}
+        listed = {json.loads(line)["path"] for line in files["tree.jsonl"]}
+        self.assertLessEqual(MISSING, named)
+        self.assertFalse(MISSING & listed)
+
+    def test_parts_have_the_records_of_the_whole_and_the_objects_that_they_name(self) -> None:
+        whole, cut = self.files(LIMITS), self.files(TENTH)
+        traces = sorted((name for name in cut if name.startswith("trace")), key=lambda name: (len(name), name))
+        self.assertGreater(len(traces), 1)
+        own = [line for name in traces for line in cut[name] if "again" not in json.loads(line)]
+        self.assertEqual(own, whole["trace.jsonl"])
+        for name in traces:
+            named = {json.loads(line).get("path") for line in cut[name]}
+            tree = cut[name.replace("trace", "tree")]
+            wanted = [line for line in whole["tree.jsonl"] if json.loads(line)["path"] in named]
+            self.assertLessEqual(set(wanted), set(tree))
+            self.assertLessEqual(set(tree), set(whole["tree.jsonl"]))
+
+    def test_names_may_be_forgotten_at_any_time(self) -> None:
+        """What is kept of what is missing is kept for speed alone."""
+        for limits in (LIMITS, TENTH):
+            kept = self.files(limits)
+            for most in (1, 2, 5):
+                with self.subTest(own=limits.own, most=most), mock.patch.object(writing, "KEPT", most):
+                    self.assertEqual(self.files(limits), kept)
+
+    def test_how_much_is_kept_of_what_is_missing(self) -> None:
+        """The root and the names in one call are beside what is kept."""
+        with mock.patch.object(writing, "KEPT", 3), Recording(self.out, Tree(names())) as recording:
+            for number in range(50):
+                recording.tree.gap("/a/b", [f"h{number}"])
+                recording.write("truncate", 1, number, "ok", path=f"/a/b/h{number}~new~")
+                recording.commit()
+            self.assertLessEqual(len(recording.tree._gaps), 3)
+            self.assertLessEqual(len(recording._others), 3)
 
 
 if __name__ == "__main__":
