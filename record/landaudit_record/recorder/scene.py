@@ -264,7 +264,7 @@ class Scene:
 
     def note_close(self, thread: Thread, call: Call, number: int) -> None:
         """Writes that a descriptor is closed."""
-        self.recording.add("close", thread.process.pid, call.line, None, {"fd": number})
+        self.recording.add_close(thread.process.pid, call.line, number)
 
     def put(self, thread: Thread, call: Call, number: int, handle: Handle) -> None:
         """Puts a descriptor under a number; what was there unseen is closed."""

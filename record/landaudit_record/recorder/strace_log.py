@@ -13,7 +13,6 @@ from __future__ import annotations
 import gzip
 import re
 import sys
-from collections import deque
 from collections.abc import Iterator, Mapping
 from dataclasses import dataclass, field
 from functools import lru_cache
@@ -144,18 +143,18 @@ class Birth:
 
 @dataclass
 class Births:
-    """Who was started by whom: for each new thread the forks that made one of its number, in their order.
+    """Who was started by whom: for each new thread the forks that made one of its number, the first one last.
 
     `ends` has the second halves of the calls that take effect where they begin, by the lines of these.
     """
 
-    forks: dict[int, deque[Birth]] = field(default_factory=dict)
+    forks: dict[int, list[Birth]] = field(default_factory=dict)
     ends: dict[int, str] = field(default_factory=dict)
 
     def next(self, tid: int) -> Birth | None:
         """The fork that makes the next thread of this number."""
         made = self.forks.get(tid)
-        return made.popleft() if made else None
+        return made.pop() if made else None
 
 
 def open_log(path: Path) -> TextIO:
@@ -185,6 +184,8 @@ def births(path: Path) -> Births:
                 ends.begin(number, line)
             elif ends.wanted and "resumed>" in line:
                 ends.end(line)
+    for made in found.forks.values():
+        made.reverse()
     return found
 
 
@@ -229,7 +230,7 @@ class _Forks:
             maker, child = int(ends[1]), int(ends[3] or ends[2])
             here = number, _clone_flags(line)
             first, flags = self._begun.pop(maker, here) if "resumed>" in line else here
-            self._found.forks.setdefault(child, deque()).append(Birth(first, maker, flags))
+            self._found.forks.setdefault(child, []).append(Birth(first, maker, flags))
 
 
 def _clone_flags(line: str) -> int:
