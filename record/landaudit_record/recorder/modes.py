@@ -36,7 +36,9 @@ class Asker:
         return mode.bits >> shift & wanted == wanted
 
 
-def refuse(asker: Asker, mode_of: Callable[[str], Mode | None], op: str, members: Mapping[str, Any], runs: bool) -> bool:
+def refuse(
+    asker: Asker, mode_of: Callable[[str], Mode | None], op: str, members: Mapping[str, Any], runs: bool
+) -> bool:
     """Whether modes refuse a call on paths; `runs` says that a file is opened to be run."""
     for path, wanted in _wanted(op, members, runs):
         if not asker.may(mode_of(path), wanted):

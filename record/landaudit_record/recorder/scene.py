@@ -9,7 +9,7 @@ from dataclasses import dataclass, replace
 from typing import Any
 
 from ..living import Members
-from . import modes, values
+from . import modes
 from .disk import Disk
 from .names import Found, Names, Node, join, split
 from .ports import Ports
@@ -213,12 +213,6 @@ class Scene:
 
     # Descriptors
 
-    def descriptor(self, argument: str) -> Descriptor:
-        """A descriptor of a call."""
-        if (found := values.descriptor(argument)) is None:
-            raise CannotSay("a descriptor that is not understood")
-        return found
-
     def handle(self, thread: Thread, call: Call, of: Descriptor) -> Handle | None:
         """What a process knows of a descriptor, if it is open.
 
@@ -241,7 +235,7 @@ class Scene:
             return "device"
         if of.path is None:
             return "other"
-        if of.path.startswith("/memfd:"):
+        if of.in_memory:
             return "reg"
         node = self.names.at(of.path)
         return "reg" if node is not None and node.kind == "reg" else "other"
@@ -359,7 +353,7 @@ def _is_foreign(of: Descriptor) -> bool:
     A memfd, a pipe and their like are never refused (memfd_create(2), pipe(2)).
     """
     if of.path is not None:
-        return not of.path.startswith("/memfd:")
+        return not of.in_memory
     return of.behind is not None and of.behind.startswith("socket:")
 
 

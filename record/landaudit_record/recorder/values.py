@@ -6,7 +6,7 @@ import re
 from dataclasses import dataclass, field
 from functools import lru_cache
 
-from .unsaid import NotUnderstood
+from .unsaid import CannotSay, NotUnderstood
 
 _ESCAPE = re.compile(rb"\\(x[0-9a-f]{2}|[0-7]{1,3}|.)", re.DOTALL)
 _LETTERS = {b"n": b"\n", b"t": b"\t", b"r": b"\r", b"v": b"\v", b"f": b"\f"}
@@ -24,7 +24,8 @@ _DEVICE = re.compile(r"<(char|block) \d+:\d+>$")
 class Descriptor:
     """A descriptor's number, and what strace says of it: a path, or a name as `pipe:[1]`, and the kind of a device.
 
-    `path` is the path behind it, if it has one.
+    `path` is the path behind it, if it has one; `in_memory` says that strace shows a path for a file that has none
+    (memfd_create(2)).
     """
 
     number: int
@@ -32,10 +33,17 @@ class Descriptor:
     device: str | None = None
     deleted: bool = False
     path: str | None = field(init=False)
+    in_memory: bool = field(init=False)
 
     def __post_init__(self) -> None:
         path = self.behind if self.behind is not None and self.behind.startswith("/") else None
         object.__setattr__(self, "path", path)
+        object.__setattr__(self, "in_memory", path is not None and is_in_memory(path))
+
+
+def is_in_memory(path: str) -> bool:
+    """Whether strace shows a path for a file that has none, and that the kernel lets be opened whatever the policy."""
+    return path.startswith("/memfd:")
 
 
 def _unescaped(match: re.Match[bytes]) -> bytes:
@@ -104,11 +112,11 @@ def pid(argument: str) -> int:
 
 
 @lru_cache(KEPT)
-def descriptor(argument: str) -> Descriptor | None:
+def descriptor(argument: str) -> Descriptor:
     """A descriptor with what is behind it."""
     match = _DESCRIPTOR.match(argument)
     if match is None:
-        return None
+        raise CannotSay("a descriptor that is not understood")
     behind, device = match[2], None
     if behind is not None:
         if kind := _DEVICE.search(behind):

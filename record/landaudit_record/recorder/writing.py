@@ -103,7 +103,7 @@ class Tree:
     def gap(self, over: str, names: Sequence[str]) -> str:
         """The name of what is missing in an object: one that nothing ever has, with the names behind it.
 
-        The root is never missing: a log that says so is damaged. Names are kept for speed alone, so many at most.
+        The root is never missing: a log that says so is damaged. Names are kept for speed alone, at most KEPT of them.
         """
         if not names:
             raise NotUnderstood
@@ -381,7 +381,7 @@ class Recording:
     def _need(self, path: str) -> None:
         """Lists an object in the tree of the part, if it is one, and the directories over it.
 
-        What is needed and is no object is not looked at each time: so many are kept, unless they are listed later.
+        What is no object is kept for speed alone, so that it is not looked at each time: at most KEPT such paths.
         """
         while path not in self._objects and path not in self._others:
             (self._objects if path in self.tree else self._others).add(path)

@@ -38,7 +38,7 @@ def spot_at(scene: Scene, thread: Thread, call: Call, base: int | None, path: in
     """What a path argument names, from the directory that the argument `base` is a descriptor of."""
     if call.error in BEFORE_PATHS:
         raise NotAsked(f"{call.error} before Landlock is asked")
-    return scene.spot(thread, descriptor_at(scene, call, base), path_at(call, path), follow)
+    return scene.spot(thread, descriptor_at(call, base), path_at(call, path), follow)
 
 
 def name_at(scene: Scene, thread: Thread, call: Call, base: int | None, path: int) -> Spot:
@@ -59,7 +59,7 @@ def object_at(scene: Scene, call: Call, spot: Spot, kind: str) -> Spot:
     The kernel looks for the object before it asks Landlock: so where it says anything else than that
     nothing is there, something is.
     """
-    if in_memory(spot.real):
+    if values.is_in_memory(spot.real):
         raise NotAsked(NO_PATH)
     if call.error == "ENOENT":
         return scene.as_missing(spot)
@@ -68,14 +68,9 @@ def object_at(scene: Scene, call: Call, spot: Spot, kind: str) -> Spot:
     return spot
 
 
-def in_memory(path: str) -> bool:
-    """Whether strace shows a path for a file that has none, and that the kernel lets be opened whatever the policy."""
-    return path.startswith("/memfd:")
-
-
-def descriptor_at(scene: Scene, call: Call, index: int | None) -> Descriptor | None:
+def descriptor_at(call: Call, index: int | None) -> Descriptor | None:
     """The descriptor that an argument is, if the call has one."""
-    return None if index is None else scene.descriptor(call.arguments[index])
+    return None if index is None else values.descriptor(call.arguments[index])
 
 
 def shown(spot: Spot, to: Spot | None = None) -> dict[str, str | None]:

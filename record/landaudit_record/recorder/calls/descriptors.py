@@ -57,7 +57,7 @@ FOREIGN = "a descriptor that came from elsewhere: what Landlock kept with it is 
 
 def _close(scene: Scene, thread: Thread, call: Call) -> None:
     if call.error != "EBADF":
-        scene.close(thread, call, scene.descriptor(call.arguments[0]).number)
+        scene.close(thread, call, values.descriptor(call.arguments[0]).number)
 
 
 def _close_range(scene: Scene, thread: Thread, call: Call) -> None:
@@ -85,7 +85,7 @@ def _dup3(scene: Scene, thread: Thread, call: Call) -> None:
 def _duplicated(scene: Scene, thread: Thread, call: Call, close_on_exec: bool) -> None:
     if not call.ok or call.value is None:
         return
-    of = scene.descriptor(call.arguments[0])
+    of = values.descriptor(call.arguments[0])
     handle = scene.handle(thread, call, of)
     if handle is None or of.number == call.value:
         return
@@ -106,7 +106,7 @@ def _fcntl(scene: Scene, thread: Thread, call: Call) -> None:
     if command in (F_DUPFD, F_DUPFD_CLOEXEC):
         _duplicated(scene, thread, call, command == F_DUPFD_CLOEXEC)
     elif command == F_SETFD and call.ok:
-        handle = scene.handle(thread, call, scene.descriptor(call.arguments[0]))
+        handle = scene.handle(thread, call, values.descriptor(call.arguments[0]))
         if handle is not None:
             handle.close_on_exec = bool(arguments.number_at(call, 2) & FD_CLOEXEC)
 
@@ -141,7 +141,7 @@ def _family(call: Call) -> int:
 
 def _on_port(scene: Scene, thread: Thread, call: Call, op: str) -> None:
     """A call on a port, if the socket is one of TCP over IPv4 or IPv6."""
-    handle = scene.handle(thread, call, scene.descriptor(call.arguments[0]))
+    handle = scene.handle(thread, call, values.descriptor(call.arguments[0]))
     if handle is None or call.error == "EBADF":
         return
     if handle.foreign and _family(call) in (AF_INET, AF_INET6):
@@ -177,7 +177,7 @@ def _port_without_family(address: str) -> int:
 
 
 def _ioctl(scene: Scene, thread: Thread, call: Call) -> None:
-    of = scene.descriptor(call.arguments[0])
+    of = values.descriptor(call.arguments[0])
     handle = scene.handle(thread, call, of)
     if handle is None or call.error == "EBADF" or (not handle.in_trace and handle.adopted == "other"):
         return
@@ -192,14 +192,14 @@ def _ioctl(scene: Scene, thread: Thread, call: Call) -> None:
 
 def _opened_peer(scene: Scene, thread: Thread, call: Call) -> None:
     """The other end of a terminal, which Landlock judges as an open (ioctl_tty(2))."""
-    result = scene.descriptor(f"{call.value}{call.note}")
+    result = values.descriptor(f"{call.value}{call.note}")
     flags = arguments.number_at(call, 2)
     scene.put(thread, call, result.number, Handle(result.path, close_on_exec=bool(flags & opening.O_CLOEXEC)))
     opening.succeeded(scene, thread, call, result, flags)
 
 
 def _ftruncate(scene: Scene, thread: Thread, call: Call) -> None:
-    of = scene.descriptor(call.arguments[0])
+    of = values.descriptor(call.arguments[0])
     handle = scene.handle(thread, call, of)
     if handle is None or call.error == "EBADF":
         return

@@ -104,7 +104,7 @@ def _chdir(scene: Scene, thread: Thread, call: Call) -> None:
 
 
 def _fchdir(scene: Scene, thread: Thread, call: Call) -> None:
-    path = scene.descriptor(call.arguments[0]).path
+    path = values.descriptor(call.arguments[0]).path
     if call.ok and path is not None:
         thread.place.directory = path
 

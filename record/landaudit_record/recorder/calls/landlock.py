@@ -73,7 +73,7 @@ def _ruleset(scene: Scene, thread: Thread, call: Call, flags: int) -> int:
     """The number of the ruleset that a call is about, of a call without flags; one that names none has its own."""
     if arguments.number_at(call, flags):
         raise _unsaid(call, "a call of Landlock's with flags")
-    number = scene.descriptor(call.arguments[0]).number
+    number = values.descriptor(call.arguments[0]).number
     return number if number >= 0 else thread.process.made_up()
 
 
@@ -93,7 +93,7 @@ def _add_rule(scene: Scene, thread: Thread, call: Call) -> None:
 def _add_path(scene: Scene, thread: Thread, call: Call, number: int) -> None:
     parent = values.member(call.arguments[2], "parent_fd")
     allowed = values.member(call.arguments[2], "allowed_access")
-    of = scene.descriptor(parent) if parent is not None else None
+    of = values.descriptor(parent) if parent is not None else None
     if of is None or of.path is None or allowed is None:
         raise NotAsked("a rule under what has no path")
     spot = scene.opened(thread, of)

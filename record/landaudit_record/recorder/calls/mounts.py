@@ -7,6 +7,7 @@ from __future__ import annotations
 
 from collections.abc import Callable
 
+from .. import values
 from ..processes import Handle, Thread
 from ..scene import Scene
 from ..strace_log import Call
@@ -60,7 +61,7 @@ def _fsconfig(scene: Scene, thread: Thread, call: Call) -> None:
     """Of its commands the kernel asks Landlock about one alone, if the descriptor is a context."""
     if arguments.number_at(call, 1) != FSCONFIG_CMD_RECONFIGURE:
         return
-    is_context = scene.descriptor(call.arguments[0]).behind == CONTEXT
+    is_context = values.descriptor(call.arguments[0]).behind == CONTEXT
     _said(scene, thread, call, asked=is_context and call.error not in ("EBADF", "EBUSY", "EOPNOTSUPP"))
 
 
@@ -100,7 +101,7 @@ def from_a_place(handler: Handler, base: int | None) -> Handler:
 
     def opened(scene: Scene, thread: Thread, call: Call) -> None:
         if scene.placeless and base is not None:
-            handle = thread.process.table.get(scene.descriptor(call.arguments[base]).number)
+            handle = thread.process.table.get(values.descriptor(call.arguments[base]).number)
             if handle is not None and handle.placeless:
                 _is_placeless(scene, thread, call, close_on_exec=False)
         handler(scene, thread, call)
@@ -110,7 +111,7 @@ def from_a_place(handler: Handler, base: int | None) -> Handler:
 
 def _setns(scene: Scene, thread: Thread, call: Call) -> None:
     """Another mount namespace has other objects under the same names; other kinds of namespaces change no path."""
-    behind = scene.descriptor(call.arguments[0]).behind or ""
+    behind = values.descriptor(call.arguments[0]).behind or ""
     others.by_pidfd(scene, thread, call)
     if call.ok and (behind.startswith("mnt:") or _has(call, 1, CLONE_NEWNS)):
         raise CannotSay(OTHER_NAMESPACE)

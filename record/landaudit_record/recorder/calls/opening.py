@@ -51,10 +51,10 @@ def _creat(scene: Scene, thread: Thread, call: Call) -> None:
 
 def _opened(scene: Scene, thread: Thread, call: Call, base: int | None, path: int, flags: int) -> None:
     if call.ok:
-        result = scene.descriptor(f"{call.value}{call.note}")
+        result = values.descriptor(f"{call.value}{call.note}")
         scene.put(thread, call, result.number, Handle(result.path, close_on_exec=bool(flags & O_CLOEXEC)))
         gone = None
-        if result.path is not None and not arguments.in_memory(result.path):
+        if result.path is not None and not result.in_memory:
             if result.deleted and flags & O_TMPFILE != O_TMPFILE:
                 gone = _gone(scene, thread, call, base, path)
             elif not flags & O_PATH:
@@ -76,7 +76,7 @@ def succeeded(
         handle.adopted = "device" if result.device and not flags & O_PATH else "other"
         handle.node = gone or (scene.names.at(result.path) if result.path is not None else None)
         return
-    if arguments.in_memory(result.path):
+    if result.in_memory:
         handle.adopted = "reg"
         return
     if flags & ACCESS_MODE == ACCESS_MODE:
@@ -110,7 +110,7 @@ def _opened_spot(scene: Scene, path: str, result: Descriptor, flags: int) -> tup
 def _gone(scene: Scene, thread: Thread, call: Call, base: int | None, path: int) -> Node:
     """What was opened though it has no name any more, as by /proc/self/fd; an object of its own if it is not known."""
     with suppress(CannotSay):
-        found = scene.find(thread, arguments.descriptor_at(scene, call, base), arguments.path_at(call, path), True)
+        found = scene.find(thread, arguments.descriptor_at(call, base), arguments.path_at(call, path), True)
         if found.node is not None:
             return found.node
     return Node("reg")
@@ -132,7 +132,7 @@ def _list_links(scene: Scene, thread: Thread, call: Call, base: int | None, path
     """Lists the symbolic links by which a path led to the file that was opened, if it led there by any."""
     text = values.text(call.arguments[path])
     if text is not None and text != opened:
-        scene.list_links(thread, arguments.descriptor_at(scene, call, base), text)
+        scene.list_links(thread, arguments.descriptor_at(call, base), text)
 
 
 def _failed(scene: Scene, thread: Thread, call: Call, base: int | None, path: int, flags: int) -> None:

@@ -54,7 +54,7 @@ def _may_be_refused(call: Call) -> bool:
 
 def _directory(scene: Scene, thread: Thread, call: Call, base: int | None) -> str:
     """The directory from which a call's path leads on."""
-    directory = arguments.descriptor_at(scene, call, base)
+    directory = arguments.descriptor_at(call, base)
     return (directory.path if directory else None) or thread.place.directory
 
 
@@ -96,7 +96,7 @@ def _by_pid(*indexes: int) -> Handler:
 
 def by_pidfd(scene: Scene, thread: Thread, call: Call) -> None:
     """A call that names a process by a descriptor (pidfd_open(2))."""
-    named = _PIDFD.match(scene.descriptor(call.arguments[0]).behind or "")
+    named = _PIDFD.match(values.descriptor(call.arguments[0]).behind or "")
     if named is not None:
         _look(scene, thread, call, [int(named[1])])
 
@@ -116,11 +116,11 @@ def _pidfd_getfd(scene: Scene, thread: Thread, call: Call) -> None:
     """A descriptor of another process, which becomes one of this process."""
     by_pidfd(scene, thread, call)
     if call.ok:
-        scene.receive(thread, call, _result(scene, call), close_on_exec=True)
+        scene.receive(thread, call, _result(call), close_on_exec=True)
 
 
-def _result(scene: Scene, call: Call) -> Descriptor:
-    return scene.descriptor(f"{call.value}{call.note}")
+def _result(call: Call) -> Descriptor:
+    return values.descriptor(f"{call.value}{call.note}")
 
 
 HANDLERS: dict[str, Handler] = {

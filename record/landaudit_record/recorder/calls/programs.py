@@ -4,6 +4,7 @@ from __future__ import annotations
 
 from dataclasses import replace
 
+from .. import values
 from ..processes import Thread
 from ..scene import CLONE_FILES, CLONE_FS, Scene, Spot
 from ..strace_log import Call
@@ -30,7 +31,7 @@ def _run(scene: Scene, thread: Thread, call: Call, spot: Spot) -> None:
 
     A program that is in memory alone (memfd_create(2)) is not asked about, but its loader is.
     """
-    in_memory = spot.real.startswith("/memfd:")
+    in_memory = values.is_in_memory(spot.real)
     if call.error != "ENOENT" and not in_memory:
         spot = arguments.object_at(scene, call, spot, "reg")
     if call.error == "EACCES" and _may_not_run(scene, spot):
