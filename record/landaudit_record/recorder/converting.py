@@ -14,7 +14,7 @@ from .processes import Handle, Place, Process, Thread
 from .progress import Progress
 from .recordings import OBJECTS, About, read_about, read_before
 from .scene import Scene
-from .strace_log import Call, Ended, Event, Superseded, Unread
+from .strace_log import Call, Ended, Superseded, Unread
 from .unsaid import NOT_UNDERSTOOD, CannotSay
 from .writing import LIMITS, Limits, Recording, Tree
 
@@ -34,7 +34,10 @@ def convert(folder: Path, ports: Ports, limits: Limits = LIMITS) -> Converted:
         births = strace_log.births(log)
         scene = Scene(names, kept, recording, births, ports, about.asker)
         for event in strace_log.events(log, births.ends):
-            _take(scene, about, event)
+            if isinstance(event, Call):
+                _take_call(scene, about, event)
+            else:
+                _take(scene, event)
             recording.commit()
             if event.line % LINES_APART == 0:
                 progress.show(recording.records)
@@ -46,10 +49,9 @@ def convert(folder: Path, ports: Ports, limits: Limits = LIMITS) -> Converted:
         return recording.finish(about.ended and scene.have_ended(scene.threads), scene.further_names())
 
 
-def _take(scene: Scene, about: About, event: Event) -> None:
+def _take(scene: Scene, event: Ended | Superseded | Unread) -> None:
+    """What is no call."""
     match event:
-        case Call():
-            _take_call(scene, about, event)
         case Ended():
             _take_end(scene, event)
         case Superseded():

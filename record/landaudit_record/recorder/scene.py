@@ -262,8 +262,10 @@ class Scene:
 
     def put(self, thread: Thread, call: Call, number: int, handle: Handle) -> None:
         """Puts a descriptor under a number; what was there unseen is closed."""
-        self.close(thread, call, number)
-        thread.process.table[number] = handle
+        table = thread.process.table
+        if number in table:
+            self.close(thread, call, number)
+        table[number] = handle
 
     # Processes
 
