@@ -4,7 +4,9 @@ Landlock answers a call by its process's layers and by what the call names, and 
 layers that were there when it was opened. So of all calls that a policy lets pass it is enough to ask those that
 differ in these again, each by itself, of a policy that grants less: that one refuses none of them just if it refuses
 nothing of the whole recording that passed. For take the first call that it would refuse there: until then all went as
-before, so the call's layers and what its descriptor is open on are those that are asked about here.
+before, so the call's layers and what its descriptor is open on are those that are asked about here. It may let a
+move or link pass that was refused, where the object would have gained rights that are no longer there: nothing that
+follows depends on one.
 """
 
 from __future__ import annotations

@@ -222,6 +222,25 @@ port = [80, 443]
         wanted = [("execute", PROGRAM), ("write_file", "/a/f"), ("write_file", "/a/g"), ("truncate", "/a/f")]
         self.assertEqual(self.left(rules, self.recording("one", tree, calls)), wanted)
 
+    def test_a_move_that_was_refused_may_pass(self) -> None:
+        """A link to /b is refused while /a/f could be read by it, and nothing of the recording reads there.
+
+        The kernel's document on `refer`: the object must not gain rights by the move.
+        """
+        tree = [*TREE, {"path": "/b", "kind": "dir"}, {"path": "/b/g", "kind": "reg"}]
+        calls: list[Record] = [
+            {"op": "exec", "path": PROGRAM},
+            {"op": "link", "from": "/b/g", "to": "/a/new"},
+            {"op": "link", "from": "/a/f", "to": "/b/new"},
+        ]
+        one = self.recording("one", tree, calls)
+        text = self.rules(('["execute"]', f'"{PROGRAM}"'), ('["make_reg", "refer"]', '"/"'), ('["read_file"]', '"/b"'))
+        self.assertEqual(self.left(text, one), [("execute", PROGRAM), ("make_reg", "refer", "/")])
+        self.policy.write_text(text)
+        self.assertIn("note: of these recordings 1 call would pass that the policy refuses", self.said(one)[2])
+        self.policy.write_text(text.replace('"/b"', '"/"'))
+        self.assertEqual(self.said(one)[2], "")
+
     def test_a_call_that_needs_rights_of_two_kinds_is_counted_for_each(self) -> None:
         """A move that is refused with EACCES for want of `make_reg` is refused with EXDEV for want of `refer`."""
         tree = [*TREE, {"path": "/b", "kind": "dir"}]

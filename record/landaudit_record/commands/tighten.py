@@ -4,7 +4,7 @@ from __future__ import annotations
 
 import argparse
 from collections import Counter
-from collections.abc import Iterator
+from collections.abc import Iterator, Sequence
 from dataclasses import replace
 from pathlib import Path
 
@@ -22,6 +22,9 @@ from ..wording import counted
 NAME = "tighten"
 HELP = "print the policy without the rights that no recording needs"
 EXAMPLE = "landaudit-record tighten --policy policy.toml rec > tight.toml"
+
+_Asked = dict[Path, Counter[Question]]
+"""What a recording asks a policy and is let pass, for each tree by itself."""
 
 
 def add_arguments(parser: argparse.ArgumentParser) -> None:
@@ -45,15 +48,18 @@ def run(arguments: argparse.Namespace) -> int:
     note(together.policy_notes(members, alone(arguments.abi)))
     tried = [member.tried for member in members if member.tried is not None]
     with together.audits(members, program, NAME, best_effort=not arguments.as_recorded) as audits:
-        counted = [_questions(audit, one, policy, arguments.abi) for audit, one in zip(audits, tried)]
-        asked = [Asked.of(one, tree, found) for one, of in zip(tried, counted) for tree, found in of.items()]
+        before = [_questions(audit, one, policy, arguments.abi) for audit, one in zip(audits, tried)]
+        asked = [Asked.of(one, tree, found) for one, of in zip(tried, before) for tree, found in of.items()]
         audits[0].progress.say("trying each right")
         done = _tightened(Tightening(program, arguments.abi, asked, best_effort=not arguments.as_recorded), policy,
                           None if arguments.list else trees.united(one.tree for one in tried))
-        again = [_questions(audit, one, done.policy, arguments.abi) for audit, one in zip(audits, tried)]
-        if again != counted:
+        after = [_questions(audit, one, done.policy, arguments.abi) for audit, one in zip(audits, tried)]
+        if _more(before, after):
             raise Problem("of the recordings something more is refused without what no call needs: report this fault",
                           WANTING)
+    if passing := _more(after, before):
+        note([f"of these recordings {counted(passing, 'call')} would pass that the policy refuses: a move or link is "
+              "refused by which an object would gain rights, and such rights are taken away"])
     together.note_missing(members)
     for line in _table(policy, done, arguments.abi) if arguments.list else _toml(policy, done):
         print(line)
@@ -69,13 +75,18 @@ def _tightened(tightening: Tightening, policy: Policy, tree: Tree | None) -> Tig
     return done
 
 
-def _questions(audit: Auditing, tried: Tried, policy: Policy, abi: int) -> dict[Path, Counter[Question]]:
+def _questions(audit: Auditing, tried: Tried, policy: Policy, abi: int) -> _Asked:
     """What a recording asks a policy, for each tree by itself."""
     by_tree: dict[Path, Distilling] = {}
     for files in audit.judged(alone(abi), tried, policy, explain=False):
         audit.progress.say("reading what is asked")
         by_tree.setdefault(files.tree, Distilling()).follow(files.trace, files.report)
     return {tree: found.questions for tree, found in by_tree.items()}
+
+
+def _more(some: Sequence[_Asked], others: Sequence[_Asked]) -> int:
+    """How many calls of recordings pass in some audits and not in others of the same recordings."""
+    return sum((found - other[tree]).total() for one, other in zip(some, others) for tree, found in one.items())
 
 
 def _toml(policy: Policy, done: Tightened) -> Iterator[str]:
