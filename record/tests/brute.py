@@ -7,6 +7,7 @@ Of each pair of policies, random calls on random trees are asked of landaudit un
 call pass, a line of `diff` is to cover something that the call needs; and a line is to cover a call that needs one
 thing alone only where that differs. Of each policy of ten rules `tighten` makes another for random recordings: it is to
 grant nothing more and refuse nothing new, and each right is taken from it by itself, to see that something is refused.
+Policies with a rule that the kernel refuses are counted apart: `tighten` is to name such a rule.
 """
 
 from __future__ import annotations
@@ -19,7 +20,7 @@ import re
 import sys
 import tempfile
 import tomllib
-from collections.abc import Iterable, Iterator, Sequence
+from collections.abc import Collection, Iterable, Iterator, Sequence
 from dataclasses import dataclass
 from pathlib import Path
 
@@ -28,7 +29,7 @@ if __name__ == "__main__":
 
 from landaudit_record import asking, cli, jsonl, landaudit  # noqa: E402
 from landaudit_record.jsonl import Record  # noqa: E402
-from landaudit_record.problems import Problem  # noqa: E402
+from landaudit_record.problems import UNREADABLE, Problem  # noqa: E402
 from landaudit_record.rights import FS, NET, NEWEST_ABI, OLDEST_ABI, alone  # noqa: E402
 from landaudit_record.trees import ROOT  # noqa: E402
 from tests import covering  # noqa: E402
@@ -40,10 +41,13 @@ ABIS = range(OLDEST_ABI, NEWEST_ABI + 1)
 TREES = 4
 _ANSWER = re.compile(r"(?:([0-9]+)(?:-([0-9]+))? )?(allowed|moot|refused)")
 _ROW = re.compile(r" *([0-9]+)  ([a-z_]+) +layer ([0-9]+), (path_beneath|net_port) ([0-9]+) .*")
+_REFUSED_RULE = re.compile(r"layer ([0-9]+), path_beneath ([0-9]+), parent (.*): the kernel refuses this rule, ")
 _TABLES = {"path_beneath": "path", "net_port": "port"}
 RULES = 10
 APART = 1000
 """How far the numbers of processes are apart that are under different policies."""
+OWN_NUMBERS = 10_000
+"""From here on descriptors have numbers that recordings don't use for two."""
 MOST_SHOWN = 3
 ENDED = 128
 """From here on a status says that a signal ended the command, and so it ends this program."""
@@ -147,6 +151,8 @@ class Tried:
     calls: int
     differ: int
     faults: list[str]
+    told: int = 0
+    """Policies with a rule that the kernel refuses, which is told in the place of an answer."""
 
 
 def compared(program: Path, seed: int, count: int) -> Tried:
@@ -219,10 +225,14 @@ class Recorded:
         return words
 
     def refused(self, program: Path, folder: Path, policies: Sequence[Sequence[Record]]) -> list[set[tuple[int, int]]]:
-        """What is refused under each of some policies, by recording and record: each has processes of its own."""
+        """What is refused under each of some policies, by recording and record: each has processes of its own.
+
+        A call on a descriptor is on what it is open on under the first of them, or on nothing.
+        """
         found: list[set[tuple[int, int]]] = [set() for _ in policies]
         for number, run in enumerate(self.runs):
-            traces = [list(_under(run, policy, which * APART)) for which, policy in enumerate(policies)]
+            calls = self._numbered(program, folder, run, policies[0])
+            traces = [list(_under(run, calls, policy, which * APART)) for which, policy in enumerate(policies)]
             records = [record for trace in traces for record in trace]
             verdicts = iter(judged(program, folder, run.kinds, records, alone(self.abi)))
             for refused, trace in zip(found, traces):
@@ -231,9 +241,39 @@ class Recorded:
         return found
 
 
-def _under(run: Run, policy: Sequence[Record], pids: int) -> Iterator[Record]:
-    """The records of a run under a policy; its processes have numbers of their own, and its records their places."""
-    for at, record in enumerate(run.records):
+    def _numbered(self, program: Path, folder: Path, run: Run, policy: Sequence[Record]) -> list[Record]:
+        """The records of a run in which each opening under a policy has a number of its own.
+
+        So a number is open on nothing where its opening is refused, and on nothing that was open by it before.
+        """
+        trace = list(_under(run, run.records, policy, 0))
+        answers = judged(program, folder, run.kinds, trace, alone(self.abi))
+        passed = {record["call_of_run"] for record, answer in zip(trace, answers) if answer.allowed}
+        return list(_own_numbers(run.records, passed))
+
+
+def _own_numbers(records: Iterable[Record], passed: Collection[int]) -> Iterator[Record]:
+    """Records in which each opening and each copy of one that passes has a number that no other has."""
+    open_by: dict[int, dict[int, int]] = {}
+    for at, record in enumerate(records):
+        numbers = open_by.setdefault(record["pid"], {})
+        op, done = record["op"], at in passed
+        changed = {"fd": numbers.get(record["fd"], record["fd"])} if "fd" in record else {}
+        if op in ("open", "dup"):
+            key = "fd" if op == "open" else "to"
+            changed[key] = OWN_NUMBERS + at
+            if done:
+                numbers[record[key]] = changed[key]
+        elif op == "close" and done:
+            numbers.pop(record["fd"], None)
+        elif op == "fork" and done:
+            open_by[record["child"]] = dict(numbers)
+        yield {**record, **changed}
+
+
+def _under(run: Run, calls: Iterable[Record], policy: Sequence[Record], pids: int) -> Iterator[Record]:
+    """The calls of a run under a policy; its processes have numbers of their own, and its records their places."""
+    for at, record in enumerate(calls):
         if at in run.first:
             yield from ({**one, "pid": run.first[at] + pids, "call_of_run": None} for one in policy)
         child = {"child": record["child"] + pids} if "child" in record else {}
@@ -293,8 +333,12 @@ def tightened(program: Path, seed: int, count: int) -> Tried:
         folder = Path(name)
         words = ["tighten", *recorded.written(folder), "--landaudit", str(program)]
         status, out, errors = run(words, cli.RECORD)
-        if status:
-            return Tried(0, 0, [f"seed {seed}: status {status}: {errors}"])
+        not_taken = recorded.policy.not_taken(recorded.runs[0].kinds, recorded.abi)
+        if status == UNREADABLE and (named := _REFUSED_RULE.search(errors)) is not None:
+            rule = int(named[1]), int(named[2]), named[3]
+            return Tried(0, 0, [] if rule in not_taken else [f"seed {seed}: the kernel takes {rule}"], 1)
+        if status or not_taken:
+            return Tried(0, 0, [f"seed {seed}: status {status}, the kernel refuses {sorted(not_taken)}: {errors}"])
         table = run([*words, "--list"], cli.RECORD)[1]
         tried.calls = sum(len(it.records) for it in recorded.runs)
         tried.faults += [f"seed {seed}, ABI {recorded.abi}: {fault}"
@@ -321,8 +365,11 @@ def _of_tight(
                           *(without(of_list, [unit]) for unit in listed)])
     if after - before:
         yield f"refuses what passed: {sorted(after - before)}"
-    if by_table != after:
-        yield "the table has another policy than what is printed"
+    if by_table - before:
+        yield f"refuses what passed, by the table: {sorted(by_table - before)}"
+    for number, at in sorted(before - (after & by_table)):
+        if (op := recorded.runs[number].records[at]["op"]) not in ("rename", "link"):
+            yield f"lets pass {op}, which is no move: {(number, at)}"
     for unit, refused in zip(kept, alone_gone):
         if not refused - before:
             yield f"nothing needs {unit}"
@@ -362,7 +409,8 @@ def main() -> int:
         return problem.status
     faults = 0
     of_pairs = "pairs: {calls:,} calls, {differ:,} differ, {faults:,} faults"
-    of_policies = "policies: {calls:,} records, {differ:,} rights are left, {faults:,} faults"
+    of_policies = ("policies: {calls:,} records, {differ:,} rights are left, "
+                   "{told:,} policies with a rule that the kernel refuses, {faults:,} faults")
     for what, said, count, each in (
         (compared, of_pairs, wanted.pairs, wanted.calls),
         (tightened, of_policies, wanted.policies, wanted.records),
@@ -370,10 +418,12 @@ def main() -> int:
         total = Tried(0, 0, [])
         for seed in range(wanted.first, wanted.first + count):
             tried = what(program, seed, each)
-            total = Tried(total.calls + tried.calls, total.differ + tried.differ, total.faults + tried.faults)
+            total = Tried(total.calls + tried.calls, total.differ + tried.differ, total.faults + tried.faults,
+                          total.told + tried.told)
             for fault in tried.faults[:MOST_SHOWN]:
                 print(fault, flush=True)
-        print(count, said.format(calls=total.calls, differ=total.differ, faults=len(total.faults)), flush=True)
+        print(count, said.format(calls=total.calls, differ=total.differ, told=total.told, faults=len(total.faults)),
+              flush=True)
         faults += len(total.faults)
     return 1 if faults else 0
 

@@ -12,7 +12,7 @@ from collections.abc import Iterable, Iterator, Sequence
 from dataclasses import dataclass, replace
 
 from landaudit_record.jsonl import Record
-from landaudit_record.rights import FILE_RIGHTS, FS, NET, NONE, Family, Rights
+from landaudit_record.rights import FILE_RIGHTS, FS, NET, NEWEST_ABI, NONE, Family, Rights
 from landaudit_record.trees import ROOT, directory_of, joined, upwards
 
 NAMES = ("a", "b", "c")
@@ -100,10 +100,13 @@ def _granted(words: Sequence[str], handled: Rights, kind: str | None) -> Rights:
     return named | (groups if kind == "dir" else groups & FILE_RIGHTS)
 
 
-def _is_taken(rule: Rule, layer: Layer, kind: str | None) -> bool:
-    """Whether the kernel takes a rule on an object of a kind."""
-    rights = _granted(rule.words, meant(layer.fs, FS), kind)
-    return kind in ("dir", None) or bool(rights) and rights <= FILE_RIGHTS
+def _is_taken(rule: Rule, layer: Layer, kind: str | None, abi: int = NEWEST_ABI) -> bool:
+    """Whether the kernel takes a rule on an object of a kind, or an ABI knows nothing of it and it is left out."""
+    handled = meant(layer.fs, FS) & FS.known(abi)
+    if kind in ("dir", None) or not meant(rule.words, FS) & handled:
+        return True
+    rights = _granted(rule.words, handled, kind) & handled
+    return bool(rights) and rights <= FILE_RIGHTS
 
 
 def _listed(values: Sequence[str | int]) -> str:
@@ -137,6 +140,19 @@ class Policy:
                 rules.append(replace(rule, on=on))
             layers.append(replace(layer, paths=tuple(rules)).mended())
         return Policy(tuple(layers))
+
+    def not_taken(self, kinds: Kinds, abi: int) -> set[tuple[int, int, str]]:
+        """Rules on files that the kernel refuses at an ABI, by the numbers of layer and rule, and by the path.
+
+        They are on no directory and have rights of directories by name, or the ABI knows none of theirs for files.
+        """
+        return {
+            (number, place, str(path))
+            for number, layer in enumerate(self.layers, start=1)
+            for place, rule in enumerate(layer.paths, start=1)
+            for path in rule.on
+            if not _is_taken(rule, layer, kinds.get(plain(str(path))), abi)
+        }
 
     @property
     def paths(self) -> set[str]:
