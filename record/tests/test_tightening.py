@@ -220,7 +220,10 @@ port = [80, 443]
         rules = self.rules(('["execute"]', f'"{PROGRAM}"'), ('["write_file"]', '"/a/f"'), ('["write_file"]', '"/a/g"'),
                            ('["write_file"]', '"/a/g"'), ('["truncate"]', '"/a/f"'), ('["truncate"]', '"/a/g"'))
         wanted = [("execute", PROGRAM), ("write_file", "/a/f"), ("write_file", "/a/g"), ("truncate", "/a/f")]
-        self.assertEqual(self.left(rules, self.recording("one", tree, calls)), wanted)
+        one = self.recording("one", tree, calls)
+        self.assertEqual(self.left(rules, one), wanted)
+        rows = [line.split(maxsplit=2) for line in self.said("--list", one)[1].splitlines()]
+        self.assertIn(["1", "write_file", "layer 1, path_beneath 2 (/a/f)"], rows)
 
     def test_a_move_that_was_refused_may_pass(self) -> None:
         """A link to /b is refused while /a/f could be read by it, and nothing of the recording reads there.
