@@ -105,6 +105,20 @@ class LivePrograms(unittest.TestCase):
             with self.subTest(name):
                 self.tried(name, ("sh", "-c", command))
 
+    def test_second_runs_in_the_folder_that_the_first_one_left(self) -> None:
+        """Under the rules that are suggested for both recordings nothing of them is refused at the newest ABI."""
+        for name, command in PROGRAMS.items():
+            if shutil.which(command.split()[0]) is None:
+                continue
+            with self.subTest(name):
+                self.fill()
+                self.policy.write_text(DENY)
+                runs = [self.folder / f"{name}-{number}" for number in (1, 2)]
+                for run in runs:
+                    self.run_in_work([PYTHON, RECORDER, "run", run, "--", "sh", "-c", command])
+                self.policy.write_text(DENY + self.recorder("suggest", *runs, "--policy", self.policy))
+                self.recorder("audit", *runs, "--policy", self.policy, "--abi", "5")
+
     def tried(self, name: str, command: tuple[str, ...]) -> None:
         bare, _ = self.done(*command)
         self.fill()
