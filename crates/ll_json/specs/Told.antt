@@ -9,5 +9,5 @@ abbrev pub Told : Written → Written → List Token → Type 0
 Told old new tokens = (new.before ≡ old.before) × (new.tokens ≡ old.tokens ++ tokens)
 
 -- they are, unless an error is returned
-unfoldable pub Tells : {E : Type 0} → Result (Unit {0}) E → Written → Written → List Token → Type 0
+abbrev pub Tells : {E : Type 0} → Result (Unit {0}) E → Written → Written → List Token → Type 0
 Tells r old new tokens = OnOk r (Told old new tokens)

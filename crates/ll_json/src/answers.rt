@@ -59,7 +59,7 @@ fn write_bare_layer(out: &mut Writer, number: u32) -> Added
 }
 
 /// Writes a layer by its number alone, where it is in a set.
-#[tactic(auto, unfolding(crate::specs::Told::Tells, crate::specs::Numbers::among_tokens))]
+#[tactic(auto, unfolding(crate::specs::Numbers::among_tokens))]
 fn write_if_among(out: &mut Writer, numbers: LayerSet, number: u32) -> Added
     ensures { Tells result out.old out.new (among_tokens numbers number) }
 {
@@ -93,7 +93,7 @@ fn write_bare_layers(out: &mut Writer, numbers: LayerSet) -> Added
 }
 
 /// Writes the layers that refuse, with all that they object to where this is explained.
-#[tactic(auto, unfolding(crate::specs::Told::Tells, crate::specs::Records::layers_json, ll_explanations::specs::Meanings::explanation_in))]
+#[tactic(auto, unfolding(crate::specs::Records::layers_json, ll_explanations::specs::Meanings::explanation_in))]
 fn write_layers_of(
     out: &mut Writer,
     tree: &Tree,
@@ -137,7 +137,7 @@ fn write_mootness(out: &mut Writer, op: &Op, reason: &Reason) -> Added
 }
 
 /// Writes why a call fails by no layer, or why the policy isn't asked, where this is explained.
-#[tactic(auto, unfolding(crate::specs::Told::Tells, crate::specs::Records::why_members, ll_explanations::specs::Meanings::explanation_in))]
+#[tactic(auto, unfolding(crate::specs::Records::why_members, ll_explanations::specs::Meanings::explanation_in))]
 fn write_why(out: &mut Writer, op: &Op, explanation: &Explanation) -> Added
     ensures { (tree : List Entry) → Tells result out.old out.new
         (named_tokens (why_members (explanation_in tree op.now explanation.now))) }
@@ -193,7 +193,7 @@ fn write_moot(out: &mut Writer, op: &Op, explanation: &Explanation) -> Added
 }
 
 /// Writes how a record is answered, and why.
-#[tactic(auto, unfolding(crate::specs::Told::Tells, crate::specs::Records::answer_members))]
+#[tactic(auto, unfolding(crate::specs::Records::answer_members))]
 fn write_answer_members(
     out: &mut Writer,
     tree: &Tree,

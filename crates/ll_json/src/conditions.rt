@@ -87,7 +87,7 @@ fn write_only_for_directories(out: &mut Writer, op: &Op, rights: Fs) -> Added
 }
 
 /// Writes why a call fails by no layer.
-#[tactic(auto, unfolding(crate::specs::Told::Tells, ll_explanations::specs::Meanings::condition_in, crate::specs::Why::condition_json))]
+#[tactic(auto, unfolding(ll_explanations::specs::Meanings::condition_in, crate::specs::Why::condition_json))]
 pub(crate) fn write_condition(out: &mut Writer, op: &Op, condition: &Condition) -> Added
     ensures { Tells result out.old out.new
         (json_tokens (condition_json (condition_in op.now condition.now))) }

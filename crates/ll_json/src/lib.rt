@@ -1,5 +1,5 @@
 //! The report as JSON, record after record of a trace that was judged.
-#![tactic(auto, unfolding(crate::specs::Told::Tells))]
+#![tactic(auto)]
 
 mod answers;
 mod conditions;

@@ -159,7 +159,7 @@ fn write_kept(out: &mut Writer, records: &[Record], right: FsRight, opened: u32)
 }
 
 /// Writes what is objected to.
-#[tactic(auto, unfolding(crate::specs::Told::Tells, crate::specs::Why::objection_json))]
+#[tactic(auto, unfolding(crate::specs::Why::objection_json))]
 fn write_objection(
     out: &mut Writer,
     tree: &Tree,
@@ -193,7 +193,7 @@ fn line_made(records: &[Record], made: Option<u32>) -> u64
 }
 
 /// Begins a layer, which says where it comes from.
-#[tactic(auto, unfolding(crate::specs::Told::Tells, crate::specs::Layering::head_of))]
+#[tactic(auto, unfolding(crate::specs::Layering::head_of))]
 fn write_head(out: &mut Writer, records: &[Record], layer: u64, made: Option<u32>) -> Added
     ensures { Tells result out.old out.new (head_of records.now layer made) }
 {
@@ -206,7 +206,7 @@ fn write_head(out: &mut Writer, records: &[Record], layer: u64, made: Option<u32
 }
 
 /// Ends the layer before, if there is one.
-#[tactic(auto, unfolding(crate::specs::Told::Tells, crate::specs::Layering::ending))]
+#[tactic(auto, unfolding(crate::specs::Layering::ending))]
 fn write_ending(out: &mut Writer, before: u64) -> Added
     ensures { Tells result out.old out.new (ending before) }
 {
@@ -219,7 +219,7 @@ fn write_ending(out: &mut Writer, before: u64) -> Added
 }
 
 /// Goes on behind an objection of the same layer, or begins the next layer.
-#[tactic(auto, unfolding(crate::specs::Told::Tells, crate::specs::Layering::opening))]
+#[tactic(auto, unfolding(crate::specs::Layering::opening))]
 fn write_opening(out: &mut Writer, records: &[Record], before: u64, one: &LayerObjection) -> Added
     ensures { Tells result out.old out.new (opening records.now before one.now) }
 {
@@ -232,7 +232,7 @@ fn write_opening(out: &mut Writer, records: &[Record], before: u64, one: &LayerO
 }
 
 /// Writes one objection behind those before it.
-#[tactic(auto, unfolding(crate::specs::Told::Tells, crate::specs::Layering::next_tokens))]
+#[tactic(auto, unfolding(crate::specs::Layering::next_tokens))]
 fn write_next(
     out: &mut Writer,
     tree: &Tree,

@@ -19,7 +19,7 @@ use ll_rights::Kind;
 use ll_trace::Op;
 
 /// Writes a member that is a path.
-#[tactic(auto, using(crate::proofs::PathsSpelt::text_spelt), unfolding(crate::specs::Told::Tells))]
+#[tactic(auto, using(crate::proofs::PathsSpelt::text_spelt))]
 fn write_path(out: &mut Writer, name: &str, path: &str) -> Added
     requires { IsTrue (is_some (path_of path.now)) }
     ensures { Tells result out.old out.new
@@ -108,7 +108,7 @@ fn write_both(out: &mut Writer, op: &Op, word: &str) -> Added
 }
 
 /// Writes why the policy isn't asked.
-#[tactic(auto, unfolding(crate::specs::Told::Tells, ll_reasons::specs::Meant::reason_in, crate::specs::Why::reason_json))]
+#[tactic(auto, unfolding(ll_reasons::specs::Meant::reason_in, crate::specs::Why::reason_json))]
 pub(crate) fn write_reason(out: &mut Writer, op: &Op, reason: &Reason) -> Added
     ensures { Tells result out.old out.new
         (json_tokens (reason_json (reason_in op.now reason.now))) }

@@ -26,7 +26,7 @@ pub(crate) fn word_for(name: &str) -> &str
 }
 
 /// Writes the name of a right for files, where a set has it.
-#[tactic(auto, unfolding(crate::specs::Told::Tells, crate::specs::Names::name_in))]
+#[tactic(auto, unfolding(crate::specs::Names::name_in))]
 fn write_name(out: &mut Writer, rights: Fs, right: FsRight) -> Added
     ensures { Tells result out.old out.new (name_in rights right) }
 {
@@ -57,7 +57,7 @@ pub(crate) fn write_rights(out: &mut Writer, rights: Fs) -> Added
 }
 
 /// Writes the name of a right for ports, where a set has it.
-#[tactic(auto, unfolding(crate::specs::Told::Tells, crate::specs::Names::port_name_in))]
+#[tactic(auto, unfolding(crate::specs::Names::port_name_in))]
 fn write_port_name(out: &mut Writer, rights: Net, right: NetRight) -> Added
     ensures { Tells result out.old out.new (port_name_in rights right) }
 {

@@ -1,13 +1,11 @@
 use Rattle.std.proofs.Common.{◌∷◌, codes}
 use Rattle.ll_explanations.specs.Meanings.{explanation_in}
 use Rattle.ll_json.specs.Records.{answer_members, versions_json}
-use Rattle.ll_json.specs.Told.{Tells}
 use Rattle.ll_json.proofs.Enclosing.{object_tokens}
 use Rattle.ll_json.proofs.Telling.{told_4, told_as}
 use Rattle.ll_json.proofs.answers.write_answer.Goals as goal
 
 pub returns : goal.returns
-unfolding Tells
 returns c layers made =
     let why = explanation_in c.args.tree.now c.args.op.now c.args.explanation.now in
     told_as c.args.out.now c.end_object.new.out _ _

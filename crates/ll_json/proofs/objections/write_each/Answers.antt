@@ -1,11 +1,9 @@
 use Rattle.std.proofs.Common.{◌∙◌, ◌++◌, ap}
 use Rattle.std.proofs.lemmas.List.{get_or_default}
-use Rattle.ll_json.specs.Told.{Tells}
 use Rattle.ll_json.proofs.LayersTold.{all_written, left_next, left_none}
 use Rattle.ll_json.proofs.objections.write_each.Goals as goal
 
 pub loop-one-preserved : goal.loop-one-preserved
-unfolding Tells
 loop-one-preserved c =
     let all = c.args.all.now in
     let there = c.loop-one-test.true in (
@@ -15,7 +13,6 @@ loop-one-preserved c =
     )
 
 pub returns : goal.returns
-unfolding Tells
 returns c layers made = (
   c.in_ok-write_ending.ensures.0 ∙ c.loop-one.invariant.0,
   left_none c.args.tree.now c.args.records.now c.loop-one.out.tokens _ _ c.loop-one.before c.args.all.now c.loop-one.one-index

@@ -1,9 +1,7 @@
-use Rattle.ll_json.specs.Told.{Tells}
 use Rattle.ll_json.proofs.Telling.{told_4}
 use Rattle.ll_json.proofs.objections.write_mounting.Goals as goal
 
 pub returns : goal.returns
-unfolding Tells
 returns c =
     told_4 c.args.out.now c.begin_object.new.out c.write_key.new.out c.write_true.new.out c.end_object.new.out _ _ _ _
     c.in_ok-begin_object.ensures c.in_ok-write_key.ensures c.in_ok-write_true.ensures c.in_ok-end_object.ensures

@@ -1,12 +1,10 @@
 use Rattle.std.proofs.Common.{◌∷◌, []}
 use Rattle.ll_explanations.specs.Meanings.{explanation_in}
 use Rattle.ll_json.specs.Records.{answer_json, record_json}
-use Rattle.ll_json.specs.Told.{Tells}
 use Rattle.ll_json.proofs.LinesTold.{line_is}
 use Rattle.ll_json.proofs.record.push_record.Goals as goal
 
 pub returns : goal.returns
-unfolding Tells
 returns c layers made =
     let r = c.args.found.now in
     let why = explanation_in c.args.tree.now r.op c.args.explanation.now in

@@ -5,14 +5,12 @@ use Rattle.json.specs.Token.{Token}
 use Rattle.ll_rights.specs.NetRights as network
 use Rattle.ll_explain.specs.Words.{word_for}
 use Rattle.ll_explanations.specs.Sets.{port_rights_in}
-use Rattle.ll_json.specs.Told.{Tells}
 use Rattle.ll_json.proofs.Enclosing.{array_tokens}
 use Rattle.ll_json.proofs.NamesTold.{port_names}
 use Rattle.ll_json.proofs.Telling.{told_3, told_as}
 use Rattle.ll_json.proofs.rights.write_port_rights.Goals as goal
 
 pub returns : goal.returns
-unfolding Tells
 returns c =
     told_as c.args.out.now c.end_array.new.out _ _
     (ap (λ (names : List Token). token.begin_array ∷ (names ++ token.end_array ∷ [])) (port_names c.args.rights c.all.result.now c.all.ensures)

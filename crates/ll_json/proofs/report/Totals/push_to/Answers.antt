@@ -1,12 +1,10 @@
 use Rattle.std.proofs.Common.{◌∷◌, []}
 use Rattle.ll_rights.specs.Abis.{number_of}
 use Rattle.ll_json.specs.Reports.{total_with, totals_json}
-use Rattle.ll_json.specs.Told.{Tells}
 use Rattle.ll_json.proofs.LinesTold.{line_is}
 use Rattle.ll_json.proofs.report.Totals.push_to.Goals as goal
 
 pub returns : goal.returns
-unfolding Tells
 returns c =
     let totals = c.args.self.now in
     line_is c.args.text.items c.into_inner-line.result.items _ c.new-out.result c.write_last.new.out
