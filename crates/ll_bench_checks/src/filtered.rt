@@ -2,7 +2,7 @@
 //! an end where nothing is lacking.
 
 use bitflags::Flags;
-use ll_plain::Refuses;
+use ll_fixtures::Refuses;
 use ll_rights::Fs;
 use ll_tree::{NodeId, Tree};
 use std::alloc::{AllocError, Global};

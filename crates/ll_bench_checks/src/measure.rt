@@ -7,7 +7,7 @@ ghost use Rattle.ll_rules.specs.KeptLayers.{IsDomainOf};
 
 use crate::setting::{Layers, deep_tree, layers_of, objects_at};
 use anyhow::{Context, Result};
-use ll_plain::refusing;
+use ll_fixtures::refusing;
 use ll_rights::Fs;
 use ll_rules::check_path;
 use ll_tree::{NodeId, Tree};

@@ -8,7 +8,7 @@ ghost use Rattle.ll_rules.specs.KeptLayers.{IsDomainOf};
 use crate::filtered::FilteredLayer;
 use anyhow::{Context, Result};
 use bitflags::Flags;
-use ll_plain::{PlainLayer, stacked};
+use ll_fixtures::{PlainLayer, stacked};
 use ll_rights::{Abi, Fs, Net};
 use ll_rules::{Domain, Layer, Ruleset};
 use ll_tree::{NodeId, Place, Tree};

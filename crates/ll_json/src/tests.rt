@@ -1,6 +1,7 @@
 //! Reports as JSON, as the documents say them.
 
 use crate::json_report;
+use ll_fixtures::TREE;
 use ll_options::Shown;
 use ll_pool::judge_alone;
 use ll_process::Case;
@@ -8,7 +9,6 @@ use ll_report::Report;
 use ll_rights::Abi;
 use ll_trace::Trace;
 use ll_tree::Tree;
-use ll_worked::TREE;
 use std::alloc::Global;
 use std::test::Fail;
 

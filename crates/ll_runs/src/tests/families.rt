@@ -2,8 +2,8 @@
 
 use crate::tests::ready::{FAMILY_REPORT, audited, even_ones};
 use ll_audit::{Cut, Fault};
+use ll_fixtures::FAMILY;
 use ll_tree::{Cause, ReadFault};
-use ll_worked::FAMILY;
 use std::alloc::Global;
 use std::io;
 use std::io::Write;

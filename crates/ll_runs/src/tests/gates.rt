@@ -2,9 +2,9 @@
 
 use crate::tests::ready::{audited_through, run_through};
 use ll_audit::Cut;
+use ll_fixtures::TREE;
 use ll_pool::Gate;
 use ll_trace::ProcessId;
-use ll_worked::TREE;
 use std::alloc::{AllocError, Global};
 use std::sync::Wait;
 use std::sync::atomic::{AtomicU64, Ordering};

@@ -1,7 +1,7 @@
 //! Reports of which a part is shown, and explanations over a range of versions.
 
 use crate::tests::ready::{TRACE, run};
-use ll_worked::TREE;
+use ll_fixtures::TREE;
 use std::test::Fail;
 
 const REFUSED_ALONE: &str = "\

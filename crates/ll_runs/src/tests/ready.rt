@@ -1,9 +1,9 @@
 //! A worked trace, reports, and running the program on the worked tree.
 
 use ll_audit::{Cut, Fault, Idle, MemorySource, Report, audit, front};
+use ll_fixtures::TREE;
 use ll_pool::Gate;
 use ll_rights::Abi;
-use ll_worked::TREE;
 use std::alloc::{AllocError, Global};
 use std::sync::Wait;
 use std::thread::Threads;

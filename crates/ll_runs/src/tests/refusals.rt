@@ -4,8 +4,8 @@ ghost use Rattle.std.specs.Prelude.{◌+◌, ◌^◌, ◌<◌};
 
 use crate::tests::ready::{REPORT, TRACE, owned};
 use ll_audit::{Ending, Idle, MemorySource, Source, SourceFault, front_ending};
+use ll_fixtures::TREE;
 use ll_source::FailingSource;
-use ll_worked::TREE;
 use std::alloc::{AllocError, Global};
 use std::io;
 use std::io::{ErrorKind, Write};

@@ -2,9 +2,9 @@
 
 use crate::tests::ready::{Ended, REPORT, TRACE, run};
 use ll_audit::{Cut, Fault, Idle, audit};
+use ll_fixtures::TREE;
 use ll_rights::Abi;
 use ll_tree::{Cause, ReadFault};
-use ll_worked::TREE;
 use std::alloc::AllocError;
 use std::sync::Wait;
 use std::test::Fail;

@@ -1,8 +1,0 @@
-//! The tests, and what they share.
-
-mod lines;
-mod rights;
-mod texts;
-mod traces;
-mod trees;
-mod values;

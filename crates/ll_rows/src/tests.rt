@@ -1,8 +1,0 @@
-//! The tests, and what they share.
-
-mod gates;
-mod orders;
-mod pool;
-mod refusals;
-mod traces;
-mod worked;

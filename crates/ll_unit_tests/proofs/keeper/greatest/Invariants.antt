@@ -1,0 +1,10 @@
+use Rattle.std.proofs.Common.{ℕ, ◌<◌, ◌≤◌, length}
+use Rattle.std.specs.Prelude.{slice_index_or}
+use Rattle.ll_process.specs.declared.job.Job.{Job}
+use Rattle.ll_unit_tests.proofs.keeper.greatest.Given as goal
+
+abbrev pub invariant-loop-place : goal.invariant-loop-place
+invariant-loop-place l = record {
+  there : l.best < length l.jobs;
+  so_far : (i : ℕ) (none : Job) → i < l.place → (slice_index_or l.jobs i none).process.0 ≤ (slice_index_or l.jobs l.best none).process.0;
+}

@@ -1,0 +1,5 @@
+//! The tests, by what they try.
+
+mod judging;
+mod reading;
+mod rules;

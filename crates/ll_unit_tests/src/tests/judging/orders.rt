@@ -1,0 +1,50 @@
+//! The worked trace, judged in orders that different hands lead to, and a long chain of forks.
+
+use crate::keeper::Wanted;
+use crate::order::judge_greatest_first;
+use crate::tests::judging::worked::{FAMILY_ANSWERS, Forks, case_of, case_with, judge_told};
+use ll_fixtures::FAMILY;
+use ll_pool::collect;
+use ll_process::{Answer, Case};
+use std::alloc::Global;
+use std::process::Abort;
+use std::test::Fail;
+
+/// The number of pieces of a case with each hand, whose answers are those told.
+fn pieces_by_hand(
+    rt: &(impl AllocGlobal + Abort),
+    case: &Case,
+    told: &str,
+) -> Result<[usize; 3], Fail> {
+    Ok([
+        judge_told(rt, case, told, Wanted::Every)?,
+        judge_told(rt, case, told, Wanted::Even)?,
+        judge_told(rt, case, told, Wanted::Nothing)?,
+    ])
+}
+
+#[test]
+fn answers_are_the_same_whatever_a_hand_keeps(rt: HostRuntime) -> Result<(), Fail> {
+    let case = case_of(rt.alloc(), FAMILY.as_bytes())?;
+    assert_eq!(rt; pieces_by_hand(&rt, &case, FAMILY_ANSWERS)?, [12, 6, 1]);
+    Ok(())
+}
+
+/// How many pieces a hand leads to that keeps nothing, and how many records they allow.
+fn allowed_in(alloc: Global, case: &Case) -> Result<[usize; 2], Fail> {
+    let pieces = judge_greatest_first(alloc, case, Wanted::Nothing)?;
+    let count = pieces.len();
+    let answers = collect(alloc, case, pieces)?;
+    let allowed = answers
+        .iter()
+        .filter(|answer| **answer == Answer::Allowed)
+        .count();
+    Ok([count, allowed])
+}
+
+#[test]
+fn a_chain_of_65536_processes_is_judged(rt: HostRuntime) -> Result<(), Fail> {
+    let case = case_with(rt.alloc(), Forks::TheOneBefore, 65_536)?;
+    assert_eq!(rt; allowed_in(rt.alloc(), &case)?, [1, 65_536]);
+    Ok(())
+}

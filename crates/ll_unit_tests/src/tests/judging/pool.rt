@@ -1,0 +1,219 @@
+//! What no clause of the pool says: that workers run at once, who judges what, and that calls succeed where memory and
+//! threads are there.
+
+ghost use Rattle.std.specs.Prelude.{IfOk};
+ghost use Rattle.ll_pool.specs.Gathered.{ArePiecesOf};
+
+use crate::tests::judging::gates::{Meeting, Open};
+use crate::tests::judging::worked::{FAMILY_ANSWERS, Forks, case_of, case_with, expect_answers};
+use ll_fixtures::FAMILY;
+use ll_pool::{CollectFault, collect, judge_alone, run};
+use ll_process::{Answer, Case, Piece};
+use ll_trace::ProcessId;
+use std::alloc::Global;
+use std::sync::Wait;
+use std::test::Fail;
+use std::thread::Threads;
+
+/// The pieces that workers make, of whom there are one to 64.
+fn made<'c, R: Threads + Wait + Sync>(
+    rt: &R,
+    alloc: Global,
+    case: &'c Case,
+    workers: usize,
+    cut: &[bool],
+) -> Result<Vec<Piece<'c>>, Fail>
+    ensures { IfOk result (λ pieces. ArePiecesOf case.now pieces.items) }
+{
+    Ok(run(rt, alloc, case, workers.max(1).min(64), cut, &Open)?)
+}
+
+/// How many pieces workers make.
+fn count_of<R: Threads + Wait + Sync>(
+    rt: &R,
+    alloc: Global,
+    case: &Case,
+    workers: usize,
+    cut: &[bool],
+) -> Result<usize, Fail> {
+    Ok(made(rt, alloc, case, workers, cut)?.len())
+}
+
+/// The answers of the pieces that workers make.
+fn collected<R: Threads + Wait + Sync>(
+    rt: &R,
+    alloc: Global,
+    case: &Case,
+    workers: usize,
+    cut: &[bool],
+) -> Result<Vec<Answer>, Fail> {
+    let pieces = made(rt, alloc, case, workers, cut)?;
+    Ok(collect(alloc, case, pieces)?)
+}
+
+/// How many of the pieces have this many processes.
+fn pieces_of(pieces: &[Piece<'_>], processes: usize) -> usize {
+    pieces
+        .iter()
+        .filter(|piece| piece.processes().len() == processes)
+        .count()
+}
+
+const EVERY: [bool; 12] = [true; 12];
+
+const EVEN: [bool; 12] = [
+    true, false, true, false, true, false, true, false, true, false, true, false,
+];
+
+#[test]
+fn the_answers_are_the_same_for_every_number_of_workers_and_every_cut(
+    rt: HostRuntime,
+) -> Result<(), Fail> {
+    let alloc = rt.alloc();
+    let case = case_of(alloc, FAMILY.as_bytes())?;
+    for cut in [&[], EVERY.as_slice(), EVEN.as_slice()] {
+        for workers in [1, 3, 8] {
+            let answers = collected(&rt, alloc, &case, workers, cut)?;
+            expect_answers(&rt, &answers, FAMILY_ANSWERS);
+        }
+    }
+    Ok(())
+}
+
+#[test]
+fn one_thread_gives_the_same_answers(rt: HostRuntime) -> Result<(), Fail> {
+    let case = case_of(rt.alloc(), FAMILY.as_bytes())?;
+    expect_answers(&rt, &judge_alone(rt.alloc(), &case)?, FAMILY_ANSWERS);
+    Ok(())
+}
+
+#[test]
+fn one_worker_makes_one_piece_of_the_whole_family(rt: HostRuntime) -> Result<(), Fail> {
+    let case = case_of(rt.alloc(), FAMILY.as_bytes())?;
+    let pieces = made(&rt, rt.alloc(), &case, 1, &[])?;
+    assert_eq!(rt; [pieces.len(), pieces_of(&pieces, 12)], [1, 1]);
+    Ok(())
+}
+
+#[test]
+fn without_a_piece_the_first_process_is_missing(rt: HostRuntime) -> Result<(), Fail> {
+    let case = case_of(rt.alloc(), FAMILY.as_bytes())?;
+    let fault = collect(rt.alloc(), &case, Vec::new(rt.alloc())).err();
+    assert_eq!(rt; fault, Some(CollectFault::Missing(ProcessId(0))));
+    Ok(())
+}
+
+/// The fault of the pieces that one worker makes, and makes again.
+fn fault_of_twice<R: Threads + Wait + Sync>(
+    rt: &R,
+    alloc: Global,
+    case: &Case,
+) -> Result<Option<CollectFault>, Fail> {
+    let mut pieces = made(rt, alloc, case, 1, &[])?;
+    let mut again = made(rt, alloc, case, 1, &[])?;
+    pieces.append(&mut again)?;
+    Ok(collect(alloc, case, pieces).err())
+}
+
+#[test]
+fn a_piece_made_twice_doubles_the_first_process(rt: HostRuntime) -> Result<(), Fail> {
+    let case = case_of(rt.alloc(), FAMILY.as_bytes())?;
+    let fault = fault_of_twice(&rt, rt.alloc(), &case)?;
+    assert_eq!(rt; fault, Some(CollectFault::Double(ProcessId(0))));
+    Ok(())
+}
+
+#[test]
+fn an_empty_trace_has_no_answers(rt: HostRuntime) -> Result<(), Fail> {
+    let case = case_of(rt.alloc(), b"")?;
+    let pieces = count_of(&rt, rt.alloc(), &case, 8, &[])?;
+    let answers = collected(&rt, rt.alloc(), &case, 8, &[])?.len();
+    assert_eq!(rt; [pieces, answers], [0, 0]);
+    Ok(())
+}
+
+/// How many pieces one worker makes that is to cut each process off, and how many of them have 77 processes and one.
+fn pieces_of_children<R: Threads + Wait + Sync>(
+    rt: &R,
+    alloc: Global,
+    case: &Case,
+) -> Result<[usize; 3], Fail> {
+    let every = vec![in alloc; true; 1101]?;
+    let pieces = made(rt, alloc, case, 1, &every)?;
+    Ok([pieces.len(), pieces_of(&pieces, 77), pieces_of(&pieces, 1)])
+}
+
+#[test]
+fn children_that_find_the_queue_full_are_judged_with_their_parent(
+    rt: HostRuntime,
+) -> Result<(), Fail> {
+    let case = case_with(rt.alloc(), Forks::TheFirst, 1101)?;
+    let pieces = pieces_of_children(&rt, rt.alloc(), &case)?;
+    assert_eq!(rt; pieces, [1025, 1, 1024]);
+    Ok(())
+}
+
+/// How many pieces workers make of so many processes.
+fn count_of_forks<R: Threads + Wait + Sync>(
+    rt: &R,
+    alloc: Global,
+    (forks, processes): (Forks, u32),
+    workers: usize,
+    cut: &[bool],
+) -> Result<usize, Fail> {
+    let case = case_with(alloc, forks, processes)?;
+    count_of(rt, alloc, &case, workers, cut)
+}
+
+/// A child that is judged apart where the cut says so, more roots than the queue holds, and a long line of descendants,
+/// cut at each process and not at all.
+#[test]
+fn all_processes_are_judged_in_so_many_pieces(rt: HostRuntime) -> Result<(), Fail> {
+    let every = vec![in rt.alloc(); true; 8192]?;
+    for (forks, processes, workers, cut, pieces) in [
+        (Forks::TheFirst, 2, 1, [false, true].as_slice(), 2),
+        (Forks::TheFirst, 2, 1, [].as_slice(), 1),
+        (Forks::Nobody, 1100, 8, [].as_slice(), 1100),
+        (Forks::TheOneBefore, 8192, 8, every.as_slice(), 8192),
+        (Forks::TheOneBefore, 8192, 8, [].as_slice(), 1),
+    ] {
+        let count = count_of_forks(&rt, rt.alloc(), (forks, processes), workers, cut)?;
+        assert_eq!(rt; count, pieces);
+    }
+    Ok(())
+}
+
+#[test]
+fn a_tree_of_forks_is_cut_into_single_processes_a_hundred_times(
+    rt: HostRuntime,
+) -> Result<(), Fail> {
+    let case = case_with(rt.alloc(), Forks::TheOneAtHalf, 1023)?;
+    let every = vec![in rt.alloc(); true; 1023]?;
+    for _ in 0..100 {
+        assert_eq!(rt; count_of(&rt, rt.alloc(), &case, 8, &every)?, 1023);
+    }
+    Ok(())
+}
+
+/// How many pieces two workers make, and whether two processes from the first on were judged at once.
+fn judged_at_once<R: Threads + Wait + Sync>(
+    rt: &R,
+    alloc: Global,
+    case: &Case,
+    first: u32,
+) -> Result<(usize, bool), Fail> {
+    let gate = Meeting::of(first, first.saturating_add(1));
+    let pieces = run(rt, alloc, case, 2, &[true; 3], &gate)?;
+    Ok((pieces.len(), gate.was_met()))
+}
+
+/// Two roots, and two children of one process, are judged at once.
+#[test]
+fn two_jobs_are_judged_at_once(rt: HostRuntime) -> Result<(), Fail> {
+    for (forks, processes, first) in [(Forks::Nobody, 2, 0), (Forks::TheFirst, 3, 1)] {
+        let case = case_with(rt.alloc(), forks, processes)?;
+        let (pieces, was_met) = judged_at_once(&rt, rt.alloc(), &case, first)?;
+        assert!(rt; pieces == processes as usize && was_met, "{pieces} pieces");
+    }
+    Ok(())
+}

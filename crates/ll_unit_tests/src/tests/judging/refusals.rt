@@ -1,0 +1,250 @@
+//! Each test holds whichever one request for memory is refused: the call that it is about answers as with
+//! ample memory or says that it has none, what it was lent is as it was, and a second call does what the
+//! first was to do. A helper that meets the refusal tries again.
+
+ghost use Rattle.std.specs.Prelude.{IfOk};
+ghost use Rattle.ll_process.specs.Jobs.{AreJobsOf};
+ghost use Rattle.ll_pool.specs.Gathered.{ArePiecesOf};
+
+use crate::keeper::{Keeper, Wanted};
+use crate::order::judge_greatest_first;
+use crate::tests::judging::worked::{case_of, expect_answers, is_told};
+use ll_fixtures::TREE;
+use ll_pool::{CollectFault, collect, judge_alone};
+use ll_process::{Answer, Case, Job, Piece, judge};
+use ll_rights::Abi;
+use ll_rules::NoMemory;
+use ll_trace::{ProcessId, Trace};
+use ll_tree::Tree;
+use std::alloc::Global;
+use std::process::Abort;
+use std::test::Fail;
+
+/// Two processes that the trace starts with, and four that descend from the second.
+const TRACE: &str = "\
+{\"op\":\"start\",\"pid\":9}\n\
+{\"op\":\"start\",\"pid\":1}\n\
+{\"op\":\"nnp\",\"pid\":1}\n\
+{\"op\":\"create\",\"pid\":1,\"rs\":3,\"fs\":[\"read_file\"]}\n\
+{\"op\":\"add_path\",\"pid\":1,\"rs\":3,\"path\":\"/a\",\"fs\":[\"read_file\"]}\n\
+{\"op\":\"fork\",\"pid\":1,\"child\":2}\n\
+{\"op\":\"fork\",\"pid\":1,\"child\":3}\n\
+{\"op\":\"restrict\",\"pid\":3,\"rs\":3}\n\
+{\"op\":\"fork\",\"pid\":3,\"child\":4}\n\
+{\"op\":\"fork\",\"pid\":3,\"child\":5}\n\
+{\"op\":\"open\",\"pid\":4,\"path\":\"/b/g\",\"fd\":4,\"mode\":\"r\"}\n\
+{\"op\":\"open\",\"pid\":5,\"path\":\"/a/f\",\"fd\":4,\"mode\":\"r\"}\n\
+{\"op\":\"open\",\"pid\":2,\"path\":\"/b/g\",\"fd\":4,\"mode\":\"r\"}\n\
+{\"op\":\"mount\",\"pid\":5}\n\
+{\"op\":\"ftruncate\",\"pid\":9,\"fd\":4}\n";
+
+const ANSWERS: &str = "a a a a a a a a a a E1 a a P1 m";
+
+/// The processes that a hand with even numbers leaves to whoever judges process 1, and the places of
+/// their records.
+const JUDGED: [ProcessId; 3] = [ProcessId(1), ProcessId(3), ProcessId(5)];
+
+const PLACES: [u32; 11] = [1, 2, 3, 4, 5, 6, 7, 8, 9, 11, 13];
+
+/// The processes that this hand holds then, where it held process 0 before.
+const KEPT: [ProcessId; 3] = [ProcessId(0), ProcessId(2), ProcessId(4)];
+
+/// The case of the trace at version 4. Its tree and its trace are read again where the first reading met the
+/// refusal, and both where making the case did, since they went with it.
+fn case_again(alloc: Global) -> Result<Case, Fail> {
+    let tree = match Tree::read(alloc, TREE.as_bytes()) {
+        Ok(tree) => tree,
+        Err(_) => Tree::read(alloc, TREE.as_bytes())?,
+    };
+    let trace = match Trace::read(alloc, TRACE.as_bytes()) {
+        Ok(trace) => trace,
+        Err(_) => Trace::read(alloc, TRACE.as_bytes())?,
+    };
+    match Case::new(alloc, tree, trace, Abi::V4) {
+        Ok(case) => Ok(case),
+        Err(NoMemory) => case_of(alloc, TRACE.as_bytes()),
+    }
+}
+
+fn roots_again(alloc: Global, case: &Case) -> Result<Vec<Job<'_>>, Fail>
+    ensures { IfOk result (λ jobs. AreJobsOf case.now jobs.items) }
+{
+    match case.roots(alloc) {
+        Ok(jobs) => Ok(jobs),
+        Err(NoMemory) => Ok(case.roots(alloc)?),
+    }
+}
+
+fn pieces_again(alloc: Global, case: &Case) -> Result<Vec<Piece<'_>>, Fail>
+    ensures { IfOk result (λ pieces. ArePiecesOf case.now pieces.items) }
+{
+    match judge_greatest_first(alloc, case, Wanted::Even) {
+        Ok(pieces) => Ok(pieces),
+        Err(NoMemory) => Ok(judge_greatest_first(alloc, case, Wanted::Even)?),
+    }
+}
+
+/// Whether the answer at a place is the one told.
+fn is_answer(place: usize, answer: &Answer) -> bool {
+    match ANSWERS.split_ascii_whitespace().nth(place) {
+        Some(word) => is_told(answer, word),
+        None => false,
+    }
+}
+
+/// The case is judged as it was before anything was refused.
+fn expect_unchanged(rt: &impl Abort, alloc: Global, case: &Case) -> Result<(), Fail> {
+    let answers = match judge_alone(alloc, case) {
+        Ok(answers) => answers,
+        Err(NoMemory) => judge_alone(alloc, case)?,
+    };
+    expect_answers(rt, &answers, ANSWERS);
+    Ok(())
+}
+
+#[test]
+fn case_without_memory(rt: HostRuntime) -> Result<(), Fail> {
+    let case = case_again(rt.alloc())?;
+    expect_unchanged(&rt, rt.alloc(), &case)
+}
+
+/// The roots are the two processes that the trace starts with, and the case is judged as before.
+fn expect_roots(rt: &impl Abort, alloc: Global, case: &Case) -> Result<(), Fail> {
+    let jobs = roots_again(alloc, case)?;
+    assert_eq!(rt; jobs.len(), 2);
+    assert_eq!(rt; jobs[0].process(), ProcessId(0));
+    assert_eq!(rt; jobs[1].process(), ProcessId(1));
+    expect_unchanged(rt, alloc, case)
+}
+
+#[test]
+fn roots_without_memory(rt: HostRuntime) -> Result<(), Fail> {
+    let case = case_again(rt.alloc())?;
+    expect_roots(&rt, rt.alloc(), &case)
+}
+
+/// The job of process 1, and a hand with even numbers that holds the job of process 0.
+fn job_again(alloc: Global, case: &Case) -> Result<(Job<'_>, Keeper<'_>), Fail>
+    ensures { IfOk result (λ both. AreJobsOf both.0.case.now both.1.jobs.items) }
+{
+    let mut jobs = roots_again(alloc, case)?;
+    let Some(job) = jobs.pop() else {
+        return Err(Fail::from("the trace starts with two processes"));
+    };
+    let keeper = Keeper {
+        wanted: Wanted::Even,
+        jobs,
+    };
+    Ok((job, keeper))
+}
+
+/// The answers of a piece are those told, and its first process is this one.
+fn expect_piece(rt: &impl Abort, piece: &Piece<'_>, process: ProcessId) {
+    assert_eq!(rt; piece.processes().first().copied(), Some(process));
+    for (place, answer) in piece.answers() {
+        assert!(rt; is_answer(*place as usize, answer), "{answer:?} at {place}");
+    }
+}
+
+/// The job can be judged.
+fn expect_job(rt: &impl Abort, alloc: Global, job: Job<'_>) -> Result<(), Fail> {
+    let process = job.process();
+    let mut nobody = Keeper {
+        wanted: Wanted::Nothing,
+        jobs: Vec::new(alloc),
+    };
+    let piece = judge(alloc, job, &mut nobody)?;
+    expect_piece(rt, &piece, process);
+    Ok(())
+}
+
+/// A hand holds the job that it held, and besides jobs of processes of the trace, which can be judged.
+fn expect_kept(
+    rt: &impl Abort,
+    alloc: Global,
+    case: &Case,
+    keeper: Keeper<'_>,
+) -> Result<(), Fail> {
+    assert_eq!(rt; keeper.wanted, Wanted::Even);
+    assert_eq!(rt; keeper.jobs.first().map(Job::process), Some(ProcessId(0)));
+    for job in keeper.jobs {
+        assert!(rt; job.process().0 < case.trace().processes());
+        expect_job(rt, alloc, job)?;
+    }
+    Ok(())
+}
+
+/// What is judged from process 1 on, with the hand afterwards.
+fn judged_again<'c>(
+    rt: &impl Abort,
+    alloc: Global,
+    case: &'c Case,
+) -> Result<(Piece<'c>, Keeper<'c>), Fail> {
+    let (job, mut keeper) = job_again(alloc, case)?;
+    match judge(alloc, job, &mut keeper) {
+        Ok(piece) => Ok((piece, keeper)),
+        Err(NoMemory) => {
+            expect_kept(rt, alloc, case, keeper)?;
+            let (job, mut keeper) = job_again(alloc, case)?;
+            let piece = judge(alloc, job, &mut keeper)?;
+            Ok((piece, keeper))
+        }
+    }
+}
+
+/// Whether a piece has the processes that the hand leaves, and answers at the places of their records.
+fn are_judged(piece: &Piece<'_>) -> bool {
+    piece.processes() == JUDGED.as_slice()
+        && piece.answers().len() == PLACES.len()
+        && piece
+            .answers()
+            .iter()
+            .zip(PLACES)
+            .all(|(answer, place)| answer.0 == place)
+}
+
+/// Whether the jobs are those that the hand holds then.
+fn are_kept(jobs: &[Job<'_>]) -> bool {
+    jobs.len() == KEPT.len()
+        && jobs
+            .iter()
+            .zip(KEPT)
+            .all(|(job, process)| job.process() == process)
+}
+
+/// The processes are shared out between the piece and the hand as the hand wants.
+fn expect_shared(rt: &impl Abort, alloc: Global, case: &Case) -> Result<(), Fail> {
+    let (piece, keeper) = judged_again(rt, alloc, case)?;
+    expect_piece(rt, &piece, ProcessId(1));
+    assert!(rt; are_judged(&piece) && are_kept(&keeper.jobs));
+    Ok(())
+}
+
+/// The case is judged as before, too.
+#[test]
+fn judge_without_memory(rt: HostRuntime) -> Result<(), Fail> {
+    let case = case_again(rt.alloc())?;
+    expect_shared(&rt, rt.alloc(), &case)?;
+    expect_unchanged(&rt, rt.alloc(), &case)
+}
+
+fn collected_again(rt: &impl Abort, alloc: Global, case: &Case) -> Result<Vec<Answer>, Fail> {
+    let pieces = pieces_again(alloc, case)?;
+    match collect(alloc, case, pieces) {
+        Ok(answers) => Ok(answers),
+        Err(fault) => {
+            assert_eq!(rt; fault, CollectFault::Memory);
+            let pieces = pieces_again(alloc, case)?;
+            Ok(collect(alloc, case, pieces)?)
+        }
+    }
+}
+
+#[test]
+fn collect_without_memory(rt: HostRuntime) -> Result<(), Fail> {
+    let alloc = rt.alloc();
+    let case = case_again(alloc)?;
+    let answers = collected_again(&rt, alloc, &case)?;
+    expect_answers(&rt, &answers, ANSWERS);
+    expect_unchanged(&rt, alloc, &case)
+}

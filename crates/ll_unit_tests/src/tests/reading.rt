@@ -1,0 +1,8 @@
+//! Tests of rights, of the lines of a file and their values, of trees and of traces.
+
+mod lines;
+mod rights;
+mod texts;
+mod traces;
+mod trees;
+mod values;
