@@ -1,33 +1,59 @@
-//! Prints how long each stage of an audit takes, and the most memory that was in use by its end.
+//! Measures what the first word says: the stages of an audit, checks of a path, or maps that share.
 #![tactic(auto)]
 
+mod checks;
+mod maps;
 mod stages;
 mod stopwatch;
 
 use anyhow::Result;
 use ll_rights::Abi;
-use stages::{Run, measure};
+use maps::Keys;
+use stages::Run;
 use std::env;
 use std::process::ExitCode;
 
-/// The run that the words of the command line name.
-fn run_of(words: &[String]) -> Option<Run<'_>> {
+/// What is measured.
+#[derive(Drop)]
+enum Measurement<'a> {
+    /// How long each stage of an audit takes, and the most memory that was in use by its end.
+    Stages(Run<'a>),
+    /// How long a check of a path takes, in three forms.
+    Checks,
+    /// What maps that share take with such keys, and the keys' name.
+    Maps(&'a str, Keys),
+}
+
+/// What the words of the command line ask for.
+fn asked(words: &[String]) -> Option<Measurement<'_>> {
     match words {
-        [_program, abi, tree, trace] => Some(Run {
-            abi: Abi::new(abi.parse().ok()?)?,
-            tree,
-            trace,
-        }),
+        [_program, word] if word.as_str() == "checks" => Some(Measurement::Checks),
+        [_program, word, keys] if word.as_str() == "maps" => {
+            Some(Measurement::Maps(keys.as_str(), Keys::named(keys)?))
+        }
+        [_program, word, abi, tree, trace] if word.as_str() == "stages" => {
+            Some(Measurement::Stages(Run {
+                abi: Abi::new(abi.parse().ok()?)?,
+                tree,
+                trace,
+            }))
+        }
         _ => None,
     }
 }
 
 fn main(rt: HostRuntime) -> Result<ExitCode> {
     let words: Vec<String> = env::args(&rt)?.collect(rt.alloc())?;
-    let Some(run) = run_of(&words) else {
-        eprintln!(rt; "usage: ll_bench ABI TREE TRACE")?;
-        return Ok(ExitCode::from(2));
-    };
-    measure(&rt, &run)?;
+    match asked(&words) {
+        Some(Measurement::Stages(run)) => stages::measure(&rt, &run)?,
+        Some(Measurement::Checks) => checks::measure(&rt)?,
+        Some(Measurement::Maps(name, keys)) => maps::measure(&rt, name, keys)?,
+        None => {
+            eprintln!(rt;
+                "usage: ll_bench stages ABI TREE TRACE | checks | maps dense|scattered|worst"
+            )?;
+            return Ok(ExitCode::from(2));
+        }
+    }
     Ok(ExitCode::SUCCESS)
 }

@@ -1,9 +1,9 @@
-//! Time and memory, stage by stage.
+//! Time and memory.
 
 use anyhow::{Context, Result};
 use std::fs;
 use std::rt::{Clock, Files};
-use std::time::Instant;
+use std::time::{Duration, Instant};
 
 /// Measures stages that follow one another, and prints a line for each.
 #[derive(Drop)]
@@ -63,4 +63,14 @@ fn peak_kib<R: Files + AllocGlobal>(rt: &R) -> Result<u64> {
         .context("/proc/self/status has no VmHWM")?;
     let number = words.trim().strip_suffix(" kB").context("VmHWM in kB")?;
     Ok(number.parse()?)
+}
+
+/// The quicker of two.
+pub(crate) fn quicker(first: Duration, second: Duration) -> Duration {
+    if second < first { second } else { first }
+}
+
+/// Nanoseconds for one of this many.
+pub(crate) fn nanoseconds(time: Duration, many: u32) -> f64 {
+    time.as_secs_f64() * 1e9 / f64::from(many)
 }

@@ -1,5 +1,6 @@
-//! The measuring: a map is made, cloned, changed and looked up in.
+//! What maps that share take, beside the standard library's ordered map: one is made, cloned, changed and looked up in.
 
+use crate::stopwatch::{nanoseconds, quicker};
 use anyhow::{Context, Result};
 use ll_shared::SharedMap;
 use std::alloc::Global;
@@ -20,6 +21,9 @@ const VERSIONS: u32 = 8_000;
 /// How often all keys are looked up in one run.
 const ROUNDS: u32 = 20;
 
+/// How many look-ups one run has.
+const LOOK_UPS: u32 = ROUNDS * 10_000;
+
 /// How many runs of look-ups there are, of which the quickest counts.
 const RUNS: u32 = 30;
 
@@ -34,6 +38,16 @@ pub(crate) enum Keys {
 }
 
 impl Keys {
+    /// The keys of a name.
+    pub(crate) fn named(name: &str) -> Option<Keys> {
+        match name {
+            "dense" => Some(Keys::Dense),
+            "scattered" => Some(Keys::Scattered),
+            "worst" => Some(Keys::Worst),
+            _ => None,
+        }
+    }
+
     /// The key of a number.
     fn key(self, number: u64) -> u64 {
         match self {
@@ -124,16 +138,6 @@ fn in_ordered<R: Clock>(rt: &R, map: &BTreeMap<u64, u64>, keys: Keys) -> Result<
     Ok((sum, time))
 }
 
-/// The quicker of two.
-fn quicker(first: Duration, second: Duration) -> Duration {
-    if second < first { second } else { first }
-}
-
-/// Nanoseconds a look-up.
-fn nanoseconds(time: Duration) -> f64 {
-    time.as_secs_f64() * 1e9 / 200_000.0
-}
-
 /// Measures maps of 10,000 entries with such keys, and prints a line.
 pub(crate) fn measure<R: Clock + Files + Print + AllocGlobal>(
     rt: &R,
@@ -156,7 +160,7 @@ pub(crate) fn measure<R: Clock + Files + Print + AllocGlobal>(
         quick = quicker(quick, in_shared(rt, &shared, keys)?.1);
         other = quicker(other, in_ordered(rt, &ordered, keys)?.1);
     }
-    let (quick, other) = (nanoseconds(quick), nanoseconds(other));
+    let (quick, other) = (nanoseconds(quick, LOOK_UPS), nanoseconds(other, LOOK_UPS));
     let ratio = quick / other;
     println!(rt;
         "{name:<9} {entry:>6} {clone:>6} {version:>8} {quick:>7.1} {other:>8.1} {ratio:>6.2}"

@@ -5,7 +5,7 @@ ghost use Rattle.ll_tree.specs.Trees.{IsNode};
 ghost use Rattle.ll_rules.specs.InTree.{AreInTree};
 ghost use Rattle.ll_rules.specs.KeptLayers.{IsDomainOf};
 
-use crate::filtered::FilteredLayer;
+use crate::checks::filtered::FilteredLayer;
 use anyhow::{Context, Result};
 use bitflags::Flags;
 use ll_fixtures::{PlainLayer, stacked};

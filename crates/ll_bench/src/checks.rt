@@ -1,11 +1,16 @@
-//! The measuring: the least time of several runs, for each number of layers and each depth.
+//! How long a check of a path takes, by a plain climb for each layer, by one with a filter and an early end, and by
+//! lanes: the least time of several runs, for each number of layers and each depth.
+
+mod filtered;
+mod setting;
 
 ghost use Rattle.std.specs.Prelude.{All};
 ghost use Rattle.ll_tree.specs.Trees.{IsNode};
 ghost use Rattle.ll_rules.specs.InTree.{AreInTree};
 ghost use Rattle.ll_rules.specs.KeptLayers.{IsDomainOf};
 
-use crate::setting::{Layers, deep_tree, layers_of, objects_at};
+use crate::checks::setting::{Layers, deep_tree, layers_of, objects_at};
+use crate::stopwatch::{nanoseconds, quicker};
 use anyhow::{Context, Result};
 use ll_fixtures::refusing;
 use ll_rights::Fs;
@@ -75,16 +80,6 @@ fn checked<R: Clock>(
     }
     let time = start.elapsed(rt)?;
     Ok(Taken { refused, time })
-}
-
-/// Nanoseconds for one of this many checks.
-fn nanoseconds(time: Duration, checks: u32) -> f64 {
-    time.as_secs_f64() * 1e9 / f64::from(checks)
-}
-
-/// The quickest of two measured runs.
-fn quicker(first: Duration, second: Duration) -> Duration {
-    if second < first { second } else { first }
 }
 
 /// Measures a number of layers at a depth, and prints a line.

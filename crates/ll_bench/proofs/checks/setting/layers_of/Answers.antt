@@ -1,6 +1,6 @@
 use Rattle.std.proofs.lemmas.List.Elements.{All-push, All-same}
 use Rattle.ll_rules.specs.InTree.{AreInTree}
-use Rattle.ll_bench_checks.proofs.setting.layers_of.Goals as goal
+use Rattle.ll_bench.proofs.checks.setting.layers_of.Goals as goal
 
 pub loop-number-preserved : goal.loop-number-preserved
 loop-number-preserved c =
