@@ -22,3 +22,13 @@ opening records before one = if one.layer == before then codes "; " else ending 
 -- it is said
 unfoldable pub next_text : List Entry → List Record → ℕ → LayerObjection → List ℕ
 next_text tree records before one = opening records before one ++ objection_text records (objection_in tree one.objection)
+
+-- All that unfolds when the text of an explanation is made.
+unfoldable pub wording : Unit {0}
+unfolding
+    Rattle.ll_explain.specs.Words.explanation_text Rattle.ll_explain.specs.Words.layer_text Rattle.ll_explain.specs.Words.layer_head
+    Rattle.ll_explain.specs.Words.objection_text Rattle.ll_explain.specs.Words.listed Rattle.ll_explain.specs.Words.condition_text
+    Rattle.ll_explain.specs.Words.unknown_text Rattle.ll_explain.specs.Words.reason_text Rattle.ll_explain.specs.Words.path_text
+    Rattle.ll_explain.specs.Words.joined Rattle.ll_explain.specs.Words.behind Rattle.ll_lines.specs.PathTexts.text_of
+    Rattle.json.specs.Print.escape_byte
+wording = tt

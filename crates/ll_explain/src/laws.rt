@@ -13,7 +13,7 @@ ghost use Rattle.ll_reasons.specs.Reasons.{absent, unsupported, unenforced};
 ghost use Rattle.ll_explain.specs.Words.{explanation_text};
 
 /// The text of some explanations, in a trace whose first record is on line 5 and opens a file.
-#[tactic(auto, unfolding(crate::specs::Words::explanation_text, crate::specs::Words::layer_text, crate::specs::Words::layer_head, crate::specs::Words::objection_text, crate::specs::Words::listed, crate::specs::Words::condition_text, crate::specs::Words::unknown_text, crate::specs::Words::reason_text, crate::specs::Words::path_text, crate::specs::Words::joined, crate::specs::Words::behind, ll_lines::specs::PathTexts::text_of, json::specs::Print::escape_byte))]
+#[tactic(auto, unfolding(crate::specs::Lines::wording))]
 pub fn worked_words()
     ensures nothing { explanation_text [] [] nothing ≡ [] }
     ensures missing { explanation_text

@@ -22,3 +22,8 @@ IsAsked tree (OnNode node rights) = IsNode tree node
 IsAsked tree (OnPort port right) = IsOne right
 IsAsked tree Mounting = Unit {0}
 IsAsked tree (Moving passage error) = IsPassage tree passage
+
+-- All that unfolds when the layers object to a call.
+unfoldable pub objecting : Unit {0}
+unfolding Rattle.ll_reasons.specs.Explanations.objections_to objected Rattle.ll_rights.specs.Rights.only Rattle.ll_rights.specs.NetRights.only
+objecting = tt

@@ -56,6 +56,20 @@ condition_in op Unprivileged = conditions.unprivileged
 condition_in op Full = conditions.full
 condition_in op Other = conditions.other
 
+-- All that unfolds when a condition is told.
+unfoldable pub failing : Unit {0}
+unfolding
+    condition_in Rattle.ll_reasons.specs.Conditions.condition Rattle.ll_reasons.specs.Conditions.of_create
+    Rattle.ll_reasons.specs.Conditions.of_add_path Rattle.ll_reasons.specs.Conditions.of_add_port Rattle.ll_reasons.specs.Conditions.of_restrict
+failing = tt
+
+-- All that unfolds when a reason is told.
+unfoldable pub mooting : Unit {0}
+unfolding
+    Rattle.ll_reasons.specs.Meant.reason_in Rattle.ll_reasons.specs.Meant.text_named Rattle.ll_reasons.specs.Reasons.reason
+    Rattle.ll_trace.specs.Operations.paths_of
+mooting = tt
+
 -- ---- the explanation of a call
 
 unfoldable pub explanation_in : List Entry → Op → Explanation → explanations.Explanation

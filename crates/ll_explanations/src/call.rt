@@ -112,7 +112,7 @@ fn to_link(
 
 /// What the layers of a process that refuse a call object to. The call's error says what is looked at for a move, and
 /// the numbers of the layers for a call on a descriptor.
-#[tactic(auto, unfolding(ll_reasons::specs::Explanations::objections_to, crate::specs::Asking::objected, ll_rights::specs::Rights::only, ll_rights::specs::NetRights::only))]
+#[tactic(auto, unfolding(crate::specs::Asking::objecting))]
 pub(crate) fn objections_to(
     alloc: Global,
     ctx: &Confinement,

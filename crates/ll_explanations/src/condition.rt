@@ -164,7 +164,7 @@ fn unknown(abi: Abi, fs: Fs) -> Condition
 }
 
 /// The condition of an error that a call fails with by no layer.
-#[tactic(auto, unfolding(ll_reasons::specs::Conditions::condition, ll_reasons::specs::Conditions::of_create, ll_reasons::specs::Conditions::of_add_path, ll_reasons::specs::Conditions::of_add_port, ll_reasons::specs::Conditions::of_restrict, crate::specs::Meanings::condition_in))]
+#[tactic(auto, unfolding(crate::specs::Meanings::failing))]
 pub(crate) fn condition_of(
     records: &[Record],
     trail: &Trail,

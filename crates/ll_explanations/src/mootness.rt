@@ -60,7 +60,7 @@ fn unwanted(tree: &Tree, op: &Op) -> Option<Reason>
 }
 
 /// Why a call is moot, and None for a call that never is.
-#[tactic(auto, unfolding(ll_reasons::specs::Meant::reason_in, ll_reasons::specs::Meant::text_named, ll_trace::specs::Operations::paths_of, ll_reasons::specs::Reasons::reason))]
+#[tactic(auto, unfolding(crate::specs::Meanings::mooting))]
 pub(crate) fn reason_of(tree: &Tree, trail: &Trail, op: &Op) -> Option<Reason>
     ensures { (o : Origins) → Follows trail.now o
         → option_map (reason_in op.now) result ≡ reason tree.now o op.now }

@@ -53,3 +53,8 @@ reason_in op (given.HeldAlready rs) = held_already rs
 reason_in op (given.Unheld rs) = unheld rs
 reason_in op given.Unsupported = unsupported
 reason_in op given.Unenforced = unenforced
+
+-- All that unfolds when a reason of the tree is told.
+unfoldable pub meaning_unmet : Unit {0}
+unfolding reason_in path_in above_by Rattle.ll_reasons.specs.Reasons.unmet Rattle.ll_reasons.specs.Reasons.unsuited
+meaning_unmet = tt

@@ -49,7 +49,7 @@ pub fn no_object(tree: &Tree, op: &Op) -> Reason
 }
 
 /// Why what is at the first path of a call isn't what it wants there.
-#[tactic(auto, unfolding(crate::specs::Meant::reason_in, crate::specs::Meant::path_in, crate::specs::Meant::above_by, crate::specs::Reasons::unmet, crate::specs::Reasons::unsuited))]
+#[tactic(auto, unfolding(crate::specs::Meant::meaning_unmet))]
 pub fn unmet(tree: &Tree, op: &Op, wanted: Wanted) -> Reason
     ensures { reason_in op.now result ≡ unmet tree.now (path_named op.now First)
         (place tree.now (text_named op.now First)) wanted }

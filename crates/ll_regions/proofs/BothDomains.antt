@@ -14,32 +14,26 @@ both_paths a b p q same = both_domains (SameAbove p q) a b same
 pub both_ports : (a b : List (RulesOn Path)) (k l : ℕ) → AreOnePort (a ++ b) k l → AreOnePort a k l × AreOnePort b k l
 both_ports a b k l same = both_domains (SameOn k l) a b same
 
+-- moves that a domain does not tell apart, neither does one that tells less apart
+alike_under : (whole part : List (RulesOn Path)) (tree : List Entry) (move : Move) (other_tree : List Entry) (other : Move)
+    → ((p q : Path) → InOneRegion whole p q → InOneRegion part p q)
+    → AreAlike whole tree move other_tree other → AreAlike part tree move other_tree other
+alike_under whole part tree move other_tree other same alike = record {
+  how = alike.how;
+  kind = alike.kind;
+  kind_there = alike.kind_there;
+  source = same _ _ alike.source;
+  destination = same _ _ alike.destination;
+  object = same _ _ alike.object;
+  object_there = same _ _ alike.object_there;
+}
+
 pub both_moves : (a b : List (RulesOn Path)) (tree : List Entry) (move : Move) (other_tree : List Entry) (other : Move)
     → AreAlike (a ++ b) tree move other_tree other
     → AreAlike a tree move other_tree other × AreAlike b tree move other_tree other
-both_moves a b tree move other_tree other alike =
-    let source = both_paths a b _ _ alike.source in
-    let destination = both_paths a b _ _ alike.destination in
-    let object = both_paths a b _ _ alike.object in
-    let there = both_paths a b _ _ alike.object_there in (
-      record {
-        how = alike.how;
-        kind = alike.kind;
-        kind_there = alike.kind_there;
-        source = source.0;
-        destination = destination.0;
-        object = object.0;
-        object_there = there.0;
-      },
-      record {
-        how = alike.how;
-        kind = alike.kind;
-        kind_there = alike.kind_there;
-        source = source.1;
-        destination = destination.1;
-        object = object.1;
-        object_there = there.1;
-      },
-    )
+both_moves a b tree move other_tree other alike = (
+  alike_under (a ++ b) a tree move other_tree other (λ p q region. (both_paths a b p q region).0) alike,
+  alike_under (a ++ b) b tree move other_tree other (λ p q region. (both_paths a b p q region).1) alike,
+)
 
 pub ruleset both = (both_paths, both_ports, both_moves)

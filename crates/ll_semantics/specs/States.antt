@@ -19,10 +19,4 @@ pub record State : Type 0 where
 
 -- a process that a trace begins with
 unfoldable pub fresh : Bool → Bool → State
-fresh no_new_privs admin = record {
-  no_new_privs = no_new_privs;
-  admin = admin;
-  held = λ _. None;
-  domain = [];
-  descriptors = λ _. None;
-}
+fresh no_new_privs admin = record { no_new_privs = no_new_privs; admin = admin; held = λ _. None; domain = []; descriptors = λ _. None }

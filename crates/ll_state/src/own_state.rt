@@ -109,7 +109,7 @@ impl OwnState {
     }
 
     /// Answers a call whose answer rests on the state of its process alone.
-    #[tactic(auto, unfolding(crate::specs::Agreement::is_still, ll_semantics::specs::CallContexts::answer_to, ll_semantics::specs::CallContexts::state_then, ll_semantics::specs::CallContexts::state_after, ll_semantics::specs::Answers::answer, ll_semantics::specs::CallContexts::change, ll_semantics::specs::CallContexts::state_by, ll_semantics::specs::Effects::effect, ll_semantics::specs::Notes::NoteFits, ll_semantics::specs::Notes::is_on_rulesets, ll_trace::specs::FirstPlaces::first_place, ll_trace::specs::Operations::paths_of))]
+    #[tactic(auto, unfolding(crate::specs::ConfinedCalls::answering, crate::specs::ConfinedCalls::by_state, ll_semantics::specs::Notes::NoteFits))]
     fn meet_by_state(&mut self, call: &Call<'_>) -> Result<Answer, NoMemory>
         ghost ctx: { CallContext }
         requires met { IsMet ctx call.now.tree.now call.now.layers.now }
@@ -143,7 +143,7 @@ impl OwnState {
     }
 
     /// The answer to a call that changes nothing of its process's state.
-    #[tactic(auto, using(crate::proofs::SameLayers::request_same, crate::proofs::SameLayers::move_same, crate::proofs::SameLayers::port_same, crate::proofs::SameLayers::mount_same), unfolding(crate::specs::Agreement::is_still, ll_semantics::specs::Notes::is_on_rulesets, ll_trace::specs::FirstPlaces::first_place, ll_trace::specs::Operations::paths_of, ll_semantics::specs::CallContexts::answer_to, ll_semantics::specs::Answers::answer, ll_rights::specs::Rights::only, ll_rights::specs::NetRights::has, ll_rights::specs::NetRights::only))]
+    #[tactic(auto, using(crate::proofs::SameLayers::same_answers), unfolding(crate::specs::ConfinedCalls::by_layers))]
     fn answer(&self, call: &Call<'_>) -> Answer
         ghost ctx: { CallContext }
         requires met { IsMet ctx call.now.tree.now call.now.layers.now }

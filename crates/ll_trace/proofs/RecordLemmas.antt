@@ -3,6 +3,7 @@ use Rattle.std.proofs.Common.{◌≡◌, None, List, [], ◌∷◌, ◌++◌, ma
 use Rattle.std.proofs.lemmas.List.{reverse-append, map-append, append-nil}
 use Rattle.std.specs.Ordering.{nat_cmp}
 use Rattle.std.specs.BTreeMap.{get}
+use Rattle.ll_lines.proofs.ReadingLemmas.{read_lines_next, read_lines_fault, read_lines_end}
 use Rattle.ll_trace.specs.declared.record.Record.{Record}
 use Rattle.ll_trace.specs.declared.reader.Reader.{Reader}
 use Rattle.ll_trace.specs.Entries.{Entry, misplacement, process_count}
@@ -58,3 +59,6 @@ kept_admitted old noted new entry r kept here is_noted pushed same_owners same_c
       };
       records = rw items (AreRecords-append old.records.items entry r kept.records here is);
     }
+
+-- the next line, a faulty one, and the end
+pub ruleset line_by_line = (read_lines_next, read_lines_fault, read_lines_end)

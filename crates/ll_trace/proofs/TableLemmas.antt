@@ -224,3 +224,10 @@ places_read tables records process own places indexes lt is read =
     let within : process < length tables.own.items = omega (arith, indexes.size) in
     let same : places ≡ own_from process 0 records = read ∙ (sym (list_at tables.own.items process own within is) ∙ indexes.places process) in
     (same, rw same (All-from_recursion (λ k. k < length records) (own_from process 0 records) (own_within process 0 records (length records) (omega arith))))
+
+-- All that unfolds where there is no record yet.
+unfoldable pub without_records : Unit {0}
+unfolding
+    Rattle.ll_trace.specs.Processes.process_count Rattle.ll_trace.specs.Processes.own_from Rattle.ll_trace.specs.Processes.own_records
+    Rattle.ll_trace.specs.Processes.number_if Rattle.ll_trace.specs.Processes.started_at Rattle.ll_trace.specs.Processes.parents
+without_records = tt

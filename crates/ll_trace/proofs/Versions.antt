@@ -162,3 +162,12 @@ records-older older newer [] le = refl
 records-older older newer (r ∷ rs) le =
     ap (λ (op : Op). record r { op = op } ∷ records_at_best_effort older (records_at_best_effort newer rs)) (call-older older newer le r.op)
     ∙ ap (λ (others : List Record). record_at_best_effort older r ∷ others) (records-older older newer rs le)
+
+-- All that unfolds when a call is made at best effort.
+unfoldable pub dropping_rights : Unit {0}
+unfolding
+    Rattle.ll_trace.specs.BestEffort.at_best_effort Rattle.ll_rights.specs.Supported.supported_fs Rattle.ll_rights.specs.Supported.supported_net
+    Rattle.ll_rights.specs.Rights.united Rattle.ll_rights.specs.Rights.only Rattle.ll_rights.specs.Rights.has Rattle.ll_rights.specs.Rights.some_right
+    Rattle.ll_rights.specs.Rights.all_rights Rattle.ll_rights.specs.Rights.named_rights Rattle.ll_rights.specs.NetRights.only
+    Rattle.ll_rights.specs.NetRights.has Rattle.ll_rights.specs.NetRights.some_right Rattle.ll_rights.specs.NetRights.all_rights
+dropping_rights = tt

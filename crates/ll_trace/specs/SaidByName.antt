@@ -10,3 +10,8 @@ pub record SaysOperation (line : Line) (word : List ℕ) : Type 0 where
   pub value : Data
   pub object : value_at line.bytes ≡ Ok value
   pub word_said : text_at (codes "op") value ≡ Ok word
+
+-- All that unfolds when the paths of an operation are looked at.
+unfoldable pub spelling : Unit {0}
+unfolding Rattle.ll_trace.specs.Operations.paths_of Rattle.ll_trace.specs.Operations.are_spelt Rattle.ll_trace.specs.Members.path_in
+spelling = tt

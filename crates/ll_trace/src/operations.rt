@@ -127,7 +127,7 @@ fn path_operation(alloc: Global, name: &str, value: &Value<'_>) -> Result<Op, Ca
     }
 }
 
-#[tactic(auto, unfolding(crate::specs::Operations::operations, crate::specs::Operations::operation_named, crate::specs::Operations::paths_of, crate::specs::Operations::are_spelt, crate::specs::Members::path_in))]
+#[tactic(auto, unfolding(crate::specs::Operations::operations, crate::specs::Operations::operation_named, crate::specs::SaidByName::spelling))]
 fn add_path_of(alloc: Global, value: &Value<'_>) -> Result<Op, Cause>
     ensures { Gives (λ op. op) result (operation_named (codes "add_path") (value_data value.now)) }
 {
@@ -138,7 +138,7 @@ fn add_path_of(alloc: Global, value: &Value<'_>) -> Result<Op, Cause>
     Ok(Op::AddPath { rs, path, fs })
 }
 
-#[tactic(auto, unfolding(crate::specs::Operations::path_operations, crate::specs::Operations::paths_of, crate::specs::Operations::are_spelt, crate::specs::Members::path_in))]
+#[tactic(auto, unfolding(crate::specs::Operations::path_operations, crate::specs::SaidByName::spelling))]
 fn open_of(alloc: Global, value: &Value<'_>) -> Result<Op, Cause>
     ensures { Gives (λ op. op) result
         (named_in (path_operations (value_data value.now)) (codes "open")) }
@@ -158,7 +158,7 @@ fn open_of(alloc: Global, value: &Value<'_>) -> Result<Op, Cause>
     })
 }
 
-#[tactic(auto, unfolding(crate::specs::Operations::path_operations, crate::specs::Operations::paths_of, crate::specs::Operations::are_spelt, crate::specs::Members::path_in))]
+#[tactic(auto, unfolding(crate::specs::Operations::path_operations, crate::specs::SaidByName::spelling))]
 fn mknod_of(alloc: Global, value: &Value<'_>) -> Result<Op, Cause>
     ensures { Gives (λ op. op) result
         (named_in (path_operations (value_data value.now)) (codes "mknod")) }
@@ -169,7 +169,7 @@ fn mknod_of(alloc: Global, value: &Value<'_>) -> Result<Op, Cause>
     Ok(Op::Mknod { path, kind })
 }
 
-#[tactic(auto, unfolding(crate::specs::Operations::path_operations, crate::specs::Operations::paths_of, crate::specs::Operations::are_spelt, crate::specs::Members::path_in))]
+#[tactic(auto, unfolding(crate::specs::Operations::path_operations, crate::specs::SaidByName::spelling))]
 fn rename_of(alloc: Global, value: &Value<'_>) -> Result<Op, Cause>
     ensures { Gives (λ op. op) result
         (named_in (path_operations (value_data value.now)) (codes "rename")) }
@@ -182,7 +182,7 @@ fn rename_of(alloc: Global, value: &Value<'_>) -> Result<Op, Cause>
     Ok(Op::Rename { from, to, exchange })
 }
 
-#[tactic(auto, unfolding(crate::specs::Operations::path_operations, crate::specs::Operations::paths_of, crate::specs::Operations::are_spelt, crate::specs::Members::path_in))]
+#[tactic(auto, unfolding(crate::specs::Operations::path_operations, crate::specs::SaidByName::spelling))]
 fn link_of(alloc: Global, value: &Value<'_>) -> Result<Op, Cause>
     ensures { Gives (λ op. op) result
         (named_in (path_operations (value_data value.now)) (codes "link")) }

@@ -256,7 +256,7 @@ fn process_or_first(owner: Option<Owner>) -> ProcessId
 }
 
 /// Reads a file line after line: its records, or the first fault of its first faulty line.
-#[tactic(auto, using(ll_lines::proofs::ReadingLemmas::read_lines_next, ll_lines::proofs::ReadingLemmas::read_lines_fault, ll_lines::proofs::ReadingLemmas::read_lines_end))]
+#[tactic(auto, using(crate::proofs::RecordLemmas::line_by_line))]
 pub(crate) fn read_all(alloc: Global, bytes: &[u8]) -> Result<Reader, ReadFault>
     ensures gives { GivesReading entries result (reading trace_file bytes.now) }
     ensures kept { IfOk result IsKept }

@@ -143,7 +143,7 @@ pub fn whole_traces()
 {}
 
 /// Calls of a program that goes by its kernel's version (landlock(7), "VERSIONS").
-#[tactic(auto, unfolding(crate::specs::BestEffort::at_best_effort, ll_rights::specs::Supported::supported_fs, ll_rights::specs::Supported::supported_net, ll_rights::specs::Rights::united, ll_rights::specs::Rights::only, ll_rights::specs::Rights::has, ll_rights::specs::Rights::some_right, ll_rights::specs::Rights::all_rights, ll_rights::specs::Rights::named_rights, ll_rights::specs::NetRights::only, ll_rights::specs::NetRights::has, ll_rights::specs::NetRights::some_right, ll_rights::specs::NetRights::all_rights))]
+#[tactic(auto, unfolding(crate::proofs::Versions::dropping_rights))]
 pub fn calls_at_best_effort()
     ensures refer_is_of_2 { at_best_effort Abi.V1
         (Op.Create 3 (files.united (files.only files.execute) (files.only files.refer))

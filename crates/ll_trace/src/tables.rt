@@ -21,7 +21,7 @@ impl Tables {
     ghost use Rattle.ll_trace.specs.Processes.{is_starting, forked_by};
     ghost use Rattle.ll_trace.specs.Indexed.{Adds, Indexes, lists, places_noted};
 
-    #[tactic(auto, unfolding(crate::specs::Processes::process_count, crate::specs::Processes::own_from, crate::specs::Processes::own_records, crate::specs::Processes::number_if, crate::specs::Processes::started_at, crate::specs::Processes::parents))]
+    #[tactic(auto, unfolding(crate::proofs::TableLemmas::without_records))]
     fn new(alloc: Global) -> Tables
         ensures { Indexes result [] }
     {

@@ -40,3 +40,12 @@ ReadsAs bytes entries = reading tree_format bytes ≡ Ok entries
 
 abbrev pub IsRefused : List ℕ → ℕ → Cause → Type 0
 IsRefused bytes number cause = reading tree_format bytes ≡ Err (record { line = number; cause = cause })
+
+-- All that unfolds when the place of a text in a tree is found.
+unfoldable pub resolving : Unit {0}
+unfolding
+    Rattle.ll_lines.specs.Paths.path_of Rattle.ll_lines.specs.Paths.after_slash Rattle.ll_lines.specs.Paths.names_in Rattle.ll_lines.specs.Paths.is_name
+    Rattle.ll_lines.specs.Paths.front Rattle.ll_lines.specs.Paths.path_eq Rattle.ll_tree.specs.Trees.kind_at Rattle.ll_tree.specs.Trees.position_of
+    Rattle.ll_tree.specs.Trees.node_at Rattle.ll_tree.specs.Trees.gap_in Rattle.ll_tree.specs.Trees.place_or_gap Rattle.ll_tree.specs.Trees.place_of
+    Rattle.ll_tree.specs.Trees.place
+resolving = tt

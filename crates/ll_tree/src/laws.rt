@@ -35,7 +35,7 @@ pub fn worked_files()
 {}
 
 /// What texts name in the tree of the small file.
-#[tactic(auto, unfolding(ll_lines::specs::Paths::path_of, ll_lines::specs::Paths::after_slash, ll_lines::specs::Paths::names_in, ll_lines::specs::Paths::is_name, ll_lines::specs::Paths::front, ll_lines::specs::Paths::path_eq, crate::specs::Trees::kind_at, crate::specs::Trees::position_of, crate::specs::Trees::node_at, crate::specs::Trees::gap_in, crate::specs::Trees::place_or_gap, crate::specs::Trees::place_of, crate::specs::Trees::place))]
+#[tactic(auto, unfolding(crate::specs::WorkedTree::resolving))]
 pub fn worked_places()
     ensures root { place worked_tree (codes "/") ≡ Place.Node (record { 0 = 0 }) }
     ensures node { place worked_tree (codes "/dev/tty") ≡ Place.Node (record { 0 = 7 }) }

@@ -23,7 +23,7 @@ impl OwnState {
     }
 
     /// open(2), whose number must be free.
-    #[tactic(auto, using(crate::proofs::SameLayers::request_same, crate::proofs::SameLayers::opened_same), unfolding(ll_semantics::specs::CallContexts::answer_to, ll_semantics::specs::CallContexts::state_then, ll_semantics::specs::CallContexts::state_after, ll_semantics::specs::CallContexts::change, ll_semantics::specs::CallContexts::state_by, ll_semantics::specs::Effects::effect, ll_semantics::specs::Answers::answer, ll_semantics::specs::Requests::wanted, ll_trace::specs::FirstPlaces::first_place, ll_trace::specs::Operations::paths_of))]
+    #[tactic(auto, using(crate::proofs::SameLayers::request_same, crate::proofs::SameLayers::opened_same), unfolding(crate::specs::ConfinedCalls::opening))]
     pub(crate) fn open(
         &mut self,
         call: &Call<'_>,
@@ -61,7 +61,7 @@ impl OwnState {
     }
 
     /// A descriptor that was made without open(2) keeps no layers.
-    #[tactic(auto, unfolding(ll_semantics::specs::CallContexts::answer_to, ll_semantics::specs::CallContexts::state_then, ll_semantics::specs::CallContexts::state_after, ll_semantics::specs::Answers::answer, ll_semantics::specs::CallContexts::change, ll_semantics::specs::CallContexts::state_by, ll_semantics::specs::Effects::effect))]
+    #[tactic(auto, unfolding(crate::specs::ConfinedCalls::answering))]
     pub(crate) fn adopt(&mut self, fd: u64, kind: Sort) -> Result<Answer, NoMemory>
         ghost ctx: { CallContext }
         requires { Agrees ctx.tree ctx.layers self.old ctx.state }
@@ -75,7 +75,7 @@ impl OwnState {
     }
 
     /// dup(2): the other number is open on the same, with the same layers kept.
-    #[tactic(auto, unfolding(ll_semantics::specs::CallContexts::answer_to, ll_semantics::specs::CallContexts::state_then, ll_semantics::specs::CallContexts::state_after, ll_semantics::specs::Answers::answer, ll_semantics::specs::CallContexts::change, ll_semantics::specs::CallContexts::state_by, ll_semantics::specs::Effects::effect))]
+    #[tactic(auto, unfolding(crate::specs::ConfinedCalls::answering))]
     pub(crate) fn dup(&mut self, fd: u64, to: u64) -> Result<Answer, NoMemory>
         ghost ctx: { CallContext }
         requires { Agrees ctx.tree ctx.layers self.old ctx.state }
@@ -89,7 +89,7 @@ impl OwnState {
     }
 
     /// close(2).
-    #[tactic(auto, unfolding(ll_semantics::specs::CallContexts::answer_to, ll_semantics::specs::CallContexts::state_then, ll_semantics::specs::CallContexts::state_after, ll_semantics::specs::Answers::answer, ll_semantics::specs::CallContexts::change, ll_semantics::specs::CallContexts::state_by, ll_semantics::specs::Effects::effect))]
+    #[tactic(auto, unfolding(crate::specs::ConfinedCalls::answering))]
     pub(crate) fn close(&mut self, fd: u64) -> Result<Answer, NoMemory>
         ghost ctx: { CallContext }
         requires { Agrees ctx.tree ctx.layers self.old ctx.state }
