@@ -7,7 +7,10 @@ use Rattle.std.proofs.lemmas.List.FromFn.{get_or-map-range_with_len}
 use Rattle.std.proofs.lemmas.List.Elements.{filter_agree}
 use Rattle.ll_rights.specs.declared.abi.Abi.{Abi}
 use Rattle.ll_rights.specs.declared.fs.Fs.{Fs}
+use Rattle.ll_rights.specs.declared.fs.FsRight.{FsRight}
+use Rattle.ll_rights.specs.declared.fs.FsRight.TheVariants as code
 use Rattle.ll_rights.specs.Abis.{knows_fs}
+use Rattle.ll_rights.specs.CodeRights.{fs_right}
 use Rattle.ll_reasons.specs.Conditions.{directory_rights, rights_beyond, unknown_rights}
 use Rattle.ll_rights.specs.Rights as files
 use Rattle.ll_rights.specs.declared.fs.TheConstants.Fs.{FILE}
@@ -22,7 +25,7 @@ numbered bit_of rights none count counted same place there =
     sym (get_or-map bit_of rights place none 0 within) ∙ ap (λ ns. get_or ns place 0) same
     ∙ get_or-map-range_with_len (λ n. n) 0 count place place 0 there zero_more
 
-pub bit_of-at : (place : ℕ) → place < length files.all_rights → files.bit_of (get_or files.all_rights place files.other) ≡ place
+bit_of-at : (place : ℕ) → place < length files.all_rights → files.bit_of (get_or files.all_rights place files.other) ≡ place
 unfolding files.all_rights files.named_rights
 bit_of-at place there = numbered files.bit_of files.all_rights files.other (length files.all_rights) refl refl place there
 
@@ -34,6 +37,13 @@ module _ {D R : Type 0} (right_of : D → R) (items : List D) (rights : List R) 
 
   pub item_at : (first : D) (none : R) (place : ℕ) → place < length items → right_of (get_or items place first) ≡ get_or rights place none
   item_at first none place there = sym (get_or-map right_of items place first none there) ∙ ap (λ rs. get_or rs place none) is
+
+-- the bit of each of the code's rights is its place
+pub bit_of-item : (items : List FsRight) → map fs_right items ≡ files.all_rights → (place : ℕ) → place < length items
+    → files.bit_of (fs_right (get_or items place code.Execute)) ≡ place
+bit_of-item items listed place within =
+    ap files.bit_of (item_at fs_right items files.all_rights listed code.Execute files.other place within)
+    ∙ bit_of-at place (omega (arith, within, same_length fs_right items files.all_rights listed))
 
 -- the rights that a version doesn't know are those beyond the set of all that it knows
 pub unknown_beyond : (abi : Abi) (wanted known : Fs) → ((right : files.FsRight) → files.has known right ≡ knows_fs abi right)

@@ -1,6 +1,6 @@
 pub mod MemoryLemmas
 pub mod LinesLemmas
-pub mod ValueLemmas
+pub mod Values
 pub mod MembersLemmas
 pub mod ReadingLemmas
 pub mod PathLaws

@@ -13,7 +13,7 @@ use crate::numbers::whole_number;
 use json::Value;
 
 /// The text of a member.
-#[tactic(auto, using(crate::proofs::ValueLemmas::text_at_data))]
+#[tactic(auto, using(crate::proofs::Values::text_at_data))]
 pub fn text_of<'v>(value: &'v Value<'_>, name: &str) -> Result<&'v str, Cause>
     ensures { Reads (λ text. text.now) result (text_at name.now (value_data value.now)) }
 {
@@ -21,7 +21,7 @@ pub fn text_of<'v>(value: &'v Value<'_>, name: &str) -> Result<&'v str, Cause>
 }
 
 /// The number of a member.
-#[tactic(auto, using(crate::proofs::ValueLemmas::number_at_data))]
+#[tactic(auto, using(crate::proofs::Values::number_at_data))]
 pub fn number_of(value: &Value<'_>, name: &str) -> Result<u64, Cause>
     ensures { Reads (λ number. number) result (number_at name.now (value_data value.now)) }
 {
@@ -33,7 +33,7 @@ pub fn number_of(value: &Value<'_>, name: &str) -> Result<u64, Cause>
 }
 
 /// A member that is true or false.
-#[tactic(auto, using(crate::proofs::ValueLemmas::truth_at_data))]
+#[tactic(auto, using(crate::proofs::Values::truth_at_data))]
 pub fn truth_of(value: &Value<'_>, name: &str) -> Result<bool, Cause>
     ensures { Reads (λ truth. truth) result (truth_at name.now (value_data value.now)) }
 {
@@ -41,7 +41,7 @@ pub fn truth_of(value: &Value<'_>, name: &str) -> Result<bool, Cause>
 }
 
 /// A member that is true or false, and false where it is missing.
-#[tactic(auto, using(crate::proofs::ValueLemmas::flag_at_none, crate::proofs::ValueLemmas::flag_at_some))]
+#[tactic(auto, using(crate::proofs::Values::flag_at_none, crate::proofs::Values::flag_at_some))]
 pub fn flag_of(value: &Value<'_>, name: &str) -> Result<bool, Cause>
     ensures { Reads (λ flag. flag) result (flag_at name.now (value_data value.now)) }
 {
@@ -52,7 +52,7 @@ pub fn flag_of(value: &Value<'_>, name: &str) -> Result<bool, Cause>
 }
 
 /// The values of a member that is a list, and none where it is missing.
-#[tactic(auto, using(crate::proofs::ValueLemmas::items_at_none, crate::proofs::ValueLemmas::items_at_some))]
+#[tactic(auto, using(crate::proofs::Values::items_at_none, crate::proofs::Values::items_at_some))]
 pub fn items_of<'v, 'l>(value: &'v Value<'l>, name: &str) -> Result<&'v [Value<'l>], Cause>
     ensures { Reads (λ items. items_data items.now) result
         (items_at name.now (value_data value.now)) }
@@ -83,7 +83,7 @@ fn items_in<'v, 'l>(list: &'v Value<'l>) -> Result<&'v [Value<'l>], Cause>
 }
 
 /// The text that a value of a list is.
-#[tactic(auto, using(crate::proofs::ValueLemmas::text_in_data))]
+#[tactic(auto, using(crate::proofs::Values::text_in_data))]
 pub fn text_in_list<'v>(value: &'v Value<'_>) -> Result<&'v str, Cause>
     ensures { Reads (λ text. text.now) result (text_in (value_data value.now)) }
 {

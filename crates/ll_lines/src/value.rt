@@ -18,7 +18,7 @@ use std::alloc::Global;
 const MAX_DEPTH: usize = 127;
 
 /// The one JSON value that a line is. `scratch` is the parser's work space, which may be kept for the next line.
-#[tactic(auto, using(crate::proofs::ValueLemmas::value_read))]
+#[tactic(auto, using(crate::proofs::Values::no_text, crate::proofs::Values::parse_fails, crate::proofs::Values::in_range, crate::proofs::Values::out_of_range))]
 pub fn value_of<'l>(
     alloc: Global,
     line: &'l [u8],

@@ -35,5 +35,3 @@ both_moves a b tree move other_tree other alike = (
   alike_under (a ++ b) a tree move other_tree other (λ p q region. (both_paths a b p q region).0) alike,
   alike_under (a ++ b) b tree move other_tree other (λ p q region. (both_paths a b p q region).1) alike,
 )
-
-pub ruleset both = (both_paths, both_ports, both_moves)

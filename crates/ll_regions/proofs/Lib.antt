@@ -1,4 +1,4 @@
-pub mod Answers
+pub mod Refusals
 pub mod MovesAlike
 pub mod Trying
 pub mod TryingObjects
@@ -7,3 +7,4 @@ pub mod RightByRight
 pub mod BothDomains
 pub mod OnAllPaths
 pub mod PassingMoves
+pub mod Answers

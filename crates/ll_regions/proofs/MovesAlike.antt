@@ -21,7 +21,7 @@ use Rattle.ll_rules.specs.Moves.{asked_of_destination, refused_or, move_verdict}
 use Rattle.ll_rules.proofs.AskedRights.{some_agree}
 use Rattle.ll_regions.specs.Regions.{SameAbove}
 use Rattle.ll_regions.specs.AlikeMoves.{path_there, stays, AreAlike, within_one_directory}
-use Rattle.ll_regions.proofs.Answers.{granted-alike, is_lacking-alike, numbers-within}
+use Rattle.ll_regions.proofs.Refusals.{granted-alike, is_lacking-alike, numbers-within}
 
 lacks_one_of-alike : (p q : Path) (layer : RulesOn Path) → SameAbove p q layer → (asked again : List FsRight) → asked ≡ again
     → lacks_one_of layer p asked ≡ lacks_one_of layer q again
@@ -124,5 +124,3 @@ module _ (domain : List (RulesOn Path)) (tree : List Entry) (move : Move) (other
   unfolding move_verdict
   move_verdict-stays within leaves =
       rw (denied, within, leaves) (without_crossing (numbers_from (denies other_tree other) 1 domain) (numbers_from (holds_back other_tree other) 1 domain))
-
-pub ruleset verdicts_alike = (move_verdict-alike, move_verdict-stays)

@@ -10,7 +10,7 @@ use Rattle.ll_rules.specs.LayerNumbers.{is_among}
 use Rattle.ll_rules.specs.Layers.{RulesOn, handles, granted}
 use Rattle.ll_rules.specs.Checks.{numbers_from, lacks, refusing}
 use Rattle.ll_rules.proofs.AskedRights.{some_agree}
-use Rattle.ll_regions.proofs.Answers.{numbers-within}
+use Rattle.ll_regions.proofs.Refusals.{numbers-within}
 use Rattle.ll_rules.proofs.Booleans.{or_false, and_none, and_true, list_any-or}
 
 and_assoc : (a b c : Bool) → ((a && b) && c) ≡ (a && (b && c))
@@ -71,25 +71,22 @@ module _ {L : Type 0} (one : ℕ) where
       list_any-append (λ own. own == one) (if test layer then number ∷ [] else []) (numbers_from test (number + 1) layers)
       ∙ ap (λ (b : Bool). b || is_among one (numbers_from test (number + 1) layers)) (among_one (test layer) one number)
 
-  module _ (want : FsRight → Bool) (tests : FsRight → L → Bool) where
-    some_test : L → Bool
-    some_test layer = some_right (λ right. want right && tests right layer)
-
-    among_some : (number : ℕ) (layers : List L)
-        → is_among one (numbers_from (λ layer. some_right (λ right. want right && tests right layer)) number layers)
-        ≡ some_right (λ right. want right && is_among one (numbers_from (tests right) number layers))
-    unfolding numbers_from
-    among_some number [] = sym (none_some want)
-    among_some number (layer ∷ layers) =
-        let rest = λ (right : FsRight). is_among one (numbers_from (tests right) (number + 1) layers) in
-        among_next (λ own. some_right (λ right. want right && tests right own)) number layer layers
-        ∙ ap (λ (b : Bool). (some_right (λ right. want right && tests right layer) && (number == one)) || b) (among_some (number + 1) layers)
-        ∙ ap (λ (b : Bool). b || some_right (λ right. want right && rest right)) (sym (some_and (λ right. want right && tests right layer) (number == one)))
-        ∙ sym (some_or (λ right. (want right && tests right layer) && (number == one)) (λ right. want right && rest right))
-        ∙ some_agree (λ right. ((want right && tests right layer) && (number == one)) || (want right && rest right))
-        (λ right. want right && is_among one (numbers_from (tests right) number (layer ∷ layers)))
-        (λ right. sym (spread (want right) (tests right layer) (number == one) (rest right))
-        ∙ ap (λ (b : Bool). want right && b) (sym (among_next (tests right) number layer layers)))
+module _ {L : Type 0} (one : ℕ) (want : FsRight → Bool) (tests : FsRight → L → Bool) where
+  among_some : (number : ℕ) (layers : List L)
+      → is_among one (numbers_from (λ layer. some_right (λ right. want right && tests right layer)) number layers)
+      ≡ some_right (λ right. want right && is_among one (numbers_from (tests right) number layers))
+  unfolding numbers_from
+  among_some number [] = sym (none_some want)
+  among_some number (layer ∷ layers) =
+      let rest = λ (right : FsRight). is_among one (numbers_from (tests right) (number + 1) layers) in
+      among_next one (λ own. some_right (λ right. want right && tests right own)) number layer layers
+      ∙ ap (λ (b : Bool). (some_right (λ right. want right && tests right layer) && (number == one)) || b) (among_some (number + 1) layers)
+      ∙ ap (λ (b : Bool). b || some_right (λ right. want right && rest right)) (sym (some_and (λ right. want right && tests right layer) (number == one)))
+      ∙ sym (some_or (λ right. (want right && tests right layer) && (number == one)) (λ right. want right && rest right))
+      ∙ some_agree (λ right. ((want right && tests right layer) && (number == one)) || (want right && rest right))
+      (λ right. want right && is_among one (numbers_from (tests right) number (layer ∷ layers)))
+      (λ right. sym (spread (want right) (tests right layer) (number == one) (rest right))
+      ∙ ap (λ (b : Bool). want right && b) (sym (among_next one (tests right) number layer layers)))
 
 pub right_by_right : (domain : List (RulesOn Path)) (path : Path) (wanted : Fs) (number : ℕ)
     → is_among number (refusing domain path wanted) ≡ some_right (λ right. has wanted right && is_among number (refusing domain path (only right)))
@@ -97,5 +94,3 @@ right_by_right domain path wanted number =
     ap (is_among number) (numbers-within (λ layer. Unit {0}) (λ layer. lacks layer path wanted)
     (λ layer. some_right (λ right. has wanted right && lacks layer path (only right))) (λ layer any. lacks-some layer path wanted) domain (λ k d within. tt))
     ∙ among_some number (has wanted) (λ right layer. lacks layer path (only right)) 1 domain
-
-pub ruleset by_rights = (right_by_right, tt)

@@ -17,7 +17,7 @@ use Rattle.ll_rules.specs.InTree.{node, rule_on_path, AreInTree, all_in_tree}
 use Rattle.ll_rules.specs.Layers.{RulesOn}
 use Rattle.ll_rules.specs.Checks.{refusing, refusing_port}
 use Rattle.ll_regions.specs.Regions.{SameAbove, InOneRegion, ruled_paths, paths_to_try, SameOn, AreOnePort, ruled_ports}
-use Rattle.ll_regions.proofs.Answers.{refusing-alike, refusing_port-alike}
+use Rattle.ll_regions.proofs.Refusals.{refusing-alike, refusing_port-alike}
 
 -- ---- lists
 
@@ -287,7 +287,3 @@ ports_enough a b wanted test unruled none each k =
     let same = both_domains (SameOn k found.0) a b found.2 in
     rw (refusing_port-alike a k found.0 same.0 wanted, refusing_port-alike b k found.0 same.1 wanted)
     (All-contains (λ tried. test (refusing_port a tried wanted) (refusing_port b tried wanted) ≡ true) (unruled ∷ ruled_ports (a ++ b)) found.0 each found.1)
-
-pub ruleset one_path = (one_path_tried, one_node_tried, in_directory)
-
-pub ruleset one_port = (one_port_tried, tt)

@@ -126,5 +126,3 @@ one_verdict domain tree move other_tree other alike =
       object_there = alike.target;
     } in
     move_verdict-alike domain tree move other_tree other are_alike alike.within
-
-pub ruleset moves_tried = (one_outline_tried, one_verdict)

@@ -66,5 +66,3 @@ one_object_tried domain name fresh object =
             directories,
           )
     ]
-
-pub ruleset one_object = (one_object_tried, tt)

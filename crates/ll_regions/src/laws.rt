@@ -33,7 +33,7 @@ pub fn one_answer_in_a_region()
 {}
 
 /// The layers that refuse a set of rights are those that refuse some right of it.
-#[tactic(auto, using(crate::proofs::RightByRight::by_rights))]
+#[tactic(auto, using(crate::proofs::Answers::by_rights))]
 pub fn rights_are_refused_one_by_one()
     ensures { (domain : List (RulesOn Path)) (p : Path) (wanted : FsSet) (number : ℕ)
         → is_among number (refusing domain p wanted)
@@ -44,7 +44,7 @@ pub fn rights_are_refused_one_by_one()
 /// Moves that are alike have one verdict, also where each is made in a tree of its own, if both stay within a
 /// directory or neither does. If one stays and the other doesn't, the verdicts differ only in what refuses moves between
 /// directories.
-#[tactic(auto, using(crate::proofs::MovesAlike::verdicts_alike))]
+#[tactic(auto, using(crate::proofs::Answers::verdicts_alike))]
 pub fn moves_alike_have_one_verdict()
     ensures same { (domain : List (RulesOn Path)) (tree : List Entry) (attempt : Attempt)
         (other_tree : List Entry) (other : Attempt) → AreAlike domain tree attempt other_tree other
@@ -59,7 +59,7 @@ pub fn moves_alike_have_one_verdict()
 
 /// The root, or some path that has a rule, is in the region of any path. In a tree that has the places of all rules,
 /// some node is. A path without a rule is in the region of the directory that it is in.
-#[tactic(auto, using(crate::proofs::Trying::one_path))]
+#[tactic(auto, using(crate::proofs::Answers::one_path))]
 pub fn one_path_in_each_region()
     ensures tried { (domain : List (RulesOn Path)) (p : Path)
         → (tried : Path) × Contains (paths_to_try domain) tried × InOneRegion domain p tried }
@@ -73,7 +73,7 @@ pub fn one_path_in_each_region()
 
 /// Some path that has a rule, or a name under the root or under such a path, is in the region of any object, and its
 /// directory in that of the object's directory.
-#[tactic(auto, using(crate::proofs::TryingObjects::one_object))]
+#[tactic(auto, using(crate::proofs::Answers::one_object))]
 pub fn one_object_in_each_region()
     ensures { (domain : List (RulesOn Path)) (name : Name) → IsUnruledName domain name
         → (object : Path)
@@ -84,7 +84,7 @@ pub fn one_object_in_each_region()
 /// Some outline of one finite list has the form of any move, and one of each region: the objects, the targets and the
 /// directories of both are alike. It stands for moves within a directory and for moves between two, also where both
 /// are of one region.
-#[tactic(auto, using(crate::proofs::TryingMoves::moves_tried))]
+#[tactic(auto, using(crate::proofs::Answers::moves_tried))]
 pub fn one_move_of_each_form()
     ensures tried { (domain : List (RulesOn Path)) (name : Name) → IsUnruledName domain name
         → (outline : Outline) → (tried : Outline)
@@ -98,7 +98,7 @@ pub fn one_move_of_each_form()
 /// A rename passes where the link would pass and the object may be removed; onto an object that is there, where the
 /// rename to a new name would pass and that object may be removed too; and an exchange passes where each object may be
 /// moved onto the other.
-#[tactic(auto, using(crate::proofs::PassingMoves::passing))]
+#[tactic(auto, using(crate::proofs::Answers::passing))]
 pub fn moves_made_of_others()
     ensures rename { (domain : List (RulesOn Path)) (tree : List Entry) (moved : NodeId)
         (target : MoveTarget) → lets_pass domain tree (renaming moved target)
@@ -118,7 +118,7 @@ pub fn moves_made_of_others()
 {}
 
 /// Some port that has a rule, or else any port that has none, stands for any port.
-#[tactic(auto, using(crate::proofs::Trying::one_port))]
+#[tactic(auto, using(crate::proofs::Answers::one_port))]
 pub fn one_port_in_each_region()
     ensures { (domain : List (RulesOn Path)) (unruled : ℕ) → IsUnruledPort domain unruled
         → (k : ℕ) → (tried : ℕ) × Contains (ports_to_try domain unruled) tried
@@ -141,7 +141,7 @@ pub fn paths_to_try_are_enough()
 {}
 
 /// What the layers of two domains together don't tell apart, neither domain does.
-#[tactic(auto, using(crate::proofs::BothDomains::both))]
+#[tactic(auto, using(crate::proofs::Answers::both))]
 pub fn regions_of_two_domains()
     ensures paths { (a b : List (RulesOn Path)) (p q : Path) → InOneRegion (a ++ b) p q
         → InOneRegion a p q × InOneRegion b p q }

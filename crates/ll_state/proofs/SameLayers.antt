@@ -62,8 +62,6 @@ pub move_same : (tree : List Entry) (a b : List Layer) (move : Option Move) → 
 move_same tree a b None same = refl
 move_same tree a b (Some move) same = ap of_verdict (move_verdict-same tree a b same move)
 
-pub ruleset same_answers = (request_same, move_same, port_same, mount_same)
-
 module _ (tree : List Entry) (a b : List Layer) (same : AllZip SameRules a b) where
   file_same : (path : Path) (mode : Mode) → opened_file (refusing a path (only truncate)) mode ≡ opened_file (refusing b path (only truncate)) mode
   file_same path mode = ap (λ (kept : List ℕ). opened_file kept mode) (refusing-same a b same path (only truncate))
@@ -81,6 +79,9 @@ unfolding opened
 opened_same tree a b (Node node) mode same = kind_same tree a b same (kind_at tree node) node mode
 opened_same tree a b (Gap directory) mode same = file_same tree a b same (path_at tree directory) mode
 opened_same tree a b Nowhere mode same = refl
+
+-- what the same layers answer
+pub ruleset same_answers = (request_same, move_same, port_same, mount_same)
 
 -- ---- restricting
 

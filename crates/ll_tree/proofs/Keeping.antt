@@ -25,6 +25,7 @@ use Rattle.ll_lines.specs.Paths.{Path, is_name, path_of, front, path_eq, after_s
 use Rattle.ll_lines.specs.PathTexts.{is_path, text_of}
 use Rattle.ll_tree.proofs.Positions.{path_in, at_position, position_of-some, position_of-kept, is_dir_in-from_place, node, is_root, parent_of-root}
 use Rattle.ll_tree.proofs.Positions.{parent_of-other, parent_found, empty_or_not, is_dir-Dir, spelt_is, place_is, node_at-position, position_of-push}
+use Rattle.ll_tree.proofs.Positions.{root_tree, path_eq-root}
 use Rattle.ll_lines.proofs.PathLaws.{is_path-path_of, text_of-path_of, bytes_eq-text_of}
 use Rattle.std.specs.BTreeMap.{BTreeMap, UpdatesBy}
 use Rattle.std.specs.Cmp.Lexicographic.{slice_cmp}
@@ -338,20 +339,6 @@ module _ {A : Type 0} (objects : List Object) (value : List Entry) (view : entri
     pushed = (sound_push, listed_push)
 
 -- ---- the root alone
-
-root_tree : IsTree (root ∷ [])
-unfolding path_at is_path text_of
-root_tree = record {
-  begins = (omega arith, refl);
-  paths = λ here within. let first : here.0 ≡ 0 = omega arith in ap (λ n. is_path (get_or (root ∷ []) n root).path) first;
-  distinct = λ a b a_within b_within same. let first : a.0 ≡ b.0 = omega arith in ap node first;
-  above = λ here within later. absurd (omega arith);
-}
-
-path_eq-root : (path : Path) → path_eq path [] ≡ path_eq [] path
-unfolding path_eq
-path_eq-root [] = refl
-path_eq-root (name ∷ names) = refl
 
 module _ {A : Type 0} (key : String A) (text : String Global) (key_text : string_bytes key ≡ 47 ∷ []) (own_text : string_bytes text ≡ 47 ∷ [])
     (mark : ℕ) (heads : List ℕ) (marked : mark ≡ text_mark (47 ∷ [])) (over : 1 ≤ head_in heads (slot_in (text_mark (47 ∷ []))))

@@ -7,6 +7,7 @@ use Rattle.std.proofs.lemmas.Option.{none-some, same_Some}
 use Rattle.std.proofs.lemmas.Slice.Eq.{slice_eq-Decides, bytes_eq-Decides}
 use Rattle.std.specs.Bool.{Decides}
 use Rattle.ll_lines.specs.Paths.{Path, path_eq, front, path_of, is_prefix}
+use Rattle.ll_lines.specs.PathTexts.{is_path, text_of}
 use Rattle.ll_tree.specs.Trees.{Entry, root, is_dir, is_dir_in, position_of, IsNode, path_at, kind_at, node_at, parent_of, parent_at, place_or_gap, place_of}
 use Rattle.ll_tree.specs.Trees.{place}
 use Rattle.std.proofs.lemmas.List.{get_or_default, length-take, get_or-take}
@@ -296,3 +297,19 @@ climb_end tree upper here listed upper_within here_within above =
 pub root_depth : (tree : List Entry) (upper here : NodeId) → path_at tree here ≡ [] → depth_at tree here ≤ depth_at tree upper
 unfolding depth_at
 root_depth tree upper here top = let none = ap length top in omega arith
+
+-- ---- the root alone
+
+pub root_tree : IsTree (root ∷ [])
+unfolding path_at is_path text_of
+root_tree = record {
+  begins = (omega arith, refl);
+  paths = λ here within. let first : here.0 ≡ 0 = omega arith in ap (λ n. is_path (get_or (root ∷ []) n root).path) first;
+  distinct = λ a b a_within b_within same. let first : a.0 ≡ b.0 = omega arith in ap node first;
+  above = λ here within later. absurd (omega arith);
+}
+
+pub path_eq-root : (path : Path) → path_eq path [] ≡ path_eq [] path
+unfolding path_eq
+path_eq-root [] = refl
+path_eq-root (name ∷ names) = refl

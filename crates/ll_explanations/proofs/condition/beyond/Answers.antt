@@ -1,9 +1,9 @@
-use Rattle.std.proofs.Common.{not, ◌&&◌, ◌≡◌, ◌<◌, ◌∙◌, length, get_or, ap, sym, arith}
+use Rattle.std.proofs.Common.{not, ◌&&◌, ◌∙◌, get_or, sym, arith}
 use Rattle.ll_rights.specs.declared.fs.FsRight.TheVariants as code
 use Rattle.ll_rights.specs.CodeRights.{fs_right}
 use Rattle.ll_rights.specs.Rights as files
 use Rattle.ll_explanations.proofs.Lacking.{all_before, none, none_before, none_more, one_more}
-use Rattle.ll_explanations.proofs.RightPlaces.{bit_of-at, item_at, same_length}
+use Rattle.ll_explanations.proofs.RightPlaces.{bit_of-item, same_length}
 use Rattle.ll_explanations.proofs.condition.beyond.Goals as goal
 use Rattle.ll_explanations.proofs.condition.beyond.Goals.{then-is_beyond, else-is_beyond}
 
@@ -12,15 +12,9 @@ loop-right-init c = none_before (λ (right : files.FsRight). files.has c.args.ri
 
 pub loop-right-preserved : goal.loop-right-preserved
 loop-right-preserved c =
-    let items = c.all-right-items.result.now in
-    let listed = c.all-right-items.ensures in
     let place = c.loop-right.right-index in
-    let item = get_or items place code.Execute in
-    let one = fs_right item in
-    let is : one ≡ get_or files.all_rights place files.other
-    = item_at fs_right items files.all_rights listed code.Execute files.other place c.loop-right-test.true in
-    let there : place < length files.all_rights = omega (arith, c.loop-right-test.true, same_length fs_right items files.all_rights listed) in
-    let eq : files.bit_of one ≡ place = ap files.bit_of is ∙ bit_of-at place there in
+    let one = fs_right (get_or c.all-right-items.result.now place code.Execute) in
+    let eq = bit_of-item c.all-right-items.result.now c.all-right-items.ensures place c.loop-right-test.true in
     let test = λ (right : files.FsRight). files.has c.args.rights right && not (files.has c.args.whole right) in
     elim c.if-is_beyond.branch [
       | then-is_beyond w ↦ rw (w.beyond-is, w.union-beyond.ensures, w.set.ensures)

@@ -1,11 +1,11 @@
-use Rattle.std.proofs.Common.{◌≡◌, ◌<◌, ◌∙◌, length, get_or, ap, sym, arith}
+use Rattle.std.proofs.Common.{◌∙◌, get_or, sym, arith}
 use Rattle.ll_rights.specs.declared.fs.FsRight.TheVariants as code
 use Rattle.ll_rights.specs.CodeRights.{fs_right}
 use Rattle.ll_rights.specs.Rights as files
 use Rattle.ll_explanations.specs.Confined.{rules_of}
 use Rattle.ll_explanations.specs.Lacked.{passes}
 use Rattle.ll_explanations.proofs.Lacking.{all_before, none, none_before, none_more, one_more}
-use Rattle.ll_explanations.proofs.RightPlaces.{bit_of-at, item_at, same_length}
+use Rattle.ll_explanations.proofs.RightPlaces.{bit_of-item, same_length}
 use Rattle.ll_explanations.proofs.missing.passing.Goals as goal
 use Rattle.ll_explanations.proofs.missing.passing.Goals.{then-does_pass, else-does_pass}
 
@@ -14,15 +14,9 @@ loop-right-init c = none_before (passes c.args.layer.now.ctx.tree.now (rules_of 
 
 pub loop-right-preserved : goal.loop-right-preserved
 loop-right-preserved c =
-    let items = c.all-right-items.result.now in
-    let listed = c.all-right-items.ensures in
     let place = c.loop-right.right-index in
-    let item = get_or items place code.Execute in
-    let one = fs_right item in
-    let is : one ≡ get_or files.all_rights place files.other
-    = item_at fs_right items files.all_rights listed code.Execute files.other place c.loop-right-test.true in
-    let there : place < length files.all_rights = omega (arith, c.loop-right-test.true, same_length fs_right items files.all_rights listed) in
-    let eq : files.bit_of one ≡ place = ap files.bit_of is ∙ bit_of-at place there in
+    let one = fs_right (get_or c.all-right-items.result.now place code.Execute) in
+    let eq = bit_of-item c.all-right-items.result.now c.all-right-items.ensures place c.loop-right-test.true in
     let test = passes c.args.layer.now.ctx.tree.now (rules_of c.args.layer.now) c.args.test in
     elim c.if-does_pass.branch [
       | then-does_pass w ↦ rw (w.rights-is, w.union-rights.ensures, w.set.ensures)

@@ -223,6 +223,3 @@ in_range line value utf8 e range = text line utf8 ∙ rw (parsed_as (parsed line
 pub out_of_range : (line : List ℕ) (value : json.Json) → IsUtf8 line → ok_or (parsed line) Json ≡ Ok value → is_in_range value ≡ false
     → value_at line ≡ Err Json
 out_of_range line value utf8 e range = text line utf8 ∙ rw (parsed_as (parsed line) value e, converts value, range) refl
-
--- every way in which a line has a value or none
-pub ruleset value_read = (no_text, parse_fails, in_range, out_of_range)
