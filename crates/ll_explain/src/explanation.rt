@@ -17,7 +17,7 @@ use ll_reasons::Reason;
 use ll_rules::NoMemory;
 use ll_semantics::Answer;
 use ll_trace::{Op, Record};
-use ll_trails::Trails;
+use ll_trails::TraceOrigins;
 use ll_tree::Tree;
 use std::alloc::Global;
 
@@ -74,7 +74,7 @@ pub fn push_explanation(
     alloc: Global,
     text: &mut Vec<u8>,
     case: &Case,
-    trails: &Trails,
+    trails: &TraceOrigins,
     place: usize,
     answer: Answer,
 ) -> Result<(), NoMemory>

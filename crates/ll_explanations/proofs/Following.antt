@@ -8,11 +8,11 @@ use Rattle.ll_rules.specs.declared.errno.Errno.{Errno}
 use Rattle.ll_semantics.specs.States.{Layer}
 use Rattle.ll_reasons.specs.Explanations.{kept_by, objections_to}
 use Rattle.ll_reasons.specs.Origins.{Origins}
-use Rattle.ll_trails.specs.Trails.{Follows}
-use Rattle.ll_trails.specs.declared.trail.Trail.{Trail}
+use Rattle.ll_trails.specs.TraceOrigins.{Follows}
+use Rattle.ll_trails.specs.declared.trail.ProcessOrigins.{ProcessOrigins}
 use Rattle.ll_explanations.specs.Confined.{followed}
 
-module _ (tree : List Entry) (domain : List Layer) (trail : Trail) (o : Origins) (follows : Follows trail o) (error : Errno) (numbers : List ℕ) where
+module _ (tree : List Entry) (domain : List Layer) (trail : ProcessOrigins) (o : Origins) (follows : Follows trail o) (error : Errno) (numbers : List ℕ) where
   pub objected : (op : Op) → objections_to tree domain (followed trail) op error numbers ≡ objections_to tree domain o op error numbers
   unfolding objections_to
   objected (calls.Ftruncate fd) = ap (kept_by truncate numbers) (follows.openings fd)

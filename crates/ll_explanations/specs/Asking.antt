@@ -5,7 +5,7 @@ use Rattle.ll_rights.specs.Rights.{has}
 use Rattle.ll_tree.specs.Trees.{Entry, IsNode, path_at}
 use Rattle.ll_semantics.specs.States.{Layer}
 use Rattle.ll_reasons.specs.Objections.{Objection, on_mount, on_move, on_path, on_port}
-use Rattle.ll_explanations.specs.Passages.{IsPassage}
+use Rattle.ll_explanations.specs.MoveRequests.{IsMoveRequest}
 use Rattle.ll_explanations.specs.PortRights.{IsOne}
 use Rattle.ll_explanations.specs.declared.asked.Asked.{Asked}
 use Rattle.ll_explanations.specs.declared.asked.Asked.TheVariants.{OnNode, OnPort, Mounting, Moving}
@@ -14,14 +14,14 @@ unfoldable pub objected : List Entry → Asked → Layer → List Objection
 objected tree (OnNode node rights) = on_path (path_at tree node) (has rights)
 objected tree (OnPort port right) = on_port port right
 objected tree Mounting = on_mount
-objected tree (Moving passage error) = on_move tree passage.attempt error
+objected tree (Moving request error) = on_move tree request.attempt error
 
 -- nodes are of the tree, and one right is asked on a port
 abbrev pub IsAsked : List Entry → Asked → Type 0
 IsAsked tree (OnNode node rights) = IsNode tree node
 IsAsked tree (OnPort port right) = IsOne right
 IsAsked tree Mounting = Unit {0}
-IsAsked tree (Moving passage error) = IsPassage tree passage
+IsAsked tree (Moving request error) = IsMoveRequest tree request
 
 -- All that unfolds when the layers object to a call.
 unfoldable pub objecting : Unit {0}

@@ -7,7 +7,7 @@ use Rattle.ll_rules.specs.KeptLayers.{domain_of, layer_at}
 use Rattle.ll_semantics.specs.States.{Layer}
 use Rattle.ll_reasons.specs.Origins.{Origins}
 use Rattle.ll_trails.specs.Opened.{opened}
-use Rattle.ll_trails.specs.declared.trail.Trail.{Trail}
+use Rattle.ll_trails.specs.declared.trail.ProcessOrigins.{ProcessOrigins}
 use Rattle.ll_explanations.specs.declared.confinement.Confinement.{Confinement}
 use Rattle.ll_explanations.specs.declared.confinement.OneLayer.{OneLayer}
 
@@ -20,5 +20,5 @@ abbrev pub rules_of : OneLayer → Layer
 rules_of layer = in_tree layer.ctx.tree.now (layer_at layer.ctx.layers.now layer.id)
 
 -- where what a process has comes from, as its trail keeps it
-abbrev pub followed : Trail → Origins
+abbrev pub followed : ProcessOrigins → Origins
 followed trail = record { layers = trail.layers.items; openings = λ fd. opened trail.openings fd; rulesets = λ rs. get trail.rulesets rs }

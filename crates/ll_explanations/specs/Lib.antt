@@ -4,6 +4,6 @@ pub mod PortRights
 pub mod Confined
 pub mod Meanings
 pub mod Adding
-pub mod Passages
+pub mod MoveRequests
 pub mod Asking
 pub mod Explained

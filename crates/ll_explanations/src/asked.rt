@@ -12,7 +12,7 @@ ghost use Rattle.ll_explanations.specs.PortRights.{IsOne};
 
 use crate::confinement::{Confinement, OneLayer, made_by};
 use crate::missing::{Test, passing};
-use crate::moved::{Passage, push_denied, push_held_back};
+use crate::moved::{MoveRequest, push_denied, push_held_back};
 use crate::objection::{LayerObjection, Objection};
 use crate::ports::{handles_files, lacks_on_port};
 use ll_rights::{Fs, Net};
@@ -30,7 +30,7 @@ pub(crate) enum Asked {
     /// To let what is mounted be changed.
     Mounting,
     /// To let an object be moved, which is refused with this error.
-    Moving(Passage, Errno),
+    Moving(MoveRequest, Errno),
 }
 
 /// What a layer lacks of rights on a node.
@@ -140,8 +140,8 @@ fn push_objections(
         Asked::OnNode(node, rights) => push_any(all, layer, missing(layer, *node, *rights)),
         Asked::OnPort(port, right) => push_any(all, layer, closed(layer, *port, *right)),
         Asked::Mounting => push_any(all, layer, mounting(layer)),
-        Asked::Moving(passage, Errno::XDev) => push_held_back(all, layer, passage),
-        Asked::Moving(passage, _) => push_denied(all, layer, passage),
+        Asked::Moving(request, Errno::XDev) => push_held_back(all, layer, request),
+        Asked::Moving(request, _) => push_denied(all, layer, request),
     }
 }
 

@@ -13,7 +13,7 @@ ghost use Rattle.ll_explanations.specs.Meanings.{IsMade, by_layer};
 use crate::asked::{Asked, objections_of};
 use crate::confinement::Confinement;
 use crate::kept::kept_by_descriptor;
-use crate::moved::passage_of;
+use crate::moved::move_request;
 use crate::objection::LayerObjection;
 use ll_rights::{FsRight, Net};
 use ll_rules::{Errno, LayerSet, Move};
@@ -65,8 +65,8 @@ fn to_move(alloc: Global, ctx: &Confinement, asked: Option<Move>, error: Errno) 
     let Some(attempt) = asked else {
         return Ok(Vec::new(alloc));
     };
-    let passage = passage_of(ctx.tree, attempt);
-    objections_of(alloc, ctx, &Asked::Moving(passage, error))
+    let request = move_request(ctx.tree, attempt);
+    objections_of(alloc, ctx, &Asked::Moving(request, error))
 }
 
 /// What layers object to in rename(2).

@@ -9,13 +9,13 @@ ghost use Rattle.ll_trace.specs.declared.op.Op.{Op};
 ghost use Rattle.ll_reasons.specs.Conditions as conditions;
 ghost use Rattle.ll_reasons.specs.Conditions.{handled, handled_on_ports};
 ghost use Rattle.ll_reasons.specs.Origins.{Origins};
-ghost use Rattle.ll_trails.specs.Trails.{Follows};
+ghost use Rattle.ll_trails.specs.TraceOrigins.{Follows};
 ghost use Rattle.ll_explanations.specs.Meanings.{condition_in, path_of_rule};
 
 use ll_rights::{Abi, Fs, FsRight, Net, NetRight};
 use ll_rules::Errno;
 use ll_trace::{Op, Record};
-use ll_trails::Trail;
+use ll_trails::ProcessOrigins;
 
 /// Why a call fails by no layer. Each variant stands for the condition of the same name in the definitions.
 #[derive(Clone, Copy)]
@@ -90,7 +90,7 @@ fn beyond_on_ports(rights: Net, whole: Net) -> Net
 }
 
 /// The call of the record that created the ruleset which a number of a process names.
-fn creation<'t>(records: &'t [Record], trail: &Trail, rs: u64) -> Option<&'t Op>
+fn creation<'t>(records: &'t [Record], trail: &ProcessOrigins, rs: u64) -> Option<&'t Op>
     ensures { option_map (λ op. op.now) result ≡ option_map (λ r. r.op)
         (option_and_then (slice_get records.now) (get trail.now.rulesets rs)) }
 {
@@ -101,7 +101,7 @@ fn creation<'t>(records: &'t [Record], trail: &Trail, rs: u64) -> Option<&'t Op>
 
 /// The rights for files and those for ports that a ruleset of a process handles.
 #[tactic(auto, unfolding(ll_reasons::specs::Conditions::handled, ll_reasons::specs::Conditions::handled_on_ports))]
-fn handled(records: &[Record], trail: &Trail, rs: u64) -> (Fs, Net)
+fn handled(records: &[Record], trail: &ProcessOrigins, rs: u64) -> (Fs, Net)
     ensures files { (o : Origins) → Follows trail.now o → result.0 ≡ handled records.now o rs }
     ensures ports { (o : Origins) → Follows trail.now o
         → result.1 ≡ handled_on_ports records.now o rs }
@@ -167,7 +167,7 @@ fn unknown(abi: Abi, fs: Fs) -> Condition
 #[tactic(auto, unfolding(crate::specs::Meanings::failing))]
 pub(crate) fn condition_of(
     records: &[Record],
-    trail: &Trail,
+    trail: &ProcessOrigins,
     abi: Abi,
     op: &Op,
     error: Errno,

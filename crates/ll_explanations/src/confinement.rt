@@ -6,14 +6,14 @@ ghost use Rattle.ll_rules.specs.InTree.{AreInTree};
 ghost use Rattle.ll_rules.specs.KeptLayers.{IsDomainOf};
 
 use ll_rules::{Layer, LayerId};
-use ll_trails::Trail;
+use ll_trails::ProcessOrigins;
 use ll_tree::Tree;
 
 /// The layers of a process, where they come from, and the tree that they have rules on.
 #[derive(Clone, Copy)]
 pub(crate) struct Confinement<'a> {
     /// Where what the process has comes from.
-    pub(crate) trail: &'a Trail,
+    pub(crate) trail: &'a ProcessOrigins,
     /// The file tree.
     pub(crate) tree: &'a Tree,
     /// All layers of the case.
@@ -38,7 +38,7 @@ pub(crate) struct OneLayer<'a> {
 }
 
 /// The record that made the layer at a place among those of a process, by its place in the trace.
-pub(crate) fn made_by(trail: &Trail, place: usize) -> Option<u32>
+pub(crate) fn made_by(trail: &ProcessOrigins, place: usize) -> Option<u32>
     ensures { result ≡ slice_get trail.now.layers.items place }
 {
     trail.layers.get(place).copied()

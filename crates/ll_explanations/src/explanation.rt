@@ -5,7 +5,7 @@ ghost use Rattle.ll_semantics.specs.declared.answer.Answer.TheVariants.{Allowed,
 ghost use Rattle.ll_process.specs.Cases.{IsCase};
 ghost use Rattle.ll_reasons.specs.Explanations.{origins_at};
 ghost use Rattle.ll_trails.specs.CaseTrails.{AreTrailsAt, IsAnswerAt};
-ghost use Rattle.ll_trails.specs.Trails.{Follows};
+ghost use Rattle.ll_trails.specs.TraceOrigins.{Follows};
 ghost use Rattle.ll_explanations.specs.Explained.{Explains};
 
 use crate::call::objections_to;
@@ -18,7 +18,7 @@ use ll_reasons::Reason;
 use ll_rules::{Errno, LayerSet, NoMemory};
 use ll_semantics::Answer;
 use ll_trace::Record;
-use ll_trails::{Trail, Trails, domain_of};
+use ll_trails::{ProcessOrigins, TraceOrigins, domain_of};
 use std::alloc::Global;
 
 /// Why a record is refused or moot. Its paths are those that the record's call names, its nodes are of the case's tree,
@@ -38,10 +38,10 @@ pub enum Explanation {
 /// The record at a place, and where all that its process has comes from; the record isn't the process's first.
 fn found_at<'t>(
     case: &'t Case,
-    trails: &'t Trails,
+    trails: &'t TraceOrigins,
     place: usize,
     answer: Answer,
-) -> (&'t Record, &'t Trail)
+) -> (&'t Record, &'t ProcessOrigins)
     requires answer { IsAnswerAt case.now place answer }
     requires known { answer ≢ Allowed }
     requires trails { AreTrailsAt case.now place trails.now }
@@ -55,7 +55,7 @@ fn found_at<'t>(
 }
 
 /// Why a moot record isn't asked about.
-fn moot(case: &Case, trails: &Trails, place: usize) -> Explanation
+fn moot(case: &Case, trails: &TraceOrigins, place: usize) -> Explanation
     requires answer { IsAnswerAt case.now place Moot }
     requires trails { AreTrailsAt case.now place trails.now }
     ensures { Explains case.now place Moot result }
@@ -65,7 +65,7 @@ fn moot(case: &Case, trails: &Trails, place: usize) -> Explanation
 }
 
 /// Why a record is refused by no layer.
-fn failed(case: &Case, trails: &Trails, place: usize, error: Errno) -> Explanation
+fn failed(case: &Case, trails: &TraceOrigins, place: usize, error: Errno) -> Explanation
     requires answer { IsAnswerAt case.now place (Refused error []) }
     requires trails { AreTrailsAt case.now place trails.now }
     ensures { Explains case.now place (Refused error []) result }
@@ -79,7 +79,7 @@ fn failed(case: &Case, trails: &Trails, place: usize, error: Errno) -> Explanati
 fn refused(
     alloc: Global,
     case: &Case,
-    trails: &Trails,
+    trails: &TraceOrigins,
     place: usize,
     error: Errno,
     numbers: LayerSet,
@@ -106,7 +106,7 @@ fn refused(
 pub fn explain(
     alloc: Global,
     case: &Case,
-    trails: &Trails,
+    trails: &TraceOrigins,
     place: usize,
     answer: Answer,
 ) -> Result<Explanation, NoMemory>

@@ -9,16 +9,16 @@ ghost use Rattle.ll_reasons.specs.Meant.{path_named, reason_in, text_named};
 ghost use Rattle.ll_reasons.specs.Origins.{Origins};
 ghost use Rattle.ll_reasons.specs.Reasons.{no_object, not_for_writing, open_already, reason, spelt, unmet, unopened};
 ghost use Rattle.ll_trails.specs.Opened.{opened};
-ghost use Rattle.ll_trails.specs.Trails.{Follows};
+ghost use Rattle.ll_trails.specs.TraceOrigins.{Follows};
 
 use ll_reasons::{Reason, no_object, unlinked, unmet, unrenamed};
 use ll_semantics::wanted;
 use ll_trace::Op;
-use ll_trails::Trail;
+use ll_trails::ProcessOrigins;
 use ll_tree::Tree;
 
 /// Whether a number of the process is open.
-fn is_open(trail: &Trail, fd: u64) -> bool
+fn is_open(trail: &ProcessOrigins, fd: u64) -> bool
     ensures { result ≡ is_some (opened trail.now.openings fd) }
 {
     trail.openings.get(fd).is_some()
@@ -26,7 +26,7 @@ fn is_open(trail: &Trail, fd: u64) -> bool
 
 /// Why nothing is opened at the first path of a call.
 #[tactic(auto, unfolding(ll_reasons::specs::Meant::reason_in))]
-fn not_opened(tree: &Tree, trail: &Trail, op: &Op, fd: u64) -> Reason
+fn not_opened(tree: &Tree, trail: &ProcessOrigins, op: &Op, fd: u64) -> Reason
     ensures { reason_in op.now result
         ≡ (if is_some (opened trail.now.openings fd) then open_already fd
         else no_object tree.now (path_named op.now First)
@@ -40,7 +40,7 @@ fn not_opened(tree: &Tree, trail: &Trail, op: &Op, fd: u64) -> Reason
 
 /// Why a descriptor's file isn't truncated.
 #[tactic(auto, unfolding(ll_reasons::specs::Meant::reason_in))]
-fn not_truncated(trail: &Trail, fd: u64) -> Reason
+fn not_truncated(trail: &ProcessOrigins, fd: u64) -> Reason
     ensures { (op : Op) → reason_in op result
         ≡ (if is_some (opened trail.now.openings fd) then not_for_writing fd else unopened fd) }
 {
@@ -51,7 +51,7 @@ fn not_truncated(trail: &Trail, fd: u64) -> Reason
 }
 
 /// Why what is at the first path of a call isn't what it wants there, if it wants something at one.
-fn unwanted(tree: &Tree, op: &Op) -> Option<Reason>
+fn reason_at_path(tree: &Tree, op: &Op) -> Option<Reason>
     ensures { option_map (reason_in op.now) result ≡ option_map
         (λ want. unmet tree.now (spelt want.0) (place tree.now want.0) want.1) (wanted op.now) }
 {
@@ -61,7 +61,7 @@ fn unwanted(tree: &Tree, op: &Op) -> Option<Reason>
 
 /// Why a call is moot, and None for a call that never is.
 #[tactic(auto, unfolding(crate::specs::Meanings::mooting))]
-pub(crate) fn reason_of(tree: &Tree, trail: &Trail, op: &Op) -> Option<Reason>
+pub(crate) fn reason_of(tree: &Tree, trail: &ProcessOrigins, op: &Op) -> Option<Reason>
     ensures { (o : Origins) → Follows trail.now o
         → option_map (reason_in op.now) result ≡ reason tree.now o op.now }
 {
@@ -77,6 +77,6 @@ pub(crate) fn reason_of(tree: &Tree, trail: &Trail, op: &Op) -> Option<Reason>
         Op::AddPath { .. } => Some(no_object(tree, op)),
         Op::Rename { exchange, .. } => Some(unrenamed(tree, op, *exchange)),
         Op::Link { .. } => Some(unlinked(tree, op)),
-        _ => unwanted(tree, op),
+        _ => reason_at_path(tree, op),
     }
 }

@@ -5,7 +5,7 @@ ghost use Rattle.ll_semantics.specs.Fits.{IsFitMove};
 ghost use Rattle.ll_reasons.specs.Objections.{on_crossing, on_directories, on_other_gain};
 ghost use Rattle.ll_explanations.specs.Adding.{AddsOf};
 ghost use Rattle.ll_explanations.specs.Confined.{rules_of};
-ghost use Rattle.ll_explanations.specs.Passages.{IsPassage};
+ghost use Rattle.ll_explanations.specs.MoveRequests.{IsMoveRequest};
 ghost use Rattle.ll_explanations.specs.Meanings.{objection_in};
 
 use crate::asked::{gained, missing, push_any};
@@ -18,7 +18,7 @@ use std::alloc::AllocError;
 
 /// A move, with its two directories and what it asks of them.
 #[derive(Clone, Copy)]
-pub(crate) struct Passage {
+pub(crate) struct MoveRequest {
     /// The move.
     pub(crate) attempt: Move,
     /// The directory that the object is in.
@@ -32,14 +32,14 @@ pub(crate) struct Passage {
 }
 
 /// A move with what it asks of which directory.
-pub(crate) fn passage_of(tree: &Tree, attempt: Move) -> Passage
+pub(crate) fn move_request(tree: &Tree, attempt: Move) -> MoveRequest
     requires { IsFitMove tree.now attempt }
-    ensures passage { IsPassage tree.now result }
+    ensures request { IsMoveRequest tree.now result }
     ensures attempt { result.attempt ≡ attempt }
 {
     let source = leaving(tree, &attempt);
     let destination = entering(tree, &attempt);
-    Passage {
+    MoveRequest {
         attempt,
         source: source.directory,
         leaving: source.rights,
@@ -49,15 +49,15 @@ pub(crate) fn passage_of(tree: &Tree, attempt: Move) -> Passage
 }
 
 /// What the object that is there already would gain in an exchange; nothing in other moves.
-fn gained_other(layer: &OneLayer, passage: &Passage) -> Option<Objection>
-    requires { IsPassage layer.now.ctx.tree.now passage.now }
+fn gained_other(layer: &OneLayer, request: &MoveRequest) -> Option<Objection>
+    requires { IsMoveRequest layer.now.ctx.tree.now request.now }
     ensures { option_to_list (option_map (objection_in layer.now.ctx.tree.now) result)
-        ≡ on_other_gain layer.now.ctx.tree.now passage.now.attempt passage.now.attempt.how
-        passage.now.attempt.target (rules_of layer.now) }
+        ≡ on_other_gain layer.now.ctx.tree.now request.now.attempt request.now.attempt.how
+        request.now.attempt.target (rules_of layer.now) }
 {
-    match passage.attempt.how {
-        How::Exchange => match passage.attempt.target {
-            Target::Over(there) => gained(layer, there, passage.source),
+    match request.attempt.how {
+        How::Exchange => match request.attempt.target {
+            Target::Over(there) => gained(layer, there, request.source),
             Target::New(_) => None,
         },
         How::Rename | How::Link => None,
@@ -68,22 +68,22 @@ fn gained_other(layer: &OneLayer, passage: &Passage) -> Option<Objection>
 pub(crate) fn push_denied(
     all: &mut Vec<LayerObjection>,
     layer: &OneLayer,
-    passage: &Passage,
+    request: &MoveRequest,
 ) -> Result<(), AllocError>
-    requires { IsPassage layer.now.ctx.tree.now passage.now }
+    requires { IsMoveRequest layer.now.ctx.tree.now request.now }
     ensures { OnOk result (AddsOf layer.now all.old.items all.new.items
-        (on_directories layer.now.ctx.tree.now passage.now.attempt (rules_of layer.now))) }
+        (on_directories layer.now.ctx.tree.now request.now.attempt (rules_of layer.now))) }
 {
-    if passage.destination == passage.source {
-        let asked = passage.leaving.union(passage.entering);
-        push_any(all, layer, missing(layer, passage.source, asked))?;
+    if request.destination == request.source {
+        let asked = request.leaving.union(request.entering);
+        push_any(all, layer, missing(layer, request.source, asked))?;
         return Ok(());
     }
-    push_any(all, layer, missing(layer, passage.source, passage.leaving))?;
+    push_any(all, layer, missing(layer, request.source, request.leaving))?;
     push_any(
         all,
         layer,
-        missing(layer, passage.destination, passage.entering),
+        missing(layer, request.destination, request.entering),
     )?;
     Ok(())
 }
@@ -93,19 +93,19 @@ pub(crate) fn push_denied(
 pub(crate) fn push_held_back(
     all: &mut Vec<LayerObjection>,
     layer: &OneLayer,
-    passage: &Passage,
+    request: &MoveRequest,
 ) -> Result<(), AllocError>
-    requires { IsPassage layer.now.ctx.tree.now passage.now }
+    requires { IsMoveRequest layer.now.ctx.tree.now request.now }
     ensures { OnOk result (AddsOf layer.now all.old.items all.new.items
-        (on_crossing layer.now.ctx.tree.now passage.now.attempt (rules_of layer.now))) }
+        (on_crossing layer.now.ctx.tree.now request.now.attempt (rules_of layer.now))) }
 {
-    push_any(all, layer, missing(layer, passage.source, Fs::REFER))?;
-    push_any(all, layer, missing(layer, passage.destination, Fs::REFER))?;
+    push_any(all, layer, missing(layer, request.source, Fs::REFER))?;
+    push_any(all, layer, missing(layer, request.destination, Fs::REFER))?;
     push_any(
         all,
         layer,
-        gained(layer, passage.attempt.moved, passage.destination),
+        gained(layer, request.attempt.moved, request.destination),
     )?;
-    push_any(all, layer, gained_other(layer, passage))?;
+    push_any(all, layer, gained_other(layer, request))?;
     Ok(())
 }

@@ -17,7 +17,7 @@ use ll_process::Case;
 use ll_rules::NoMemory;
 use ll_semantics::Answer;
 use ll_trace::Record;
-use ll_trails::Trails;
+use ll_trails::TraceOrigins;
 use std::alloc::Global;
 use std::mem;
 
@@ -78,7 +78,7 @@ fn push_explained(
     alloc: Global,
     text: &mut Vec<u8>,
     case: &Case,
-    trails: &Trails,
+    trails: &TraceOrigins,
     place: usize,
     found: &Record,
     answer: &Answer,
@@ -101,7 +101,7 @@ fn push_shown(
     text: &mut Vec<u8>,
     case: &Case,
     shown: Shown,
-    trails: &Option<Trails>,
+    trails: &Option<TraceOrigins>,
     place: usize,
     answer: Answer,
 ) -> Result<(), NoMemory>
@@ -131,7 +131,7 @@ fn push_shown(
 /// Goes on behind the record at a place, where explanations are shown.
 fn follow(
     alloc: Global,
-    trails: &mut Option<Trails>,
+    trails: &mut Option<TraceOrigins>,
     case: &Case,
     place: usize,
     answer: Answer,
@@ -149,12 +149,12 @@ fn follow(
 }
 
 /// Where all that processes have comes from, before the first record, where explanations are shown.
-fn trails_of(alloc: Global, shown: Shown) -> Option<Trails>
+fn trails_of(alloc: Global, shown: Shown) -> Option<TraceOrigins>
     ensures kept { is_some result ≡ shown.explanations }
     ensures trails { (case : CaseValue) → IfSome result (AreTrailsAt case 0) }
 {
     if shown.explanations {
-        Some(Trails::new(alloc))
+        Some(TraceOrigins::new(alloc))
     } else {
         None
     }

@@ -11,7 +11,7 @@ use Rattle.ll_rules.proofs.domain.Domain.TheSendSync as domain
 use Rattle.ll_rules.proofs.Crossing.{layer_sync}
 use Rattle.ll_semantics.proofs.answer.Answer.TheSendSync as answer
 use Rattle.ll_semantics.proofs.descriptor.Descriptor.TheSendSync as descriptor
-use Rattle.ll_semantics.proofs.note.Note.TheSendSync as note
+use Rattle.ll_semantics.proofs.ruleset_outcome.RulesetOutcome.TheSendSync as outcome
 use Rattle.ll_state.specs.contracts.own_state.OwnState as OwnState
 use Rattle.ll_process.specs.contracts.case.Case as Case
 use Rattle.ll_process.specs.contracts.job.Job as Job
@@ -22,7 +22,7 @@ own_send = search (domain.the_send, descriptor.the_send, descriptor.the_sync, ma
 
 -- a case may be seen by several threads
 pub case_sync : IsSync Case.the_row
-case_sync = search (note.the_sync, trace.the_sync, tree.the_sync, layer_sync, crosses, sendable) depth 40
+case_sync = search (outcome.the_sync, trace.the_sync, tree.the_sync, layer_sync, crosses, sendable) depth 40
 
 pub job_field_send : (a : NamedLft) → IsSend (Job.the_field a).row
 job_field_send a = struct_send (shape (Job.the_type a)) (search (case_sync, sendable) depth 20, (search sendable depth 20, (own_send, tt)))

@@ -6,11 +6,11 @@ use Rattle.std.proofs.lemmas.Option.{same_Some}
 use Rattle.ll_trace.specs.declared.record.Record.{Record}
 use Rattle.ll_semantics.specs.declared.answer.Answer.{Answer}
 use Rattle.ll_semantics.specs.declared.answer.Answer.TheVariants.{Allowed}
-use Rattle.ll_semantics.specs.declared.note.Note.{Note}
+use Rattle.ll_semantics.specs.declared.ruleset_outcome.RulesetOutcome.{RulesetOutcome}
 use Rattle.ll_state.specs.declared.own_state.OwnState.{OwnState}
 use Rattle.ll_semantics.specs.CallContexts.{answer_to, state_then, world_at, state_after}
 use Rattle.ll_state.specs.Agreement.{IsMet}
-use Rattle.ll_semantics.specs.Notes.{NoteFits}
+use Rattle.ll_semantics.specs.RulesetOutcomes.{OutcomeFits}
 use Rattle.ll_semantics.specs.States.{State}
 use Rattle.ll_semantics.specs.Answers.{answer}
 use Rattle.ll_trace.specs.Processes.{is_start, is_fork, process_count, forked_at}
@@ -57,14 +57,14 @@ module _ (cv : CaseValue) (index p : ℕ) where
       ∙ ap (λ q. state_left cv.tree cv.abi cv.records index q) process)
       agrees
 
-  -- the note of a record fits what the record meets
-  pub note_fits : (r : Record) (note : Note) → IsCase cv → slice_get cv.records index ≡ Some r → slice_get cv.notes index ≡ Some note → is_start r.op ≡ false
-      → r.process.0 ≡ p → NoteFits (context_at cv index p) r.op note
-  note_fits r note case eq says goes process =
-      subst (λ (s : State). NoteFits
-      (record { tree = cv.tree; layers = cv.layers; abi = cv.abi; rulesets = (world_at cv.tree cv.abi cv.records index).rulesets; state = s }) r.op note)
+  -- the outcome of a record fits what the record meets
+  pub outcome_fits : (r : Record) (outcome : RulesetOutcome) → IsCase cv → slice_get cv.records index ≡ Some r
+      → slice_get cv.outcomes index ≡ Some outcome → is_start r.op ≡ false → r.process.0 ≡ p → OutcomeFits (context_at cv index p) r.op outcome
+  outcome_fits r outcome case eq says goes process =
+      subst (λ (s : State). OutcomeFits
+      (record { tree = cv.tree; layers = cv.layers; abi = cv.abi; rulesets = (world_at cv.tree cv.abi cv.records index).rulesets; state = s }) r.op outcome)
       (sym (met_going_on cv.tree cv.abi cv.records index p r eq goes ∙ ap (λ q. (world_at cv.tree cv.abi cv.records index).processes q) (sym process)))
-      (case.settled.fits index r note eq says)
+      (case.settled.fits index r outcome eq says)
 
   pub is_met : IsCase cv → IsMet (context_at cv index p) cv.tree cv.layers
   is_met case = record { same_tree = refl; same_layers = refl; inside = case.settled.inside }

@@ -6,7 +6,7 @@ use Rattle.ll_tree.specs.Trees.{Entry}
 use Rattle.ll_rules.specs.Layers.{RulesOn}
 use Rattle.ll_trace.specs.declared.record.Record.{Record}
 use Rattle.ll_semantics.specs.declared.answer.Answer.{Answer}
-use Rattle.ll_semantics.specs.declared.note.Note.{Note}
+use Rattle.ll_semantics.specs.declared.ruleset_outcome.RulesetOutcome.{RulesetOutcome}
 use Rattle.ll_state.specs.declared.own_state.OwnState.{OwnState}
 use Rattle.ll_state.specs.Agreement.{Agrees}
 use Rattle.ll_rulebook.specs.Settled.{IsSettled}
@@ -14,20 +14,20 @@ use Rattle.ll_semantics.specs.States.{State}
 use Rattle.ll_trace.specs.Processes.{IsNumbered, started_at}
 use Rattle.ll_process.specs.Judging.{state_left, answers_of}
 
--- what contracts see of a case: the layers are those that its trace enforces, with a note for each record
+-- what contracts see of a case: the layers are those that its trace enforces, with an outcome for each record
 pub record CaseValue : Type 0 where
   pub tree : List Entry
   pub records : List Record
   pub abi : Abi
   pub layers : List (RulesOn ℕ)
-  pub notes : List Note
+  pub outcomes : List RulesetOutcome
 
 -- The processes are numbered, and the rulebook says of each record what the fold over the whole trace says: the
 -- answer of a call that creates, changes or closes a ruleset, and for a call that restricts by a ruleset the layer
 -- that this ruleset is then.
 pub record IsCase (case : CaseValue) : Type 0 where
   pub numbered : IsNumbered case.records
-  pub settled : IsSettled case.tree case.abi case.records case.layers case.notes
+  pub settled : IsSettled case.tree case.abi case.records case.layers case.outcomes
 
 -- what is kept of a process agrees with a state, under the tree and the layers of a case
 abbrev pub AgreesIn : CaseValue → OwnState → State → Type 0

@@ -10,7 +10,7 @@ ghost use Rattle.ll_trace.specs.Processes.{process_count, own_records, forked_at
 use ll_rights::Abi;
 use ll_rulebook::Rulebook;
 use ll_rules::{Layer, NoMemory};
-use ll_semantics::Note;
+use ll_semantics::RulesetOutcome;
 use ll_trace::{Located, Op, ProcessId, Record, Trace};
 use ll_tree::{Place, Tree};
 use std::alloc::Global;
@@ -23,7 +23,7 @@ pub struct Case {
     tree: Tree,
     trace: Trace,
     abi: Abi,
-    notes: Vec<Note>,
+    outcomes: Vec<RulesetOutcome>,
     layers: Vec<Layer>,
     places: Vec<Place>,
     ghost are_first: { AreFirstPlaces tree trace places.items },
@@ -39,7 +39,7 @@ impl Model for Case {
       records = case.trace;
       abi = case.abi;
       layers = case.layers.items;
-      notes = case.notes.items;
+      outcomes = case.outcomes.items;
     } };
 
     ghost invariant = { λ case. IsCase (record {
@@ -47,7 +47,7 @@ impl Model for Case {
       records = case.trace;
       abi = case.abi;
       layers = case.layers.items;
-      notes = case.notes.items;
+      outcomes = case.outcomes.items;
     }) };
 }
 
@@ -88,7 +88,7 @@ impl Case {
             tree,
             trace,
             abi,
-            notes: book.notes,
+            outcomes: book.outcomes,
             layers: book.layers,
             places,
         })
@@ -146,11 +146,11 @@ impl Case {
     }
 
     /// What the rulebook says of the record at a place.
-    pub fn note(&self, index: usize) -> &Note
+    pub fn outcome(&self, index: usize) -> &RulesetOutcome
         requires { index < length self.now.records }
-        ensures { slice_get self.now.notes index ≡ Some result.now }
+        ensures { slice_get self.now.outcomes index ≡ Some result.now }
     {
-        &self.notes[index]
+        &self.outcomes[index]
     }
 
     /// The place of the first path of the record at a place, where it is known.

@@ -38,7 +38,7 @@ pub(crate) fn child_job<'c>(
     }))
 }
 
-/// Offers the job of a child of a case, if there is one, to the hand, and notes it as still to do if it comes back.
+/// Offers the job of a child of a case, if there is one, to the hand, and marks it as still to do if it comes back.
 pub(crate) fn offer<'c, H: Hand<'c>>(
     case: &'c Case,
     child: Option<Job<'c>>,

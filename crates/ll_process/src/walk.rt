@@ -2,10 +2,10 @@
 
 ghost use Rattle.std.specs.Prelude.{◌≡◌, Some, IfOk, OnOk, slice_get};
 ghost use Rattle.ll_trace.specs.declared.record.Record.{Record as OneRecord};
-ghost use Rattle.ll_semantics.specs.declared.note.Note.{Note as OneNote};
+ghost use Rattle.ll_semantics.specs.declared.ruleset_outcome.RulesetOutcome.{RulesetOutcome as OneOutcome};
 ghost use Rattle.ll_semantics.specs.CallContexts.{CallContext, answer_to, state_then};
 ghost use Rattle.ll_state.specs.Agreement.{IsMet, Agrees};
-ghost use Rattle.ll_semantics.specs.Notes.{NoteFits};
+ghost use Rattle.ll_semantics.specs.RulesetOutcomes.{OutcomeFits};
 ghost use Rattle.ll_process.specs.Judging.{answer_at};
 ghost use Rattle.ll_process.specs.Own.{IsOwn, Meets, Leaves};
 
@@ -26,9 +26,9 @@ fn judge_met(
     requires own { IsOwn case.now index process.0 }
     requires met { IsMet ctx case.now.tree case.now.layers }
     requires agrees { Agrees ctx.tree ctx.layers own.old ctx.state }
-    requires fits { (r : OneRecord) (note : OneNote) →
-        slice_get case.now.records index ≡ Some r → slice_get case.now.notes index ≡ Some note →
-        NoteFits ctx r.op note }
+    requires fits { (r : OneRecord) (outcome : OneOutcome) →
+        slice_get case.now.records index ≡ Some r →
+        slice_get case.now.outcomes index ≡ Some outcome → OutcomeFits ctx r.op outcome }
     ensures answer { IfOk result (λ given. (r : OneRecord) →
         slice_get case.now.records index ≡ Some r → given ≡ answer_to ctx r.op) }
     ensures agrees { OnOk result ((r : OneRecord) →
@@ -36,9 +36,9 @@ fn judge_met(
         → Agrees ctx.tree ctx.layers own.new (state_then ctx r.op)) }
 {
     let op = &case.record(index as usize).op;
-    let note = case.note(index as usize);
+    let outcome = case.outcome(index as usize);
     let known = case.known_place(index as usize);
-    own.meet(case.tree(), case.layers(), op, note, known)
+    own.answer_call(case.tree(), case.layers(), op, outcome, known)
 }
 
 /// What one of a process's own records is answered. A start was done when its process began.

@@ -15,7 +15,7 @@ use Rattle.ll_semantics.specs.declared.answer.Answer.TheVariants.{Allowed}
 use Rattle.ll_semantics.specs.States.{State, Layer, fresh}
 use Rattle.ll_semantics.specs.Answers.{answer, named, restrict_answer, may_restrict, fails}
 use Rattle.ll_semantics.specs.Effects.{effect}
-use Rattle.ll_semantics.specs.Notes.{enforced}
+use Rattle.ll_semantics.specs.RulesetOutcomes.{enforced}
 use Rattle.ll_semantics.specs.Worlds.{World, answer_in, judged}
 use Rattle.ll_semantics.specs.CallContexts.{change, state_by, world_at}
 use Rattle.ll_semantics.proofs.Steps.{judged-at}

@@ -10,7 +10,7 @@ use Rattle.ll_semantics.specs.declared.answer.Answer.TheVariants.{Allowed}
 use Rattle.ll_semantics.specs.declared.descriptor.Descriptor.{Descriptor}
 use Rattle.ll_semantics.specs.States.{State, Layer}
 use Rattle.ll_semantics.specs.Effects.{descriptor, opened}
-use Rattle.ll_semantics.specs.Notes.{enforced}
+use Rattle.ll_semantics.specs.RulesetOutcomes.{enforced}
 use Rattle.ll_semantics.specs.Worlds.{World, judged}
 use Rattle.ll_semantics.specs.CallContexts.{world_at}
 

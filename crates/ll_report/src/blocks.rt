@@ -14,7 +14,7 @@ use ll_options::Shown;
 use ll_process::{Answer, Case};
 use ll_rules::NoMemory;
 use ll_trace::Record;
-use ll_trails::Trails;
+use ll_trails::TraceOrigins;
 use std::alloc::Global;
 
 /// Whether an answer's line is left out.
@@ -30,7 +30,7 @@ pub(crate) fn is_hidden(shown: Shown, answer: &Answer) -> bool
 struct Blocks<'a> {
     case: &'a Case,
     shown: Shown,
-    trails: Option<Trails>,
+    trails: Option<TraceOrigins>,
 }
 
 impl<'a> Blocks<'a> {
@@ -39,7 +39,7 @@ impl<'a> Blocks<'a> {
         ensures { AreAt shown case.entry.now 0 result }
     {
         let trails = if shown.explanations {
-            Some(Trails::new(alloc))
+            Some(TraceOrigins::new(alloc))
         } else {
             None
         };

@@ -13,7 +13,7 @@ use crate::texts::Texts;
 use ll_options::Shown;
 use ll_process::{Answer, Case};
 use ll_rules::NoMemory;
-use ll_trails::Trails;
+use ll_trails::TraceOrigins;
 use std::alloc::{AllocError, Global};
 use std::marker::Model;
 
@@ -117,7 +117,7 @@ fn explanations_of(
         None => None,
     };
     let mut texts = Texts::new(alloc);
-    let mut trails = Trails::new(alloc);
+    let mut trails = TraceOrigins::new(alloc);
     for (place, answer) in answers.iter().enumerate() {
         texts.push_explanation(alloc, case, &trails, place, *answer, others)?;
         trails.follow(alloc, case, place, *answer)?;

@@ -8,7 +8,7 @@ ghost use Rattle.ll_report.specs.Texts.{text_in};
 use ll_explain::push_explanation;
 use ll_process::{Answer, Case};
 use ll_rules::NoMemory;
-use ll_trails::Trails;
+use ll_trails::TraceOrigins;
 use std::alloc::{AllocError, Global};
 use std::marker::Model;
 use std::sync::Arc;
@@ -127,7 +127,7 @@ impl Texts {
         &mut self,
         alloc: Global,
         case: &Case,
-        trails: &Trails,
+        trails: &TraceOrigins,
         place: usize,
         answer: Answer,
         others: Option<&Texts>,

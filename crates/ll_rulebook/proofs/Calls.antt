@@ -17,7 +17,7 @@ use Rattle.ll_rules.proofs.SameLayers.{SameRules-trans, SameRules-with_file_rule
 use Rattle.ll_trace.specs.declared.op.Op.TheVariants as calls
 use Rattle.ll_semantics.specs.Answers.{answer, create_answer, add_path_answer, add_port_answer}
 use Rattle.ll_semantics.specs.Effects.{effect}
-use Rattle.ll_semantics.specs.Notes.{is_on_rulesets}
+use Rattle.ll_semantics.specs.RulesetOutcomes.{is_on_rulesets}
 use Rattle.ll_semantics.specs.States.{Layer}
 use Rattle.ll_rulebook.specs.Stores.{IsPathAdded}
 use Rattle.ll_rulebook.specs.Passes.{IsSame, Creates}

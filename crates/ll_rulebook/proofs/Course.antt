@@ -15,11 +15,11 @@ use Rattle.ll_trace.specs.declared.record.Record.{Record}
 use Rattle.ll_trace.specs.declared.op.Op.{Op}
 use Rattle.ll_trace.specs.Entries.{is_start}
 use Rattle.ll_trace.specs.RecordFacts.{AreRecords}
-use Rattle.ll_semantics.specs.declared.note.Note.{Note}
-use Rattle.ll_semantics.specs.declared.note.Note.TheVariants.{Answered, Frozen, ByState}
+use Rattle.ll_semantics.specs.declared.ruleset_outcome.RulesetOutcome.{RulesetOutcome}
+use Rattle.ll_semantics.specs.declared.ruleset_outcome.RulesetOutcome.TheVariants.{Answered, Frozen, ByState}
 use Rattle.ll_semantics.specs.States.{Layer, fresh}
 use Rattle.ll_semantics.specs.CallContexts.{answer_to, world_after, world_at}
-use Rattle.ll_semantics.specs.Notes.{NoteFits, IsFrozen, enforced}
+use Rattle.ll_semantics.specs.RulesetOutcomes.{OutcomeFits, IsFrozen, enforced}
 use Rattle.ll_semantics.specs.Worlds.{World, step}
 use Rattle.ll_rulebook.specs.declared.pass.Pass.{Pass}
 use Rattle.ll_rulebook.specs.Stores.{held_by, Extends}
@@ -43,7 +43,7 @@ settled_none tree abi records pass of_tree of_abi rulesets layers tables = recor
   agrees = record { rulesets = rw rulesets tt; count = rw tables refl; held = λ p q. rw tables refl };
   few = rw layers (omega arith);
   counted = refl;
-  fits = λ k r note eq noted. absurd (cc);
+  fits = λ k r outcome eq noted. absurd (cc);
 }
 
 frozen_stays : (tree : List Entry) (abi : Abi) (old new : List (RulesOn ℕ)) (world : World) (process : ℕ) (id : LayerId) (rules : Option Layer)
@@ -58,20 +58,20 @@ frozen_stays tree abi old new world process id (Some rules) extends frozen =
     ap (λ (xs : List (RulesOn ℕ)). get_or xs id.0 none) extends.is_more ∙ get_or_append_left old extends.more none id.0 frozen.0 in
     (omega (arith, longer, frozen.0), rw same frozen.1)
 
--- a note still fits when layers were appended
-note_stays : (tree : List Entry) (abi : Abi) (old new : List (RulesOn ℕ)) (world : World) (process : ℕ) (op : Op) (note : Note) → Extends old new →
-    NoteFits (met_by tree abi old world process) op note → NoteFits (met_by tree abi new world process) op note
-unfolding NoteFits answer_to
-note_stays tree abi old new world process op (Answered a) extends fits = fits
-note_stays tree abi old new world process op (Frozen id) extends fits =
+-- an outcome still fits when layers were appended
+outcome_stays : (tree : List Entry) (abi : Abi) (old new : List (RulesOn ℕ)) (world : World) (process : ℕ) (op : Op) (outcome : RulesetOutcome)
+    → Extends old new → OutcomeFits (met_by tree abi old world process) op outcome → OutcomeFits (met_by tree abi new world process) op outcome
+unfolding OutcomeFits answer_to
+outcome_stays tree abi old new world process op (Answered a) extends fits = fits
+outcome_stays tree abi old new world process op (Frozen id) extends fits =
     frozen_stays tree abi old new world process id (enforced world.rulesets op (world.processes process)) extends fits
-note_stays tree abi old new world process op ByState extends fits = fits
+outcome_stays tree abi old new world process op ByState extends fits = fits
 
 -- after one record more
-pub settled_next : (tree : List Entry) (abi : Abi) (records : List Record) (k : ℕ) (r : Record) (old new : Pass) (notes : List Note) (note : Note) →
-    slice_get records k ≡ Some r → HasSettled tree abi records k old notes → Settles r.process.0 r.op old new note →
-    HasSettled tree abi records (k + 1) new (notes ++ note ∷ [])
-settled_next tree abi records k r old new notes note eq so_far settles =
+pub settled_next : (tree : List Entry) (abi : Abi) (records : List Record) (k : ℕ) (r : Record) (old new : Pass) (outcomes : List RulesetOutcome)
+    (outcome : RulesetOutcome) → slice_get records k ≡ Some r → HasSettled tree abi records k old outcomes → Settles r.process.0 r.op old new outcome →
+    HasSettled tree abi records (k + 1) new (outcomes ++ outcome ∷ [])
+settled_next tree abi records k r old new outcomes outcome eq so_far settles =
     let next : world_at tree abi records (k + 1) ≡ step tree abi (world_at tree abi records k) r.process.0 r.op = world_at-more tree abi records k r eq in
     let agrees = rw (so_far.of_tree, so_far.of_abi) at (settles.agrees (world_at tree abi records k) so_far.agrees) in
     let fits = rw (so_far.of_tree, so_far.of_abi) at (settles.fits (world_at tree abi records k) so_far.agrees) in
@@ -84,23 +84,25 @@ settled_next tree abi records k r old new notes note eq so_far settles =
           let longer : length new.store.layers ≡ length old.store.layers + length settles.layers.more = rw settles.layers.is_more (simp length-append) in
           omega (arith, longer, settles.layers.one, so_far.few);
       counted = simp length-append (omega (arith, so_far.counted));
-      fits = λ j s other at_s noted. elim (cases_eq j (length notes)) [
+      fits = λ j s other at_s noted. elim (cases_eq j (length outcomes)) [
         | inl last ↦
-            let here : slice_get (notes ++ note ∷ []) j ≡ Some note = rw (slice_get-push notes j note, eq-eqb j (length notes) last) refl in
-            let it : note ≡ other = cc in
+            let here : slice_get (outcomes ++ outcome ∷ []) j ≡ Some outcome = rw (slice_get-push outcomes j outcome, eq-eqb j (length outcomes) last) refl in
+            let it : outcome ≡ other = cc in
             let place : j ≡ k = last ∙ so_far.counted in
             let own : slice_get records j ≡ Some r = rw place eq in
             let same : r ≡ s = cc in
             rw (← it, ← same, place) fits
         | inr earlier ↦
-            let before : slice_get (notes ++ note ∷ []) j ≡ slice_get notes j = rw (slice_get-push notes j note, ne_eqb j (length notes) earlier) refl in
-            note_stays tree abi old.store.layers new.store.layers (world_at tree abi records j) s.process.0 s.op other settles.layers
+            let before : slice_get (outcomes ++ outcome ∷ []) j ≡ slice_get outcomes j =
+            rw (slice_get-push outcomes j outcome, ne_eqb j (length outcomes) earlier) refl in
+            outcome_stays tree abi old.store.layers new.store.layers (world_at tree abi records j) s.process.0 s.op other settles.layers
             (so_far.fits j s other at_s (sym before ∙ noted))
       ];
     }
 
 -- a record that is no start is of a process that has a table
-pub has_table : (tree : List Entry) (abi : Abi) (records : List Record) (k : ℕ) (r : Record) (pass : Pass) (notes : List Note) → AreRecords records →
-    slice_get records k ≡ Some r → HasSettled tree abi records k pass notes → is_start r.op ≡ false → r.process.0 < length pass.tables.held.items
-has_table tree abi records k r pass notes are eq so_far other =
+pub has_table : (tree : List Entry) (abi : Abi) (records : List Record) (k : ℕ) (r : Record) (pass : Pass) (outcomes : List RulesetOutcome)
+    → AreRecords records →
+    slice_get records k ≡ Some r → HasSettled tree abi records k pass outcomes → is_start r.op ≡ false → r.process.0 < length pass.tables.held.items
+has_table tree abi records k r pass outcomes are eq so_far other =
     omega (arith, so_far.agrees.count, count-world_at tree abi records k, are.numbered.goes_on k r eq other)

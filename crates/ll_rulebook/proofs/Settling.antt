@@ -28,13 +28,13 @@ use Rattle.ll_rules.proofs.SameLayers.{SameRules-refl}
 use Rattle.ll_trace.specs.declared.op.Op.{Op}
 use Rattle.ll_semantics.specs.declared.answer.Answer.{Answer}
 use Rattle.ll_semantics.specs.declared.answer.Answer.TheVariants.{Allowed, Moot, Refused}
-use Rattle.ll_semantics.specs.declared.note.Note.{Note}
-use Rattle.ll_semantics.specs.declared.note.Note.TheVariants.{Answered, Frozen}
+use Rattle.ll_semantics.specs.declared.ruleset_outcome.RulesetOutcome.{RulesetOutcome}
+use Rattle.ll_semantics.specs.declared.ruleset_outcome.RulesetOutcome.TheVariants.{Answered, Frozen}
 use Rattle.ll_semantics.specs.States.{State, Layer}
 use Rattle.ll_semantics.specs.Answers.{answer, named, fails, of_rule_refusal}
 use Rattle.ll_semantics.specs.Effects.{Effect, nothing, leaves, leaves_rulesets, begins, effect, changed_at}
 use Rattle.ll_semantics.specs.CallContexts.{answer_to}
-use Rattle.ll_semantics.specs.Notes.{NoteFits, IsFrozen, is_on_rulesets, enforced}
+use Rattle.ll_semantics.specs.RulesetOutcomes.{OutcomeFits, IsFrozen, is_on_rulesets, enforced}
 use Rattle.ll_semantics.specs.Worlds.{World, with_state, affected, answer_in, step, if_allowed}
 use Rattle.ll_semantics.proofs.Steps.{world_kept}
 use Rattle.ll_rulebook.specs.declared.pass.Pass.{Pass}
@@ -52,24 +52,24 @@ pub record AddsTo (tree : List Entry) (abi : Abi) (op : Op) (rs : ℕ) (refusal 
       → answer tree abi rulesets op s ≡ of_rule_refusal (refusal one)
   pub adds : (rulesets : List Layer) (s : State) → effect tree rulesets op s ≡ leaves_rulesets (changed_at rulesets (s.held rs) f) s
 
--- the note of a call that adds a rule tells what refuses it
-answer_told : (refusal : Option RuleRefusal) (outcome : Result (Unit {0}) RuleFault) (note : Note)
-    → MatchOption (option_map fault_of refusal) (IsOkUnless outcome faults.Memory) (λ f. outcome ≡ Err f) →
-    IsAnswerTo outcome note → note ≡ Answered (of_rule_refusal refusal)
-answer_told None (Ok done) note told is = is
-answer_told None (Err (faults.Errno error)) note told is = absurd (cc)
-answer_told None (Err faults.Moot) note told is = absurd (cc)
-answer_told refusal (Err faults.Memory) note told is = absurd is
-answer_told (Some refusal) (Ok done) note told is = absurd (cc)
-answer_told (Some (with_error error)) (Err (faults.Errno other)) note told is = cc
-answer_told (Some (with_error error)) (Err faults.Moot) note told is = absurd (cc)
-answer_told (Some without_object) (Err (faults.Errno error)) note told is = absurd (cc)
-answer_told (Some without_object) (Err faults.Moot) note told is = is
+-- the outcome of a call that adds a rule tells what refuses it
+answer_told : (refusal : Option RuleRefusal) (attempt : Result (Unit {0}) RuleFault) (outcome : RulesetOutcome)
+    → MatchOption (option_map fault_of refusal) (IsOkUnless attempt faults.Memory) (λ f. attempt ≡ Err f) →
+    IsAnswerTo attempt outcome → outcome ≡ Answered (of_rule_refusal refusal)
+answer_told None (Ok done) outcome told is = is
+answer_told None (Err (faults.Errno error)) outcome told is = absurd (cc)
+answer_told None (Err faults.Moot) outcome told is = absurd (cc)
+answer_told refusal (Err faults.Memory) outcome told is = absurd is
+answer_told (Some refusal) (Ok done) outcome told is = absurd (cc)
+answer_told (Some (with_error error)) (Err (faults.Errno other)) outcome told is = cc
+answer_told (Some (with_error error)) (Err faults.Moot) outcome told is = absurd (cc)
+answer_told (Some without_object) (Err (faults.Errno error)) outcome told is = absurd (cc)
+answer_told (Some without_object) (Err faults.Moot) outcome told is = is
 
-refused_told : (outcome : RuleFault) (note : Note) → IsAnswerTo (Err outcome) note → note ≡ Answered Allowed → ⊥
-refused_told (faults.Errno error) note is allowed = cc
-refused_told faults.Moot note is allowed = cc
-refused_told faults.Memory note is allowed = is
+refused_told : (attempt : RuleFault) (outcome : RulesetOutcome) → IsAnswerTo (Err attempt) outcome → outcome ≡ Answered Allowed → ⊥
+refused_told (faults.Errno error) outcome is allowed = cc
+refused_told faults.Moot outcome is allowed = cc
+refused_told faults.Memory outcome is allowed = is
 
 -- an effect leaves the rulesets and what its process holds of them
 abbrev pub IsQuiet : State → Effect → Type 0
@@ -97,8 +97,8 @@ module _ (process : ℕ) (op : Op) (old : Pass) (sound : IsSound old) where
   abbrev after : Stock → Tables → Pass
   after s t = record old { store = s; tables = t }
 
-  abbrev fit : Pass → Note → Type 0
-  fit new note = (w : World) → HasRulesetsOf old w → NoteFits (met_by old.tree.now old.abi new.store.layers w process) op note
+  abbrev fit : Pass → RulesetOutcome → Type 0
+  fit new outcome = (w : World) → HasRulesetsOf old w → OutcomeFits (met_by old.tree.now old.abi new.store.layers w process) op outcome
 
   sound_after : (s : Stock) (t : Tables) (count ix : ℕ) (held : ℕ → Option ℕ) → NowHolds old.tables.held.items t.held.items count ix held →
       ((q place : ℕ) → held q ≡ Some place → place < length s.rulesets) → length old.store.rulesets ≤ length s.rulesets →
@@ -137,7 +137,7 @@ module _ (process : ℕ) (op : Op) (old : Pass) (sound : IsSound old) where
   pub settles_refused : (a : Answer) → is_on_rulesets op ≡ true → (a ≡ Allowed → ⊥)
       → ((w : World) → HasRulesetsOf old w → a ≡ answer old.tree.now old.abi w.rulesets op (w.processes process)) →
       Settles process op old old (Answered a)
-  unfolding NoteFits answer_to answer_in
+  unfolding OutcomeFits answer_to answer_in
   settles_refused a on refused is = record {
     same_tree = refl;
     same_abi = refl;
@@ -160,11 +160,12 @@ module _ (process : ℕ) (op : Op) (old : Pass) (sound : IsSound old) where
   agrees_quiet layers w Moot e agrees quiet = record { rulesets = agrees.rulesets; count = agrees.count; held = agrees.held }
   agrees_quiet layers w (Refused error numbers) e agrees quiet = record { rulesets = agrees.rulesets; count = agrees.count; held = agrees.held }
 
-  pub settles_quiet : (layers : List (RulesOn ℕ)) (note : Note) → ((rulesets : List Layer) (s : State) → IsQuiet s (effect old.tree.now rulesets op s)) →
-      Extends old.store.layers layers → All (AreInTree old.tree.now) layers → fit (after (record old.store { layers = layers }) old.tables) note →
-      Settles process op old (after (record old.store { layers = layers }) old.tables) note
+  pub settles_quiet : (layers : List (RulesOn ℕ)) (outcome : RulesetOutcome)
+      → ((rulesets : List Layer) (s : State) → IsQuiet s (effect old.tree.now rulesets op s)) →
+      Extends old.store.layers layers → All (AreInTree old.tree.now) layers → fit (after (record old.store { layers = layers }) old.tables) outcome →
+      Settles process op old (after (record old.store { layers = layers }) old.tables) outcome
   unfolding step answer_in
-  settles_quiet layers note quiet extends inside fits = record {
+  settles_quiet layers outcome quiet extends inside fits = record {
     same_tree = refl;
     same_abi = refl;
     sound = record { places = sound.places; rulesets = sound.rulesets; layers = inside };
@@ -178,7 +179,7 @@ module _ (process : ℕ) (op : Op) (old : Pass) (sound : IsSound old) where
       → ix < length old.store.rulesets → Freezes old.store s ix id →
       ((w : World) → HasRulesetsOf old w → enforced w.rulesets op (w.processes process) ≡ slice_get w.rulesets ix)
       → Settles process op old (after s old.tables) (Frozen id)
-  unfolding NoteFits IsFrozen
+  unfolding OutcomeFits IsFrozen
   settles_frozen s ix id quiet within freezes enforces =
       let none : RulesOn ℕ = without_rules files.no_right network.no_right in
       let stands = slice_get-get_or old.store.rulesets ix none within in
@@ -194,7 +195,7 @@ module _ (process : ℕ) (op : Op) (old : Pass) (sound : IsSound old) where
       → held_by old.tables.held.items process rs ≡ None →
       ix ≡ length old.store.rulesets → HoldsUnder old.tables.held.items t.held.items process rs (Some ix) →
       Settles process op old (after (with_created old.store (without_rules fs net)) t) (Answered Allowed)
-  unfolding NoteFits answer_to
+  unfolding OutcomeFits answer_to
   settles_created t rs fs net ix creates free last holds =
       let one : RulesOn ℕ = without_rules fs net in
       let longer : length (old.store.rulesets ++ one ∷ []) ≡ length old.store.rulesets + 1 = simp length-append in
@@ -218,14 +219,15 @@ module _ (process : ℕ) (op : Op) (old : Pass) (sound : IsSound old) where
 
   -- ---- a number is closed, or a process begins
 
-  pub settles_tables : (t : Tables) (count ix : ℕ) (held : ℕ → Option ℕ) (note : Note) → NowHolds old.tables.held.items t.held.items count ix held →
-      ((q place : ℕ) → held q ≡ Some place → place < length old.store.rulesets) → fit (after old.store t) note →
+  pub settles_tables : (t : Tables) (count ix : ℕ) (held : ℕ → Option ℕ) (outcome : RulesetOutcome)
+      → NowHolds old.tables.held.items t.held.items count ix held →
+      ((q place : ℕ) → held q ≡ Some place → place < length old.store.rulesets) → fit (after old.store t) outcome →
       ((w : World) → HasRulesetsOf old w → answer old.tree.now old.abi w.rulesets op (w.processes process) ≡ Allowed) →
       ((w : World) → HasRulesetsOf old w → (state : State) × (total number : ℕ) × (count ≡ total) × (ix ≡ number) × ((q : ℕ) → held q ≡ state.held q)
       × (affected w process (effect old.tree.now w.rulesets op (w.processes process))
       ≡ record { rulesets = w.rulesets; count = total; processes = with_state w.processes number state })) →
-      Settles process op old (after old.store t) note
-  settles_tables t count ix held note holds there fits allowed does = record {
+      Settles process op old (after old.store t) outcome
+  settles_tables t count ix held outcome holds there fits allowed does = record {
     same_tree = refl;
     same_abi = refl;
     sound = sound_after old.store t count ix held holds there (omega arith) sound.rulesets sound.layers;
@@ -261,7 +263,7 @@ module _ (process : ℕ) (op : Op) (old : Pass) (sound : IsSound old) where
           ((next : RulesOn ℕ) → IsNow next → AreInTree old.tree.now next
           × ((other : Layer) → IsSame old.tree.now one other → IsSame old.tree.now next (f other))) →
           Settles process op old (after s old.tables) (Answered Allowed)
-      unfolding NoteFits answer_to
+      unfolding OutcomeFits answer_to
       settles_added s one IsNow was none now stays = rw now.changed record {
         same_tree = refl;
         same_abi = refl;
@@ -280,16 +282,16 @@ module _ (process : ℕ) (op : Op) (old : Pass) (sound : IsSound old) where
         fits = λ w agrees. (call.on_rulesets, sym none ∙ answer_is one was w agrees);
       }
 
-      pub settles_rule : (s : Stock) (IsAdded : RulesOn ℕ → RulesOn ℕ → Type 0) (outcome : Result (Unit {0}) RuleFault) (note : Note) →
-          AddsRule (λ one. option_map fault_of (refusal one)) IsAdded outcome ix old.store s → IsAnswerTo outcome note →
+      pub settles_rule : (s : Stock) (IsAdded : RulesOn ℕ → RulesOn ℕ → Type 0) (attempt : Result (Unit {0}) RuleFault) (outcome : RulesetOutcome) →
+          AddsRule (λ one. option_map fault_of (refusal one)) IsAdded attempt ix old.store s → IsAnswerTo attempt outcome →
           ((one next : RulesOn ℕ) → slice_get old.store.rulesets ix ≡ Some one → IsAdded one next
           → AreInTree old.tree.now next × ((other : Layer) → IsSame old.tree.now one other → IsSame old.tree.now next (f other))) →
-          Settles process op old (after s old.tables) note
-      settles_rule s IsAdded (Ok done) note adds is stays =
-          let told : note ≡ Answered (of_rule_refusal (refusal adds.before)) = answer_told (refusal adds.before) (Ok done) note adds.told is in
+          Settles process op old (after s old.tables) outcome
+      settles_rule s IsAdded (Ok done) outcome adds is stays =
+          let told : outcome ≡ Answered (of_rule_refusal (refusal adds.before)) = answer_told (refusal adds.before) (Ok done) outcome adds.told is in
           let none : of_rule_refusal (refusal adds.before) ≡ Allowed = cc in
           rw is (settles_added s adds.before (IsAdded adds.before) adds.was none adds.added (λ next. stays adds.before next adds.was))
-      settles_rule s IsAdded (Err fault) note adds is stays =
-          let told : note ≡ Answered (of_rule_refusal (refusal adds.before)) = answer_told (refusal adds.before) (Err fault) note adds.told is in
+      settles_rule s IsAdded (Err fault) outcome adds is stays =
+          let told : outcome ≡ Answered (of_rule_refusal (refusal adds.before)) = answer_told (refusal adds.before) (Err fault) outcome adds.told is in
           rw (adds.refused, told) (settles_refused (of_rule_refusal (refusal adds.before)) call.on_rulesets
-          (λ allowed. refused_told fault note is (told ∙ ap Answered allowed)) (answer_is adds.before adds.was))
+          (λ allowed. refused_told fault outcome is (told ∙ ap Answered allowed)) (answer_is adds.before adds.was))

@@ -11,12 +11,12 @@ use Rattle.ll_rules.specs.KeptLayers.{SameRules}
 use Rattle.ll_rules.specs.InTree.{in_tree, AreInTree}
 use Rattle.ll_trace.specs.declared.op.Op.{Op}
 use Rattle.ll_trace.specs.declared.record.Record.{Record}
-use Rattle.ll_semantics.specs.declared.note.Note.{Note}
+use Rattle.ll_semantics.specs.declared.ruleset_outcome.RulesetOutcome.{RulesetOutcome}
 use Rattle.ll_semantics.specs.declared.answer.Answer.TheVariants.{Allowed}
 use Rattle.ll_semantics.specs.States.{State, Layer}
 use Rattle.ll_semantics.specs.Answers.{answer}
 use Rattle.ll_semantics.specs.Effects.{with_held, effect, leaves_rulesets}
-use Rattle.ll_semantics.specs.Notes.{NoteFits, is_on_rulesets}
+use Rattle.ll_semantics.specs.RulesetOutcomes.{OutcomeFits, is_on_rulesets}
 use Rattle.ll_semantics.specs.Worlds.{World, step}
 use Rattle.ll_semantics.specs.CallContexts.{world_at}
 use Rattle.ll_rulebook.specs.declared.pass.Pass.{Pass}
@@ -45,27 +45,27 @@ pub record Creates (tree : List Entry) (abi : Abi) (rs : ℕ) (fs : Fs) (net : N
   pub allowed : (rulesets : List Layer) (s : State) → s.held rs ≡ None → answer tree abi rulesets op s ≡ Allowed
   pub creates : (rulesets : List Layer) (s : State) → effect tree rulesets op s ≡ leaves_rulesets (rulesets ++ without_rules fs net ∷ []) (with_held s rs (Some (length rulesets)))
 
--- After a call of a process the pass agrees with the next world, if it agreed with one before, and the note fits what the call met there.
-pub record Settles (process : ℕ) (op : Op) (old new : Pass) (note : Note) : Type 0 where
+-- After a call of a process the pass agrees with the next world, if it agreed with one before, and the outcome fits what the call met there.
+pub record Settles (process : ℕ) (op : Op) (old new : Pass) (outcome : RulesetOutcome) : Type 0 where
   pub same_tree : new.tree ≡ old.tree
   pub same_abi : new.abi ≡ old.abi
   pub sound : IsSound new
   pub layers : Extends old.store.layers new.store.layers
   pub agrees : (world : World) → HasRulesetsOf old world → HasRulesetsOf new (step old.tree.now old.abi world process op)
-  pub fits : (world : World) → HasRulesetsOf old world → NoteFits (met_by old.tree.now old.abi new.store.layers world process) op note
+  pub fits : (world : World) → HasRulesetsOf old world → OutcomeFits (met_by old.tree.now old.abi new.store.layers world process) op outcome
 
 -- the first records are settled on a tree and by a version: the pass agrees with the world before the next one
-pub record HasSettled (tree : List Entry) (abi : Abi) (records : List Record) (count : ℕ) (pass : Pass) (notes : List Note) : Type 0 where
+pub record HasSettled (tree : List Entry) (abi : Abi) (records : List Record) (count : ℕ) (pass : Pass) (outcomes : List RulesetOutcome) : Type 0 where
   pub of_tree : pass.tree.now ≡ tree
   pub of_abi : pass.abi ≡ abi
   pub sound : IsSound pass
   pub agrees : HasRulesetsOf pass (world_at tree abi records count)
   pub few : length pass.store.layers ≤ count
-  pub counted : length notes ≡ count
-  pub fits : FitUpTo tree abi records pass.store.layers notes
+  pub counted : length outcomes ≡ count
+  pub fits : FitUpTo tree abi records pass.store.layers outcomes
 
--- one note more, of which something holds
-pub record AddsNote (old new : List Note) (Fact : Note → Type 0) : Type 0 where
-  pub note : Note
-  pub added : new ≡ old ++ note ∷ []
-  pub holds : Fact note
+-- one outcome more, of which something holds
+pub record AddsOutcome (old new : List RulesetOutcome) (Fact : RulesetOutcome → Type 0) : Type 0 where
+  pub outcome : RulesetOutcome
+  pub added : new ≡ old ++ outcome ∷ []
+  pub holds : Fact outcome

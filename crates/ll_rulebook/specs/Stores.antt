@@ -12,8 +12,8 @@ use Rattle.ll_rules.specs.declared.domain.LayerId.{LayerId}
 use Rattle.ll_rules.specs.declared.errno.RuleFault.{RuleFault}
 use Rattle.ll_rules.specs.declared.errno.RuleFault.TheVariants as faults
 use Rattle.ll_semantics.specs.declared.answer.Answer.TheVariants.{Allowed, Moot}
-use Rattle.ll_semantics.specs.declared.note.Note.{Note}
-use Rattle.ll_semantics.specs.declared.note.Note.TheVariants.{Answered}
+use Rattle.ll_semantics.specs.declared.ruleset_outcome.RulesetOutcome.{RulesetOutcome}
+use Rattle.ll_semantics.specs.declared.ruleset_outcome.RulesetOutcome.TheVariants.{Answered}
 use Rattle.ll_semantics.specs.Answers.{fails}
 use Rattle.ll_rules.specs.Layers.{RulesOn}
 use Rattle.ll_rules.specs.KeptLayers.{SameRules, GrantsOnPort}
@@ -74,11 +74,11 @@ pub record Freezes (old new : Stock) (place : ℕ) (id : LayerId) : Type 0 where
   pub inside : (tree : List Entry) → All (AreInTree tree) old.rulesets → All (AreInTree tree) old.layers → All (AreInTree tree) new.layers
 
 -- the answer to a call that adds a rule with this outcome, other than out of memory
-abbrev pub IsAnswerTo : Result (Unit {0}) RuleFault → Note → Type 0
-IsAnswerTo (Ok done) note = note ≡ Answered Allowed
-IsAnswerTo (Err (faults.Errno error)) note = note ≡ Answered (fails error)
-IsAnswerTo (Err faults.Moot) note = note ≡ Answered Moot
-IsAnswerTo (Err faults.Memory) note = ⊥
+abbrev pub IsAnswerTo : Result (Unit {0}) RuleFault → RulesetOutcome → Type 0
+IsAnswerTo (Ok done) outcome = outcome ≡ Answered Allowed
+IsAnswerTo (Err (faults.Errno error)) outcome = outcome ≡ Answered (fails error)
+IsAnswerTo (Err faults.Moot) outcome = outcome ≡ Answered Moot
+IsAnswerTo (Err faults.Memory) outcome = ⊥
 
 abbrev pub at_number : Option (FinMap nat_cmp ℕ) → ℕ → Option ℕ
 at_number None number = None

@@ -11,7 +11,7 @@ use crate::store::Store;
 use crate::tables::Tables;
 use ll_rights::{Abi, Fs, Net};
 use ll_rules::{Errno, Layer, LayerSet, NoMemory, RuleFault, Ruleset};
-use ll_semantics::{Answer, Note};
+use ll_semantics::{Answer, RulesetOutcome};
 use ll_trace::{Op, PathText, Record, changes_nothing};
 use ll_tree::Tree;
 use std::alloc::Global;
@@ -27,26 +27,26 @@ pub(crate) struct Pass<'t> {
 }
 
 /// The answer to a call that fails with an error.
-fn failed(error: Errno) -> Note
-    ensures { result ≡ Note.Answered (fails error) }
+fn failed(error: Errno) -> RulesetOutcome
+    ensures { result ≡ RulesetOutcome.Answered (fails error) }
 {
-    Note::Answered(Answer::Refused(error, LayerSet::new()))
+    RulesetOutcome::Answered(Answer::Refused(error, LayerSet::new()))
 }
 
 /// The answer to a call that adds a rule.
-fn added(outcome: Result<(), RuleFault>) -> Result<Note, NoMemory>
-    ensures { IfOk result (λ note. IsAnswerTo outcome note) }
+fn added(attempt: Result<(), RuleFault>) -> Result<RulesetOutcome, NoMemory>
+    ensures { IfOk result (λ outcome. IsAnswerTo attempt outcome) }
 {
-    match outcome {
-        Ok(()) => Ok(Note::Answered(Answer::Allowed)),
+    match attempt {
+        Ok(()) => Ok(RulesetOutcome::Answered(Answer::Allowed)),
         Err(RuleFault::Errno(error)) => Ok(failed(error)),
-        Err(RuleFault::Moot) => Ok(Note::Answered(Answer::Moot)),
+        Err(RuleFault::Moot) => Ok(RulesetOutcome::Answered(Answer::Moot)),
         Err(RuleFault::Memory) => Err(NoMemory),
     }
 }
 
 impl<'t> Pass<'t> {
-    ghost use Rattle.ll_rulebook.specs.Passes.{IsSound, Creates, Settles, HasSettled, AddsNote};
+    ghost use Rattle.ll_rulebook.specs.Passes.{IsSound, Creates, Settles, HasSettled, AddsOutcome};
 
     /// No record yet.
     pub(crate) fn new(alloc: Global, tree: &'t Tree, abi: Abi) -> Pass<'t>
@@ -72,18 +72,23 @@ impl<'t> Pass<'t> {
     }
 
     /// A ruleset that a call creates is held under a free number.
-    fn hold_created(&mut self, process: usize, rs: u64, created: Ruleset) -> Result<Note, NoMemory>
+    fn hold_created(
+        &mut self,
+        process: usize,
+        rs: u64,
+        created: Ruleset,
+    ) -> Result<RulesetOutcome, NoMemory>
         requires there { process < length self.old.tables.held.items }
         requires sound { IsSound self.old }
         requires free { held_by self.old.tables.held.items process rs ≡ None }
-        ensures { IfOk result (λ note. (fs : Fs) (net : Net) (op : Op)
+        ensures { IfOk result (λ outcome. (fs : Fs) (net : Net) (op : Op)
             → created ≡ without_rules fs net
             → Creates self.old.tree.now self.old.abi rs fs net op
-            → Settles process op self.old self.new note) }
+            → Settles process op self.old self.new outcome) }
     {
         let place = self.store.add(created)?;
         self.tables.hold(process, rs, place)?;
-        Ok(Note::Answered(Answer::Allowed))
+        Ok(RulesetOutcome::Answered(Answer::Allowed))
     }
 
     /// A ruleset is created, and held under its number if this is free.
@@ -94,13 +99,13 @@ impl<'t> Pass<'t> {
         rs: u64,
         fs: Fs,
         net: Net,
-    ) -> Result<Note, NoMemory>
+    ) -> Result<RulesetOutcome, NoMemory>
         requires there { process < length self.old.tables.held.items }
         requires sound { IsSound self.old }
         ensures { IfOk result (Settles process (Op.Create rs fs net) self.old self.new) }
     {
         if let Some(_) = self.tables.place(process, rs) {
-            return Ok(Note::Answered(Answer::Moot));
+            return Ok(RulesetOutcome::Answered(Answer::Moot));
         }
         match Ruleset::create(alloc, self.abi, fs, net) {
             Err(error) => Ok(failed(error)),
@@ -110,13 +115,18 @@ impl<'t> Pass<'t> {
 
     /// A ruleset that handles nothing stands for one that a program does without, and is held under its number
     /// if this is free.
-    fn create_empty(&mut self, alloc: Global, process: usize, rs: u64) -> Result<Note, NoMemory>
+    fn create_empty(
+        &mut self,
+        alloc: Global,
+        process: usize,
+        rs: u64,
+    ) -> Result<RulesetOutcome, NoMemory>
         requires there { process < length self.old.tables.held.items }
         requires sound { IsSound self.old }
         ensures { IfOk result (Settles process (Op.CreateEmpty rs) self.old self.new) }
     {
         match self.tables.place(process, rs) {
-            Some(_) => Ok(Note::Answered(Answer::Moot)),
+            Some(_) => Ok(RulesetOutcome::Answered(Answer::Moot)),
             None => self.hold_created(process, rs, Ruleset::empty(alloc)),
         }
     }
@@ -128,7 +138,7 @@ impl<'t> Pass<'t> {
         rs: u64,
         path: &PathText,
         fs: Fs,
-    ) -> Result<Note, NoMemory>
+    ) -> Result<RulesetOutcome, NoMemory>
         requires there { process < length self.old.tables.held.items }
         requires sound { IsSound self.old }
         ensures { IfOk result (Settles process (Op.AddPath rs path.now fs) self.old self.new) }
@@ -141,7 +151,13 @@ impl<'t> Pass<'t> {
     }
 
     /// A rule for a port is added to a ruleset that the process holds.
-    fn add_port(&mut self, process: usize, rs: u64, port: u64, net: Net) -> Result<Note, NoMemory>
+    fn add_port(
+        &mut self,
+        process: usize,
+        rs: u64,
+        port: u64,
+        net: Net,
+    ) -> Result<RulesetOutcome, NoMemory>
         requires there { process < length self.old.tables.held.items }
         requires sound { IsSound self.old }
         ensures { IfOk result (Settles process (Op.AddPort rs port net) self.old self.new) }
@@ -153,56 +169,65 @@ impl<'t> Pass<'t> {
     }
 
     /// A process closes a ruleset that it holds.
-    fn close_rs(&mut self, process: usize, rs: u64) -> Result<Note, NoMemory>
+    fn close_rs(&mut self, process: usize, rs: u64) -> Result<RulesetOutcome, NoMemory>
         requires there { process < length self.old.tables.held.items }
         requires sound { IsSound self.old }
         ensures { IfOk result (Settles process (Op.CloseRs rs) self.old self.new) }
     {
         let Some(_) = self.tables.place(process, rs) else {
-            return Ok(Note::Answered(Answer::Moot));
+            return Ok(RulesetOutcome::Answered(Answer::Moot));
         };
         self.tables.close(process, rs)?;
-        Ok(Note::Answered(Answer::Allowed))
+        Ok(RulesetOutcome::Answered(Answer::Allowed))
     }
 
     /// The ruleset by which a process restricts itself is frozen to a layer, if the process holds it.
-    fn restrict(&mut self, alloc: Global, process: usize, rs: u64) -> Result<Note, NoMemory>
+    fn restrict(
+        &mut self,
+        alloc: Global,
+        process: usize,
+        rs: u64,
+    ) -> Result<RulesetOutcome, NoMemory>
         requires there { process < length self.old.tables.held.items }
         requires sound { IsSound self.old }
         requires room { length self.old.store.layers < 2 ^ 32 }
         ensures { IfOk result (Settles process (Op.Restrict rs) self.old self.new) }
     {
         match self.tables.place(process, rs) {
-            None => Ok(Note::ByState),
-            Some(place) => Ok(Note::Frozen(self.store.freeze(alloc, place)?)),
+            None => Ok(RulesetOutcome::ByState),
+            Some(place) => Ok(RulesetOutcome::Frozen(self.store.freeze(alloc, place)?)),
         }
     }
 
     /// A process begins that the trace starts with; it holds nothing.
-    fn start(&mut self, alloc: Global) -> Result<Note, NoMemory>
+    fn start(&mut self, alloc: Global) -> Result<RulesetOutcome, NoMemory>
         requires { IsSound self.old }
-        ensures { IfOk result (λ note. (process : ℕ) (nnp admin : Bool)
-            → Settles process (Op.Start nnp admin) self.old self.new note) }
+        ensures { IfOk result (λ outcome. (process : ℕ) (nnp admin : Bool)
+            → Settles process (Op.Start nnp admin) self.old self.new outcome) }
     {
         self.tables.start(alloc)?;
-        Ok(Note::ByState)
+        Ok(RulesetOutcome::ByState)
     }
 
     /// A process forks a child, which holds what its parent holds.
-    fn fork(&mut self, process: usize) -> Result<Note, NoMemory>
+    fn fork(&mut self, process: usize) -> Result<RulesetOutcome, NoMemory>
         requires there { process < length self.old.tables.held.items }
         requires sound { IsSound self.old }
-        ensures { IfOk result (λ note. (child : ℕ)
-            → Settles process (Op.Fork child) self.old self.new note) }
+        ensures { IfOk result (λ outcome. (child : ℕ)
+            → Settles process (Op.Fork child) self.old self.new outcome) }
     {
         self.tables.fork(process)?;
-        Ok(Note::ByState)
+        Ok(RulesetOutcome::ByState)
     }
 
     /// Settles one record: what it answers, if it is one that creates, changes or closes a ruleset, or the
     /// layer that its ruleset is frozen to.
     #[tactic(auto, unfolding(ll_trace::specs::Entries::is_start))]
-    pub(crate) fn settle(&mut self, alloc: Global, record: &Record) -> Result<Note, NoMemory>
+    pub(crate) fn settle(
+        &mut self,
+        alloc: Global,
+        record: &Record,
+    ) -> Result<RulesetOutcome, NoMemory>
         requires there { is_start «record».now.op ≡ false
             → «record».now.process.0 < length self.old.tables.held.items }
         requires sound { IsSound self.old }
@@ -224,30 +249,32 @@ impl<'t> Pass<'t> {
             | Op::OpenFile { .. }
             | Op::Adopt { .. }
             | Op::Dup { .. }
-            | Op::Close { .. } => Ok(Note::ByState),
+            | Op::Close { .. } => Ok(RulesetOutcome::ByState),
         }
     }
 
-    /// Settles one record, and adds its note to those of the records before it. (It is added by cases, since
-    /// the check of `push_reserved` must be shown the type that a note holds.)
+    /// Settles one record, and adds its outcome to those of the records before it. (It is added by cases, since
+    /// the check of `push_reserved` must be shown the type that an outcome holds.)
     fn settle_next(
         &mut self,
         alloc: Global,
         record: &Record,
-        notes: &mut Vec<Note>,
+        outcomes: &mut Vec<RulesetOutcome>,
     ) -> Result<(), NoMemory>
         requires there { is_start «record».now.op ≡ false
             → «record».now.process.0 < length self.old.tables.held.items }
         requires sound { IsSound self.old }
         requires room { length self.old.store.layers < 2 ^ 32 }
-        ensures { OnOk result (AddsNote notes.old.items notes.new.items
+        ensures { OnOk result (AddsOutcome outcomes.old.items outcomes.new.items
             (Settles «record».now.process.0 «record».now.op self.old self.new)) }
     {
-        notes.reserve(1)?;
+        outcomes.reserve(1)?;
         match self.settle(alloc, record)? {
-            Note::Answered(answer) => notes.push_reserved(Note::Answered(answer)),
-            Note::Frozen(layer) => notes.push_reserved(Note::Frozen(layer)),
-            Note::ByState => notes.push_reserved(Note::ByState),
+            RulesetOutcome::Answered(answer) => outcomes.push_reserved(RulesetOutcome::Answered(
+                answer,
+            )),
+            RulesetOutcome::Frozen(layer) => outcomes.push_reserved(RulesetOutcome::Frozen(layer)),
+            RulesetOutcome::ByState => outcomes.push_reserved(RulesetOutcome::ByState),
         }
         Ok(())
     }
@@ -257,17 +284,17 @@ impl<'t> Pass<'t> {
         &mut self,
         alloc: Global,
         records: &[Record],
-    ) -> Result<Vec<Note>, NoMemory>
+    ) -> Result<Vec<RulesetOutcome>, NoMemory>
         requires begins { HasSettled self.old.tree.now self.old.abi records.now 0 self.old [] }
         requires are_records { AreRecords records.now }
         requires few { length records.now < 2 ^ 32 }
-        ensures { IfOk result (λ notes. HasSettled self.old.tree.now self.old.abi records.now
-            (length records.now) self.new notes.items) }
+        ensures { IfOk result (λ outcomes. HasSettled self.old.tree.now self.old.abi records.now
+            (length records.now) self.new outcomes.items) }
     {
-        let mut notes = Vec::new(alloc);
+        let mut outcomes = Vec::new(alloc);
         for record in records {
-            self.settle_next(alloc, record, &mut notes)?;
+            self.settle_next(alloc, record, &mut outcomes)?;
         }
-        Ok(notes)
+        Ok(outcomes)
     }
 }

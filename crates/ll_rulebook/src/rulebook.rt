@@ -6,7 +6,7 @@ ghost use Rattle.ll_rulebook.specs.Settled.{IsSettled};
 use crate::pass::Pass;
 use ll_rights::Abi;
 use ll_rules::{Layer, NoMemory};
-use ll_semantics::Note;
+use ll_semantics::RulesetOutcome;
 use ll_trace::Trace;
 use ll_tree::Tree;
 use std::alloc::Global;
@@ -17,7 +17,7 @@ use std::alloc::Global;
 #[derive(Drop)]
 pub struct Rulebook {
     /// What is known of each record, in the order of the records.
-    pub notes: Vec<Note>,
+    pub outcomes: Vec<RulesetOutcome>,
     /// The layers that rulesets were frozen to, each as its ruleset was at that record.
     pub layers: Vec<Layer>,
 }
@@ -27,11 +27,11 @@ impl Rulebook {
     /// ruleset, and the layer of each record that restricts its process by a ruleset it holds.
     pub fn of(alloc: Global, tree: &Tree, trace: &Trace, abi: Abi) -> Result<Rulebook, NoMemory>
         ensures { IfOk result
-            (λ book. IsSettled tree.now abi trace.now book.layers.items book.notes.items) }
+            (λ book. IsSettled tree.now abi trace.now book.layers.items book.outcomes.items) }
     {
         let mut pass = Pass::new(alloc, tree, abi);
-        let notes = pass.settle_all(alloc, trace.records())?;
+        let outcomes = pass.settle_all(alloc, trace.records())?;
         let layers = pass.into_layers();
-        Ok(Rulebook { notes, layers })
+        Ok(Rulebook { outcomes, layers })
     }
 }

@@ -7,8 +7,8 @@ ghost use Rattle.ll_rules.specs.InTree.{AreInTree, all_in_tree};
 ghost use Rattle.ll_rules.specs.KeptLayers.{layer_at, domain_of, IsDomainOf};
 ghost use Rattle.ll_rules.specs.Checks.{refusing, refusing_port, refusing_mount};
 
-use crate::alone::Alone;
 use crate::lanes::filled;
+use crate::single_layer::SingleLayer;
 use crate::stack::Stack;
 use crate::{Domain, Layer, LayerId, LayerSet};
 use ll_rights::{Fs, Net};
@@ -61,7 +61,7 @@ pub fn check_path_counted(
     let ids = domain.layers();
     if let [id] = ids {
         let layer = layer_of(layers, *id);
-        return Alone { tree, layer }.check(node, wanted);
+        return SingleLayer { tree, layer }.check(node, wanted);
     }
     let stack = Stack { tree, layers, ids };
     let mut lacking = stack.asked_in(wanted);

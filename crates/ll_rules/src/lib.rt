@@ -2,9 +2,9 @@
 //! what a domain refuses.
 #![tactic(auto)]
 
-mod alone;
 mod check;
 mod climb;
+mod cross_directory;
 mod domain;
 mod errno;
 mod filter;
@@ -12,9 +12,9 @@ mod lanes;
 mod laws;
 mod layer_set;
 mod moves;
-mod passage;
 mod ruleset;
 mod sameness;
+mod single_layer;
 mod stack;
 
 pub use check::{check_mount, check_path, check_path_counted, check_port};

@@ -93,7 +93,7 @@ if_free (Some it) asked = Moot
 abbrev pub may_restrict : State → Bool
 may_restrict s = s.no_new_privs || s.admin
 
--- A ruleset that handles nothing is none of the kernel's: a program that makes do with it calls nothing, and nothing fails.
+-- The kernel makes no ruleset that handles nothing: a program that has one in its place makes no call, and nothing fails.
 abbrev pub fails_by : Layer → Errno → Answer
 fails_by rules error = if handles_nothing rules then Moot else fails error
 

@@ -6,7 +6,7 @@ pub mod Answers
 pub mod Effects
 pub mod Worlds
 pub mod CallContexts
-pub mod Notes
+pub mod RulesetOutcomes
 pub mod WorkedWords
 pub mod WorkedLayers
 pub mod WorkedCalls

@@ -6,8 +6,8 @@ mod answer;
 mod descriptor;
 mod laws;
 mod making_do;
-mod note;
 mod request;
+mod ruleset_outcome;
 mod unchanging;
 mod wants;
 
@@ -18,7 +18,7 @@ pub use laws::{
     worked_requests, worked_rulesets,
 };
 pub use making_do::making_do_is_never_refused;
-pub use note::Note;
 pub use request::{Request, Wanted};
+pub use ruleset_outcome::RulesetOutcome;
 pub use unchanging::only_allowed_records_change_the_world;
 pub use wants::wanted;

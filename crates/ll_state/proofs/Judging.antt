@@ -19,7 +19,7 @@ use Rattle.ll_rules.specs.declared.domain.LayerId.{LayerId}
 use Rattle.ll_rules.specs.Layers.{RulesOn}
 use Rattle.ll_semantics.specs.declared.answer.Answer.{Answer}
 use Rattle.ll_semantics.specs.declared.answer.Answer.TheVariants.{Allowed, Moot, Refused}
-use Rattle.ll_semantics.specs.declared.note.Note.TheVariants.{ByState}
+use Rattle.ll_semantics.specs.declared.ruleset_outcome.RulesetOutcome.TheVariants.{ByState}
 use Rattle.ll_state.specs.declared.own_state.OwnState.{OwnState}
 use Rattle.ll_semantics.specs.States.{State, Layer}
 use Rattle.ll_semantics.specs.Answers.{answer, named}
@@ -28,7 +28,7 @@ use Rattle.ll_semantics.specs.Worlds.{if_allowed}
 use Rattle.ll_semantics.specs.CallContexts.{CallContext, answer_to, state_then, change, state_by, state_after}
 use Rattle.ll_semantics.proofs.Steps.{if_allowed-same}
 use Rattle.ll_state.specs.Agreement.{Agrees, Restricts, is_still}
-use Rattle.ll_semantics.specs.Notes.{NoteFits, IsFrozen, is_on_rulesets, enforced}
+use Rattle.ll_semantics.specs.RulesetOutcomes.{OutcomeFits, IsFrozen, is_on_rulesets, enforced}
 
 -- ---- the place that a text names
 
@@ -146,13 +146,13 @@ module _ (ctx : CallContext) (layers : List (RulesOn ℕ)) (met : ctx.layers ≡
     frozen_judged (calls.Restrict rs) id restricts frozen = restrict_judged rs (Some id) restricts frozen
     frozen_judged op id restricts frozen = absurd frozen
 
-    unheld : (rs : ℕ) → NoteFits ctx (calls.Restrict rs) ByState → IsFrozen ctx None (named ctx.rulesets (ctx.state.held rs))
-    unfolding NoteFits enforced IsFrozen
+    unheld : (rs : ℕ) → OutcomeFits ctx (calls.Restrict rs) ByState → IsFrozen ctx None (named ctx.rulesets (ctx.state.held rs))
+    unfolding OutcomeFits enforced IsFrozen
     unheld rs fits = subst (λ (rules : Option Layer). IsFrozen ctx None rules) (sym fits.1) tt
 
     -- by none
-    pub unheld_judged : (op : Op) (rs : ℕ) → Restricts layers None before after a → op ≡ calls.Restrict rs → NoteFits ctx op ByState
+    pub unheld_judged : (op : Op) (rs : ℕ) → Restricts layers None before after a → op ≡ calls.Restrict rs → OutcomeFits ctx op ByState
         → (a ≡ answer_to ctx op) × Agrees ctx.tree ctx.layers after (state_then ctx op)
     unheld_judged op rs restricts is fits =
         subst (λ (o : Op). (a ≡ answer_to ctx o) × Agrees ctx.tree ctx.layers after (state_then ctx o)) (sym is)
-        (restrict_judged rs None restricts (unheld rs (subst (λ (o : Op). NoteFits ctx o ByState) is fits)))
+        (restrict_judged rs None restricts (unheld rs (subst (λ (o : Op). OutcomeFits ctx o ByState) is fits)))

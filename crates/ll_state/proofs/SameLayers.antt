@@ -36,7 +36,7 @@ use Rattle.ll_semantics.specs.Worlds.{if_allowed}
 use Rattle.ll_state.specs.declared.own_state.OwnState.{OwnState}
 use Rattle.ll_semantics.specs.CallContexts.{CallContext}
 use Rattle.ll_state.specs.Agreement.{Agrees, fails_by_layer}
-use Rattle.ll_semantics.specs.Notes.{IsFrozen}
+use Rattle.ll_semantics.specs.RulesetOutcomes.{IsFrozen}
 
 -- ports and mounts ask no path, so that the kept layers are asked as they are
 pub refusing_port_in_tree : (tree : List Entry) (kept : List (RulesOn ℕ)) (port : ℕ) (wanted : Net)

@@ -19,7 +19,7 @@ use Rattle.ll_semantics.specs.Effects.{with_layer}
 use Rattle.ll_semantics.specs.Worlds.{if_allowed}
 use Rattle.ll_semantics.specs.declared.answer.Answer.{Answer}
 use Rattle.ll_semantics.specs.declared.answer.Answer.TheVariants.{Moot}
-use Rattle.ll_semantics.specs.Notes.{IsFrozen, is_on_rulesets}
+use Rattle.ll_semantics.specs.RulesetOutcomes.{IsFrozen, is_on_rulesets}
 use Rattle.ll_semantics.specs.CallContexts.{CallContext, answer_to, state_then}
 
 -- a tree and layers are those that a call meets, and the layers' rules are on nodes of the tree

@@ -21,7 +21,7 @@ answering = tt
 -- All that unfolds when the state of a process decides the answer, and the place of the call's first path is known.
 unfoldable pub by_state : Unit {0}
 unfolding
-    Rattle.ll_state.specs.Agreement.is_still Rattle.ll_semantics.specs.Notes.is_on_rulesets Rattle.ll_trace.specs.FirstPlaces.first_place
+    Rattle.ll_state.specs.Agreement.is_still Rattle.ll_semantics.specs.RulesetOutcomes.is_on_rulesets Rattle.ll_trace.specs.FirstPlaces.first_place
     Rattle.ll_trace.specs.Operations.paths_of
 by_state = tt
 

@@ -10,7 +10,7 @@ ghost use Rattle.ll_trace.specs.FirstPlaces.{first_place};
 ghost use Rattle.ll_semantics.specs.States.{State, fresh};
 ghost use Rattle.ll_semantics.specs.CallContexts.{CallContext, answer_to, state_then};
 ghost use Rattle.ll_state.specs.Agreement.{IsMet, Agrees, IsJudged, is_still};
-ghost use Rattle.ll_semantics.specs.Notes.{NoteFits};
+ghost use Rattle.ll_semantics.specs.RulesetOutcomes.{OutcomeFits};
 
 use crate::call::{Call, ConfinedCall};
 use crate::descriptors::{ftruncate, ioctl};
@@ -18,7 +18,7 @@ use crate::moves::{link_move, rename_move};
 use crate::requests::place_of;
 use ll_rights::Net;
 use ll_rules::{Domain, Layer, NoMemory};
-use ll_semantics::{Answer, Descriptor, Note};
+use ll_semantics::{Answer, Descriptor, RulesetOutcome};
 use ll_shared::SharedMap;
 use ll_trace::{Op, changes_nothing, wants_at_a_path};
 use ll_tree::{Place, Tree};
@@ -76,30 +76,30 @@ impl OwnState {
         })
     }
 
-    /// Answers one call that the process meets, and changes its state where the call is allowed. The note says what
+    /// Answers one call that the process meets, and changes its state where the call is allowed. The outcome says what
     /// follows from the rulesets, which the processes share; a place, where it is known, is that of the call's
     /// first path, which is then not looked for.
-    pub fn meet(
+    pub fn answer_call(
         &mut self,
         tree: &Tree,
         layers: &[Layer],
         op: &Op,
-        note: &Note,
+        outcome: &RulesetOutcome,
         known: Option<Place>,
     ) -> Result<Answer, NoMemory>
         ghost ctx: { CallContext }
         requires met { IsMet ctx tree.now layers.now }
         requires agrees { Agrees ctx.tree ctx.layers self.old ctx.state }
-        requires fits { NoteFits ctx op.now note.now }
+        requires fits { OutcomeFits ctx op.now outcome.now }
         requires known { IfSome known (λ one. one ≡ first_place tree.now op.now) }
         ensures answer { IfOk result (λ answer. answer ≡ answer_to ctx op.now) }
         ensures ok { OnOk result (Agrees ctx.tree ctx.layers self.new (state_then ctx op.now)) }
         ensures err { OnErr result (Agrees ctx.tree ctx.layers self.new ctx.state) }
     {
-        match note {
-            Note::Answered(answer) => Ok(*answer),
-            Note::Frozen(layer) => Ok(self.restrict(layers, Some(*layer))),
-            Note::ByState => self.meet_by_state(&Call {
+        match outcome {
+            RulesetOutcome::Answered(answer) => Ok(*answer),
+            RulesetOutcome::Frozen(layer) => Ok(self.restrict(layers, Some(*layer))),
+            RulesetOutcome::ByState => self.answer_by_state(&Call {
                 known,
                 op,
                 tree,
@@ -109,12 +109,12 @@ impl OwnState {
     }
 
     /// Answers a call whose answer rests on the state of its process alone.
-    #[tactic(auto, unfolding(crate::specs::ConfinedCalls::answering, crate::specs::ConfinedCalls::by_state, ll_semantics::specs::Notes::NoteFits))]
-    fn meet_by_state(&mut self, call: &Call<'_>) -> Result<Answer, NoMemory>
+    #[tactic(auto, unfolding(crate::specs::ConfinedCalls::answering, crate::specs::ConfinedCalls::by_state, ll_semantics::specs::RulesetOutcomes::OutcomeFits))]
+    fn answer_by_state(&mut self, call: &Call<'_>) -> Result<Answer, NoMemory>
         ghost ctx: { CallContext }
         requires met { IsMet ctx call.now.tree.now call.now.layers.now }
         requires agrees { Agrees ctx.tree ctx.layers self.old ctx.state }
-        requires fits { NoteFits ctx call.now.op.now Note.ByState }
+        requires fits { OutcomeFits ctx call.now.op.now RulesetOutcome.ByState }
         ensures { IsJudged ctx call.now.op.now self.new result }
     {
         match call.op {

@@ -308,7 +308,7 @@ impl Op {
     /// Makes of a call what a program calls in its place that goes by its kernel's version of Landlock:
     /// rights that this version lacks are taken out.
     #[tactic(auto, unfolding(crate::specs::BestEffort::at_best_effort))]
-    pub(crate) fn go_by(&mut self, abi: Abi)
+    pub(crate) fn drop_unsupported(&mut self, abi: Abi)
         ensures { self.new ≡ at_best_effort abi self.old }
     {
         match self {

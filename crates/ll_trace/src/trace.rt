@@ -99,7 +99,7 @@ impl Trace {
             tables,
         } = self;
         for record in records.iter_mut() {
-            record.op.go_by(abi);
+            record.op.drop_unsupported(abi);
         }
         Trace { records, tables }
     }

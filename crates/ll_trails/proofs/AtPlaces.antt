@@ -15,9 +15,9 @@ use Rattle.ll_semantics.proofs.Steps.{judged-at}
 use Rattle.ll_process.specs.Cases.{CaseValue}
 use Rattle.ll_reasons.specs.Origins.{no_sources, sources_by, sources_at, sources_after}
 use Rattle.ll_reasons.proofs.Lockstep.{sources_at-more, count-sources_by}
-use Rattle.ll_trails.specs.declared.trail.Trails.{Trails}
+use Rattle.ll_trails.specs.declared.trail.TraceOrigins.{TraceOrigins}
 use Rattle.ll_trails.specs.CaseTrails.{AreTrailsAt}
-use Rattle.ll_trails.specs.Trails.{AreTrails}
+use Rattle.ll_trails.specs.TraceOrigins.{AreTrails}
 
 -- what is read at a place of the same list is there
 pub read_there : {X : Type 0} (xs read : List X) (k : ℕ) (x : X) → read ≡ xs → k < length xs → x ≡ get_or read k x → slice_get xs k ≡ Some x
@@ -57,5 +57,5 @@ module _ (tree : List Entry) (abi : Abi) (records : List Record) where
   process_there k r numbered within eq goes = rw (count-sources_at k within) (numbered.goes_on k r eq goes)
 
 -- what is kept of no process is what is kept before the first record
-pub begins_at : (cv : CaseValue) (trails : Trails) → AreTrails trails.trails.items no_sources → AreTrailsAt cv 0 trails
+pub begins_at : (cv : CaseValue) (trails : TraceOrigins) → AreTrails trails.trails.items no_sources → AreTrailsAt cv 0 trails
 begins_at cv trails are = rw (sources_at-first cv.tree cv.abi cv.records) are

@@ -1,4 +1,5 @@
--- The layers of a case by which records restrict their processes: what the notes say of them, and that those of some records are one by one what these enforce.
+-- The layers of a case by which records restrict their processes: what the outcomes say of them, and that those of some records are one by one
+-- what these enforce.
 use Rattle.std.proofs.Common.{◌≡◌, ℕ, ◌+◌, ◌<◌, ◌≤◌, true, List, [], ◌∷◌, ◌++◌, length, take, get_or, filter_map, option_to_list, Option, Some, None, refl, ap}
 use Rattle.std.proofs.Common.{◌∙◌, subst, arith, append-nil, add-one, inl, inr}
 use Rattle.std.specs.Prelude.{slice_get}
@@ -13,25 +14,25 @@ use Rattle.ll_rules.specs.KeptLayers.{SameRules, IsDomainOf, domain_of, layer_at
 use Rattle.ll_trace.specs.declared.record.Record.{Record}
 use Rattle.ll_trace.specs.declared.op.Op.{Op}
 use Rattle.ll_trace.specs.declared.op.Op.TheVariants.{Restrict}
-use Rattle.ll_semantics.specs.declared.note.Note.{Note}
-use Rattle.ll_semantics.specs.declared.note.Note.TheVariants.{Answered, Frozen, ByState}
+use Rattle.ll_semantics.specs.declared.ruleset_outcome.RulesetOutcome.{RulesetOutcome}
+use Rattle.ll_semantics.specs.declared.ruleset_outcome.RulesetOutcome.TheVariants.{Answered, Frozen, ByState}
 use Rattle.ll_semantics.specs.States.{State, Layer}
 use Rattle.ll_semantics.specs.Worlds.{World}
 use Rattle.ll_semantics.specs.CallContexts.{CallContext, world_at}
-use Rattle.ll_semantics.specs.Notes.{is_on_rulesets, enforced, IsFrozen, NoteFits}
+use Rattle.ll_semantics.specs.RulesetOutcomes.{is_on_rulesets, enforced, IsFrozen, OutcomeFits}
 use Rattle.ll_rulebook.specs.Settled.{met_by}
 use Rattle.ll_process.specs.Cases.{CaseValue, IsCase}
 use Rattle.ll_reasons.specs.Made.{enforced_by, enforced_at}
 use Rattle.ll_reasons.specs.Explanations.{origins_at}
 use Rattle.ll_reasons.proofs.LayersMade.{layers_made}
-use Rattle.ll_trails.specs.declared.trail.Trail.{Trail}
+use Rattle.ll_trails.specs.declared.trail.ProcessOrigins.{ProcessOrigins}
 use Rattle.ll_trails.specs.CaseTrails.{IsDomainAt}
-use Rattle.ll_trails.specs.Trails.{Follows}
+use Rattle.ll_trails.specs.TraceOrigins.{Follows}
 
--- ---- what a note says
+-- ---- what an outcome says
 
--- the layer that a note names
-unfoldable pub layer_in : Note → Option LayerId
+-- the layer that an outcome names
+unfoldable pub layer_in : RulesetOutcome → Option LayerId
 layer_in (Answered answer) = None
 layer_in (Frozen id) = Some id
 layer_in ByState = None
@@ -55,24 +56,25 @@ of_any cv world p q (Some id) None is = is
 of_any cv world p q None (Some rules) is = is
 of_any cv world p q None None is = is
 
-noted : (ctx : CallContext) (op : Op) (note : Note) → NoteFits ctx op note → IsFrozen ctx (layer_in note) (enforced ctx.rulesets op ctx.state)
-unfolding NoteFits layer_in
+noted : (ctx : CallContext) (op : Op) (outcome : RulesetOutcome) → OutcomeFits ctx op outcome
+    → IsFrozen ctx (layer_in outcome) (enforced ctx.rulesets op ctx.state)
+unfolding OutcomeFits layer_in
 noted ctx op (Answered answer) fits = without_layer ctx (enforced ctx.rulesets op ctx.state) (enforces_none ctx.rulesets op ctx.state fits.0)
 noted ctx op (Frozen id) fits = fits
 noted ctx op ByState fits = without_layer ctx (enforced ctx.rulesets op ctx.state) fits.1
 
--- the note at a place names the layer that the record there enforces
-pub noted_at : (cv : CaseValue) (read : List Record) (k process : ℕ) (note : Note) → IsCase cv → read ≡ cv.records → k < length read
-    → slice_get cv.notes k ≡ Some note
-    → IsFrozen (met_by cv.tree cv.abi cv.layers (world_at cv.tree cv.abi cv.records k) process) (layer_in note) (enforced_at cv.tree cv.abi cv.records k)
+-- the outcome at a place names the layer that the record there enforces
+pub noted_at : (cv : CaseValue) (read : List Record) (k process : ℕ) (outcome : RulesetOutcome) → IsCase cv → read ≡ cv.records → k < length read
+    → slice_get cv.outcomes k ≡ Some outcome
+    → IsFrozen (met_by cv.tree cv.abi cv.layers (world_at cv.tree cv.abi cv.records k) process) (layer_in outcome) (enforced_at cv.tree cv.abi cv.records k)
 unfolding enforced_at enforced_by
-noted_at cv read k process note case same within says = elim ((slice_get_cases cv.records k).1) [
+noted_at cv read k process outcome case same within says = elim ((slice_get_cases cv.records k).1) [
   | inl there ↦
       let r : Record = there.0 in
       let world : World = world_at cv.tree cv.abi cv.records k in
-      let fits : NoteFits (met_by cv.tree cv.abi cv.layers world r.process.0) r.op note = case.settled.fits k r note there.2 says in
-      rw (there.2) (of_any cv world r.process.0 process (layer_in note) (enforced world.rulesets r.op (world.processes r.process.0))
-      (noted (met_by cv.tree cv.abi cv.layers world r.process.0) r.op note fits))
+      let fits : OutcomeFits (met_by cv.tree cv.abi cv.layers world r.process.0) r.op outcome = case.settled.fits k r outcome there.2 says in
+      rw (there.2) (of_any cv world r.process.0 process (layer_in outcome) (enforced world.rulesets r.op (world.processes r.process.0))
+      (noted (met_by cv.tree cv.abi cv.layers world r.process.0) r.op outcome fits))
   | inr past ↦ absurd (omega (arith, within, past.0, ap (λ (rs : List Record). length rs) same))
 ]
 
@@ -151,7 +153,7 @@ module _ (cv : CaseValue) where
       subst (λ (xs : List ℕ). AreOf xs ids) taken are
 
   -- the layers of the records that a process's origins name are those of the process
-  pub domain_is : (trail : Trail) (ids : List LayerId) (place process : ℕ) → AreOf trail.layers.items ids
+  pub domain_is : (trail : ProcessOrigins) (ids : List LayerId) (place process : ℕ) → AreOf trail.layers.items ids
       → Follows trail (origins_at cv.tree cv.abi cv.records place process) → IsDomainAt cv place process ids
   domain_is trail ids place process are follows = record {
     places = are.inside;

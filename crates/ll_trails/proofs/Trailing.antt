@@ -10,11 +10,11 @@ use Rattle.ll_semantics.specs.Worlds.{if_allowed}
 use Rattle.ll_rulebook.proofs.Frozen.{slice_get-set}
 use Rattle.ll_trace.proofs.Numbers.{slice_get-push}
 use Rattle.ll_reasons.specs.Origins.{Origins, Sources, with_origins, with_next, traced, sources_by}
-use Rattle.ll_trails.specs.declared.trail.Trail.{Trail}
-use Rattle.ll_trails.specs.Trails.{Follows, AreTrails}
+use Rattle.ll_trails.specs.declared.trail.ProcessOrigins.{ProcessOrigins}
+use Rattle.ll_trails.specs.TraceOrigins.{Follows, AreTrails}
 
 -- one process more
-pub trails_begun : (trails : List Trail) (trail : Trail) (sources : Sources) (o : Origins) → AreTrails trails sources → Follows trail o
+pub trails_begun : (trails : List ProcessOrigins) (trail : ProcessOrigins) (sources : Sources) (o : Origins) → AreTrails trails sources → Follows trail o
     → AreTrails (trails ++ trail ∷ []) (with_next sources o)
 trails_begun trails trail sources o are follows = record {
   count = simp length-append (omega (arith, are.count));
@@ -31,7 +31,7 @@ trails_begun trails trail sources o are follows = record {
 }
 
 -- another trail of one process
-pub trails_changed : (trails : List Trail) (process : ℕ) (trail : Trail) (sources : Sources) (o : Origins) → process < length trails
+pub trails_changed : (trails : List ProcessOrigins) (process : ℕ) (trail : ProcessOrigins) (sources : Sources) (o : Origins) → process < length trails
     → AreTrails trails sources → Follows trail o →
     AreTrails (set trails process trail) (record sources { processes = with_origins sources.processes process o })
 trails_changed trails process trail sources o there are follows = record {
@@ -50,7 +50,7 @@ trails_changed trails process trail sources o there are follows = record {
 }
 
 -- another trail of one process that follows the same origins
-pub trails_kept : (trails : List Trail) (process : ℕ) (trail : Trail) (sources : Sources) → process < length trails → AreTrails trails sources
+pub trails_kept : (trails : List ProcessOrigins) (process : ℕ) (trail : ProcessOrigins) (sources : Sources) → process < length trails → AreTrails trails sources
     → Follows trail (sources.processes process) → AreTrails (set trails process trail) sources
 trails_kept trails process trail sources there are follows =
     let changed = trails_changed trails process trail sources (sources.processes process) there are follows in

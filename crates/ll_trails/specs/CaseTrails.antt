@@ -6,7 +6,7 @@ use Rattle.ll_rules.specs.declared.domain.LayerId.{LayerId}
 use Rattle.ll_rules.specs.KeptLayers.{SameRules, domain_of, IsDomainOf}
 use Rattle.ll_rules.specs.InTree.{all_in_tree}
 use Rattle.ll_semantics.specs.declared.answer.Answer.{Answer}
-use Rattle.ll_semantics.specs.Notes.{IsFrozen}
+use Rattle.ll_semantics.specs.RulesetOutcomes.{IsFrozen}
 use Rattle.ll_semantics.specs.CallContexts.{world_at}
 use Rattle.ll_semantics.specs.Worlds.{judged}
 use Rattle.ll_rulebook.specs.Settled.{met_by}
@@ -14,17 +14,17 @@ use Rattle.ll_process.specs.Cases.{CaseValue}
 use Rattle.ll_reasons.specs.Explanations.{domain_at, origins_at}
 use Rattle.ll_reasons.specs.Made.{enforced_at}
 use Rattle.ll_reasons.specs.Origins.{sources_at, no_sources}
-use Rattle.ll_trails.specs.declared.trail.Trail.{Trail}
-use Rattle.ll_trails.specs.declared.trail.Trails.{Trails}
-use Rattle.ll_trails.specs.Trails.{Follows, AreTrails}
+use Rattle.ll_trails.specs.declared.trail.ProcessOrigins.{ProcessOrigins}
+use Rattle.ll_trails.specs.declared.trail.TraceOrigins.{TraceOrigins}
+use Rattle.ll_trails.specs.TraceOrigins.{Follows, AreTrails}
 
 -- what is kept says where all that the processes of a case have before the record at a place comes from
-abbrev pub AreTrailsAt : CaseValue → ℕ → Trails → Type 0
+abbrev pub AreTrailsAt : CaseValue → ℕ → TraceOrigins → Type 0
 AreTrailsAt case place trails = AreTrails trails.trails.items (sources_at case.tree case.abi case.records place)
 
 -- what is kept of no process is what is kept before the first record, whichever the case
 abbrev pub TrailsBegin : Type 0
-TrailsBegin = (case : CaseValue) (trails : Trails) → AreTrails trails.trails.items no_sources → AreTrailsAt case 0 trails
+TrailsBegin = (case : CaseValue) (trails : TraceOrigins) → AreTrails trails.trails.items no_sources → AreTrailsAt case 0 trails
 
 -- an answer is that to the record at a place
 abbrev pub IsAnswerAt : CaseValue → ℕ → Answer → Type 0
@@ -40,5 +40,5 @@ abbrev pub IsLayerBy : CaseValue → ℕ → Option LayerId → Type 0
 IsLayerBy case place id = (process : ℕ) → IsFrozen (met_by case.tree case.abi case.layers (world_at case.tree case.abi case.records place) process) id (enforced_at case.tree case.abi case.records place)
 
 -- layers of a case that are those of each process which a trail follows
-abbrev pub AreLayersBy : CaseValue → Trail → List LayerId → Type 0
+abbrev pub AreLayersBy : CaseValue → ProcessOrigins → List LayerId → Type 0
 AreLayersBy case trail ids = (place process : ℕ) → Follows trail (origins_at case.tree case.abi case.records place process) → IsDomainAt case place process ids

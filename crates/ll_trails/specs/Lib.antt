@@ -1,4 +1,4 @@
 pub mod Opened
-pub mod Trails
+pub mod TraceOrigins
 pub mod CaseTrails
 pub mod Objecting

@@ -3,10 +3,10 @@
 ghost use Rattle.std.specs.Prelude.{IfOk};
 ghost use Rattle.ll_trails.specs.CaseTrails.{IsLayerBy, AreLayersBy};
 
-use crate::trail::Trail;
+use crate::trail::ProcessOrigins;
 use ll_process::Case;
 use ll_rules::LayerId;
-use ll_semantics::Note;
+use ll_semantics::RulesetOutcome;
 use std::alloc::{AllocError, Global};
 
 /// The layer of a case that the record at a place restricts its process by, if it does.
@@ -17,16 +17,20 @@ fn layer_by(case: &Case, place: u32) -> Option<LayerId>
     if place >= case.trace().records().len() {
         return None;
     }
-    match case.note(place) {
-        Note::Frozen(id) => Some(*id),
-        Note::Answered(_) => None,
-        Note::ByState => None,
+    match case.outcome(place) {
+        RulesetOutcome::Frozen(id) => Some(*id),
+        RulesetOutcome::Answered(_) => None,
+        RulesetOutcome::ByState => None,
     }
 }
 
 /// The layers of a process in the case that its records are of: those that the rulesets were frozen to which its
 /// `restrict` records named, the oldest first. An error says that memory ran out.
-pub fn domain_of(alloc: Global, case: &Case, trail: &Trail) -> Result<Vec<LayerId>, AllocError>
+pub fn domain_of(
+    alloc: Global,
+    case: &Case,
+    trail: &ProcessOrigins,
+) -> Result<Vec<LayerId>, AllocError>
     ensures { IfOk result (λ ids. AreLayersBy case.now trail.now ids.items) }
 {
     let mut ids = Vec::new(alloc);

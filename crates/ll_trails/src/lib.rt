@@ -10,4 +10,4 @@ mod trail;
 pub use domain::domain_of;
 pub use laws::{same_layers_object_to_the_same, trails_begin};
 pub use openings::Openings;
-pub use trail::{Trail, Trails};
+pub use trail::{ProcessOrigins, TraceOrigins};

@@ -4,7 +4,7 @@ ghost use Rattle.std.specs.Prelude.{◌≡◌, ◌<◌, ◌+◌, ◌++◌, ◌�
 ghost use Rattle.ll_trace.specs.Entries.{is_start};
 ghost use Rattle.ll_reasons.specs.Origins.{Origins, Sources, no_origins, no_sources, sources_by, traced, with_next};
 ghost use Rattle.ll_trails.specs.CaseTrails.{AreTrailsAt, IsAnswerAt};
-ghost use Rattle.ll_trails.specs.Trails.{AreTrails, Follows};
+ghost use Rattle.ll_trails.specs.TraceOrigins.{AreTrails, Follows};
 
 use crate::openings::Openings;
 use ll_process::Case;
@@ -17,19 +17,19 @@ use std::alloc::{AllocError, Global};
 /// Where the layers, open descriptors and rulesets of one process come from: the records that made them, by their
 /// places in the trace. A child shares with its parent what neither of them changes.
 #[derive(Drop)]
-pub struct Trail {
+pub struct ProcessOrigins {
     pub layers: Vec<u32>,
     pub openings: Openings,
     pub rulesets: SharedMap<u32>,
 }
 
-impl Trail {
+impl ProcessOrigins {
     /// That of a process with which a trace begins.
     #[tactic(auto, unfolding(ll_reasons::specs::Origins::no_origins))]
-    pub fn new(alloc: Global) -> Trail
+    pub fn new(alloc: Global) -> ProcessOrigins
         ensures { Follows result no_origins }
     {
-        Trail {
+        ProcessOrigins {
             layers: Vec::new(alloc),
             openings: Openings::new(alloc),
             rulesets: SharedMap::new(alloc),
@@ -37,12 +37,12 @@ impl Trail {
     }
 
     /// That of a child, which begins with all that its parent has.
-    fn forked(&mut self) -> Result<Trail, NoMemory>
+    fn forked(&mut self) -> Result<ProcessOrigins, NoMemory>
         ensures child { IfOk result (λ child. (o : Origins)
             → Follows self.old o → Follows child o) }
         ensures parent { OnOk result ((o : Origins) → Follows self.old o → Follows self.new o) }
     {
-        Ok(Trail {
+        Ok(ProcessOrigins {
             layers: self.layers.clone()?,
             openings: self.openings.forked()?,
             rulesets: self.rulesets.clone()?,
@@ -94,21 +94,21 @@ impl Trail {
 
 /// The trails of all processes, by their numbers.
 #[derive(Drop)]
-pub struct Trails {
-    pub trails: Vec<Trail>,
+pub struct TraceOrigins {
+    pub trails: Vec<ProcessOrigins>,
 }
 
-impl Trails {
+impl TraceOrigins {
     /// No process.
-    pub fn new(alloc: Global) -> Trails
+    pub fn new(alloc: Global) -> TraceOrigins
         ensures { AreTrails result.trails.items no_sources }
     {
         let trails = Vec::new(alloc);
-        Trails { trails }
+        TraceOrigins { trails }
     }
 
     /// One process more.
-    fn begin(&mut self, trail: Trail) -> Result<(), AllocError>
+    fn begin(&mut self, trail: ProcessOrigins) -> Result<(), AllocError>
         ensures { OnOk result ((sources : Sources) (o : Origins)
             → AreTrails self.old.trails.items sources → Follows trail o
             → AreTrails self.new.trails.items (with_next sources o)) }
@@ -118,7 +118,7 @@ impl Trails {
     }
 
     /// What is kept of a process.
-    pub fn of(&self, process: ProcessId) -> &Trail
+    pub fn of(&self, process: ProcessId) -> &ProcessOrigins
         requires { process.0 < length self.now.trails.items }
         ensures { slice_get self.now.trails.items process.0 ≡ Some result.now }
     {
@@ -160,7 +160,7 @@ impl Trails {
     {
         let process = record.process.0 as usize;
         match record.op {
-            Op::Start { .. } => self.begin(Trail::new(alloc))?,
+            Op::Start { .. } => self.begin(ProcessOrigins::new(alloc))?,
             Op::Fork { .. } => {
                 let child = self.trails[process].forked()?;
                 self.begin(child)?;

@@ -5,17 +5,17 @@ use Rattle.ll_explanations.proofs.moved.gained_other.Goals as goal
 
 pub returns-in-Over : goal.returns-in-Over
 returns-in-Over c =
-    let move = c.args.passage.now.attempt in
+    let move = c.args.request.now.attempt in
     other_over c.args.layer.now.ctx.tree.now move (rules_of c.args.layer.now) _ move.how move.target c.in-Over.there _ c.in-Exchange.is c.in-Over.is
     c.requires.from
     c.gained.ensures
 
 pub returns-in-New : goal.returns-in-New
 returns-in-New c =
-    let move = c.args.passage.now.attempt in
+    let move = c.args.request.now.attempt in
     other_new c.args.layer.now.ctx.tree.now move (rules_of c.args.layer.now) _ move.how move.target c.in-New.field-0 c.in-Exchange.is c.in-New.is refl
 
 pub returns-in-Rename : goal.returns-in-Rename
 returns-in-Rename c =
-    let move = c.args.passage.now.attempt in
+    let move = c.args.request.now.attempt in
     other_none c.args.layer.now.ctx.tree.now move (rules_of c.args.layer.now) _ move.how move.target c.in-Rename.is refl

@@ -9,7 +9,7 @@ pub returns-then-eq : goal.returns-then-eq
 returns-then-eq c =
     let layer = c.args.layer.now in
     let tree = layer.ctx.tree.now in
-    let p = c.args.passage.now in
+    let p = c.args.request.now in
     let is = c.requires in
     let by_paths = path_eq-nodes tree p.source p.destination is.is_tree is.source is.destination in
     adds_as tree layer.ctx.trail.now.layers.items layer.number _ _ _ _
@@ -21,7 +21,7 @@ pub returns : goal.returns
 returns c =
     let layer = c.args.layer.now in
     let tree = layer.ctx.tree.now in
-    let p = c.args.passage.now in
+    let p = c.args.request.now in
     let is = c.requires in
     let by_paths = path_eq-nodes tree p.source p.destination is.is_tree is.source is.destination in
     adds_as tree layer.ctx.trail.now.layers.items layer.number _ _ _ _

@@ -10,7 +10,7 @@ unfolding only
 returns c =
     let layer = c.args.layer.now in
     let tree = layer.ctx.tree.now in
-    let p = c.args.passage.now in
+    let p = c.args.request.now in
     adds_as tree layer.ctx.trail.now.layers.items layer.number _ _ _ _
     (crossing (rules_of layer) tree p.attempt _ _ _ _ (path_at tree p.source) (path_at tree p.destination) c.requires.from c.requires.into
     c.missing.ensures c.missing-2.ensures c.gained.ensures c.gained_other.ensures)

@@ -4,7 +4,7 @@ use Rattle.std.proofs.lemmas.Option.{same_Some}
 use Rattle.ll_trace.specs.declared.record.Record.{Record}
 use Rattle.ll_trace.specs.Processes.{is_start}
 use Rattle.ll_trace.proofs.Numbers.{is_start-from, is_start-not}
-use Rattle.ll_process.proofs.OwnSteps.{own_process, start_answer, start_leaves, met_answers, met_leaving, note_fits, is_met}
+use Rattle.ll_process.proofs.OwnSteps.{own_process, start_answer, start_leaves, met_answers, met_leaving, outcome_fits, is_met}
 use Rattle.ll_process.proofs.walk.answer_own.Goals as goal
 
 pub judge_met-requires : goal.judge_met-requires
@@ -14,8 +14,8 @@ judge_met-requires c = (
     is_met c.args.case.now c.args.index c.args.process.0 c.record.ensures.case,
     (
       c.requires.meets,
-      λ r note there says.
-          note_fits c.args.case.now c.args.index c.args.process.0 r note c.record.ensures.case there says
+      λ r outcome there says.
+          outcome_fits c.args.case.now c.args.index c.args.process.0 r outcome c.record.ensures.case there says
           (ap (λ (x : Record). is_start x.op) (same_Some r c.record.result.now (sym there ∙ c.record.ensures.at))
           ∙ is_start-not c.record.result.now.op c.in_default.not-Start)
           (own_process c.args.case.now c.args.index c.args.process.0 r c.requires.own there),

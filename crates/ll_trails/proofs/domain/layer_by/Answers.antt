@@ -1,5 +1,5 @@
 use Rattle.std.proofs.Common.{◌∙◌, Some, ap}
-use Rattle.ll_semantics.specs.declared.note.Note.TheVariants.{Answered, Frozen, ByState}
+use Rattle.ll_semantics.specs.declared.ruleset_outcome.RulesetOutcome.TheVariants.{Answered, Frozen, ByState}
 use Rattle.ll_trails.proofs.Frozen.{layer_in, noted_at, none_past}
 use Rattle.ll_trails.proofs.domain.layer_by.Goals as goal
 
@@ -12,16 +12,16 @@ returns-then-place-records c = λ process.
 pub returns-in-Frozen : goal.returns-in-Frozen
 unfolding layer_in
 returns-in-Frozen c = λ process. noted_at c.args.case.now c.records.result.now c.args.place process (Frozen c.in-Frozen.id) c.trace.ensures.case
-    (c.records.ensures.value ∙ c.trace.ensures.records) c.if-place-records.false (c.note.ensures ∙ ap Some c.in-Frozen.is)
+    (c.records.ensures.value ∙ c.trace.ensures.records) c.if-place-records.false (c.outcome.ensures ∙ ap Some c.in-Frozen.is)
 
 -- src/domain.rt:19:1
 pub returns-in-Answered : goal.returns-in-Answered
 unfolding layer_in
 returns-in-Answered c = λ process. noted_at c.args.case.now c.records.result.now c.args.place process (Answered c.in-Answered.field-0) c.trace.ensures.case
-    (c.records.ensures.value ∙ c.trace.ensures.records) c.if-place-records.false (c.note.ensures ∙ ap Some c.in-Answered.is)
+    (c.records.ensures.value ∙ c.trace.ensures.records) c.if-place-records.false (c.outcome.ensures ∙ ap Some c.in-Answered.is)
 
 -- src/domain.rt:19:1
 pub returns-in-ByState : goal.returns-in-ByState
 unfolding layer_in
 returns-in-ByState c = λ process. noted_at c.args.case.now c.records.result.now c.args.place process ByState c.trace.ensures.case
-    (c.records.ensures.value ∙ c.trace.ensures.records) c.if-place-records.false (c.note.ensures ∙ ap Some c.in-ByState.is)
+    (c.records.ensures.value ∙ c.trace.ensures.records) c.if-place-records.false (c.outcome.ensures ∙ ap Some c.in-ByState.is)

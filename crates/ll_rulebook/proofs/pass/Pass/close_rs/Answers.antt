@@ -1,11 +1,11 @@
 use Rattle.std.proofs.Common.{None, refl, sym, ◌∙◌}
 use Rattle.ll_trace.specs.declared.op.Op.TheVariants as calls
 use Rattle.ll_semantics.specs.declared.answer.Answer.TheVariants.{Allowed, Moot}
-use Rattle.ll_semantics.specs.declared.note.Note.TheVariants.{Answered}
+use Rattle.ll_semantics.specs.declared.ruleset_outcome.RulesetOutcome.TheVariants.{Answered}
 use Rattle.ll_semantics.specs.Answers.{answer}
 use Rattle.ll_semantics.specs.Effects.{effect, with_held}
 use Rattle.ll_semantics.specs.CallContexts.{answer_to}
-use Rattle.ll_semantics.specs.Notes.{NoteFits, is_on_rulesets}
+use Rattle.ll_semantics.specs.RulesetOutcomes.{OutcomeFits, is_on_rulesets}
 use Rattle.ll_rulebook.specs.Stores.{held_by}
 use Rattle.ll_rulebook.proofs.Settling.{settles_refused, settles_tables, renamed, held_there}
 use Rattle.ll_rulebook.proofs.pass.Pass.close_rs.Goals as goal
@@ -17,7 +17,7 @@ returns-in_default c =
     (λ w agrees. sym (rw (sym (agrees.held c.args.process c.args.rs) ∙ sym c.in_default.ensures) refl))
 
 pub returns : goal.returns
-unfolding is_on_rulesets answer effect NoteFits answer_to
+unfolding is_on_rulesets answer effect OutcomeFits answer_to
 returns c =
     settles_tables c.args.process (calls.CloseRs c.args.rs) c.args.self.now c.requires.sound c.close.new.self _ _ _ (Answered Allowed) c.in_ok-close.ensures
     (λ q place is. held_there c.args.rs _ q place None (held_by c.args.self.now.tables.held.items c.args.process) is (λ none. cc)

@@ -3,7 +3,7 @@ use Rattle.std.proofs.lemmas.Result.{IfOk-weaker}
 use Rattle.ll_trace.specs.declared.op.Op.TheVariants as calls
 use Rattle.ll_semantics.specs.declared.answer.Answer.TheVariants.{Moot}
 use Rattle.ll_semantics.specs.Answers.{answer, create_answer, fails}
-use Rattle.ll_semantics.specs.Notes.{is_on_rulesets}
+use Rattle.ll_semantics.specs.RulesetOutcomes.{is_on_rulesets}
 use Rattle.ll_rulebook.proofs.Settling.{settles_refused}
 use Rattle.ll_rulebook.proofs.Calls.{create_creates}
 use Rattle.ll_rulebook.proofs.pass.Pass.create.Goals as goal
@@ -22,5 +22,5 @@ returns-in-Err c = rw c.failed.ensures
 
 pub returns-in-Ok : goal.returns-in-Ok
 returns-in-Ok c = IfOk-weaker c.hold_created.result _ _
-    (λ note settles. settles c.args.fs c.args.net _ c.in-Ok.ensures.made
+    (λ outcome settles. settles c.args.fs c.args.net _ c.in-Ok.ensures.made
     (create_creates c.args.self.now.tree.now c.args.self.now.abi c.args.rs c.args.fs c.args.net (sym c.in-Ok.ensures.fault))) c.hold_created.ensures

@@ -5,7 +5,7 @@ use Rattle.ll_rights.specs.NetRights as network
 use Rattle.ll_trace.specs.declared.op.Op.TheVariants as calls
 use Rattle.ll_semantics.specs.declared.answer.Answer.TheVariants.{Moot}
 use Rattle.ll_semantics.specs.Answers.{answer}
-use Rattle.ll_semantics.specs.Notes.{is_on_rulesets}
+use Rattle.ll_semantics.specs.RulesetOutcomes.{is_on_rulesets}
 use Rattle.ll_rulebook.proofs.Settling.{settles_refused}
 use Rattle.ll_rulebook.proofs.Calls.{create_empty_creates}
 use Rattle.ll_rulebook.proofs.pass.Pass.create_empty.Goals as goal
@@ -18,5 +18,5 @@ returns-in-Some c =
 
 pub returns-in-None : goal.returns-in-None
 returns-in-None c = IfOk-weaker c.hold_created.result _ _
-    (λ note settles. settles no_right network.no_right _ c.empty.ensures (create_empty_creates c.args.self.now.tree.now c.args.self.now.abi c.args.rs))
+    (λ outcome settles. settles no_right network.no_right _ c.empty.ensures (create_empty_creates c.args.self.now.tree.now c.args.self.now.abi c.args.rs))
     c.hold_created.ensures

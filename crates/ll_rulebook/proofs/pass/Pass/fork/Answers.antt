@@ -1,14 +1,14 @@
 use Rattle.std.proofs.Common.{ℕ, ◌+◌, refl, ap}
 use Rattle.ll_trace.specs.declared.op.Op.TheVariants as calls
-use Rattle.ll_semantics.specs.declared.note.Note.TheVariants.{ByState}
+use Rattle.ll_semantics.specs.declared.ruleset_outcome.RulesetOutcome.TheVariants.{ByState}
 use Rattle.ll_semantics.specs.Answers.{answer}
 use Rattle.ll_semantics.specs.Effects.{effect}
-use Rattle.ll_semantics.specs.Notes.{NoteFits, is_on_rulesets, enforced}
+use Rattle.ll_semantics.specs.RulesetOutcomes.{OutcomeFits, is_on_rulesets, enforced}
 use Rattle.ll_rulebook.proofs.Settling.{settles_tables}
 use Rattle.ll_rulebook.proofs.pass.Pass.fork.Goals as goal
 
 pub returns : goal.returns
-unfolding is_on_rulesets enforced answer effect NoteFits
+unfolding is_on_rulesets enforced answer effect OutcomeFits
 returns c = λ child.
     settles_tables c.args.process (calls.Fork child) c.args.self.now c.requires.sound c.fork.new.self _ _ _ ByState c.in_ok-fork.ensures
     (c.requires.sound.places c.args.process) (λ w agrees. (refl, refl)) (λ w agrees. refl)

@@ -1,14 +1,14 @@
 use Rattle.std.proofs.Common.{◌∙◌, sym, refl}
 use Rattle.ll_trace.specs.declared.op.Op.TheVariants as calls
-use Rattle.ll_semantics.specs.declared.note.Note.TheVariants.{ByState}
+use Rattle.ll_semantics.specs.declared.ruleset_outcome.RulesetOutcome.TheVariants.{ByState}
 use Rattle.ll_semantics.specs.Effects.{effect}
-use Rattle.ll_semantics.specs.Notes.{NoteFits, is_on_rulesets, enforced}
+use Rattle.ll_semantics.specs.RulesetOutcomes.{OutcomeFits, is_on_rulesets, enforced}
 use Rattle.ll_rulebook.proofs.Frozen.{extends_same}
 use Rattle.ll_rulebook.proofs.Settling.{settles_quiet, settles_frozen}
 use Rattle.ll_rulebook.proofs.pass.Pass.restrict.Goals as goal
 
 pub returns-in-None : goal.returns-in-None
-unfolding is_on_rulesets enforced effect NoteFits
+unfolding is_on_rulesets enforced effect OutcomeFits
 returns-in-None c =
     settles_quiet c.args.process (calls.Restrict c.args.rs) c.args.self.now c.requires.sound _ ByState (λ rulesets s. refl)
     (extends_same _) c.requires.sound.layers

@@ -1,23 +1,23 @@
 use Rattle.std.proofs.Common.{◌≡◌, List, false, None, rules}
 use Rattle.std.proofs.lemmas.Result.{IfOk-weaker}
 use Rattle.ll_trace.specs.Entries.{is_start}
-use Rattle.ll_semantics.specs.declared.note.Note.TheVariants.{ByState}
+use Rattle.ll_semantics.specs.declared.ruleset_outcome.RulesetOutcome.TheVariants.{ByState}
 use Rattle.ll_semantics.specs.States.{State, Layer}
 use Rattle.ll_semantics.specs.Effects.{effect}
-use Rattle.ll_semantics.specs.Notes.{NoteFits, is_on_rulesets, enforced}
+use Rattle.ll_semantics.specs.RulesetOutcomes.{OutcomeFits, is_on_rulesets, enforced}
 use Rattle.ll_rulebook.proofs.Frozen.{extends_same}
 use Rattle.ll_rulebook.proofs.Settling.{IsQuiet, settles_quiet}
 use Rattle.ll_rulebook.proofs.pass.Pass.settle.Goals as goal
 
 pub returns-in-Start : goal.returns-in-Start
 returns-in-Start c =
-    rw c.in-Start.is (IfOk-weaker c.start.result _ _ (λ note settles. settles c.args.record.now.process.0 c.in-Start.nnp c.in-Start.admin) c.start.ensures)
+    rw c.in-Start.is (IfOk-weaker c.start.result _ _ (λ outcome settles. settles c.args.record.now.process.0 c.in-Start.nnp c.in-Start.admin) c.start.ensures)
 
 pub returns-in-Fork : goal.returns-in-Fork
-returns-in-Fork c = rw c.in-Fork.is (IfOk-weaker c.fork.result _ _ (λ note settles. settles c.in-Fork.child) c.fork.ensures)
+returns-in-Fork c = rw c.in-Fork.is (IfOk-weaker c.fork.result _ _ (λ outcome settles. settles c.in-Fork.child) c.fork.ensures)
 
 pub returns-in-Exit : goal.returns-in-Exit
-unfolding is_start is_on_rulesets enforced effect NoteFits
+unfolding is_start is_on_rulesets enforced effect OutcomeFits
 returns-in-Exit c =
     let op = c.args.record.now.op in
     let there : is_start op ≡ false = search rules in

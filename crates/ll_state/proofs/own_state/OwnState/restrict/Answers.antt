@@ -7,7 +7,7 @@ use Rattle.ll_rules.specs.declared.domain.LayerId.{LayerId}
 use Rattle.ll_rules.specs.declared.errno.Errno.TheVariants.{Perm, TooBig}
 use Rattle.ll_rules.specs.Layers.{RulesOn}
 use Rattle.ll_semantics.specs.Effects.{with_layer}
-use Rattle.ll_semantics.specs.Notes.{IsFrozen}
+use Rattle.ll_semantics.specs.RulesetOutcomes.{IsFrozen}
 use Rattle.ll_state.specs.Agreement.{fails_by_layer}
 use Rattle.ll_state.proofs.SameLayers.{kept_may, restrict_denied, failing_keeps, restrict_unheld, restrict_full}
 use Rattle.ll_state.proofs.SameLayers.{restrict_allowed, length-domain, Agrees-with_layer}

@@ -14,7 +14,7 @@ pub loop-record-preserved : goal.loop-record-preserved
 loop-record-preserved c =
     let items : List Record = c.loop-record.record-items in
     let one : Record = get_or items c.loop-record.record-index c.record-item.result in
-    ap (λ (op : Op). set items c.loop-record.record-index (record one { op = op })) c.go_by.ensures
+    ap (λ (op : Op). set items c.loop-record.record-index (record one { op = op })) c.drop_unsupported.ensures
     ∙ map_over_more (record_at_best_effort c.args.abi) c.deref_mut-record-items.result.now items c.loop-record.record-index one
     (omega (arith, c.loop-record-test.true)) c.loop-record.invariant
     (ap (get_or items c.loop-record.record-index) c.record-item.is)

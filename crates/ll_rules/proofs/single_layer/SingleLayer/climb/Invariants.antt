@@ -1,0 +1,23 @@
+use Rattle.std.proofs.Common.{◌≡◌, ◌+◌, ◌≤◌, ◌&&◌, not}
+use Rattle.std.specs.Prelude.{IfSome}
+use Rattle.ll_rights.specs.Rights.{FsRight, has}
+use Rattle.ll_tree.specs.Trees.{IsNode, path_at}
+use Rattle.ll_tree.specs.TreeFacts.{depth_at}
+use Rattle.ll_rules.specs.Layers.{granted}
+use Rattle.ll_rules.specs.InTree.{in_tree}
+use Rattle.ll_rules.specs.Lanes.{set_of}
+use Rattle.ll_rules.specs.WaysUp.{nodes_up}
+use Rattle.ll_rules.proofs.DomainLanes.{left_above}
+use Rattle.ll_rules.proofs.single_layer.SingleLayer.climb.Given as goal
+
+-- what is left of the lane, less what is granted from here on up
+abbrev pub invariant-loop-here : goal.invariant-loop-here
+invariant-loop-here l = record {
+  inside : IfSome l.cursor (IsNode l.self.tree.now);
+  so_far : (right : FsRight) → left_above l.self.tree.now l.self.layer.now l.cursor right (has (set_of l.left) right)
+      ≡ (has (set_of l.lane) right && not (granted (in_tree l.self.tree.now l.self.layer.now) (path_at l.self.tree.now l.fn.node) right));
+  count : l.look_ups + nodes_up l.self.tree.now l.cursor ≤ depth_at l.self.tree.now l.fn.node + 1;
+}
+
+abbrev pub decreases-loop-here : goal.decreases-loop-here
+decreases-loop-here l = nodes_up l.self.tree.now l.cursor

@@ -1,0 +1,36 @@
+-- The outcome's answer, and the layer of a ruleset.
+use Rattle.std.proofs.Common.{subst}
+use Rattle.ll_semantics.specs.declared.ruleset_outcome.RulesetOutcome.{RulesetOutcome}
+use Rattle.ll_semantics.specs.RulesetOutcomes.{OutcomeFits}
+use Rattle.ll_state.proofs.Judging.{Agrees-on_rulesets, frozen_is_there, frozen_judged}
+use Rattle.ll_state.proofs.own_state.OwnState.answer_call.Goals as goal
+
+pub returns-in-Answered-clause-answer : goal.returns-in-Answered-clause-answer
+unfolding OutcomeFits
+returns-in-Answered-clause-answer g c = (subst (λ (outcome : RulesetOutcome). OutcomeFits g.ctx c.args.op.now outcome) c.in-Answered.is c.requires.1.1.0).1
+
+pub returns-in-Answered-clause-ok : goal.returns-in-Answered-clause-ok
+unfolding OutcomeFits
+returns-in-Answered-clause-ok g c =
+    Agrees-on_rulesets g.ctx c.args.self.now c.args.op.now c.requires.1.0
+    (subst (λ (outcome : RulesetOutcome). OutcomeFits g.ctx c.args.op.now outcome) c.in-Answered.is c.requires.1.1.0).0
+
+pub restrict-requires : goal.restrict-requires
+unfolding OutcomeFits
+restrict-requires g c =
+    frozen_is_there g.ctx c.args.layers.now c.requires.0.same_layers c.args.op.now c.in-Frozen.layer
+    (subst (λ (outcome : RulesetOutcome). OutcomeFits g.ctx c.args.op.now outcome) c.in-Frozen.is c.requires.1.1.0)
+
+pub returns-in-Frozen-clause-answer : goal.returns-in-Frozen-clause-answer
+unfolding OutcomeFits
+returns-in-Frozen-clause-answer g c =
+    let fits = subst (λ (outcome : RulesetOutcome). OutcomeFits g.ctx c.args.op.now outcome) c.in-Frozen.is c.requires.1.1.0 in
+    (frozen_judged g.ctx c.args.layers.now c.requires.0.same_layers c.args.self.now c.restrict.new.self c.restrict.result c.requires.1.0
+    c.args.op.now c.in-Frozen.layer c.restrict.ensures fits).0
+
+pub returns-in-Frozen-clause-ok : goal.returns-in-Frozen-clause-ok
+unfolding OutcomeFits
+returns-in-Frozen-clause-ok g c =
+    let fits = subst (λ (outcome : RulesetOutcome). OutcomeFits g.ctx c.args.op.now outcome) c.in-Frozen.is c.requires.1.1.0 in
+    (frozen_judged g.ctx c.args.layers.now c.requires.0.same_layers c.args.self.now c.restrict.new.self c.restrict.result c.requires.1.0
+    c.args.op.now c.in-Frozen.layer c.restrict.ensures fits).1

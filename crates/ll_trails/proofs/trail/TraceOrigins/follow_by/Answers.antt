@@ -1,0 +1,47 @@
+use Rattle.std.proofs.Common.{◌<◌, length, refl, rules}
+use Rattle.ll_reasons.specs.Origins.{Origins, no_origins, traced}
+use Rattle.std.proofs.lemmas.Option.{slice_get_read}
+use Rattle.ll_trace.proofs.Numbers.{is_start-not}
+use Rattle.ll_trails.proofs.Trailing.{trails_changed, trails_kept, sources_by_other}
+use Rattle.ll_trails.specs.TraceOrigins.{Follows}
+use Rattle.ll_trails.proofs.trail.TraceOrigins.follow_by.Goals as goal
+
+pub index_mut-requires : goal.index_mut-requires
+unfolding Rattle.ll_trace.specs.Entries.is_start
+index_mut-requires c =
+    let there : c.args.record.now.process.0 < length c.args.self.now.trails.items = c.requires (rw c.in-Fork.is refl) in
+    search rules
+
+pub index_mut-requires-in-Allowed : goal.index_mut-requires-in-Allowed
+index_mut-requires-in-Allowed c =
+    let there : c.args.record.now.process.0 < length c.args.self.now.trails.items = c.requires (is_start-not c.args.record.now.op c.in_default.not-Start) in
+    search rules
+
+pub returns-in_ok-begin-in-Start : goal.returns-in_ok-begin-in-Start
+unfolding Rattle.ll_reasons.specs.Origins.sources_by
+returns-in_ok-begin-in-Start c = λ sources are. rw c.in-Start.is (c.in_ok-begin-in-Start.ensures sources no_origins are c.new.ensures)
+
+pub returns-in_ok-begin-in-Fork : goal.returns-in_ok-begin-in-Fork
+unfolding Rattle.ll_reasons.specs.Origins.sources_by Rattle.ll_trace.specs.Entries.is_start
+returns-in_ok-begin-in-Fork c = λ sources are.
+    let there : c.args.record.now.process.0 < length c.args.self.now.trails.items = c.requires (rw c.in-Fork.is refl) in
+    let number = c.args.record.now.process.0 in
+    let parent : Origins = sources.processes number in
+    let own : Follows c.index_mut.result.now parent =
+    are.each number c.index_mut.result.now
+    (slice_get_read c.args.self.now.trails.items _ number c.index_mut.result.now refl there c.index_mut.ensures.value) in
+    rw c.in-Fork.is (c.in_ok-begin-in-Fork.ensures sources parent
+    (trails_kept c.args.self.now.trails.items number c.forked.new.self sources there are (c.in_ok-child-in-Fork.ensures.parent parent own))
+    (c.in_ok-child-in-Fork.ensures.child parent own))
+
+pub returns-in_ok-follow-in-Allowed : goal.returns-in_ok-follow-in-Allowed
+returns-in_ok-follow-in-Allowed c = λ sources are.
+    let there : c.args.record.now.process.0 < length c.args.self.now.trails.items = c.requires (is_start-not c.args.record.now.op c.in_default.not-Start) in
+    let own : Origins = sources.processes c.args.record.now.process.0 in
+    let other = sources_by_other c.args.place c.args.record.now.op c.args.record.now.process.0 c.args.answer sources c.in_default.not-Start in
+    rw (other c.in_default.not-Fork, c.in-Allowed.is)
+    (trails_changed c.args.self.now.trails.items c.args.record.now.process.0 c.follow.new.self sources (traced c.args.place c.args.record.now.op own) there are
+    (c.in_ok-follow-in-Allowed.ensures own
+    (are.each c.args.record.now.process.0 c.index_mut-in-Allowed.result.now
+    (slice_get_read c.args.self.now.trails.items _ c.args.record.now.process.0 c.index_mut-in-Allowed.result.now refl there
+    c.index_mut-in-Allowed.ensures.value))))

@@ -1,0 +1,18 @@
+-- What is kept of where each process's layers, descriptors and rulesets come from, and when it agrees with the origins.
+-- Source: landlock_restrict_self(2); landlock(7), "Inheritance"; dup(2).
+use Rattle.std.specs.Prelude.{◌≡◌, ℕ, List, length, Some, slice_get}
+use Rattle.std.specs.FinMap.{get}
+use Rattle.ll_reasons.specs.Origins.{Origins, Sources}
+use Rattle.ll_trails.specs.declared.trail.ProcessOrigins.{ProcessOrigins}
+use Rattle.ll_trails.specs.Opened.{opened}
+
+-- what is kept of one process says where all that it has comes from
+pub record Follows (trail : ProcessOrigins) (o : Origins) : Type 0 where
+  pub layers : trail.layers.items ≡ o.layers
+  pub openings : (fd : ℕ) → opened trail.openings fd ≡ o.openings fd
+  pub rulesets : (rs : ℕ) → get trail.rulesets rs ≡ o.rulesets rs
+
+-- one trail for each process, by its number
+pub record AreTrails (trails : List ProcessOrigins) (sources : Sources) : Type 0 where
+  pub count : length trails ≡ sources.count
+  pub each : (process : ℕ) (trail : ProcessOrigins) → slice_get trails process ≡ Some trail → Follows trail (sources.processes process)
