@@ -24,7 +24,7 @@ pub struct ProcessOrigins {
 }
 
 impl ProcessOrigins {
-    /// That of a process with which a trace begins.
+    /// Those of a process with which a trace begins.
     #[tactic(auto, unfolding(ll_reasons::specs::Origins::no_origins))]
     pub fn new(alloc: Global) -> ProcessOrigins
         ensures { Follows result no_origins }
@@ -92,7 +92,7 @@ impl ProcessOrigins {
     }
 }
 
-/// The trails of all processes, by their numbers.
+/// The origins of all processes, by their numbers.
 #[derive(Drop)]
 pub struct TraceOrigins {
     pub trails: Vec<ProcessOrigins>,
