@@ -26,6 +26,9 @@ pub(crate) struct Pass<'t> {
     tables: Tables,
 }
 
+/// The outcome of a record, if there is memory.
+type Settled = Result<RulesetOutcome, NoMemory>;
+
 /// The answer to a call that fails with an error.
 fn failed(error: Errno) -> RulesetOutcome
     ensures { result ≡ RulesetOutcome.Answered (fails error) }
@@ -34,7 +37,7 @@ fn failed(error: Errno) -> RulesetOutcome
 }
 
 /// The answer to a call that adds a rule.
-fn added(attempt: Result<(), RuleFault>) -> Result<RulesetOutcome, NoMemory>
+fn added(attempt: Result<(), RuleFault>) -> Settled
     ensures { IfOk result (λ outcome. IsAnswerTo attempt outcome) }
 {
     match attempt {
@@ -72,12 +75,7 @@ impl<'t> Pass<'t> {
     }
 
     /// A ruleset that a call creates is held under a free number.
-    fn hold_created(
-        &mut self,
-        process: usize,
-        rs: u64,
-        created: Ruleset,
-    ) -> Result<RulesetOutcome, NoMemory>
+    fn hold_created(&mut self, process: usize, rs: u64, created: Ruleset) -> Settled
         requires there { process < length self.old.tables.held.items }
         requires sound { IsSound self.old }
         requires free { held_by self.old.tables.held.items process rs ≡ None }
@@ -92,14 +90,7 @@ impl<'t> Pass<'t> {
     }
 
     /// A ruleset is created, and held under its number if this is free.
-    fn create(
-        &mut self,
-        alloc: Global,
-        process: usize,
-        rs: u64,
-        fs: Fs,
-        net: Net,
-    ) -> Result<RulesetOutcome, NoMemory>
+    fn create(&mut self, alloc: Global, process: usize, rs: u64, fs: Fs, net: Net) -> Settled
         requires there { process < length self.old.tables.held.items }
         requires sound { IsSound self.old }
         ensures { IfOk result (Settles process (Op.Create rs fs net) self.old self.new) }
@@ -115,12 +106,7 @@ impl<'t> Pass<'t> {
 
     /// A ruleset that handles nothing stands for one that a program does without, and is held under its number
     /// if this is free.
-    fn create_empty(
-        &mut self,
-        alloc: Global,
-        process: usize,
-        rs: u64,
-    ) -> Result<RulesetOutcome, NoMemory>
+    fn create_empty(&mut self, alloc: Global, process: usize, rs: u64) -> Settled
         requires there { process < length self.old.tables.held.items }
         requires sound { IsSound self.old }
         ensures { IfOk result (Settles process (Op.CreateEmpty rs) self.old self.new) }
@@ -132,13 +118,7 @@ impl<'t> Pass<'t> {
     }
 
     /// A rule for files is added to a ruleset that the process holds.
-    fn add_path(
-        &mut self,
-        process: usize,
-        rs: u64,
-        path: &PathText,
-        fs: Fs,
-    ) -> Result<RulesetOutcome, NoMemory>
+    fn add_path(&mut self, process: usize, rs: u64, path: &PathText, fs: Fs) -> Settled
         requires there { process < length self.old.tables.held.items }
         requires sound { IsSound self.old }
         ensures { IfOk result (Settles process (Op.AddPath rs path.now fs) self.old self.new) }
@@ -151,13 +131,7 @@ impl<'t> Pass<'t> {
     }
 
     /// A rule for a port is added to a ruleset that the process holds.
-    fn add_port(
-        &mut self,
-        process: usize,
-        rs: u64,
-        port: u64,
-        net: Net,
-    ) -> Result<RulesetOutcome, NoMemory>
+    fn add_port(&mut self, process: usize, rs: u64, port: u64, net: Net) -> Settled
         requires there { process < length self.old.tables.held.items }
         requires sound { IsSound self.old }
         ensures { IfOk result (Settles process (Op.AddPort rs port net) self.old self.new) }
@@ -169,7 +143,7 @@ impl<'t> Pass<'t> {
     }
 
     /// A process closes a ruleset that it holds.
-    fn close_rs(&mut self, process: usize, rs: u64) -> Result<RulesetOutcome, NoMemory>
+    fn close_rs(&mut self, process: usize, rs: u64) -> Settled
         requires there { process < length self.old.tables.held.items }
         requires sound { IsSound self.old }
         ensures { IfOk result (Settles process (Op.CloseRs rs) self.old self.new) }
@@ -182,12 +156,7 @@ impl<'t> Pass<'t> {
     }
 
     /// The ruleset by which a process restricts itself is frozen to a layer, if the process holds it.
-    fn restrict(
-        &mut self,
-        alloc: Global,
-        process: usize,
-        rs: u64,
-    ) -> Result<RulesetOutcome, NoMemory>
+    fn restrict(&mut self, alloc: Global, process: usize, rs: u64) -> Settled
         requires there { process < length self.old.tables.held.items }
         requires sound { IsSound self.old }
         requires room { length self.old.store.layers < 2 ^ 32 }
@@ -200,7 +169,7 @@ impl<'t> Pass<'t> {
     }
 
     /// A process begins that the trace starts with; it holds nothing.
-    fn start(&mut self, alloc: Global) -> Result<RulesetOutcome, NoMemory>
+    fn start(&mut self, alloc: Global) -> Settled
         requires { IsSound self.old }
         ensures { IfOk result (λ outcome. (process : ℕ) (nnp admin : Bool)
             → Settles process (Op.Start nnp admin) self.old self.new outcome) }
@@ -210,7 +179,7 @@ impl<'t> Pass<'t> {
     }
 
     /// A process forks a child, which holds what its parent holds.
-    fn fork(&mut self, process: usize) -> Result<RulesetOutcome, NoMemory>
+    fn fork(&mut self, process: usize) -> Settled
         requires there { process < length self.old.tables.held.items }
         requires sound { IsSound self.old }
         ensures { IfOk result (λ outcome. (child : ℕ)
@@ -223,11 +192,7 @@ impl<'t> Pass<'t> {
     /// Settles one record: what it answers, if it is one that creates, changes or closes a ruleset, or the
     /// layer that its ruleset is frozen to.
     #[tactic(auto, unfolding(ll_trace::specs::Entries::is_start))]
-    pub(crate) fn settle(
-        &mut self,
-        alloc: Global,
-        record: &Record,
-    ) -> Result<RulesetOutcome, NoMemory>
+    pub(crate) fn settle(&mut self, alloc: Global, record: &Record) -> Settled
         requires there { is_start «record».now.op ≡ false
             → «record».now.process.0 < length self.old.tables.held.items }
         requires sound { IsSound self.old }

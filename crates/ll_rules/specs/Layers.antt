@@ -48,5 +48,3 @@ module _ {P : Type 0} where
 -- whether some rule on a path, or on a directory that it is under, grants a right
 unfoldable pub granted : RulesOn Path → Path → FsRight → Bool
 granted rules path right = list_any (λ rule. is_prefix rule.0 path && files.has rule.1 right) rules.file_rules
-
--- ---- rules on the nodes of a tree
