@@ -5,7 +5,7 @@
 mod fault;
 pub mod lines;
 pub mod members;
-mod numbers;
+pub mod numbers;
 mod path;
 pub mod reading;
 mod value;

@@ -14,7 +14,7 @@ use json::Value;
 const MOST_DIGITS: usize = 18;
 
 /// The whole number below 2 ^ 64 that a number's text stands for.
-pub(crate) fn whole_number(text: &str) -> Option<u64>
+pub fn whole_number(text: &str) -> Option<u64>
     ensures { result ≡ option_and_then as_u64 (number_of text.now) }
 {
     if let Some(number) = short_number(text.as_bytes()) {
@@ -25,7 +25,7 @@ pub(crate) fn whole_number(text: &str) -> Option<u64>
 }
 
 /// Whether a number is a whole number of 64 bits, or is not too large for a float.
-fn is_number_in_range(text: &str) -> bool
+pub fn is_number_in_range(text: &str) -> bool
     ensures { result ≡ is_some (number_of text.now) }
 {
     if short_number(text.as_bytes()).is_some() {
