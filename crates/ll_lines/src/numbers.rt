@@ -1,14 +1,12 @@
 //! The numbers in a JSON value: each has to be one that `serde_json` has.
 
 ghost use Rattle.std.specs.Prelude.{◌≡◌, ◌==◌, ◌<◌, length, slice_index, option_and_then, is_some, IsTrue, Some, IfSome};
-ghost use Rattle.json.specs.Value.{value_view, items_view, members_view};
 ghost use Rattle.serde_json.specs.Data.{unsigned};
 ghost use Rattle.serde_json.specs.Read.{number_of, number_from};
 ghost use Rattle.serde_json.specs.Find.{as_u64};
-ghost use Rattle.ll_lines.specs.Values.{is_in_range as in_range, are_in_range, have_range, is_whole};
+ghost use Rattle.ll_lines.specs.Values.{is_whole};
 
 use fast_float::Numeral;
-use json::Value;
 
 /// The most digits that are read at once: what they write is below 2 ^ 64.
 const MOST_DIGITS: usize = 18;
@@ -33,43 +31,6 @@ pub fn is_number_in_range(text: &str) -> bool
     }
     let (negative, numeral) = signed(text);
     is_integer(negative, &numeral) || numeral.to_float::<f64>(negative).is_finite()
-}
-
-/// Whether a number is in range, with every number in it if it is a list or an object.
-#[cycle(range)]
-pub(crate) fn is_in_range(value: &Value<'_>) -> bool
-    ensures { result ≡ in_range (value_view value.now) }
-{
-    match value {
-        Value::Null | Value::Bool(_) | Value::String(_) => true,
-        Value::Number(text) => is_number_in_range(text),
-        Value::Array(items) => items_in_range(items),
-        Value::Object(members) => members_in_range(members),
-    }
-}
-
-#[cycle(range)]
-fn items_in_range(items: &Vec<Value<'_>>) -> bool
-    ensures { result ≡ are_in_range (items_view items.now.items) }
-{
-    for item in items {
-        if !is_in_range(item) {
-            return false;
-        }
-    }
-    true
-}
-
-#[cycle(range)]
-fn members_in_range<'a>(members: &Vec<(&'a str, Value<'a>)>) -> bool
-    ensures { result ≡ have_range (members_view members.now.items) }
-{
-    for member in members {
-        if !is_in_range(&member.1) {
-            return false;
-        }
-    }
-    true
 }
 
 /// The whole number that bytes write which are digits alone, one to 18 of them.
