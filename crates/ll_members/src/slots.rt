@@ -19,6 +19,10 @@ use ll_lines::Cause;
 use ll_lines::numbers::{is_number_in_range, whole_number};
 use simdutf8::compat::from_utf8;
 
+/// How deep the values in a list or an object may nest, where the whole line may do so as deep as `serde_json` reads
+/// it, 127 deep.
+const INNER_DEPTH: usize = 126;
+
 /// The next value, as a slot.
 #[cycle(slot)]
 fn slot_in<'l>(reader: &mut Reader<'l>, depth: usize) -> Result<Slot<'l>, Cause>
@@ -140,11 +144,11 @@ fn take_value<'l>(reader: &mut Reader<'l>, members: &mut Members<'l>) -> Result<
         },
         Token::EndObject | Token::EndArray | Token::Key(_) | Token::Bad => Err(Cause::Json),
         Token::BeginArray => {
-            skip_items(reader, 126)?;
+            skip_items(reader, INNER_DEPTH)?;
             Ok(())
         }
         Token::BeginObject => {
-            fill(reader, members, 126)?;
+            fill(reader, members, INNER_DEPTH)?;
             Ok(())
         }
     }
