@@ -1,11 +1,8 @@
 -- The data of serde_json that a value of json is. A number out of range has none, and counts as null here.
 use Rattle.std.specs.Prelude.{ℕ, ◌^◌, ◌&&◌, List, Bool, true, false, nat_lt, nat_le, Option, Some, None, option_and_then, is_some}
 use Rattle.fast_float.specs.Text.{Parts, digits_of}
-use Rattle.std.specs.declared.alloc.Global.{Global}
 use Rattle.json.specs.Json as json
 use Rattle.json.specs.Lex.{tokens}
-use Rattle.json.specs.Value.{value_view, items_view}
-use Rattle.json.specs.declared.value.Value.{Value}
 use Rattle.serde_json.specs.Data.{Num, Data, null, boolean, number, string, array, object, Items, no_items, item, Members, no_members, put}
 use Rattle.serde_json.specs.Read.{is_integer, number_of, max_depth}
 
@@ -57,9 +54,3 @@ abbrev mutual
 -- the one value that a text is, nested as deep as serde_json reads
 abbrev pub parsed : List ℕ → Option json.Json
 parsed text = option_and_then (λ p. json.if_last p.0 p.1) (json.value max_depth (tokens text))
-
-abbrev pub value_data : Value Global → Data
-value_data value = data_of (value_view value)
-
-abbrev pub items_data : List (Value Global) → Items
-items_data values = data_of_items (items_view values)

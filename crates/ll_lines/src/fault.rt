@@ -1,8 +1,9 @@
 //! Why a file does not read.
 
 ghost use Rattle.std.specs.Prelude.{◌≡◌};
-ghost use Rattle.ll_lines.specs.declared.fault.Cause.TheVariants.{Memory};
+ghost use Rattle.ll_lines.specs.declared.fault.Cause.TheVariants.{Json, Memory};
 
+use json::Invalid;
 use std::alloc::{AllocError, AllocFailed};
 
 /// What is wrong with a line of the tree or of the trace. Where a line has several faults, the first
@@ -47,5 +48,13 @@ impl<T: Drop> From<AllocFailed<T>> for Cause {
 
     fn from(_refused: AllocFailed<T>) -> Cause {
         Cause::Memory
+    }
+}
+
+impl From<Invalid> for Cause {
+    ghost from_gives = { λ _ cause. cause ≡ Json };
+
+    fn from(_invalid: Invalid) -> Cause {
+        Cause::Json
     }
 }

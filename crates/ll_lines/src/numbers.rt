@@ -1,20 +1,18 @@
 //! The numbers in a JSON value: each has to be one that `serde_json` has.
 
 ghost use Rattle.std.specs.Prelude.{◌≡◌, ◌==◌, ◌<◌, length, slice_index, option_and_then, is_some, IsTrue, Some, IfSome};
-ghost use Rattle.json.specs.Value.{value_view, items_view, members_view};
 ghost use Rattle.serde_json.specs.Data.{unsigned};
 ghost use Rattle.serde_json.specs.Read.{number_of, number_from};
 ghost use Rattle.serde_json.specs.Find.{as_u64};
-ghost use Rattle.ll_lines.specs.Values.{is_in_range as in_range, are_in_range, have_range, is_whole};
+ghost use Rattle.ll_lines.specs.Values.{is_whole};
 
 use fast_float::Numeral;
-use json::Value;
 
 /// The most digits that are read at once: what they write is below 2 ^ 64.
 const MOST_DIGITS: usize = 18;
 
 /// The whole number below 2 ^ 64 that a number's text stands for.
-pub(crate) fn whole_number(text: &str) -> Option<u64>
+pub fn whole_number(text: &str) -> Option<u64>
     ensures { result ≡ option_and_then as_u64 (number_of text.now) }
 {
     if let Some(number) = short_number(text.as_bytes()) {
@@ -25,7 +23,7 @@ pub(crate) fn whole_number(text: &str) -> Option<u64>
 }
 
 /// Whether a number is a whole number of 64 bits, or is not too large for a float.
-fn is_number_in_range(text: &str) -> bool
+pub fn is_number_in_range(text: &str) -> bool
     ensures { result ≡ is_some (number_of text.now) }
 {
     if short_number(text.as_bytes()).is_some() {
@@ -33,43 +31,6 @@ fn is_number_in_range(text: &str) -> bool
     }
     let (negative, numeral) = signed(text);
     is_integer(negative, &numeral) || numeral.to_float::<f64>(negative).is_finite()
-}
-
-/// Whether a number is in range, with every number in it if it is a list or an object.
-#[cycle(range)]
-pub(crate) fn is_in_range(value: &Value<'_>) -> bool
-    ensures { result ≡ in_range (value_view value.now) }
-{
-    match value {
-        Value::Null | Value::Bool(_) | Value::String(_) => true,
-        Value::Number(text) => is_number_in_range(text),
-        Value::Array(items) => items_in_range(items),
-        Value::Object(members) => members_in_range(members),
-    }
-}
-
-#[cycle(range)]
-fn items_in_range(items: &Vec<Value<'_>>) -> bool
-    ensures { result ≡ are_in_range (items_view items.now.items) }
-{
-    for item in items {
-        if !is_in_range(item) {
-            return false;
-        }
-    }
-    true
-}
-
-#[cycle(range)]
-fn members_in_range<'a>(members: &Vec<(&'a str, Value<'a>)>) -> bool
-    ensures { result ≡ have_range (members_view members.now.items) }
-{
-    for member in members {
-        if !is_in_range(&member.1) {
-            return false;
-        }
-    }
-    true
 }
 
 /// The whole number that bytes write which are digits alone, one to 18 of them.

@@ -12,7 +12,7 @@ use Rattle.ll_rights.proofs.Sets.{fs_has-only, fs_has-united, net_has-only, net_
 use Rattle.ll_lines.specs.declared.fault.Cause.{Cause}
 use Rattle.ll_lines.specs.Fault.{◌>>=◌}
 use Rattle.ll_lines.specs.Members.{text_in, fold_texts}
-use Rattle.ll_trace.specs.Members.{with_fs, with_net}
+use Rattle.ll_members.specs.Rights.{with_fs, with_net}
 use Rattle.ll_trace.specs.NameTexts.{text_of, texts_of}
 
 -- what is put together of texts passes a test if it did at first or one of the texts makes it

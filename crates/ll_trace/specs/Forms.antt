@@ -1,11 +1,11 @@
--- Forms that many lines share: a member that is one of some words, a list of names put together, and a call made of its members.
+-- Forms that many lines share: a member that is one of some words, and a call made of its members.
 -- Source: docs/FORMATS.md, "The trace file".
 use Rattle.std.specs.Prelude.{ℕ, List, [], ◌∷◌, bytes_eq, Result, Ok, Err, if◌then◌else◌}
 use Rattle.serde_json.specs.Data.{Data}
 use Rattle.ll_lines.specs.declared.fault.Cause.{Cause}
 use Rattle.ll_lines.specs.declared.fault.Cause.TheVariants.{Field}
 use Rattle.ll_lines.specs.Fault.{◌>>=◌}
-use Rattle.ll_lines.specs.Members.{text_at, items_at, fold_texts}
+use Rattle.ll_lines.specs.Members.{text_at}
 
 -- what a word stands for, among words that each stand for something
 abbrev pub meaning : {A : Type 0} → List (List ℕ × A) → List ℕ → Result A Cause
@@ -17,12 +17,6 @@ abbrev pub word_at : {A : Type 0} → List ℕ → List (List ℕ × A) → Data
 word_at name words value = do
   text ← text_at name value
   meaning words text
-
--- the texts of a member that is a list, put together one after another
-abbrev pub texts_at : {Whole : Type 0} → List ℕ → (Whole → List ℕ → Whole) → Whole → Data → Result Whole Cause
-texts_at name add whole value = do
-  names ← items_at name value
-  fold_texts add whole names
 
 -- what is made of one, two, three or five members, if they read
 abbrev pub of_one : {A T : Type 0} → (A → T) → Result A Cause → Result T Cause

@@ -1,20 +1,16 @@
--- The members of a record's line: paths, sets of rights, modes, kinds and ports.
+-- The members of a record's line: paths, modes, kinds and ports.
 -- Source: docs/FORMATS.md, "The trace file".
 use Rattle.std.specs.Prelude.{ℕ, List, [], ◌∷◌, is_some, nat_le, codes, Result, Ok, Err, if◌then◌else◌}
 use Rattle.serde_json.specs.Data.{Data}
 use Rattle.ll_rights.specs.declared.net.TheConstants.{LARGEST_PORT}
-use Rattle.ll_rights.specs.declared.fs.Fs.{Fs}
-use Rattle.ll_rights.specs.declared.net.Net.{Net}
 use Rattle.ll_rights.specs.declared.kind.Kind.{Kind}
 use Rattle.ll_rights.specs.declared.kind.Kind.TheVariants.{Reg, Char, Block, Fifo, Sock}
-use Rattle.ll_rights.specs.Rights as files
-use Rattle.ll_rights.specs.NetRights as network
 use Rattle.ll_lines.specs.declared.fault.Cause.{Cause}
 use Rattle.ll_lines.specs.declared.fault.Cause.TheVariants.{Field, BadPath}
 use Rattle.ll_lines.specs.Fault.{◌>>=◌}
 use Rattle.ll_lines.specs.Members.{text_at, number_at}
 use Rattle.ll_lines.specs.Paths.{path_of}
-use Rattle.ll_trace.specs.Forms.{word_at, texts_at}
+use Rattle.ll_trace.specs.Forms.{word_at}
 use Rattle.ll_trace.specs.declared.op.Mode.{Mode}
 use Rattle.ll_trace.specs.declared.op.Mode.TheVariants.{Read, Write, Both}
 use Rattle.ll_trace.specs.declared.op.Sort.{Sort}
@@ -29,20 +25,6 @@ unfoldable pub path_at : Data → Result (List ℕ) Cause
 path_at value = do
   text ← text_at (codes "path") value
   path_in text
-
--- a set, and the right for files that a name stands for
-abbrev pub with_fs : Fs → List ℕ → Fs
-with_fs set name = files.united set (files.only (files.right_named name))
-
-unfoldable pub fs_at : Data → Result Fs Cause
-fs_at value = texts_at (codes "fs") with_fs files.no_right value
-
--- the same of the rights for the network
-abbrev pub with_net : Net → List ℕ → Net
-with_net set name = network.united set (network.only (network.right_named name))
-
-unfoldable pub net_at : Data → Result Net Cause
-net_at value = texts_at (codes "net") with_net network.no_right value
 
 abbrev pub modes : List (List ℕ × Mode)
 modes = (codes "r", Read) ∷ (codes "w", Write) ∷ (codes "rw", Both) ∷ []

@@ -11,7 +11,8 @@ use Rattle.ll_lines.specs.Paths.{path_of}
 use Rattle.ll_trace.specs.declared.op.Op.{Op}
 use Rattle.ll_trace.specs.declared.op.Op.TheVariants.{Start, Fork, Exit, Nnp, Create, AddPath, AddPort, CloseRs, Restrict, OpenFile, Adopt, Dup, Close, Ftruncate, Truncate, Exec, Mknod, Mkdir, Symlink, Unlink, Rmdir, Rename, Link, Mount, Bind, Connect, Ioctl, CreateEmpty, LeaveOut}
 use Rattle.ll_trace.specs.declared.op.RuleType.TheVariants.{PathBeneath, NetPort}
-use Rattle.ll_trace.specs.Members.{path_at, fs_at, net_at, mode_at, sort_at, made_kind_at, port_at}
+use Rattle.ll_members.specs.Rights.{fs_at, net_at}
+use Rattle.ll_trace.specs.Members.{path_at, mode_at, sort_at, made_kind_at, port_at}
 use Rattle.ll_trace.specs.Forms.{meaning, of_one, of_two, of_three, of_five}
 
 -- the name of an operation, as the trace and the report spell it

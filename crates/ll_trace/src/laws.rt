@@ -12,7 +12,7 @@ ghost use Rattle.ll_rights.specs.NetRights as network;
 ghost use Rattle.ll_lines.specs.Lines.{Line};
 ghost use Rattle.ll_lines.specs.Members.{fold_texts};
 ghost use Rattle.ll_lines.specs.OneWay.{ReadsInOneWay};
-ghost use Rattle.ll_trace.specs.Members.{with_fs, with_net};
+ghost use Rattle.ll_members.specs.Rights.{with_fs, with_net};
 ghost use Rattle.ll_trace.specs.NameTexts.{texts_of};
 ghost use Rattle.ll_trace.specs.declared.record.ProcessId.{ProcessId};
 ghost use Rattle.ll_trace.specs.declared.record.Record.{Record};

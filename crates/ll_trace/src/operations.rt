@@ -1,153 +1,156 @@
 //! The names of operations, and the operation of a record's line by its name.
 
 ghost use Rattle.std.specs.Prelude.{◌≡◌, codes};
+ghost use Rattle.serde_json.specs.Data.{Data};
 ghost use Rattle.ll_lines.specs.Readers.{Gives};
-ghost use Rattle.ll_lines.specs.Values.{value_data};
+ghost use Rattle.ll_members.specs.Slots.{Hold};
 ghost use Rattle.ll_trace.specs.Operations.{descriptor_operations, named_in, op_name, operation_at};
 ghost use Rattle.ll_trace.specs.Operations.{operation_named, path_operations};
 
-use crate::members::{fs_of, made_kind_of, mode_of, net_of, path_of, port_of, sort_of};
+use crate::members::{made_kind_of, mode_of, path_of, port_of, sort_of};
 use crate::op::{Op, RuleType};
 use crate::path_text::{PathText, SecondPath};
-use json::Value;
 use ll_lines::Cause;
-use ll_lines::members::{flag_of, number_of, text_of, truth_of};
+use ll_members::{Members, Name, flag_of, fs_of, net_of, number_of, text_of, truth_of};
 use std::alloc::Global;
 
-/// The operation that an object says: its name is the member `op`.
-#[tactic(auto, unfolding(crate::specs::Operations::operation_at))]
-pub fn operation_of(alloc: Global, value: &Value<'_>) -> Result<Op, Cause>
-    ensures { Gives (λ op. op) result (operation_at (value_data value.now)) }
+/// The operation that an object says, by its members: its name is the member `op`.
+#[tactic(auto, unfolding(ll_members::specs::Slots::spelt, crate::specs::Operations::operation_at))]
+pub fn operation_of(alloc: Global, members: &Members<'_>) -> Result<Op, Cause>
+    ensures { (value : Data) → Hold members.now value
+        → Gives (λ op. op) result (operation_at value) }
 {
-    let name = text_of(value, "op")?;
-    operation_by_name(alloc, name, value)
+    let name = text_of(members, Name::Op)?;
+    operation_by_name(alloc, name, members)
 }
 
-#[tactic(auto, unfolding(crate::specs::Operations::operations, crate::specs::Operations::operation_named))]
-fn operation_by_name(alloc: Global, name: &str, value: &Value<'_>) -> Result<Op, Cause>
-    ensures { Gives (λ op. op) result (operation_named name.now (value_data value.now)) }
+#[tactic(auto, unfolding(ll_members::specs::Slots::spelt, crate::specs::Operations::operations, crate::specs::Operations::operation_named))]
+fn operation_by_name(alloc: Global, name: &str, members: &Members<'_>) -> Result<Op, Cause>
+    ensures { (value : Data) → Hold members.now value
+        → Gives (λ op. op) result (operation_named name.now value) }
 {
     match name {
         "start" => Ok(Op::Start {
-            nnp: flag_of(value, "nnp")?,
-            admin: flag_of(value, "admin")?,
+            nnp: flag_of(members, Name::Nnp)?,
+            admin: flag_of(members, Name::Admin)?,
         }),
         "fork" => Ok(Op::Fork {
-            child: number_of(value, "child")?,
+            child: number_of(members, Name::Child)?,
         }),
         "exit" => Ok(Op::Exit),
         "nnp" => Ok(Op::Nnp),
         "create" => Ok(Op::Create {
-            rs: number_of(value, "rs")?,
-            fs: fs_of(value)?,
-            net: net_of(value)?,
+            rs: number_of(members, Name::Rs)?,
+            fs: fs_of(members)?,
+            net: net_of(members)?,
         }),
-        "add_path" => add_path_of(alloc, value),
+        "add_path" => add_path_of(alloc, members),
         "add_port" => Ok(Op::AddPort {
-            rs: number_of(value, "rs")?,
-            port: number_of(value, "port")?,
-            net: net_of(value)?,
+            rs: number_of(members, Name::Rs)?,
+            port: number_of(members, Name::Port)?,
+            net: net_of(members)?,
         }),
         "close_rs" => Ok(Op::CloseRs {
-            rs: number_of(value, "rs")?,
+            rs: number_of(members, Name::Rs)?,
         }),
         "restrict" => Ok(Op::Restrict {
-            rs: number_of(value, "rs")?,
+            rs: number_of(members, Name::Rs)?,
         }),
         "mount" => Ok(Op::Mount),
-        _ => descriptor_operation(alloc, name, value),
+        _ => descriptor_operation(alloc, name, members),
     }
 }
 
 /// A call on a descriptor, a port or a path.
-#[tactic(auto, unfolding(crate::specs::Operations::descriptor_operations))]
-fn descriptor_operation(alloc: Global, name: &str, value: &Value<'_>) -> Result<Op, Cause>
-    ensures { Gives (λ op. op) result
-        (named_in (descriptor_operations (value_data value.now)) name.now) }
+#[tactic(auto, unfolding(ll_members::specs::Slots::spelt, crate::specs::Operations::descriptor_operations))]
+fn descriptor_operation(alloc: Global, name: &str, members: &Members<'_>) -> Result<Op, Cause>
+    ensures { (value : Data) → Hold members.now value
+        → Gives (λ op. op) result (named_in (descriptor_operations value) name.now) }
 {
     match name {
         "adopt" => Ok(Op::Adopt {
-            fd: number_of(value, "fd")?,
-            kind: sort_of(value)?,
+            fd: number_of(members, Name::Fd)?,
+            kind: sort_of(members)?,
         }),
         "dup" => Ok(Op::Dup {
-            fd: number_of(value, "fd")?,
-            to: number_of(value, "to")?,
+            fd: number_of(members, Name::Fd)?,
+            to: number_of(members, Name::To)?,
         }),
         "close" => Ok(Op::Close {
-            fd: number_of(value, "fd")?,
+            fd: number_of(members, Name::Fd)?,
         }),
         "ftruncate" => Ok(Op::Ftruncate {
-            fd: number_of(value, "fd")?,
+            fd: number_of(members, Name::Fd)?,
         }),
         "ioctl" => Ok(Op::Ioctl {
-            fd: number_of(value, "fd")?,
-            driver: truth_of(value, "driver")?,
+            fd: number_of(members, Name::Fd)?,
+            driver: truth_of(members, Name::Driver)?,
         }),
         "bind" => Ok(Op::Bind {
-            port: port_of(value)?,
+            port: port_of(members)?,
         }),
         "connect" => Ok(Op::Connect {
-            port: port_of(value)?,
+            port: port_of(members)?,
         }),
-        _ => path_operation(alloc, name, value),
+        _ => path_operation(alloc, name, members),
     }
 }
 
 /// A call on a path.
-#[tactic(auto, unfolding(crate::specs::Operations::path_operations))]
-fn path_operation(alloc: Global, name: &str, value: &Value<'_>) -> Result<Op, Cause>
-    ensures { Gives (λ op. op) result
-        (named_in (path_operations (value_data value.now)) name.now) }
+#[tactic(auto, unfolding(ll_members::specs::Slots::spelt, crate::specs::Operations::path_operations))]
+fn path_operation(alloc: Global, name: &str, members: &Members<'_>) -> Result<Op, Cause>
+    ensures { (value : Data) → Hold members.now value
+        → Gives (λ op. op) result (named_in (path_operations value) name.now) }
 {
     match name {
         "truncate" => Ok(Op::Truncate {
-            path: path_of(alloc, value)?,
+            path: path_of(alloc, members)?,
         }),
         "exec" => Ok(Op::Exec {
-            path: path_of(alloc, value)?,
+            path: path_of(alloc, members)?,
         }),
-        "open" => open_of(alloc, value),
-        "mknod" => mknod_of(alloc, value),
+        "open" => open_of(alloc, members),
+        "mknod" => mknod_of(alloc, members),
         "mkdir" => Ok(Op::Mkdir {
-            path: path_of(alloc, value)?,
+            path: path_of(alloc, members)?,
         }),
         "symlink" => Ok(Op::Symlink {
-            path: path_of(alloc, value)?,
+            path: path_of(alloc, members)?,
         }),
         "unlink" => Ok(Op::Unlink {
-            path: path_of(alloc, value)?,
+            path: path_of(alloc, members)?,
         }),
         "rmdir" => Ok(Op::Rmdir {
-            path: path_of(alloc, value)?,
+            path: path_of(alloc, members)?,
         }),
-        "rename" => rename_of(alloc, value),
-        "link" => link_of(alloc, value),
+        "rename" => rename_of(alloc, members),
+        "link" => link_of(alloc, members),
         _ => Err(Cause::Field),
     }
 }
 
-#[tactic(auto, unfolding(crate::specs::Operations::operations, crate::specs::Operations::operation_named, crate::specs::SaidByName::spelling))]
-fn add_path_of(alloc: Global, value: &Value<'_>) -> Result<Op, Cause>
-    ensures { Gives (λ op. op) result (operation_named (codes "add_path") (value_data value.now)) }
+#[tactic(auto, unfolding(ll_members::specs::Slots::spelt, crate::specs::Operations::operations, crate::specs::Operations::operation_named, crate::specs::SaidByName::spelling))]
+fn add_path_of(alloc: Global, members: &Members<'_>) -> Result<Op, Cause>
+    ensures { (value : Data) → Hold members.now value
+        → Gives (λ op. op) result (operation_named (codes "add_path") value) }
 {
-    let rs = number_of(value, "rs")?;
-    let path = text_of(value, "path")?;
-    let fs = fs_of(value)?;
+    let rs = number_of(members, Name::Rs)?;
+    let path = text_of(members, Name::Path)?;
+    let fs = fs_of(members)?;
     let path = PathText::read(alloc, path)?;
     Ok(Op::AddPath { rs, path, fs })
 }
 
-#[tactic(auto, unfolding(crate::specs::Operations::path_operations, crate::specs::SaidByName::spelling))]
-fn open_of(alloc: Global, value: &Value<'_>) -> Result<Op, Cause>
-    ensures { Gives (λ op. op) result
-        (named_in (path_operations (value_data value.now)) (codes "open")) }
+#[tactic(auto, unfolding(ll_members::specs::Slots::spelt, crate::specs::Operations::path_operations, crate::specs::SaidByName::spelling))]
+fn open_of(alloc: Global, members: &Members<'_>) -> Result<Op, Cause>
+    ensures { (value : Data) → Hold members.now value
+        → Gives (λ op. op) result (named_in (path_operations value) (codes "open")) }
 {
-    let path = text_of(value, "path")?;
-    let fd = number_of(value, "fd")?;
-    let mode = mode_of(value)?;
-    let create = flag_of(value, "create")?;
-    let trunc = flag_of(value, "trunc")?;
+    let path = text_of(members, Name::Path)?;
+    let fd = number_of(members, Name::Fd)?;
+    let mode = mode_of(members)?;
+    let create = flag_of(members, Name::Create)?;
+    let trunc = flag_of(members, Name::Trunc)?;
     let path = PathText::read(alloc, path)?;
     Ok(Op::OpenFile {
         path,
@@ -158,37 +161,37 @@ fn open_of(alloc: Global, value: &Value<'_>) -> Result<Op, Cause>
     })
 }
 
-#[tactic(auto, unfolding(crate::specs::Operations::path_operations, crate::specs::SaidByName::spelling))]
-fn mknod_of(alloc: Global, value: &Value<'_>) -> Result<Op, Cause>
-    ensures { Gives (λ op. op) result
-        (named_in (path_operations (value_data value.now)) (codes "mknod")) }
+#[tactic(auto, unfolding(ll_members::specs::Slots::spelt, crate::specs::Operations::path_operations, crate::specs::SaidByName::spelling))]
+fn mknod_of(alloc: Global, members: &Members<'_>) -> Result<Op, Cause>
+    ensures { (value : Data) → Hold members.now value
+        → Gives (λ op. op) result (named_in (path_operations value) (codes "mknod")) }
 {
-    let path = text_of(value, "path")?;
-    let kind = made_kind_of(value)?;
+    let path = text_of(members, Name::Path)?;
+    let kind = made_kind_of(members)?;
     let path = PathText::read(alloc, path)?;
     Ok(Op::Mknod { path, kind })
 }
 
-#[tactic(auto, unfolding(crate::specs::Operations::path_operations, crate::specs::SaidByName::spelling))]
-fn rename_of(alloc: Global, value: &Value<'_>) -> Result<Op, Cause>
-    ensures { Gives (λ op. op) result
-        (named_in (path_operations (value_data value.now)) (codes "rename")) }
+#[tactic(auto, unfolding(ll_members::specs::Slots::spelt, crate::specs::Operations::path_operations, crate::specs::SaidByName::spelling))]
+fn rename_of(alloc: Global, members: &Members<'_>) -> Result<Op, Cause>
+    ensures { (value : Data) → Hold members.now value
+        → Gives (λ op. op) result (named_in (path_operations value) (codes "rename")) }
 {
-    let from = text_of(value, "from")?;
-    let to = text_of(value, "to")?;
-    let exchange = flag_of(value, "exchange")?;
+    let from = text_of(members, Name::From)?;
+    let to = text_of(members, Name::To)?;
+    let exchange = flag_of(members, Name::Exchange)?;
     let from = PathText::read(alloc, from)?;
     let to = SecondPath::read(alloc, to)?;
     Ok(Op::Rename { from, to, exchange })
 }
 
-#[tactic(auto, unfolding(crate::specs::Operations::path_operations, crate::specs::SaidByName::spelling))]
-fn link_of(alloc: Global, value: &Value<'_>) -> Result<Op, Cause>
-    ensures { Gives (λ op. op) result
-        (named_in (path_operations (value_data value.now)) (codes "link")) }
+#[tactic(auto, unfolding(ll_members::specs::Slots::spelt, crate::specs::Operations::path_operations, crate::specs::SaidByName::spelling))]
+fn link_of(alloc: Global, members: &Members<'_>) -> Result<Op, Cause>
+    ensures { (value : Data) → Hold members.now value
+        → Gives (λ op. op) result (named_in (path_operations value) (codes "link")) }
 {
-    let from = text_of(value, "from")?;
-    let to = text_of(value, "to")?;
+    let from = text_of(members, Name::From)?;
+    let to = text_of(members, Name::To)?;
     let from = PathText::read(alloc, from)?;
     let to = SecondPath::read(alloc, to)?;
     Ok(Op::Link { from, to })

@@ -15,8 +15,8 @@ use crate::operations::operation_of;
 use crate::record::{ProcessId, Record};
 use json::Scratch;
 use ll_lines::lines::{FileLine, FilledLines};
-use ll_lines::members::number_of;
-use ll_lines::{Cause, ReadFault, value_of};
+use ll_lines::{Cause, ReadFault};
+use ll_members::{Name, number_of, read_members};
 use std::alloc::Global;
 use std::collections::BTreeMap;
 
@@ -49,7 +49,8 @@ pub(crate) struct Reader {
     processes: u32,
 }
 
-#[tactic(auto, unfolding(crate::specs::Entries::entry_at))]
+/// What a line says.
+#[tactic(auto, unfolding(ll_members::specs::Slots::spelt, crate::specs::Entries::entry_at))]
 pub(crate) fn entry_of(
     alloc: Global,
     line: &FileLine,
@@ -58,9 +59,9 @@ pub(crate) fn entry_of(
     ensures gives { Gives entry_view result (entry_at (line_view line.now)) }
     ensures line { IfOk result (λ entry. entry.line ≡ line.now.number) }
 {
-    let value = value_of(alloc, line.bytes, scratch)?;
-    let pid = number_of(&value, "pid")?;
-    let op = operation_of(alloc, &value)?;
+    let members = read_members(line.bytes, scratch)?;
+    let pid = number_of(&members, Name::Pid)?;
+    let op = operation_of(alloc, &members)?;
     Ok(Entry {
         line: line.number,
         pid,

@@ -3,9 +3,10 @@
 ghost use Rattle.std.specs.Prelude.{◌≡◌, ◌≤◌, ◌<◌, [], ◌∷◌, ◌++◌, length, Some, ◌≢◌, IfOk, IfErr, OnOk, OnErr, ◌==◌, ◌&&◌, IsTrue, is_some, IfSome, IfNone};
 ghost use Rattle.std.specs.String.{string_bytes};
 ghost use Rattle.std.specs.Str.{bytes_eq};
+ghost use Rattle.serde_json.specs.Data.{Data};
 ghost use Rattle.ll_lines.specs.declared.fault.Cause.TheVariants.{Memory};
 ghost use Rattle.ll_lines.specs.Readers.{Gives};
-ghost use Rattle.ll_lines.specs.Values.{value_data};
+ghost use Rattle.ll_members.specs.Slots.{Hold};
 ghost use Rattle.ll_lines.specs.LineView.{line_view};
 ghost use Rattle.ll_lines.specs.Reading.{IsBad};
 ghost use Rattle.ll_lines.specs.LineByLine.{GivesReading, reading, with_line, with_entry};
@@ -22,9 +23,10 @@ use crate::chains::{
 };
 use crate::object::object_of;
 use crate::place::{NodeId, Place};
-use json::{Scratch, Value};
+use json::Scratch;
 use ll_lines::lines::{FileLine, FilledLines};
-use ll_lines::{Cause, ReadFault, front_text, path_ok, value_of};
+use ll_lines::{Cause, ReadFault, front_text, path_ok};
+use ll_members::{Members, read_members};
 use ll_rights::Kind;
 use std::alloc::{AllocError, Global};
 use std::collections::BTreeMap;
@@ -130,17 +132,17 @@ impl Tree {
             (with_line tree_format (below_root self.old) (line_view line.now)) }
         ensures rooted { OnOk result (IsRooted self.new) }
     {
-        let value = value_of(alloc, line.bytes, scratch)?;
-        self.read_value(alloc, &value)
+        let members = read_members(line.bytes, scratch)?;
+        self.read_object(alloc, &members)
     }
 
-    /// Reads the object that a value describes.
-    fn read_value(&mut self, alloc: Global, value: &Value<'_>) -> Result<(), Cause>
-        ensures value { Gives (λ _. below_root self.new) result
-            (with_value (below_root self.old) (value_data value.now)) }
+    /// Reads the object that members describe.
+    fn read_object(&mut self, alloc: Global, members: &Members<'_>) -> Result<(), Cause>
+        ensures value { (value : Data) → Hold members.now value
+            → Gives (λ _. below_root self.new) result (with_value (below_root self.old) value) }
         ensures rooted { OnOk result (IsRooted self.new) }
     {
-        let (path, kind) = object_of(value)?;
+        let (path, kind) = object_of(members)?;
         self.list(alloc, path, kind)
     }
 

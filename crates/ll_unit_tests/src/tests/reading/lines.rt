@@ -1,9 +1,12 @@
 //! The lines of a file, and what a line says.
 
-use json::{Scratch, Value};
+use json::Scratch;
+use ll_lines::Cause;
 use ll_lines::lines::FilledLines;
-use ll_lines::members::{flag_of, items_of, number_of, text_in_list, text_of, truth_of};
-use ll_lines::{Cause, value_of};
+use ll_members::{
+    Members, Name, flag_of, fs_of, net_of, number_of, read_members, text_of, truth_of,
+};
+use ll_rights::fs_of_name;
 use std::alloc::{AllocError, Global};
 use std::test::Fail;
 
@@ -62,7 +65,7 @@ const VALUES: [(&[u8], bool); 19] = [
 
 /// Whether a line reads as one value, or else is at fault for its JSON.
 fn reads_as(alloc: Global, line: &[u8], reads: bool) -> bool {
-    match value_of(alloc, line, &mut Scratch::new(alloc)) {
+    match read_members(line, &mut Scratch::new(alloc)) {
         Ok(_) => reads,
         Err(cause) => !reads && cause == Cause::Json,
     }
@@ -76,39 +79,36 @@ fn one_value_on_a_line(rt: HostRuntime) {
 }
 
 const MEMBERS: &[u8] =
-    b"{\"text\":\"a\",\"t\\u0065xt\":\"\\u00e9\\n\",\"truth\":true,\"list\":[\"c\",1],\"top\":18446744073709551615,\"past\":18446744073709551616,\"nines\":999999999999999999,\"tens\":1234567890123456789,\"below\":-1,\"part\":1.0}";
+    b"{\"op\":\"a\",\"o\\u0070\":\"\\u00e9\\n\",\"nnp\":true,\"fs\":[\"refer\",\"execute\"],\"net\":[\"bind_tcp\",1],\"pid\":18446744073709551615,\"child\":18446744073709551616,\"rs\":999999999999999999,\"port\":1234567890123456789,\"fd\":-1,\"to\":1.0}";
 
-fn reads_numbers(value: &Value<'_>) -> bool {
-    for name in ["past", "below", "part", "text", "absent"] {
-        if number_of(value, name) != Err(Cause::Field) {
+fn reads_numbers(members: &Members<'_>) -> bool {
+    for name in [Name::Child, Name::Fd, Name::To, Name::Op, Name::Kind] {
+        if number_of(members, name) != Err(Cause::Field) {
             return false;
         }
     }
-    number_of(value, "top") == Ok(u64::MAX)
-        && number_of(value, "nines") == Ok(999_999_999_999_999_999)
-        && number_of(value, "tens") == Ok(1_234_567_890_123_456_789)
+    number_of(members, Name::Pid) == Ok(u64::MAX)
+        && number_of(members, Name::Rs) == Ok(999_999_999_999_999_999)
+        && number_of(members, Name::Port) == Ok(1_234_567_890_123_456_789)
 }
 
-fn reads_truths(value: &Value<'_>) -> bool {
-    truth_of(value, "truth") == Ok(true)
-        && truth_of(value, "absent") == Err(Cause::Field)
-        && flag_of(value, "truth") == Ok(true)
-        && flag_of(value, "absent") == Ok(false)
+fn reads_truths(members: &Members<'_>) -> bool {
+    truth_of(members, Name::Nnp) == Ok(true)
+        && truth_of(members, Name::Admin) == Err(Cause::Field)
+        && flag_of(members, Name::Nnp) == Ok(true)
+        && flag_of(members, Name::Admin) == Ok(false)
 }
 
-fn reads_texts(value: &Value<'_>) -> bool {
-    let Ok([first, second]) = items_of(value, "list") else {
-        return false;
-    };
-    text_of(value, "text") == Ok("é\n")
-        && text_in_list(first) == Ok("c")
-        && text_in_list(second) == Err(Cause::Field)
+fn reads_texts(members: &Members<'_>) -> bool {
+    text_of(members, Name::Op) == Ok("é\n")
+        && fs_of(members) == Ok(fs_of_name("execute").union(fs_of_name("refer")))
+        && net_of(members) == Err(Cause::Field)
 }
 
 #[test]
 fn members_of_a_line(rt: HostRuntime) -> Result<(), Fail> {
     let mut scratch = Scratch::new(rt.alloc());
-    let value = value_of(rt.alloc(), MEMBERS, &mut scratch)?;
-    assert!(rt; reads_numbers(&value) && reads_truths(&value) && reads_texts(&value));
+    let members = read_members(MEMBERS, &mut scratch)?;
+    assert!(rt; reads_numbers(&members) && reads_truths(&members) && reads_texts(&members));
     Ok(())
 }

@@ -116,6 +116,7 @@ fn nested_members(rt: HostRuntime) -> Result<(), Fail> {
     for (format, front) in [
         (Format::Tree, "{\"path\":\"/a\",\"kind\":\"dir\",\"x\":"),
         (Format::Trace(1), "{\"op\":\"start\",\"pid\":9,\"x\":"),
+        (Format::Trace(1), "{\"op\":\"start\",\"pid\":9,\"fs\":"),
     ] {
         assert!(rt; fault_of_arrays(&rt, format, front, 126)?.is_none());
         let fault = fault_of_arrays(&rt, format, front, 127)?;

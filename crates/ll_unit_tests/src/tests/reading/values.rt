@@ -59,8 +59,8 @@ const SKIPPED: [(&[u8], bool); 42] = [
     (b"\"\\x\"}", false),
 ];
 
-/// The fault of a line with this member at its end.
-fn fault_of_skipped<R: AllocGlobal + Threads + Sync>(
+/// The fault of a file that ends with this member.
+fn fault_of_end<R: AllocGlobal + Threads + Sync>(
     rt: &R,
     format: Format,
     front: &str,
@@ -85,7 +85,7 @@ fn members_that_nobody_asks_for(rt: HostRuntime) -> Result<(), Fail> {
             (Format::Trace(1), "{\"op\":\"start\",\"pid\":9,\"x\":"),
             (Format::Trace(2), "{\"op\":\"start\",\"pid\":9,\"x\":"),
         ] {
-            let fault = fault_of_skipped(&rt, format, front, end)?;
+            let fault = fault_of_end(&rt, format, front, end)?;
             assert_eq!(rt; fault, json_unless(*reads), "{row}");
         }
     }
@@ -93,7 +93,7 @@ fn members_that_nobody_asks_for(rt: HostRuntime) -> Result<(), Fail> {
 }
 
 /// Lines of a trace, and the fault of each.
-const RECORDS: [(&[u8], Option<Cause>); 30] = [
+const RECORDS: [(&[u8], Option<Cause>); 33] = [
     (b"{\"op\":\"start\",\"pid\":1}", None),
     (b" {\t\"pid\" : 1 ,\"op\":\"start\" }\r", None),
     // the last of two members counts
@@ -138,6 +138,19 @@ const RECORDS: [(&[u8], Option<Cause>); 30] = [
     (b"{\"op\":\"start\",\"pid\":1e0}", Some(Cause::Field)),
     (b"{\"op\":\"start\",\"pid\":1e400}", Some(Cause::Json)),
     (b"{\"op\":\"start\",\"pid\":01}", Some(Cause::Json)),
+    // members of other operations, whatever they are
+    (
+        b"{\"op\":\"start\",\"pid\":1,\"fs\":[1,{}],\"path\":7,\"to\":[[]],\"port\":null}",
+        None,
+    ),
+    (
+        b"{\"op\":\"start\",\"pid\":1,\"fs\":[\"refer\",[1e400]]}",
+        Some(Cause::Json),
+    ),
+    (
+        b"{\"op\":\"start\",\"pid\":1,\"port\":1e400}",
+        Some(Cause::Json),
+    ),
     // what is no object
     (b"[]", Some(Cause::Field)),
     (b"\"start\"", Some(Cause::Field)),
@@ -156,4 +169,35 @@ fn lines_of_a_trace(rt: HostRuntime) {
             assert_eq!(rt; fault, cause.map(|cause| (1, cause)), "{row}");
         }
     }
+}
+
+/// What follows `"fs":` in a line that creates a ruleset, and the fault of the line.
+const LISTS: [(&[u8], Option<Cause>); 16] = [
+    (b"[]}", None),
+    (b"[\"refer\",\"refer\",\"execute\"]}", None),
+    (b"[\"\\u0072efer\"]}", None),
+    (b"[\"nosuch\",\"\"]}", None),
+    (b"\"refer\"}", Some(Cause::Field)),
+    (b"null}", Some(Cause::Field)),
+    (b"{\"refer\":true}}", Some(Cause::Field)),
+    (b"[\"refer\",1]}", Some(Cause::Field)),
+    (b"[null]}", Some(Cause::Field)),
+    (b"[[\"refer\"]]}", Some(Cause::Field)),
+    // the last of two lists counts
+    (b"[1],\"fs\":[\"refer\"]}", None),
+    (b"[\"refer\"],\"fs\":[1]}", Some(Cause::Field)),
+    (b"[\"refer\",1e400]}", Some(Cause::Json)),
+    (b"[\"refer\",]}", Some(Cause::Json)),
+    (b"[\"refer\"}", Some(Cause::Json)),
+    (b"[\"\xff\"]}", Some(Cause::Json)),
+];
+
+#[test]
+fn lists_of_rights(rt: HostRuntime) -> Result<(), Fail> {
+    let front = "{\"op\":\"start\",\"pid\":1}\n{\"op\":\"create\",\"pid\":1,\"rs\":3,\"fs\":";
+    for (row, (end, cause)) in LISTS.iter().enumerate() {
+        let fault = fault_of_end(&rt, Format::Trace(1), front, end)?;
+        assert_eq!(rt; fault, cause.map(|cause| (2, cause)), "{row}");
+    }
+    Ok(())
 }

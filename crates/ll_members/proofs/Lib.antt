@@ -1,0 +1,4 @@
+pub mod WalkLemmas
+pub mod RightsLemmas
+pub mod SlotLemmas
+pub mod ShownLemmas

@@ -1,0 +1,221 @@
+-- The members of a line's value, each in the slot of its name.
+use Rattle.std.specs.Prelude.{◌≡◌, ℕ, List, Bool, true, Option, Some, None, codes, get_or, length, option_and_then, ok_or, false, Result, Ok, Err, if◌then◌else◌}
+use Rattle.std.specs.Str.{bytes_eq}
+use Rattle.json.specs.Token.{Token}
+use Rattle.json.specs.Json as json
+use Rattle.json.specs.Find.{later_or, get, get_member, as_str, as_number, as_bool, as_array}
+use Rattle.serde_json.specs.Data.{Data}
+use Rattle.serde_json.specs.Read.{number_of}
+use Rattle.serde_json.specs.Find.{as_u64}
+use Rattle.ll_lines.specs.Members.{value_at}
+use Rattle.ll_lines.specs.Values.{data_of, is_in_range, are_in_range, have_range}
+use Rattle.ll_lines.specs.declared.fault.Cause.{Cause}
+use Rattle.ll_lines.specs.declared.fault.Cause.TheVariants.{Field}
+use Rattle.ll_members.specs.Rights.{with_rights, no_rights}
+use Rattle.ll_members.specs.declared.rights.Rights.{Rights}
+use Rattle.ll_members.specs.declared.row.Name.{Name}
+use Rattle.ll_members.specs.declared.row.Name.TheVariants.{Op, Pid, Child, Rs, Fs, Net, Path, From, To, Port, Fd, Mode, Create, Trunc, Kind, Exchange, Nnp, Admin, Driver}
+use Rattle.ll_members.specs.declared.row.Slot.{Slot}
+use Rattle.ll_members.specs.declared.row.Slot.TheVariants.{Missing, Text, Number, Truth, Names, Other}
+use Rattle.ll_members.specs.declared.row.Members.{Members}
+
+-- how a name is spelt
+unfoldable pub spelt : Name → List ℕ
+spelt Op = codes "op"
+spelt Pid = codes "pid"
+spelt Child = codes "child"
+spelt Rs = codes "rs"
+spelt Fs = codes "fs"
+spelt Net = codes "net"
+spelt Path = codes "path"
+spelt From = codes "from"
+spelt To = codes "to"
+spelt Port = codes "port"
+spelt Fd = codes "fd"
+spelt Mode = codes "mode"
+spelt Create = codes "create"
+spelt Trunc = codes "trunc"
+spelt Kind = codes "kind"
+spelt Exchange = codes "exchange"
+spelt Nnp = codes "nnp"
+spelt Admin = codes "admin"
+spelt Driver = codes "driver"
+
+-- the name that a key is
+unfoldable pub named : List ℕ → Option Name
+named key =
+    if bytes_eq key (codes "op") then Some Op else (
+    if bytes_eq key (codes "pid") then Some Pid else (
+    if bytes_eq key (codes "child") then Some Child else (
+    if bytes_eq key (codes "rs") then Some Rs else (
+    if bytes_eq key (codes "fs") then Some Fs else (
+    if bytes_eq key (codes "net") then Some Net else (
+    if bytes_eq key (codes "path") then Some Path else (
+    if bytes_eq key (codes "from") then Some From else (
+    if bytes_eq key (codes "to") then Some To else (
+    if bytes_eq key (codes "port") then Some Port else (
+    if bytes_eq key (codes "fd") then Some Fd else (
+    if bytes_eq key (codes "mode") then Some Mode else (
+    if bytes_eq key (codes "create") then Some Create else (
+    if bytes_eq key (codes "trunc") then Some Trunc else (
+    if bytes_eq key (codes "kind") then Some Kind else (
+    if bytes_eq key (codes "exchange") then Some Exchange else (
+    if bytes_eq key (codes "nnp") then Some Nnp else (
+    if bytes_eq key (codes "admin") then Some Admin else (
+    if bytes_eq key (codes "driver") then Some Driver else (
+    None)))))))))))))))))))
+
+-- the place of a name's slot
+unfoldable pub place : Name → ℕ
+place Op = 0
+place Pid = 1
+place Child = 2
+place Rs = 3
+place Fs = 4
+place Net = 5
+place Path = 6
+place From = 7
+place To = 8
+place Port = 9
+place Fd = 10
+place Mode = 11
+place Create = 12
+place Trunc = 13
+place Kind = 14
+place Exchange = 15
+place Nnp = 16
+place Admin = 17
+place Driver = 18
+
+abbrev pub slot_at : Members → Name → Slot
+slot_at members name = get_or members.slots (place name) Missing
+
+-- rights, and what one more value of a list stands for, by what its text is
+abbrev pub with_text : Option Rights → Result (List ℕ) Cause → Option Rights
+with_text None text = None
+with_text (Some rights) (Err cause) = None
+with_text (Some rights) (Ok name) = Some (with_rights rights name)
+
+-- rights, and what the values of a list stand for
+abbrev pub rights_of : Option Rights → json.Items → Option Rights
+rights_of rights json.no_items = rights
+rights_of rights (json.item value others) = rights_of (with_text rights (ok_or (as_str value) Field)) others
+
+-- the same of a list that was parsed, and what is left behind it, where every number in it is in range
+abbrev pub folded : Option Rights → Option (json.Items × List Token) → Option (Option Rights × List Token)
+folded rights None = None
+folded rights (Some p) = if are_in_range p.0 then Some (rights_of rights p.0, p.1) else None
+
+-- a value that is no text, no number, neither true nor false, and no list
+pub record IsOther (value : json.Json) : Type 0 where
+  pub no_text : as_str value ≡ None
+  pub no_number : as_number value ≡ None
+  pub no_truth : as_bool value ≡ None
+  pub no_list : as_array value ≡ None
+
+-- a slot shows what there is of a member
+abbrev pub Shows : Slot → Option json.Json → Type 0
+Shows Missing r = r ≡ None
+Shows (Text text) r = r ≡ Some (json.string text.now)
+Shows (Number n) r = (text : List ℕ) × (r ≡ Some (json.number text)) × (n ≡ option_and_then as_u64 (number_of text))
+Shows (Truth b) r = r ≡ Some (json.boolean b)
+Shows (Names rights) r = (items : json.Items) × (r ≡ Some (json.array items)) × (rights ≡ rights_of (Some no_rights) items)
+Shows Other r = (value : json.Json) × (r ≡ Some value) × IsOther value
+
+-- what a slot was read from: the next value of the tokens
+pub record IsReadFrom (depth : ℕ) (old new : List Token) (slot : Slot) : Type 0 where
+  pub value : json.Json
+  pub is : json.value depth old ≡ Some (value, new)
+  pub fits : is_in_range value ≡ true
+  pub shows : Shows slot (Some value)
+
+-- the slots after one member more
+pub record Takes (depth : ℕ) (key : List ℕ) (old new : List Token) (before after : Members) : Type 0 where
+  pub value : json.Json
+  pub is : json.value depth old ≡ Some (value, new)
+  pub fits : is_in_range value ≡ true
+  pub shown : (name : Name) (r : Option json.Json) → Shows (slot_at before name) r
+      → Shows (slot_at after name) (later_or (if bytes_eq key (spelt name) then Some value else None) r)
+
+-- each slot shows the last member of its name
+abbrev pub ShowMembers : Members → json.Members → Type 0
+ShowMembers members entries = (name : Name) → Shows (slot_at members name) (get_member (spelt name) entries)
+
+pub record AreReadFrom (depth : ℕ) (old new : List Token) (members : Members) : Type 0 where
+  pub entries : json.Members
+  pub are : json.members (json.value depth) (length old) old ≡ Some (entries, new)
+  pub fit : have_range entries ≡ true
+  pub shown : ShowMembers members entries
+
+abbrev pub AreMissing : Members → Type 0
+AreMissing members = (name : Name) → slot_at members name ≡ Missing
+
+-- each slot shows the member of a value that has its name
+abbrev pub Stands : Members → json.Json → Type 0
+Stands members value = (name : Name) → Shows (slot_at members name) (get (spelt name) value)
+
+-- the next value of the tokens, whose members show
+pub record IsValue (old new : List Token) (members : Members) : Type 0 where
+  pub value : json.Json
+  pub is : json.value 127 old ≡ Some (value, new)
+  pub fits : is_in_range value ≡ true
+  pub stands : Stands members value
+
+-- the slots hold the members of this value
+pub record Hold (members : Members) (value : Data) : Type 0 where
+  pub read : json.Json
+  pub is : value ≡ data_of read
+  pub stands : Stands members read
+
+-- the value of a line, whose members the slots hold
+pub record IsLine (line : List ℕ) (members : Members) : Type 0 where
+  pub value : Data
+  pub is : value_at line ≡ Ok value
+  pub hold : Hold members value
+
+-- what a slot reads as: a text, a number, true or false, a flag, rights
+
+abbrev pub text_from : Slot → Result (List ℕ) Cause
+text_from Missing = Err Field
+text_from (Text text) = Ok text.now
+text_from (Number n) = Err Field
+text_from (Truth b) = Err Field
+text_from (Names rights) = Err Field
+text_from Other = Err Field
+
+abbrev pub number_from : Slot → Result ℕ Cause
+number_from Missing = Err Field
+number_from (Text text) = Err Field
+number_from (Number n) = ok_or n Field
+number_from (Truth b) = Err Field
+number_from (Names rights) = Err Field
+number_from Other = Err Field
+
+abbrev pub truth_from : Slot → Result Bool Cause
+truth_from Missing = Err Field
+truth_from (Text text) = Err Field
+truth_from (Number n) = Err Field
+truth_from (Truth b) = Ok b
+truth_from (Names rights) = Err Field
+truth_from Other = Err Field
+
+abbrev pub flag_from : Slot → Result Bool Cause
+flag_from Missing = Ok false
+flag_from (Text text) = Err Field
+flag_from (Number n) = Err Field
+flag_from (Truth b) = Ok b
+flag_from (Names rights) = Err Field
+flag_from Other = Err Field
+
+abbrev pub rights_from : Slot → Result Rights Cause
+rights_from Missing = Ok no_rights
+rights_from (Text text) = Err Field
+rights_from (Number n) = Err Field
+rights_from (Truth b) = Err Field
+rights_from (Names rights) = ok_or rights Field
+rights_from Other = Err Field
+
+-- the rights for files alone, or those for the network
+abbrev pub part_of : {Set : Type 0} → (Rights → Set) → Result Rights Cause → Result Set Cause
+part_of part (Ok rights) = Ok (part rights)
+part_of part (Err cause) = Err cause

@@ -1,0 +1,94 @@
+//! The names of members, and the slot of each.
+
+ghost use Rattle.std.specs.Prelude.{◌≡◌, ◌<◌, length, slice_set, IfSome};
+ghost use Rattle.ll_members.specs.Slots.{spelt, named, place, slot_at, AreMissing};
+
+use crate::row::{Members, NAMES, Name, Slot};
+
+impl Name {
+    /// The place of the name's slot.
+    #[tactic(auto, unfolding(crate::specs::Slots::place))]
+    fn place(self) -> usize
+        ensures place { result ≡ place self }
+        ensures fits { result < 19 }
+    {
+        match self {
+            Name::Op => 0,
+            Name::Pid => 1,
+            Name::Child => 2,
+            Name::Rs => 3,
+            Name::Fs => 4,
+            Name::Net => 5,
+            Name::Path => 6,
+            Name::From => 7,
+            Name::To => 8,
+            Name::Port => 9,
+            Name::Fd => 10,
+            Name::Mode => 11,
+            Name::Create => 12,
+            Name::Trunc => 13,
+            Name::Kind => 14,
+            Name::Exchange => 15,
+            Name::Nnp => 16,
+            Name::Admin => 17,
+            Name::Driver => 18,
+        }
+    }
+}
+
+/// The name that a key is.
+#[tactic(auto, unfolding(crate::specs::Slots::named, crate::specs::Slots::spelt))]
+pub(crate) fn name_of(key: &str) -> Option<Name>
+    ensures named { result ≡ named key.now }
+    ensures spelt { IfSome result (λ name. key.now ≡ spelt name) }
+{
+    match key {
+        "op" => Some(Name::Op),
+        "pid" => Some(Name::Pid),
+        "child" => Some(Name::Child),
+        "rs" => Some(Name::Rs),
+        "fs" => Some(Name::Fs),
+        "net" => Some(Name::Net),
+        "path" => Some(Name::Path),
+        "from" => Some(Name::From),
+        "to" => Some(Name::To),
+        "port" => Some(Name::Port),
+        "fd" => Some(Name::Fd),
+        "mode" => Some(Name::Mode),
+        "create" => Some(Name::Create),
+        "trunc" => Some(Name::Trunc),
+        "kind" => Some(Name::Kind),
+        "exchange" => Some(Name::Exchange),
+        "nnp" => Some(Name::Nnp),
+        "admin" => Some(Name::Admin),
+        "driver" => Some(Name::Driver),
+        _ => None,
+    }
+}
+
+impl<'l> Members<'l> {
+    /// No members.
+    #[tactic(auto, using(crate::proofs::SlotLemmas::all_missing))]
+    pub(crate) fn none() -> Members<'l>
+        ensures { AreMissing result }
+    {
+        Members {
+            slots: [Slot::Missing; NAMES],
+        }
+    }
+
+    /// What there is of a member.
+    pub(crate) fn at(&self, name: Name) -> Slot<'l>
+        ensures { result ≡ slot_at self.now name }
+    {
+        self.slots[name.place()]
+    }
+
+    /// Keeps what there is of a member.
+    pub(crate) fn put(&mut self, name: Name, slot: Slot<'l>)
+        ensures put { self.new.slots ≡ slice_set self.old.slots (place name) slot.entry }
+        ensures size { length self.old.slots ≡ 19 }
+    {
+        self.slots[name.place()] = slot;
+    }
+}
