@@ -55,8 +55,15 @@ answer_json first last members = object_of ((codes "abi", versions_json first la
 
 -- ---- the record
 
+-- what tells of a record which it is: its line, its pid and its operation
+abbrev pub about : Record → ℕ × ℕ × List ℕ
+about r = (r.line, r.pid, op_name r.op)
+
+abbrev pub record_of : ℕ × ℕ × List ℕ → List Json → Json
+record_of told answers = object_of ((codes "line", whole told.0) ∷ (codes "pid", whole told.1) ∷ (codes "op", string told.2) ∷ (codes "answers", array_of answers) ∷ [])
+
 abbrev pub record_json : Record → List Json → Json
-record_json r answers = object_of ((codes "line", whole r.line) ∷ (codes "pid", whole r.pid) ∷ (codes "op", string (op_name r.op)) ∷ (codes "answers", array_of answers) ∷ [])
+record_json r answers = record_of (about r) answers
 
 -- ---- what a version answers to the record at a place of its trace
 

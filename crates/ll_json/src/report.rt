@@ -1,9 +1,9 @@
 //! The report as JSON.
 
-ghost use Rattle.std.specs.Prelude.{◌≡◌, ◌+◌, ◌<◌, ◌≤◌, ◌^◌, All, IfOk, List, length};
+ghost use Rattle.std.specs.Prelude.{◌≡◌, ◌+◌, ◌<◌, ◌^◌, IfOk, List, length};
 ghost use Rattle.ll_tree.specs.Trees.{Entry};
 ghost use Rattle.ll_json.specs.Reports.{IsJsonReport, kept_of};
-ghost use Rattle.ll_json.specs.Versions.{Version};
+ghost use Rattle.ll_json.specs.Versions.{HaveAll, Version};
 
 use crate::rows::Versions;
 use crate::totals::push_last;
@@ -25,7 +25,7 @@ pub fn json_report(
     requires { oldest + length findings.now < 2 ^ 64 }
     ensures { IfOk result (λ report. (tree : List Entry) (versions : List Version)
         → findings.now ≡ kept_of shown tree versions
-        → All (λ version. length records.now ≤ length version.records) versions
+        → HaveAll versions (length records.now)
         → IsJsonReport shown tree oldest versions records.now program.now report) }
 {
     let versions = Versions {
