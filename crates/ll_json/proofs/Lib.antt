@@ -6,6 +6,6 @@ pub mod NamesTold
 pub mod LayersTold
 pub mod NumbersTold
 pub mod LinesTold
-pub mod Kept
+pub mod KeptTold
 pub mod RowsTold
 pub mod Reported

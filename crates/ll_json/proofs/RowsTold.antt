@@ -28,7 +28,7 @@ use Rattle.ll_json.specs.Rows.{head_tokens, row_text, rows_from, separated, span
 use Rattle.ll_json.specs.Spans.{answers_json, members_text, span_json}
 use Rattle.ll_json.specs.Versions.{HaveAll, Version}
 use Rattle.ll_json.proofs.Enclosing.{named_end, values_end}
-use Rattle.ll_json.proofs.Kept.{kept_told}
+use Rattle.ll_json.proofs.KeptTold.{kept_told}
 use Rattle.ll_json.proofs.Printed.{ends_object, ends_with, print_more}
 
 -- ---- what a version says of a record

@@ -42,8 +42,8 @@ impl Telling for InJson {
 }
 
 /// Whether an answer has an explanation.
-fn is_explained(answer: Answer) -> bool
-    ensures { result ≡ is_explained answer }
+fn is_explained(answer: &Answer) -> bool
+    ensures { result ≡ is_explained answer.now }
 {
     !matches!(answer, Answer::Allowed)
 }
@@ -62,15 +62,15 @@ fn write_ended(
     out: &mut Writer,
     case: &Case,
     found: &Record,
-    answer: Answer,
+    answer: &Answer,
     explanation: &Explanation,
 ) -> Added
     ensures { OnOk result ((layers : List ℕ) → AreMade layers explanation.now
-        → Told out.old out.new (named_tokens (answer_members case.now.records layers answer
+        → Told out.old out.new (named_tokens (answer_members case.now.records layers answer.now
         (explanation_in case.now.tree found.now.op explanation.now)) ++ token.end_object ∷ [])) }
 {
     let records = case.trace().records();
-    write_answer_members(out, case.tree(), records, &found.op, answer, explanation)?;
+    write_answer_members(out, case.tree(), records, &found.op, *answer, explanation)?;
     end_object(out)?;
     Ok(())
 }
@@ -81,12 +81,12 @@ fn push_members(
     text: &mut Vec<u8>,
     case: &Case,
     found: &Record,
-    answer: Answer,
+    answer: &Answer,
     explanation: &Explanation,
 ) -> Result<(), NoMemory>
     ensures { OnOk result ((layers : List ℕ) → AreMade layers explanation.now
         → text.new.items ≡ text.old.items ++ members_text (answer_members case.now.records layers
-        answer (explanation_in case.now.tree found.now.op explanation.now))) }
+        answer.now (explanation_in case.now.tree found.now.op explanation.now))) }
 {
     let mut out = Writer::new(taken(alloc, text));
     write_ended(&mut out, case, found, answer, explanation)?;
@@ -101,17 +101,17 @@ fn push_explained(
     case: &Case,
     trails: &Trails,
     place: usize,
-    answer: Answer,
+    answer: &Answer,
 ) -> Result<(), NoMemory>
     requires place { place < length case.now.records }
-    requires answer { IsAnswerAt case.now place answer }
+    requires answer { IsAnswerAt case.now place answer.now }
     requires trails { AreTrailsAt case.now place trails.now }
-    requires explained { is_explained answer ≡ true }
+    requires explained { is_explained answer.now ≡ true }
     ensures { OnOk result (text.new.items
         ≡ text.old.items ++ kept_at case.now.tree case.now.abi case.now.records place) }
 {
     let found = record_at(case, place);
-    let explanation = explain(alloc, case, trails, place, answer)?;
+    let explanation = explain(alloc, case, trails, place, *answer)?;
     push_members(alloc, text, case, found, answer, &explanation)?;
     Ok(())
 }
@@ -132,8 +132,8 @@ fn push_kept(
     ensures { OnOk result (text.new.items
         ≡ text.old.items ++ kept_at case.now.tree case.now.abi case.now.records place) }
 {
-    if is_explained(answer) {
-        push_explained(alloc, text, case, trails, place, answer)?;
+    if is_explained(&answer) {
+        push_explained(alloc, text, case, trails, place, &answer)?;
     }
     Ok(())
 }
@@ -149,11 +149,11 @@ fn write_plain(out: &mut Writer, answer: Answer) -> Added
 }
 
 /// The members of an answer that isn't explained, as text.
-fn plain_text(alloc: Global, answer: Answer) -> Result<Vec<u8>, AllocError>
-    ensures { IfOk result (λ text. text.items ≡ members_text (plain_members answer)) }
+fn plain_text(alloc: Global, answer: &Answer) -> Result<Vec<u8>, AllocError>
+    ensures { IfOk result (λ text. text.items ≡ members_text (plain_members answer.now)) }
 {
     let mut out = Writer::new(Vec::new(alloc));
-    write_plain(&mut out, answer)?;
+    write_plain(&mut out, *answer)?;
     Ok(out.into_inner())
 }
 
@@ -168,9 +168,9 @@ pub(crate) fn said_of(
     ensures { IfOk result (λ text. text.items ≡ said_by explains place finding.now) }
 {
     let answer = finding.answer(place);
-    if explains && is_explained(answer) {
+    if explains && is_explained(&answer) {
         Vec::from_slice(alloc, finding.explanation(place))
     } else {
-        plain_text(alloc, answer)
+        plain_text(alloc, &answer)
     }
 }

@@ -7,5 +7,5 @@ use Rattle.ll_json.proofs.kept.plain_text.Goals as goal
 
 pub returns : goal.returns
 returns c =
-    printed [] _ c.new-out.result c.write_plain.new.out (named_tokens (plain_members c.args.answer) ++ token.end_object ∷ [])
+    printed [] _ c.new-out.result c.write_plain.new.out (named_tokens (plain_members c.args.answer.now) ++ token.end_object ∷ [])
     c.new-out.ensures.before c.new-out.ensures.tokens c.in_ok-write_plain.ensures c.into_inner.ensures.items

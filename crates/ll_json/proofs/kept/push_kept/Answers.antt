@@ -1,7 +1,7 @@
 use Rattle.std.proofs.Common.{◌∙◌, ◌++◌, List, ℕ, ap, sym}
 use Rattle.std.proofs.lemmas.List.{append-nil}
 use Rattle.ll_process.specs.Cases.{CaseValue}
-use Rattle.ll_json.proofs.Kept.{none_kept}
+use Rattle.ll_json.proofs.KeptTold.{none_kept}
 use Rattle.ll_json.proofs.kept.push_kept.Goals as goal
 
 pub returns-else-is_explained : goal.returns-else-is_explained
