@@ -9,7 +9,7 @@ from copy import deepcopy
 from typing import Any
 
 from .places import TOP
-from .report_text import CONDITIONS, OBJECTIONS, REASONS, objects
+from .report_text import objects
 from .schema import CHECKS, SILENT, Validator
 
 DATA = TOP / "crates" / "ll_examples" / "data"
@@ -148,14 +148,23 @@ class Schema(unittest.TestCase):
 
 
 class Words(unittest.TestCase):
-    def test_the_examples_have_most_words_of_conditions_and_reasons(self) -> None:
+    def test_each_condition_and_reason_but_one_is_in_an_example(self) -> None:
         texts = "".join((DATA / example["json"]).read_text(encoding="utf-8") for example in INDEX)
-        shown = set(re.findall(r'"(?:condition|reason)":"(\w+)"', texts))
-        known = {one["properties"][word]["const"] for word in ("condition", "reason") for one in SCHEMA["$defs"][word]["oneOf"]}
-        self.assertLessEqual(shown, known)
-        self.assertEqual(known - shown, set())
-        self.assertEqual(len(OBJECTIONS), 5)
-        self.assertEqual(len(CONDITIONS) + len(REASONS), 26)
+        for word, missing in (("condition", set()), ("reason", {"no_directory"})):
+            with self.subTest(word):
+                shown = set(re.findall(rf'"{word}":"(\w+)"', texts))
+                known = {one["properties"][word]["const"] for one in SCHEMA["$defs"][word]["oneOf"]}
+                self.assertEqual(known - shown, missing)
+                self.assertLessEqual(shown, known)
+
+    def test_the_documents_have_each_condition_and_reason(self) -> None:
+        formats = (TOP / "docs" / "FORMATS.md").read_text(encoding="utf-8")
+        section = formats.partition("## The report as JSON")[2].partition("\n## ")[0]
+        for word in ("condition", "reason"):
+            table = section.partition(f"| `{word}` | Others | In the text |\n|---|---|---|\n")[2].partition("\n\n")[0]
+            rows = {row.split("|")[1].strip(" `") for row in table.splitlines()}
+            with self.subTest(word):
+                self.assertEqual(rows, {one["properties"][word]["const"] for one in SCHEMA["$defs"][word]["oneOf"]})
 
 
 if __name__ == "__main__":

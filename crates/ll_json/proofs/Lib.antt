@@ -7,5 +7,6 @@ pub mod LayersTold
 pub mod NumbersTold
 pub mod LinesTold
 pub mod KeptTold
+pub mod SpansTold
 pub mod RowsTold
 pub mod Reported

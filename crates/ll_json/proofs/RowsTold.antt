@@ -102,7 +102,7 @@ module _ (tree : List Entry) (version : Version) (place : ℕ) where
 
 -- ---- what each of some versions says
 
-AllHaveOne : List (List Named) → Type 0
+abbrev AllHaveOne : List (List Named) → Type 0
 AllHaveOne [] = Unit {0}
 AllHaveOne (members ∷ more) = HasOne members × AllHaveOne more
 
@@ -137,10 +137,10 @@ behind_drop (x ∷ xs) zero y ys is =
 behind_drop (x ∷ xs) (suc k) y ys is = behind_drop xs k y ys is
 
 module _ (oldest : ℕ) (said : List (List Named)) where
-  Fits : Span → Type 0
+  abbrev Fits : Span → Type 0
   Fits span = IsTextOf span.said (get_or said (span.first - oldest) [])
 
-  AllFit : List Span → Type 0
+  abbrev AllFit : List Span → Type 0
   AllFit [] = Unit {0}
   AllFit (span ∷ others) = Fits span × AllFit others
 
@@ -148,27 +148,22 @@ module _ (oldest : ℕ) (said : List (List Named)) where
       → AllFit (spans_from span (map members_text others))
   unfolding spans_from
   fit_from span [] k fits last left have = (fits, tt)
-  fit_from span (next ∷ more) k fits last left have = go (bytes_eq span.said (members_text next))
+  fit_from span (next ∷ more) k fits last left have =
+      let there = behind_drop said (suc k) next more left in
+      let here : span.last + 1 - oldest ≡ suc k = omega (arith, last) in
+      let later : span.last + 1 ≡ oldest + suc k = omega (arith, last) in
+      let begins : Fits (record { first = span.last + 1; last = span.last + 1; said = members_text next }) =
+      subst (IsTextOf (members_text next)) (sym (ap (λ (i : ℕ). get_or said i []) here ∙ there.0)) (text_of_one next have.0) in
+      go (bytes_eq span.said (members_text next))
+      (fit_from (record { first = span.first; last = span.last + 1; said = span.said }) more (suc k) fits later there.1 have.1)
+      (fit_from (record { first = span.last + 1; last = span.last + 1; said = members_text next }) more (suc k) begins later there.1 have.1)
     where
-      there : (get_or said (suc k) [] ≡ next) × (drop (suc (suc k)) said ≡ more)
-      there = behind_drop said (suc k) next more left
-
-      here : span.last + 1 - oldest ≡ suc k
-      here = omega (arith, last)
-
-      later : span.last + 1 ≡ oldest + suc k
-      later = omega (arith, last)
-
-      begins : Fits (record { first = span.last + 1; last = span.last + 1; said = members_text next })
-      begins = subst (IsTextOf (members_text next)) (sym (ap (λ (i : ℕ). get_or said i []) here ∙ there.0)) (text_of_one next have.0)
-
-      go : (b : Bool) → AllFit (cond b (spans_from (record { first = span.first; last = span.last + 1; said = span.said }) (map members_text more))
+      go : (b : Bool) → AllFit (spans_from (record { first = span.first; last = span.last + 1; said = span.said }) (map members_text more))
+          → AllFit (spans_from (record { first = span.last + 1; last = span.last + 1; said = members_text next }) (map members_text more))
+          → AllFit (cond b (spans_from (record { first = span.first; last = span.last + 1; said = span.said }) (map members_text more))
           (span ∷ spans_from (record { first = span.last + 1; last = span.last + 1; said = members_text next }) (map members_text more)))
-      go true = fit_from (record { first = span.first; last = span.last + 1; said = span.said }) more (suc k) fits later there.1 have.1
-      go false = (
-        fits,
-        fit_from (record { first = span.last + 1; last = span.last + 1; said = members_text next }) more (suc k) begins later there.1 have.1,
-      )
+      go true goes_on ends = goes_on
+      go false goes_on ends = (fits, ends)
 
 fit_all : (oldest : ℕ) (said : List (List Named)) → AllHaveOne said → AllFit oldest said (spans_of oldest (map members_text said))
 fit_all oldest [] have = tt

@@ -1,6 +1,6 @@
 //! What is kept of a version until the report is written.
 
-ghost use Rattle.std.specs.Prelude.{◌≡◌, ◌∷◌, ◌++◌, ◌<◌, [], ℕ, List, OnOk, Some, codes, length, slice_get};
+ghost use Rattle.std.specs.Prelude.{◌≡◌, ◌∷◌, ◌++◌, ◌<◌, [], ℕ, IfOk, List, OnOk, Some, codes, length, slice_get, true};
 ghost use Rattle.json.specs.Token as token;
 ghost use Rattle.json.specs.Token.{Token};
 ghost use Rattle.ll_trails.specs.CaseTrails.{AreTrailsAt, IsAnswerAt};

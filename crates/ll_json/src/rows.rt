@@ -1,6 +1,6 @@
 //! The lines of records.
 
-ghost use Rattle.std.specs.Prelude.{◌≡◌, ◌+◌, ◌++◌, ◌<◌, ◌^◌, IfOk, OnOk, codes, length, map};
+ghost use Rattle.std.specs.Prelude.{◌≡◌, ◌+◌, ◌++◌, ◌<◌, ◌^◌, IfOk, OnOk, codes, false, length, map};
 ghost use Rattle.json.specs.Print.{print};
 ghost use Rattle.ll_report.specs.Spans.{spans_of};
 ghost use Rattle.ll_json.specs.Kept.{said_by};

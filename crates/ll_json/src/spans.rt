@@ -1,6 +1,6 @@
 //! The answers of neighbouring versions to a record.
 
-ghost use Rattle.std.specs.Prelude.{◌≡◌, ◌+◌, ◌++◌, ◌<◌, ◌^◌, OnOk, codes, if◌then◌else◌, length, map};
+ghost use Rattle.std.specs.Prelude.{◌≡◌, ◌+◌, ◌++◌, ◌<◌, ◌^◌, [], OnOk, codes, false, if◌then◌else◌, length, map};
 ghost use Rattle.json.specs.Print.{print};
 ghost use Rattle.ll_report.specs.Spans.{spans_from, spans_of};
 ghost use Rattle.ll_json.specs.Rows.{separated, span_text, versions_tokens};
@@ -71,14 +71,16 @@ fn push_from(
         (spans_from (record { first = first; last = last; said = said.now })
         (map (λ text. text.items) others.now))) }
 {
-    let Some((next, more)) = others.split_first() else {
-        return push_span(alloc, text, behind, first, last, said);
-    };
-    if said == next.as_slice() {
-        return push_from(alloc, text, behind, first, last + 1, said, more);
+    match others.split_first() {
+        None => push_span(alloc, text, behind, first, last, said),
+        Some((next, more)) => {
+            if said == next.as_slice() {
+                return push_from(alloc, text, behind, first, last + 1, said, more);
+            }
+            push_span(alloc, text, behind, first, last, said)?;
+            push_from(alloc, text, true, last + 1, last + 1, next, more)
+        }
     }
-    push_span(alloc, text, behind, first, last, said)?;
-    push_from(alloc, text, true, last + 1, last + 1, next, more)
 }
 
 /// Adds the answers of neighbouring versions, of which the oldest has this number.

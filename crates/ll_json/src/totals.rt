@@ -55,7 +55,9 @@ fn write_counts(out: &mut Writer, abi: u64, totals: &Totals) -> Added
 fn write_total(out: &mut Writer, abi: u64, finding: &Finding) -> Added
     ensures { Tells result out.old out.new (json_tokens (total_json abi finding.now)) }
 {
-    write_counts(out, abi, &Totals::of(finding.answers()))
+    let totals = Totals::of(finding.answers());
+    write_counts(out, abi, &totals)?;
+    Ok(())
 }
 
 /// Writes the totals of versions, of which the first has this number.

@@ -16,6 +16,7 @@ returns c tree versions same have =
     record {
       text = c.in_ok-push_last.ensures
           ∙ ap (λ (text : List ℕ). text ++ last c.args.findings.now) c.in_ok-push_rows.ensures
+          ∙ ap (λ (text : List ℕ). (text ++ rows_from shown oldest c.args.findings.now 0 records) ++ last c.args.findings.now) c.new-bytes.ensures.items
           ∙ ap (λ (founds : List Found). rows_from shown oldest founds 0 records ++ last founds) same
           ∙ ap (λ (lines : List ℕ). lines ++ last (kept_of shown tree versions))
           (rows_are shown tree oldest _ versions have 0 records (omega arith));
