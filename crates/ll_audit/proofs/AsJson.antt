@@ -48,8 +48,8 @@ module _ (options : Options) (tree : List Entry) (records : List Record) where
   have_each = have_by (versions_in options.abis)
 
 -- a report on records of which the same is told
-pub same_report : (shown : Shown) (tree : List Entry) (oldest number : ℕ) (versions : List Version) (read records : List Record) (program : List ℕ) (report : Report)
-    → number ≡ oldest → map about read ≡ map about records
+pub same_report : (shown : Shown) (tree : List Entry) (oldest number : ℕ) (versions : List Version) (read records : List Record)
+    (program : List ℕ) (report : Report) → number ≡ oldest → map about read ≡ map about records
     → IsJsonReport shown tree number versions read program report → IsJsonReport shown tree oldest versions records program report
 same_report shown tree oldest number versions read records program report same_number same is =
     let last : List ℕ = line_text (totals_json (totals_from oldest (kept_of shown tree versions)) program) in

@@ -58,7 +58,7 @@ pub about-taken : (effort : Effort) (abi : Abi) (records : List Record) → map 
 about-taken AsRecorded abi records = refl
 about-taken Best abi records = about-at_best_effort abi records
 
-told_by : ℕ × ℕ × List ℕ → List ℕ
+abbrev told_by : ℕ × ℕ × List ℕ → List ℕ
 told_by of = record_text of.0 of.1 of.2
 
 told_about : (records : List Record) → map told_by (map about records) ≡ map told_of records

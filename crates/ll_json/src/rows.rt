@@ -9,9 +9,7 @@ ghost use Rattle.ll_json.specs.Told.{Tells};
 
 use crate::kept::said_of;
 use crate::spans::push_spans;
-use crate::words::{
-    Added, begin_array, begin_object, taken, write_key, write_number, write_text,
-};
+use crate::words::{Added, begin_array, begin_object, taken, write_key, write_number, write_text};
 use json::Writer;
 use ll_options::Shown;
 use ll_report::{Finding, is_left_out};

@@ -84,12 +84,7 @@ fn push_from(
 }
 
 /// Adds the answers of neighbouring versions, of which the oldest has this number.
-pub(crate) fn push_spans(
-    alloc: Global,
-    text: &mut Vec<u8>,
-    oldest: u64,
-    said: &[Vec<u8>],
-) -> Added
+pub(crate) fn push_spans(alloc: Global, text: &mut Vec<u8>, oldest: u64, said: &[Vec<u8>]) -> Added
     requires { oldest + length said.now < 2 ^ 64 }
     ensures { OnOk result (text.new.items ≡ text.old.items
         ++ separated false (spans_of oldest (map (λ text. text.items) said.now))) }

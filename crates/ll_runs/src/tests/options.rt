@@ -89,16 +89,7 @@ fn a_part_of_the_report_is_shown(rt: HostRuntime) -> Result<(), Fail> {
             REFUSED_AT_BEST_EFFORT,
         ),
         (
-            [
-                "landaudit",
-                "--abi",
-                "4",
-                "t",
-                "r",
-                "--json",
-                "--refused",
-            ]
-            .as_slice(),
+            ["landaudit", "--abi", "4", "t", "r", "--json", "--refused"].as_slice(),
             TRACE,
             REFUSED_IN_JSON,
         ),
