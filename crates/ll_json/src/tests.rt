@@ -66,8 +66,10 @@ fn report_on_trace(alloc: Global, shown: Shown) -> Result<Report, Fail> {
     let case = Case::new(alloc, tree, trace, Abi::V4)?;
     let answers = judge_alone(alloc, &case)?;
     let finding = Finding::of::<InJson>(alloc, &case, answers, shown, None)?;
+    let mut findings = Vec::new(alloc);
+    findings.push(finding)?;
     let records = case.trace().records();
-    Ok(json_report(alloc, shown, 4, &[finding], records, "7.8.9")?)
+    Ok(json_report(alloc, shown, 4, &findings, records, "7.8.9")?)
 }
 
 #[test]

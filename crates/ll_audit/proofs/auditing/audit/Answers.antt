@@ -12,6 +12,7 @@ pub returns-clause-report : goal.returns-clause-report
 returns-clause-report g c =
     IfOk-weaker c.audit_with.result _ _
     (λ report is. with_all_lines c.args.abi c.args.tree.now c.args.trace.now report
-    (subst (λ (abis : Range). IsReportWith (record { abis = abis; effort = AsRecorded; shown = ALL_LINES; format = Text }) c.args.tree.now c.args.trace.now report)
+    (subst
+    (λ (abis : Range). IsReportWith (record { abis = abis; effort = AsRecorded; shown = ALL_LINES; format = Text }) c.args.tree.now c.args.trace.now report)
     c.only.ensures is))
     c.audit_with.ensures.report
