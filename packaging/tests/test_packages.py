@@ -235,7 +235,7 @@ class Dist(Made):
 class Versions(unittest.TestCase):
     def test_landaudit_and_the_scripts_have_one_version(self) -> None:
         source = (TOP / "crates" / "ll_command" / "src" / "command.rt").read_text(encoding="utf-8")
-        self.assertEqual(re.findall(r'^const VERSION: &str = "(\S+) \(', source, re.MULTILINE), [VERSION])
+        self.assertEqual(re.findall(r'^pub const VERSION: &str = "(\S+) \(', source, re.MULTILINE), [VERSION])
 
 
 if __name__ == "__main__":

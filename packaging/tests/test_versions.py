@@ -12,7 +12,7 @@ from .places import TOP
 
 COMMAND = TOP / "crates" / "ll_command" / "src" / "command.rt"
 #: The version of landaudit, without the toolchain that proves it.
-OF_LANDAUDIT = re.compile(r'^const VERSION: &str = "([\d.]+) ', re.MULTILINE)
+OF_LANDAUDIT = re.compile(r'^pub const VERSION: &str = "([\d.]+) ', re.MULTILINE)
 #: The headings of the changelog; what is not released yet is said to be so.
 VERSIONS = re.compile(r"^## (?:Unreleased: )?([\d.]+)$", re.MULTILINE)
 

@@ -3,3 +3,4 @@ pub mod Wants
 pub mod OneReport
 pub mod Totals
 pub mod VersionByVersion
+pub mod AsJson

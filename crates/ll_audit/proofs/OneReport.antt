@@ -19,7 +19,7 @@ use Rattle.ll_report.proofs.BlocksLeft.{is_report_text}
 use Rattle.ll_options.specs.declared.options.Options.{Options}
 use Rattle.ll_audit.specs.Audits.{IsReport}
 use Rattle.ll_options.specs.Versions.{Range}
-use Rattle.ll_audit.specs.ShownReports.{IsReportBy, IsReportWith, plain_options, taken}
+use Rattle.ll_audit.specs.ShownReports.{IsReportWith, IsTextReport, plain_options, taken}
 
 -- a report with these options is the report
 pub with_all_lines : (abi : Abi) (tree trace : List ℕ) (report : Report) → IsReportWith (plain_options abi) tree trace report
@@ -65,7 +65,7 @@ single_version range abi is = go (number_of range.oldest == number_of range.newe
 -- the report under the only version of a range is the one that is asked for
 module _ (options : Options) (tree : List Entry) (records : List Record) (abi : Abi) (report : Report)
     (single : (if number_of options.abis.oldest == number_of options.abis.newest then Some options.abis.oldest else None) ≡ Some abi) where
-  under_single : IsShownReportOn options.shown tree abi (taken options.effort abi records) report → IsReportBy options tree records report
+  under_single : IsShownReportOn options.shown tree abi (taken options.effort abi records) report → IsTextReport options tree records report
   under_single is =
       let only = single_version options.abis abi single in
       record {
@@ -75,7 +75,7 @@ module _ (options : Options) (tree : List Entry) (records : List Record) (abi : 
 
   pub is_under_one : (t : List Entry) (a : Abi) (rs : List Record) → t ≡ tree → a ≡ abi → rs ≡ taken options.effort abi records
       → IsShownReportOn options.shown t a rs report
-      → IsReportBy options tree records report
+      → IsTextReport options tree records report
   is_under_one t a rs same_tree same_abi same_records is =
       under_single
       (subst (λ (x : List Record). IsShownReportOn options.shown tree abi x report) same_records

@@ -14,15 +14,17 @@ use Rattle.ll_trace.specs.declared.op.RuleType.TheVariants.{PathBeneath, NetPort
 use Rattle.ll_trace.specs.declared.record.Record.{Record}
 use Rattle.ll_trace.specs.BestEffort.{at_best_effort, records_at_best_effort}
 use Rattle.ll_trace.proofs.Versions.{records-older}
-use Rattle.ll_report.specs.Found.{Found, found_under}
+use Rattle.ll_report.specs.Found.{Found}
+use Rattle.ll_json.specs.Records.{about}
 use Rattle.ll_trace.specs.Operations.{op_name}
 use Rattle.ll_report.specs.Report.{record_text}
 use Rattle.ll_report.specs.Rows.{told_of}
+use Rattle.ll_options.specs.declared.format.Format.{Format}
 use Rattle.ll_options.specs.declared.options.Effort.{Effort}
 use Rattle.ll_options.specs.declared.options.Effort.TheVariants.{AsRecorded, Best}
 use Rattle.ll_options.specs.declared.options.Options.{Options}
 use Rattle.ll_audit.specs.declared.ranging.Audited.{Audited}
-use Rattle.ll_audit.specs.ShownReports.{findings, taken}
+use Rattle.ll_audit.specs.ShownReports.{findings, found_in, taken}
 use Rattle.ll_options.specs.Versions.{is_in, versions_in}
 use Rattle.ll_options.proofs.Few.{few_versions}
 use Rattle.std.proofs.Math.Seq.{drop-cons}
@@ -47,14 +49,25 @@ op_name-kept abi (calls.AddPort rs port net) =
     (codes "add_port") refl refl
 op_name-kept abi op = refl
 
-told-at_best_effort : (abi : Abi) (records : List Record) → map told_of (records_at_best_effort abi records) ≡ map told_of records
-told-at_best_effort abi [] = refl
-told-at_best_effort abi (r ∷ others) =
-    ap₂ (λ (name : List ℕ) (rest : List (List ℕ)). record_text r.line r.pid name ∷ rest) (op_name-kept abi r.op) (told-at_best_effort abi others)
+about-at_best_effort : (abi : Abi) (records : List Record) → map about (records_at_best_effort abi records) ≡ map about records
+about-at_best_effort abi [] = refl
+about-at_best_effort abi (r ∷ others) =
+    ap₂ (λ (name : List ℕ) (rest : List (ℕ × ℕ × List ℕ)). (r.line, r.pid, name) ∷ rest) (op_name-kept abi r.op) (about-at_best_effort abi others)
 
-told-taken : (effort : Effort) (abi : Abi) (records : List Record) → map told_of (taken effort abi records) ≡ map told_of records
-told-taken AsRecorded abi records = refl
-told-taken Best abi records = told-at_best_effort abi records
+pub about-taken : (effort : Effort) (abi : Abi) (records : List Record) → map about (taken effort abi records) ≡ map about records
+about-taken AsRecorded abi records = refl
+about-taken Best abi records = about-at_best_effort abi records
+
+abbrev told_by : ℕ × ℕ × List ℕ → List ℕ
+told_by of = record_text of.0 of.1 of.2
+
+told_about : (records : List Record) → map told_by (map about records) ≡ map told_of records
+told_about [] = refl
+told_about (r ∷ others) = ap (λ (rest : List (List ℕ)). told_of r ∷ rest) (told_about others)
+
+-- where all tells the same of which records they are, so does the report
+pub same_told : (records others : List Record) → map about records ≡ map about others → map told_of records ≡ map told_of others
+same_told records others same = sym (told_about records) ∙ ap (map told_by) same ∙ told_about others
 
 -- ---- what an older version takes of what a newer one took is what it takes of the trace itself
 
@@ -112,16 +125,16 @@ pub before_newer : (place : ℕ) (other : Abi) → place < length all_versions
 unfolding all_versions
 before_newer place other small = before_those_behind all_versions place other refl small
 
-module _ (options : Options) (tree : List Entry) (records : List Record) where
+module _ (format : Format) (options : Options) (tree : List Entry) (records : List Record) where
   -- what is found under a version
   abbrev pub found : Abi → Found
-  found abi = found_under options.shown tree (taken options.effort abi records) abi
+  found abi = found_in format options.shown tree (taken options.effort abi records) abi
 
   -- All versions of the range among some are gone over; those that are left are older.
   pub record IsDownTo (done : List Abi) (audited : Audited) : Type 0 where
     pub same_tree : audited.located.tree ≡ tree
     pub again : (abi : Abi) → IsBefore done abi → taken options.effort abi audited.located.trace ≡ taken options.effort abi records
-    pub told : map told_of audited.located.trace ≡ map told_of records
+    pub told : map about audited.located.trace ≡ map about records
     pub found : audited.findings.items ≡ map found (filter (is_in options.abis) done)
 
   -- one more version
@@ -129,30 +142,30 @@ module _ (options : Options) (tree : List Entry) (records : List Record) where
       → next.located.tree ≡ audited.located.tree
       → next.located.trace ≡ (if is_in options.abis abi then taken options.effort abi audited.located.trace else audited.located.trace)
       → next.findings.items ≡ (if is_in options.abis abi
-      then found_under options.shown audited.located.tree (taken options.effort abi audited.located.trace) abi ∷ audited.findings.items
+      then found_in format options.shown audited.located.tree (taken options.effort abi audited.located.trace) abi ∷ audited.findings.items
       else audited.findings.items)
       → IsDownTo (abi ∷ done) next
   one_down done abi audited next before is kept trace findings =
       let more = go (is_in options.abis abi) trace findings in
       record { same_tree = kept ∙ is.same_tree; again = more.0; told = more.1; found = more.2 }
     where
-      own : found_under options.shown audited.located.tree (taken options.effort abi audited.located.trace) abi ≡ found abi
-      own = ap₂ (λ (t : List Entry) (rs : List Record). found_under options.shown t rs abi) is.same_tree (is.again abi before)
+      own : found_in format options.shown audited.located.tree (taken options.effort abi audited.located.trace) abi ≡ found abi
+      own = ap₂ (λ (t : List Entry) (rs : List Record). found_in format options.shown t rs abi) is.same_tree (is.again abi before)
 
       go : (b : Bool) → next.located.trace ≡ (if b then taken options.effort abi audited.located.trace else audited.located.trace)
-          → next.findings.items ≡ (if b then found_under options.shown audited.located.tree (taken options.effort abi audited.located.trace) abi
+          → next.findings.items ≡ (if b then found_in format options.shown audited.located.tree (taken options.effort abi audited.located.trace) abi
           ∷ audited.findings.items else audited.findings.items)
           → ((older : Abi) → IsBefore (abi ∷ done) older → taken options.effort older next.located.trace ≡ taken options.effort older records)
-          × (map told_of next.located.trace ≡ map told_of records)
+          × (map about next.located.trace ≡ map about records)
           × (next.findings.items ≡ map found (cond b (abi ∷ filter (is_in options.abis) done) (filter (is_in options.abis) done)))
       go true trace findings = (
         λ older le. ap (taken options.effort older) trace ∙ taken-older options.effort older abi audited.located.trace le.0 ∙ is.again older le.1,
-        ap (map told_of) trace ∙ told-taken options.effort abi audited.located.trace ∙ is.told,
+        ap (map about) trace ∙ about-taken options.effort abi audited.located.trace ∙ is.told,
         findings ∙ ap₂ (λ (one : Found) (others : List Found). one ∷ others) own is.found,
       )
       go false trace findings = (
         λ older le. ap (taken options.effort older) trace ∙ is.again older le.1,
-        ap (map told_of) trace ∙ is.told,
+        ap (map about) trace ∙ is.told,
         findings ∙ is.found,
       )
 
@@ -161,7 +174,7 @@ module _ (options : Options) (tree : List Entry) (records : List Record) where
   none_yet audited kept same_trace none = record {
     same_tree = kept;
     again = λ abi none. ap (taken options.effort abi) same_trace;
-    told = ap (map told_of) same_trace;
+    told = ap (map about) same_trace;
     found = none;
   }
 
@@ -173,7 +186,7 @@ module _ (options : Options) (tree : List Entry) (records : List Record) where
       ≡ (if is_in options.abis (get_or versions (place - 1) other) then taken options.effort (get_or versions (place - 1) other) audited.located.trace
       else audited.located.trace)
       → next.findings.items ≡ (if is_in options.abis (get_or versions (place - 1) other)
-      then found_under options.shown audited.located.tree (taken options.effort (get_or versions (place - 1) other) audited.located.trace)
+      then found_in format options.shown audited.located.tree (taken options.effort (get_or versions (place - 1) other) audited.located.trace)
       (get_or versions (place - 1) other) ∷ audited.findings.items
       else audited.findings.items)
       → IsDownTo (drop (place - 1) versions) next
@@ -189,13 +202,13 @@ module _ (options : Options) (tree : List Entry) (records : List Record) where
 
   -- behind the oldest
   pub all_versions_found : (versions : List Abi) (place : ℕ) (audited : Audited) → versions ≡ all_versions → place ≡ 0 → IsDownTo (drop place versions) audited
-      → audited.findings.items ≡ findings options tree records
+      → audited.findings.items ≡ findings format options tree records
   unfolding versions_in
   all_versions_found versions place audited same none is =
       is.found ∙ ap₂ (λ (k : ℕ) (vs : List Abi). map found (filter (is_in options.abis) (drop k vs))) none same
 
   -- there are few versions
-  pub few_found : length (findings options tree records) ≤ 64
+  pub few_found : length (findings format options tree records) ≤ 64
   unfolding versions_in
   few_found = omega (
     arith,

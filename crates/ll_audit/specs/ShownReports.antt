@@ -1,5 +1,5 @@
 -- What `audit_with` answers: the report on the answers of one fold over the records as they are taken, under each version that is asked for, of which as much is shown as is asked for.
--- Source: docs/FORMATS.md, "The report", "Explanations" and "Several versions".
+-- Source: docs/FORMATS.md, "The report", "Explanations", "Several versions" and "The report as JSON".
 use Rattle.std.specs.Prelude.{◌≡◌, ◌≢◌, ℕ, List, map}
 use Rattle.ll_rights.specs.declared.abi.Abi.{Abi}
 use Rattle.ll_rights.specs.Abis.{number_of}
@@ -7,12 +7,19 @@ use Rattle.ll_tree.specs.Trees.{Entry}
 use Rattle.ll_trace.specs.declared.record.Record.{Record}
 use Rattle.ll_trace.specs.BestEffort.{records_at_best_effort}
 use Rattle.ll_report.specs.declared.report.Report.{Report}
-use Rattle.ll_report.specs.Found.{Found, found_under}
+use Rattle.ll_report.specs.Found.{Found, found_by, found_under}
 use Rattle.ll_report.specs.Rows.{refused_under_some, rows_text, total_under_text}
 use Rattle.ll_report.specs.Shown.{IsShownReportOn}
+use Rattle.ll_json.specs.Kept.{kept_at}
+use Rattle.ll_json.specs.Reports.{IsJsonReport}
+use Rattle.ll_json.specs.Versions.{Version}
+use Rattle.ll_command.specs.declared.command.TheConstants.{VERSION}
+use Rattle.ll_options.specs.declared.format.Format.{Format}
+use Rattle.ll_options.specs.declared.format.Format.TheVariants.{Json, Text}
 use Rattle.ll_options.specs.declared.options.Effort.{Effort}
 use Rattle.ll_options.specs.declared.options.Effort.TheVariants.{AsRecorded, Best}
 use Rattle.ll_options.specs.declared.options.Options.{Options}
+use Rattle.ll_options.specs.declared.shown.Shown.{Shown}
 use Rattle.ll_options.specs.declared.shown.TheConstants.{ALL_LINES}
 use Rattle.ll_options.specs.Versions.{versions_in}
 use Rattle.ll_audit.specs.Audits.{BothRead}
@@ -22,33 +29,63 @@ abbrev pub taken : Effort → Abi → List Record → List Record
 taken AsRecorded abi records = records
 taken Best abi records = records_at_best_effort abi records
 
+-- what is found of records under a version, for a report in this form
+abbrev pub found_in : Format → Shown → List Entry → List Record → Abi → Found
+found_in Text shown tree records abi = found_under shown tree records abi
+found_in Json shown tree records abi = found_by kept_at shown tree records abi
+
 -- what is found of the records under a version
-abbrev pub found_at : Options → List Entry → List Record → Abi → Found
-found_at options tree records abi = found_under options.shown tree (taken options.effort abi records) abi
+abbrev pub found_at : Format → Options → List Entry → List Record → Abi → Found
+found_at format options tree records abi = found_in format options.shown tree (taken options.effort abi records) abi
 
 -- what is found of the records under each version that is asked for, the oldest first
-abbrev pub findings : Options → List Entry → List Record → List Found
-findings options tree records = map (found_at options tree records) (versions_in options.abis)
+abbrev pub findings : Format → Options → List Entry → List Record → List Found
+findings format options tree records = map (found_at format options tree records) (versions_in options.abis)
 
 -- the last line of a version
 abbrev pub total_at : Options → List Entry → List Record → Abi → List ℕ
-total_at options tree records abi = total_under_text (number_of abi) (found_at options tree records abi)
+total_at options tree records abi = total_under_text (number_of abi) (found_at Text options tree records abi)
+
+-- ---- the report as text
 
 -- the report over several versions
 pub record IsReportOver (options : Options) (tree : List Entry) (records : List Record) (report : Report) : Type 0 where
-  pub text : report.bytes.items ≡ rows_text options.shown (number_of options.abis.oldest) (findings options tree records) records
-  pub refused : report.refused ≡ refused_under_some (findings options tree records) records
+  pub text : report.bytes.items ≡ rows_text options.shown (number_of options.abis.oldest) (findings Text options tree records) records
+  pub refused : report.refused ≡ refused_under_some (findings Text options tree records) records
 
--- the report that the options ask for: under the version that they name, or over the versions
-pub record IsReportBy (options : Options) (tree : List Entry) (records : List Record) (report : Report) : Type 0 where
+-- under the version that the options name, or over the versions
+pub record IsTextReport (options : Options) (tree : List Entry) (records : List Record) (report : Report) : Type 0 where
   pub under_one : number_of options.abis.oldest ≡ number_of options.abis.newest
       → IsShownReportOn options.shown tree options.abis.oldest (taken options.effort options.abis.oldest records) report
   pub over_several : number_of options.abis.oldest ≢ number_of options.abis.newest → IsReportOver options tree records report
+
+-- ---- the report as JSON, by this version of the program
+
+-- a version with the records as they are taken under it
+abbrev pub version_at : Options → List Record → Abi → Version
+version_at options records abi = record { abi = abi; records = taken options.effort abi records }
+
+-- the versions that the options ask for, the oldest first
+abbrev pub versions_by : Options → List Record → List Version
+versions_by options records = map (version_at options records) (versions_in options.abis)
+
+abbrev pub IsReportInJson : Options → List Entry → List Record → Report → Type 0
+IsReportInJson options tree records report =
+    IsJsonReport options.shown tree (number_of options.abis.oldest) (versions_by options records) records VERSION.now report
+
+-- ---- the report that the options ask for
+
+abbrev pub IsReportIn : Format → Options → List Entry → List Record → Report → Type 0
+IsReportIn Text options tree records report = IsTextReport options tree records report
+IsReportIn Json options tree records report = IsReportInJson options tree records report
+
+abbrev pub IsReportBy : Options → List Entry → List Record → Report → Type 0
+IsReportBy options tree records report = IsReportIn options.format options tree records report
 
 -- the report that the options ask for on what both files say
 abbrev pub IsReportWith : Options → List ℕ → List ℕ → Report → Type 0
 IsReportWith options tree_bytes trace_bytes report = BothRead tree_bytes trace_bytes (λ tree records. IsReportBy options tree records report)
 
--- the options of the plain report: one version, rulesets as they were recorded, all lines, and no explanations
+-- the options of the plain report: one version, rulesets as they were recorded, all lines, no explanations, as text
 abbrev pub plain_options : Abi → Options
-plain_options abi = record { abis = record { oldest = abi; newest = abi }; effort = AsRecorded; shown = ALL_LINES }
+plain_options abi = record { abis = record { oldest = abi; newest = abi }; effort = AsRecorded; shown = ALL_LINES; format = Text }

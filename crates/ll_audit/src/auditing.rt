@@ -6,15 +6,15 @@ ghost use Rattle.ll_trace.specs.Records.{IsTrace};
 ghost use Rattle.ll_report.specs.Shown.{IsShownReportOn};
 ghost use Rattle.ll_options.specs.Crews.{IsCrew};
 ghost use Rattle.ll_audit.specs.Audits.{IsFaultOf, IsReport};
-ghost use Rattle.ll_audit.specs.ShownReports.{IsReportBy, IsReportWith, taken};
+ghost use Rattle.ll_audit.specs.ShownReports.{IsReportBy, IsReportWith, IsTextReport, taken};
 ghost use Rattle.ll_audit.specs.Causes.{IsTraceFault, IsTreeFault, IsWant};
 
 use crate::crew::Crew;
 use crate::cut::{Cut, cuts_of};
 use crate::fault::Fault;
 use crate::inputs::Inputs;
-use crate::ranging::report_over;
-use ll_options::{ALL_LINES, AbiRange, Effort, Options, Shown};
+use crate::ranging::{report_in_json, report_over};
+use ll_options::{ALL_LINES, AbiRange, Effort, Format, Options, Shown};
 use ll_pool::Gate;
 use ll_process::Case;
 use ll_report::Report;
@@ -47,6 +47,7 @@ pub fn audit<R: Threads + Wait + Sync, G: Gate + Sync>(
         abis: AbiRange::only(abi),
         effort: Effort::AsRecorded,
         shown: ALL_LINES,
+        format: Format::Text,
     };
     audit_with(rt, alloc, tree, trace, &options, workers, cut, gate)
 }
@@ -54,7 +55,8 @@ pub fn audit<R: Threads + Wait + Sync, G: Gate + Sync>(
 /// Audits a trace against a tree as `audit` does, with options: under each version of a range, of which each
 /// may take rulesets at best effort. As much of the report is shown as is asked for, explanations behind
 /// the lines of records, or refused records alone, or those whose answer differs between versions. The
-/// totals are those of all records. Both files are read once, whatever the number of versions.
+/// totals are those of all records. The report is written in the form that is asked for. Both files are read once,
+/// whatever the number of versions.
 pub fn audit_with<R: Threads + Wait + Sync, G: Gate + Sync>(
     rt: &R,
     alloc: Global,
@@ -200,13 +202,30 @@ fn report_by<R: Threads + Wait + Sync, G: Gate + Sync>(
         cuts: &cuts,
         gate,
     };
+    match options.format {
+        Format::Text => text_by(&crew, tree, trace, options),
+        Format::Json => report_in_json(&crew, tree, trace, options),
+    }
+}
+
+/// The report that the options ask for, as text.
+fn text_by<R: Threads + Wait + Sync, G: Gate + Sync>(
+    crew: &Crew<'_, R, G>,
+    tree: Tree,
+    trace: Trace,
+    options: &Options,
+) -> Result<Report, Fault>
+    requires { IsCrew crew.now.workers }
+    ensures report { IfOk result (IsTextReport options.now tree trace) }
+    ensures fault { IfErr result IsWant }
+{
     match options.abis.single() {
         Some(abi) => {
             let trace = taken(trace, options.effort, abi);
-            let case = Case::new(alloc, tree, trace, abi)?;
-            report_on(&crew, &case, options.shown)
+            let case = Case::new(crew.alloc, tree, trace, abi)?;
+            report_on(crew, &case, options.shown)
         }
-        None => report_over(&crew, tree, trace, options),
+        None => report_over(crew, tree, trace, options),
     }
 }
 

@@ -20,7 +20,7 @@ pub use laws::{
 };
 pub use ll_command::{command_lines, words_without_a_fault_name_a_run};
 pub use ll_endings::Ending;
-pub use ll_options::{AbiRange, Effort, Options};
+pub use ll_options::{AbiRange, Effort, Format, Options};
 pub use ll_report::{ALL_LINES, Report, Shown, empty_report};
 pub use ll_source::{LARGEST_FILE, MemorySource, Source, SourceFault};
 pub use program::{front, front_ending};

@@ -3,21 +3,24 @@
 ghost use Rattle.std.specs.Prelude.{◌≡◌, ◌∷◌, [], IfOk, IfErr, if◌then◌else◌, map};
 ghost use Rattle.ll_options.specs.Crews.{IsCrew};
 ghost use Rattle.ll_options.specs.Versions.{is_in};
-ghost use Rattle.ll_report.specs.Found.{found_under};
-ghost use Rattle.ll_report.specs.Rows.{told_of};
+ghost use Rattle.ll_semantics.specs.Worlds.{judged};
+ghost use Rattle.ll_json.specs.Records.{about};
 ghost use Rattle.ll_audit.specs.Causes.{IsWant};
-ghost use Rattle.ll_audit.specs.ShownReports.{IsReportOver, findings, taken};
+ghost use Rattle.ll_audit.specs.ShownReports.{IsReportInJson, IsReportOver, findings, found_in, taken};
 
 use crate::crew::Crew;
 use crate::fault::Fault;
-use ll_options::{Effort, Options};
+use ll_command::VERSION;
+use ll_json::{InJson, json_report};
+use ll_options::{Effort, Format, Options, Shown};
 use ll_pool::Gate;
-use ll_process::Case;
-use ll_report::{Finding, Report};
+use ll_process::{Answer, Case};
+use ll_report::{Finding, InWords, Report};
 use ll_rights::Abi;
+use ll_rules::NoMemory;
 use ll_trace::{Located, Trace};
 use ll_tree::Tree;
-use std::alloc::AllocError;
+use std::alloc::{AllocError, Global};
 use std::sync::Wait;
 use std::thread::Threads;
 
@@ -35,6 +38,7 @@ impl Audited {
         self,
         crew: &Crew<'_, R, G>,
         options: &Options,
+        format: Format,
         abi: Abi,
     ) -> Result<Audited, Fault>
         requires { IsCrew crew.now.workers }
@@ -43,7 +47,7 @@ impl Audited {
             ≡ (if is_in options.now.abis abi then taken options.now.effort abi self.located.trace
             else self.located.trace)) }
         ensures findings { IfOk result (λ next. next.findings.items ≡ (if is_in options.now.abis abi
-            then found_under options.now.shown self.located.tree
+            then found_in format options.now.shown self.located.tree
             (taken options.now.effort abi self.located.trace) abi ∷ self.findings.items
             else self.findings.items)) }
         ensures fault { IfErr result IsWant }
@@ -54,32 +58,34 @@ impl Audited {
         let Audited { located, findings } = self;
         let case = Case::of_located(crew.alloc, as_taken(located, options.effort, abi), abi)?;
         let answers = crew.answers(&case)?;
-        let finding = Finding::of(crew.alloc, &case, answers, options.shown, findings.first())?;
+        let newer = findings.first();
+        let finding = finding_of(crew.alloc, &case, answers, options.shown, format, newer)?;
         Ok(Audited {
             located: case.into_located(),
             findings: in_front(finding, findings)?,
         })
     }
 
-    /// Audits under all versions that are asked for, the newest first.
+    /// Audits under all versions that are asked for, the newest first, for a report in this form.
     fn under_all<R: Threads + Wait + Sync, G: Gate + Sync>(
         self,
         crew: &Crew<'_, R, G>,
         options: &Options,
+        format: Format,
     ) -> Result<Audited, Fault>
         requires crew { IsCrew crew.now.workers }
         requires none_yet { self.findings.items ≡ [] }
         ensures findings { IfOk result (λ all. all.findings.items
-            ≡ findings options.now self.located.tree self.located.trace) }
+            ≡ findings format options.now self.located.tree self.located.trace) }
         ensures records { IfOk result
-            (λ all. map told_of all.located.trace ≡ map told_of self.located.trace) }
+            (λ all. map about all.located.trace ≡ map about self.located.trace) }
         ensures fault { IfErr result IsWant }
     {
         let versions = Abi::all();
         let mut audited = self;
         for place in (0..versions.len()).rev() {
             let abi = versions[place];
-            audited = audited.under(crew, options, abi)?;
+            audited = audited.under(crew, options, format, abi)?;
         }
         Ok(audited)
     }
@@ -96,6 +102,25 @@ fn as_taken(located: Located, effort: Effort, abi: Abi) -> Located
     }
 }
 
+/// What is found of a case under its version, for a report in this form.
+fn finding_of(
+    alloc: Global,
+    case: &Case,
+    answers: Vec<Answer>,
+    shown: Shown,
+    format: Format,
+    newer: Option<&Finding>,
+) -> Result<Finding, NoMemory>
+    requires { answers.items ≡ judged case.now.tree case.now.abi case.now.records }
+    ensures { IfOk result (λ found. found
+        ≡ found_in format shown case.now.tree case.now.records case.now.abi) }
+{
+    match format {
+        Format::Text => Finding::of::<InWords>(alloc, case, answers, shown, newer),
+        Format::Json => Finding::of::<InJson>(alloc, case, answers, shown, newer),
+    }
+}
+
 /// What was found under a version, in front of what was found under newer ones.
 fn in_front(finding: Finding, mut newer: Vec<Finding>) -> Result<Vec<Finding>, AllocError>
     ensures { IfOk result (λ all. all.items ≡ finding ∷ newer.items) }
@@ -104,7 +129,20 @@ fn in_front(finding: Finding, mut newer: Vec<Finding>) -> Result<Vec<Finding>, A
     Ok(newer)
 }
 
-/// The report over the versions that are asked for.
+/// A tree and a trace before any version was asked.
+fn before_all(alloc: Global, tree: Tree, trace: Trace) -> Result<Audited, AllocError>
+    ensures tree { IfOk result (λ none. none.located.tree ≡ tree) }
+    ensures trace { IfOk result (λ none. none.located.trace ≡ trace) }
+    ensures findings { IfOk result (λ none. none.findings.items ≡ []) }
+{
+    let located = Located::of(alloc, tree, trace)?;
+    Ok(Audited {
+        located,
+        findings: Vec::new(alloc),
+    })
+}
+
+/// The report over the versions that are asked for, as text.
 pub(crate) fn report_over<R: Threads + Wait + Sync, G: Gate + Sync>(
     crew: &Crew<'_, R, G>,
     tree: Tree,
@@ -115,12 +153,8 @@ pub(crate) fn report_over<R: Threads + Wait + Sync, G: Gate + Sync>(
     ensures report { IfOk result (IsReportOver options.now tree trace) }
     ensures fault { IfErr result IsWant }
 {
-    let located = Located::of(crew.alloc, tree, trace)?;
-    let none = Audited {
-        located,
-        findings: Vec::new(crew.alloc),
-    };
-    let all = none.under_all(crew, options)?;
+    let none = before_all(crew.alloc, tree, trace)?;
+    let all = none.under_all(crew, options, Format::Text)?;
     let oldest = options.abis.oldest();
     let report = Report::over(
         crew.alloc,
@@ -128,6 +162,31 @@ pub(crate) fn report_over<R: Threads + Wait + Sync, G: Gate + Sync>(
         oldest.number(),
         &all.findings,
         all.located.trace.records(),
+    )?;
+    Ok(report)
+}
+
+/// The report over the versions that are asked for, as JSON.
+pub(crate) fn report_in_json<R: Threads + Wait + Sync, G: Gate + Sync>(
+    crew: &Crew<'_, R, G>,
+    tree: Tree,
+    trace: Trace,
+    options: &Options,
+) -> Result<Report, Fault>
+    requires { IsCrew crew.now.workers }
+    ensures report { IfOk result (IsReportInJson options.now tree trace) }
+    ensures fault { IfErr result IsWant }
+{
+    let none = before_all(crew.alloc, tree, trace)?;
+    let all = none.under_all(crew, options, Format::Json)?;
+    let oldest = options.abis.oldest();
+    let report = json_report(
+        crew.alloc,
+        options.shown,
+        oldest.number(),
+        &all.findings,
+        all.located.trace.records(),
+        VERSION,
     )?;
     Ok(report)
 }

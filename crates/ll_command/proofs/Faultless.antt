@@ -540,7 +540,10 @@ are_known =
           (refl, sets),
           (
             (refl, flag),
-            ((refl, flag), ((refl, flag), ((refl, flag), ((refl, sets), ((refl, sets), ((refl, inr (inr (inl refl))), ((refl, inr (inr (inr refl))), tt))))))),
+            (
+              (refl, flag),
+              ((refl, flag), ((refl, flag), ((refl, flag), ((refl, sets), ((refl, sets), ((refl, inr (inr (inl refl))), ((refl, inr (inr (inr refl))), tt))))))),
+            ),
           ),
         ),
       ),

@@ -1,4 +1,4 @@
--- The command line: `landaudit --abi N[-M] [--workers N] [--grain N] [--best-effort] [--refused] [--differs] [--explain] TREE TRACE`, and what it asks for.
+-- The command line: `landaudit --abi N[-M] [--workers N] [--grain N] [--best-effort] [--refused] [--differs] [--explain] [--json] TREE TRACE`, and what it asks for.
 -- Source: docs/FORMATS.md, "The command line".
 use Rattle.std.specs.Prelude.{◌≡◌, ◌≢◌, ◌⊎◌, ◌+◌, ◌-◌, ◌==◌, ◌&&◌, ◌||◌, ⊤, is_none, nat_le, nat_lt, ℕ, Bool, true, false, List, [], ◌∷◌, Option, Some, None, codes, length, if◌then◌else◌, option_and_then}
 use Rattle.std.specs.Str.{bytes_eq}
@@ -14,6 +14,8 @@ use Rattle.clap.specs.Simple.{on_top}
 use Rattle.clap.specs.ValueTests.{is_unsigned_in}
 use Rattle.ll_rights.specs.declared.abi.Abi.{Abi}
 use Rattle.ll_rights.specs.Abis.{all_versions, number_of, version_of}
+use Rattle.ll_options.specs.declared.format.Format.{Format}
+use Rattle.ll_options.specs.declared.format.Format.TheVariants.{Json, Text as Plain}
 use Rattle.ll_options.specs.declared.shown.Shown.{Shown}
 use Rattle.ll_options.specs.Crews.{IsCrew}
 use Rattle.ll_options.specs.Versions.{Range, range_from}
@@ -60,7 +62,7 @@ abbrev pub with_version : App → App
 with_version app = on_top (λ shape. record shape { has_version = true }) app
 
 unfoldable pub command : App
-command = with_rule (with_rule (with_rule (with_rule (with_rule (with_rule (with_rule (with_rule (with_rule (with_version (new_app (codes "landaudit")))
+command = with_rule (with_rule (with_rule (with_rule (with_rule (with_rule (with_rule (with_rule (with_rule (with_rule (with_version (new_app (codes "landaudit")))
     (required (text_option (codes "abi"))))
     (with_default (codes "1") (number_option (codes "workers") 1 64)))
     (with_default (codes "64") (number_option (codes "grain") 0 18446744073709551615)))
@@ -68,6 +70,7 @@ command = with_rule (with_rule (with_rule (with_rule (with_rule (with_rule (with
     (flag (codes "refused")))
     (flag (codes "differs")))
     (flag (codes "explain")))
+    (flag (codes "json")))
     (file_argument (codes "TREE")))
     (file_argument (codes "TRACE"))
 
@@ -131,9 +134,13 @@ shown_in rows = record {
 abbrev pub effort_in : List Row → Effort
 effort_in rows = if flag_at (codes "best-effort") rows then Best else AsRecorded
 
+-- in which form the matches ask for the report
+abbrev pub format_in : List Row → Format
+format_in rows = if flag_at (codes "json") rows then Json else Plain
+
 -- what the matches ask of an audit under some versions
 abbrev pub options_in : Range → List Row → Options
-options_in abis rows = record { abis = abis; effort = effort_in rows; shown = shown_in rows }
+options_in abis rows = record { abis = abis; effort = effort_in rows; shown = shown_in rows; format = format_in rows }
 
 infixl 10 ◌>>=◌
 abbrev pub ◌>>=◌ : {A B : Type 0} → Option A → (A → Option B) → Option B

@@ -11,7 +11,7 @@ use crate::misuse::Misuse;
 use clap::builder::ValueParser;
 use clap::error::ErrorKind;
 use clap::{Arg, ArgAction, ArgMatches, Command, Error};
-use ll_options::{AbiRange, Effort, Options, Shown};
+use ll_options::{AbiRange, Effort, Format, Options, Shown};
 use ll_rights::{Abi, with_abi_numbers};
 use std::alloc::{AllocError, Global};
 
@@ -46,7 +46,7 @@ pub enum Plan<'a> {
 }
 
 /// What `--version` prints behind the name: the version, and the line of the toolchain that proves and builds it.
-const VERSION: &str = "0.2 (rattle-kit-13f logic dac8208d650f15bf)";
+pub const VERSION: &str = "0.2 (rattle-kit-13f logic dac8208d650f15bf)";
 
 const ABOUT: &str = "Says what Landlock answers to each system call of a trace";
 
@@ -134,6 +134,13 @@ missing on which path or port; or the condition of its error; or why
 the policy is not asked.",
 };
 
+const JSON_HELP: Help = Help {
+    short: "Print the report as JSON Lines",
+    whole: "\
+Print the report as JSON Lines: one object for each record, and last
+one with the totals. It says what the lines of the other form say.",
+};
+
 const MORE_HELP: &str = "\
 Example: what some ABI refuses of a recording, and why
   landaudit --abi 1-5 --explain --refused rec/tree.jsonl rec/trace.jsonl
@@ -211,6 +218,7 @@ fn command<'a>(alloc: Global) -> Result<Command<'a>, AllocError>
         .arg(option(alloc, "refused", ArgAction::SetTrue, REFUSED_HELP))?
         .arg(option(alloc, "differs", ArgAction::SetTrue, DIFFERS_HELP))?
         .arg(option(alloc, "explain", ArgAction::SetTrue, EXPLAIN_HELP))?
+        .arg(option(alloc, "json", ArgAction::SetTrue, JSON_HELP))?
         .arg(file_argument(alloc, "TREE", TREE_HELP))?
         .arg(file_argument(alloc, "TRACE", TRACE_HELP))
 }
@@ -311,6 +319,17 @@ fn effort(matches: &ArgMatches<'_>) -> Effort
     }
 }
 
+/// In which form the matches ask for the report.
+fn format(matches: &ArgMatches<'_>) -> Format
+    ensures { result ≡ spec.format_in (rows_of (found_of matches.now)) }
+{
+    if flag(matches, "json") {
+        Format::Json
+    } else {
+        Format::Text
+    }
+}
+
 /// What the matches ask of an audit under some versions.
 fn options(abis: AbiRange, matches: &ArgMatches<'_>) -> Options
     ensures { result ≡ spec.options_in abis (rows_of (found_of matches.now)) }
@@ -319,6 +338,7 @@ fn options(abis: AbiRange, matches: &ArgMatches<'_>) -> Options
         abis,
         effort: effort(matches),
         shown: shown(matches),
+        format: format(matches),
     }
 }
 

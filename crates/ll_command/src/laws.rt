@@ -3,6 +3,7 @@
 ghost use Rattle.std.specs.Prelude.{◌≡◌, ◌++◌, ◌∷◌, ◌↔◌, List, [], Some, IsSome, codes, false, option_map, true};
 ghost use Rattle.clap.specs.declared.error.kind.ErrorKind.TheVariants as kind;
 ghost use Rattle.ll_rights.specs.declared.abi.Abi.TheVariants.{V1, V4, V5};
+ghost use Rattle.ll_options.specs.declared.format.Format.TheVariants.{Json, Text as Plain};
 ghost use Rattle.ll_options.specs.declared.options.Effort.TheVariants.{AsRecorded, Best};
 ghost use Rattle.ll_options.specs.declared.shown.TheConstants.{ALL_LINES};
 ghost use Rattle.ll_command.specs.Command.{Text, faults, newer_digit, request_of};
@@ -19,6 +20,7 @@ pub fn command_lines()
                 abis = record { oldest = V4; newest = V4 };
                 effort = AsRecorded;
                 shown = ALL_LINES;
+                format = Plain;
               };
           workers = 1;
           grain = 64;
@@ -34,6 +36,7 @@ pub fn command_lines()
                 abis = record { oldest = V5; newest = V5 };
                 effort = AsRecorded;
                 shown = ALL_LINES;
+                format = Plain;
               };
           workers = 64;
           grain = 0;
@@ -47,6 +50,7 @@ pub fn command_lines()
           abis = record { oldest = V1; newest = V1 };
           effort = Best;
           shown = ALL_LINES;
+          format = Plain;
         }) }
     ensures refused { option_map (λ asked. asked.options.shown)
         (request_of (codes "landaudit" ∷ codes "--abi" ∷ codes "4" ∷ codes "--refused"
@@ -63,6 +67,9 @@ pub fn command_lines()
         (request_of (codes "landaudit" ∷ codes "--abi" ∷ codes "1-5" ∷ codes "--differs"
         ∷ codes "t" ∷ codes "r" ∷ []))
         ≡ Some (record { explanations = false; refused_alone = false; differing_alone = true }) }
+    ensures json { option_map (λ asked. asked.options.format)
+        (request_of (codes "landaudit" ∷ codes "--abi" ∷ codes "4" ∷ codes "t" ∷ codes "--json"
+        ∷ codes "r" ∷ [])) ≡ Some Json }
     // The versions are one, or a range with the older first.
     ensures no_version_zero { faults (codes "landaudit" ∷ codes "--abi" ∷ codes "0-3" ∷ codes "t"
         ∷ codes "r" ∷ []) ≡ kind.ValueValidation ∷ [] }
@@ -92,6 +99,9 @@ pub fn command_lines()
         ≡ kind.TooManyValues ∷ [] }
     ensures no_second { faults (codes "landaudit" ∷ codes "--abi" ∷ codes "4" ∷ codes "--refused"
         ∷ codes "--refused" ∷ codes "t"
+        ∷ codes "r" ∷ []) ≡ kind.ArgumentConflict ∷ [] }
+    ensures no_second_json { faults (codes "landaudit" ∷ codes "--json" ∷ codes "--abi" ∷ codes "4"
+        ∷ codes "--json" ∷ codes "t"
         ∷ codes "r" ∷ []) ≡ kind.ArgumentConflict ∷ [] }
     ensures no_such_version { faults
         (codes "landaudit" ∷ codes "--abi" ∷ (newer_digit ∷ []) ∷ codes "t" ∷ codes "r" ∷ [])

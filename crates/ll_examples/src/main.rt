@@ -1,8 +1,9 @@
-//! Audits the worked examples, and says of each whether its reports, plain and explained, are the documented ones.
+//! Audits the worked examples, and says of each whether its reports, plain, explained and as JSON, are the documented
+//! ones.
 #![tactic(auto)]
 
 use anyhow::{Result, bail};
-use ll_audit::{ALL_LINES, AbiRange, Cut, Effort, Idle, Options, Shown, audit_with};
+use ll_audit::{ALL_LINES, AbiRange, Cut, Effort, Format, Idle, Options, Shown, audit_with};
 use ll_rights::Abi;
 use serde_json::Value;
 use std::fs;
@@ -22,6 +23,7 @@ struct Example<'a> {
     trace: &'a str,
     report: &'a str,
     explained: &'a str,
+    json: &'a str,
 }
 
 /// A version of the interface, by its number as a text.
@@ -58,6 +60,7 @@ fn example_of(value: &Value) -> Option<Example<'_>> {
         trace: value.get("trace")?.as_str()?,
         report: value.get("report")?.as_str()?,
         explained: value.get("explained")?.as_str()?,
+        json: value.get("json")?.as_str()?,
     })
 }
 
@@ -88,10 +91,12 @@ fn is_documented<R: Files + AllocGlobal + Threads + Wait + Sync>(
     let trace = fs::read(rt, example.trace)?;
     let plain = fs::read(rt, example.report)?;
     let explained = fs::read(rt, example.explained)?;
+    let json = fs::read(rt, example.json)?;
     let of_all_lines = Options {
         abis: example.abis,
         effort: example.effort,
         shown: ALL_LINES,
+        format: Format::Text,
     };
     let with_reasons = Options {
         shown: Shown {
@@ -101,9 +106,14 @@ fn is_documented<R: Files + AllocGlobal + Threads + Wait + Sync>(
         },
         ..of_all_lines
     };
+    let in_json = Options {
+        format: Format::Json,
+        ..with_reasons
+    };
     Ok(
         reports(rt, &of_all_lines, &tree, &trace, &plain)
-            && reports(rt, &with_reasons, &tree, &trace, &explained),
+            && reports(rt, &with_reasons, &tree, &trace, &explained)
+            && reports(rt, &in_json, &tree, &trace, &json),
     )
 }
 

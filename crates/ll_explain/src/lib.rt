@@ -11,3 +11,5 @@ mod words;
 
 pub use explanation::{push_explanation, push_text};
 pub use laws::worked_words;
+pub use objections::{line_at, line_made, text_at};
+pub use rights::word_for;

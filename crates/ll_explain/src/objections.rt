@@ -20,7 +20,7 @@ use ll_trace::{Op, Record};
 use ll_tree::{NodeId, Tree};
 
 /// The text of a node's path, and the root's for what is no node of the tree.
-fn text_at(tree: &Tree, node: NodeId) -> &str
+pub fn text_at(tree: &Tree, node: NodeId) -> &str
     ensures { result.now ≡ text_of (path_at tree.now node) }
 {
     if node.index() < tree.nodes() {
@@ -98,7 +98,7 @@ fn push_path_opened(text: &mut Vec<u8>, records: &[Record], place: u32) -> Added
 }
 
 /// The line of the record at a place, or 0 where there is none.
-fn line_at(records: &[Record], place: u32) -> u64
+pub fn line_at(records: &[Record], place: u32) -> u64
     ensures { result ≡ line_of (slice_get records.now place) }
 {
     match records.get(place as usize) {
@@ -147,7 +147,7 @@ fn push_objection(
 }
 
 /// The line of the record that made a layer, or 0 where there is none.
-fn line_made(records: &[Record], made: Option<u32>) -> u64
+pub fn line_made(records: &[Record], made: Option<u32>) -> u64
     ensures { result ≡ line_of (option_and_then (slice_get records.now) made) }
 {
     match made {

@@ -95,7 +95,7 @@ impl RightSet for Net {
 }
 
 /// The word for a right by its name, which may be empty.
-pub(crate) fn word_for(name: &str) -> &str
+pub fn word_for(name: &str) -> &str
     ensures { result.now ≡ word_for name.now }
 {
     if name.is_empty() {

@@ -1,11 +1,12 @@
 pub mod Telling
 pub mod Enclosing
+pub mod Printed
 pub mod PathsSpelt
-pub mod NodeTexts
 pub mod NamesTold
 pub mod LayersTold
 pub mod NumbersTold
 pub mod LinesTold
-pub mod RecordsShown
-pub mod Explaining
-pub mod Totalled
+pub mod KeptTold
+pub mod SpansTold
+pub mod RowsTold
+pub mod Reported

@@ -3,6 +3,10 @@ pub mod Told
 pub mod Why
 pub mod Names
 pub mod Layering
+pub mod Versions
 pub mod Records
 pub mod Numbers
+pub mod Spans
+pub mod Kept
+pub mod Rows
 pub mod Reports

@@ -1,9 +1,7 @@
--- A record and its answer as JSON, with the explanation of the answer.
+-- A record and its answers as JSON, with their explanations.
 -- Source: docs/FORMATS.md, "The report" and "Explanations".
 use Rattle.std.specs.Prelude.{ℕ, Bool, List, [], ◌∷◌, map, Option, Some, None, codes, slice_get, if◌then◌else◌}
 use Rattle.json.specs.Json.{Json, string}
-use Rattle.ll_rights.specs.declared.abi.Abi.{Abi}
-use Rattle.ll_rights.specs.Abis.{number_of}
 use Rattle.ll_tree.specs.Trees.{Entry}
 use Rattle.ll_trace.specs.declared.record.Record.{Record}
 use Rattle.ll_trace.specs.Operations.{op_name}
@@ -12,14 +10,12 @@ use Rattle.ll_semantics.specs.declared.answer.Answer.TheVariants.{Allowed, Moot,
 use Rattle.ll_semantics.specs.Worlds.{judged}
 use Rattle.ll_reasons.specs.Reasons.{Reason}
 use Rattle.ll_reasons.specs.Explanations.{Explanation, nothing, objections, failure, mootness, explained_at, origins_at}
-use Rattle.ll_options.specs.declared.shown.Shown.{Shown}
 use Rattle.ll_report.specs.Names.{error_name}
-use Rattle.ll_report.specs.Lines.{verdict_of}
-use Rattle.ll_report.specs.Shown.{is_left_out}
-use Rattle.ll_json.specs.Parts.{Named, array_of, line_text, object_of, whole}
+use Rattle.ll_json.specs.Parts.{Named, array_of, object_of, whole}
+use Rattle.ll_json.specs.Versions.{Version}
 use Rattle.ll_json.specs.Why.{condition_json, layer_json, reason_json}
 
--- ---- the answer under one version; where explanations aren't shown, the explanation is `nothing`
+-- ---- the members of an answer; where explanations aren't shown, the explanation is `nothing`
 
 -- a layer that refuses, by its number alone
 abbrev pub bare_layer : ℕ → Json
@@ -49,42 +45,43 @@ answer_members records layers Moot why = (codes "answer", string (codes "moot"))
 answer_members records layers (Refused error numbers) why =
     (codes "answer", string (codes "refused")) ∷ (codes "error", string (error_name error)) ∷ (codes "layers", layers_json records layers numbers why) ∷ why_members why
 
--- the versions from one to another that give the answer
-abbrev pub versions_json : Abi → Abi → Json
-versions_json oldest newest = array_of (whole (number_of oldest) ∷ whole (number_of newest) ∷ [])
+-- the numbers of neighbouring versions, from the oldest to the newest
+abbrev pub versions_json : ℕ → ℕ → Json
+versions_json first last = array_of (whole first ∷ whole last ∷ [])
 
-abbrev pub answer_json : Abi → List Record → List ℕ → Answer → Explanation → Json
-answer_json abi records layers answer why = object_of ((codes "abi", versions_json abi abi) ∷ answer_members records layers answer why)
+-- what these versions answer
+abbrev pub answer_json : ℕ → ℕ → List Named → Json
+answer_json first last members = object_of ((codes "abi", versions_json first last) ∷ members)
 
 -- ---- the record
 
-abbrev pub record_json : Record → List Json → Json
-record_json r answers = object_of ((codes "line", whole r.line) ∷ (codes "pid", whole r.pid) ∷ (codes "op", string (op_name r.op)) ∷ (codes "answers", array_of answers) ∷ [])
+-- what tells of a record which it is: its line, its pid and its operation
+abbrev pub about : Record → ℕ × ℕ × List ℕ
+about r = (r.line, r.pid, op_name r.op)
 
--- ---- what is shown of the record at a place of a trace
+abbrev pub record_of : ℕ × ℕ × List ℕ → List Json → Json
+record_of told answers = object_of ((codes "line", whole told.0) ∷ (codes "pid", whole told.1) ∷ (codes "op", string told.2) ∷ (codes "answers", array_of answers) ∷ [])
+
+abbrev pub record_json : Record → List Json → Json
+record_json r answers = record_of (about r) answers
+
+-- ---- what a version answers to the record at a place of its trace
 
 abbrev pub explained_if : Bool → Explanation → Explanation
 explained_if explains why = if explains then why else nothing
 
--- the line of a record with its answer under one version, whose process has layers made by these records
-abbrev pub line_with : Abi → List Record → List ℕ → Record → Answer → Explanation → List ℕ
-line_with abi records layers r answer why = line_text (record_json r (answer_json abi records layers answer why ∷ []))
-
--- the line of the record there, with the explanation or without
-abbrev pub record_line : Bool → List Entry → Abi → List Record → ℕ → Record → Answer → List ℕ
-record_line explains tree abi records place r answer =
-    line_with abi records (origins_at tree abi records place r.process.0).layers r answer (explained_if explains (explained_at tree abi records place r answer))
-
--- its line, or nothing where it is left out
-abbrev pub shown_of : Shown → List Entry → Abi → List Record → ℕ → Record → Answer → List ℕ
-shown_of shown tree abi records place r answer =
-    if is_left_out shown (verdict_of answer) then [] else record_line shown.explanations tree abi records place r answer
+-- with the explanation, or without
+abbrev pub members_with : Bool → List Entry → Version → ℕ → Record → Answer → List Named
+members_with explains tree version place r answer =
+    answer_members version.records (origins_at tree version.abi version.records place r.process.0).layers answer
+    (explained_if explains (explained_at tree version.abi version.records place r answer))
 
 -- where there is a record with an answer
-abbrev pub shown_of_both : Shown → List Entry → Abi → List Record → ℕ → Option Record → Option Answer → List ℕ
-shown_of_both shown tree abi records place (Some r) (Some answer) = shown_of shown tree abi records place r answer
-shown_of_both shown tree abi records place (Some r) None = []
-shown_of_both shown tree abi records place None answer = []
+abbrev pub members_of_both : Bool → List Entry → Version → ℕ → Option Record → Option Answer → List Named
+members_of_both explains tree version place (Some r) (Some answer) = members_with explains tree version place r answer
+members_of_both explains tree version place (Some r) None = []
+members_of_both explains tree version place None answer = []
 
-unfoldable pub shown_at : Shown → List Entry → Abi → List Record → ℕ → List ℕ
-shown_at shown tree abi records place = shown_of_both shown tree abi records place (slice_get records place) (slice_get (judged tree abi records) place)
+unfoldable pub members_at : Bool → List Entry → Version → ℕ → List Named
+members_at explains tree version place =
+    members_of_both explains tree version place (slice_get version.records place) (slice_get (judged tree version.abi version.records) place)

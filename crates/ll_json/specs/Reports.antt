@@ -1,43 +1,66 @@
--- The report over one version as JSON: a line for each record that is shown, and one with the totals of all records.
--- Source: docs/FORMATS.md, "The report"; RFC 8259.
-use Rattle.std.specs.Prelude.{◌≡◌, ℕ, Bool, List, [], ◌∷◌, ◌++◌, codes, count_by, length}
-use Rattle.std.specs.List.{flat_map, range_with_len}
+-- The report over versions as JSON: a line for each record that is shown, and one with the totals of each version. One version is a
+-- range of one.
+-- Source: docs/FORMATS.md, "The report as JSON"; RFC 8259.
+use Rattle.std.specs.Prelude.{◌≡◌, ◌+◌, ℕ, List, [], ◌∷◌, ◌++◌, codes, if◌then◌else◌, length, map}
 use Rattle.json.specs.Json.{Json, string}
-use Rattle.ll_rights.specs.declared.abi.Abi.{Abi}
-use Rattle.ll_rights.specs.Abis.{number_of}
 use Rattle.ll_tree.specs.Trees.{Entry}
 use Rattle.ll_trace.specs.declared.record.Record.{Record}
-use Rattle.ll_semantics.specs.declared.answer.Answer.{Answer}
-use Rattle.ll_semantics.specs.Worlds.{judged}
 use Rattle.ll_options.specs.declared.shown.Shown.{Shown}
 use Rattle.ll_report.specs.declared.report.Report.{Report}
-use Rattle.ll_report.specs.Lines.{refused_among, verdict_of}
-use Rattle.ll_report.specs.Report.{Verdict, is_allowed, is_moot, is_refused}
-use Rattle.ll_json.specs.Parts.{array_of, line_text, object_of, whole}
-use Rattle.ll_json.specs.Records.{shown_at}
+use Rattle.ll_report.specs.Found.{Found}
+use Rattle.ll_report.specs.Report.{is_allowed, is_moot, is_refused}
+use Rattle.ll_report.specs.Rows.{count_under, is_row_left_out, refused_under_some}
+use Rattle.ll_json.specs.Kept.{kept_under}
+use Rattle.ll_json.specs.Parts.{Named, array_of, line_text, object_of, whole}
+use Rattle.ll_json.specs.Records.{members_at, record_json}
+use Rattle.ll_json.specs.Spans.{answers_json}
+use Rattle.ll_json.specs.Versions.{Version}
 
--- how many answers pass a test
-abbrev pub count_of : (Verdict → Bool) → List Answer → ℕ
-count_of test answers = count_by (λ answer. test (verdict_of answer)) answers
+-- ---- the lines of records
+
+-- what each version answers to the record at a place, with its explanation where these are shown
+abbrev pub said_under : Shown → List Entry → List Version → ℕ → List (List Named)
+said_under shown tree versions place = map (λ version. members_at shown.explanations tree version place) versions
+
+abbrev pub kept_of : Shown → List Entry → List Version → List Found
+kept_of shown tree versions = map (kept_under shown tree) versions
+
+-- the line of the record at a place; those records are left out that the report's text leaves out
+abbrev pub row_line : Shown → List Entry → ℕ → List Version → ℕ → Record → List ℕ
+row_line shown tree oldest versions place r =
+    if is_row_left_out shown (kept_of shown tree versions) place then []
+    else line_text (record_json r (answers_json oldest (said_under shown tree versions place)))
+
+-- the lines of records, the first of which is at a place of the trace
+unfoldable pub lines_from : Shown → List Entry → ℕ → List Version → ℕ → List Record → List ℕ
+lines_from shown tree oldest versions place [] = []
+lines_from shown tree oldest versions place (r ∷ others) =
+    row_line shown tree oldest versions place r ++ lines_from shown tree oldest versions (place + 1) others
+
+-- ---- the totals
 
 -- how many records a version answers in each way
 abbrev pub total_with : ℕ → ℕ → ℕ → ℕ → ℕ → Json
 total_with abi all allowed refused moot =
     object_of ((codes "abi", whole abi) ∷ (codes "records", whole all) ∷ (codes "allowed", whole allowed) ∷ (codes "refused", whole refused) ∷ (codes "moot", whole moot) ∷ [])
 
-abbrev pub total_json : Abi → List Answer → Json
-total_json abi answers =
-    total_with (number_of abi) (length answers) (count_of is_allowed answers) (count_of is_refused answers) (count_of is_moot answers)
+abbrev pub total_json : ℕ → Found → Json
+total_json abi found =
+    total_with abi (length found.answers) (count_under is_allowed found) (count_under is_refused found) (count_under is_moot found)
+
+-- one a version, of which the first has this number
+unfoldable pub totals_from : ℕ → List Found → List Json
+totals_from abi [] = []
+totals_from abi (found ∷ others) = total_json abi found ∷ totals_from (abi + 1) others
 
 -- the totals of each version, and the version of the program that wrote them
 abbrev pub totals_json : List Json → List ℕ → Json
 totals_json totals program = object_of ((codes "totals", array_of totals) ∷ (codes "version", string program) ∷ [])
 
--- the lines of all records, in the order of the trace
-abbrev pub lines_text : Shown → List Entry → Abi → List Record → List ℕ
-lines_text shown tree abi records = flat_map (shown_at shown tree abi records) (range_with_len 0 (length records))
+-- ---- the report
 
--- the report under one version on records whose calls meet this tree
-pub record IsJsonReportOn (shown : Shown) (tree : List Entry) (abi : Abi) (records : List Record) (program : List ℕ) (report : Report) : Type 0 where
-  pub text : report.bytes.items ≡ lines_text shown tree abi records ++ line_text (totals_json (total_json abi (judged tree abi records) ∷ []) program)
-  pub refused : report.refused ≡ refused_among records (judged tree abi records)
+-- over versions, of which the oldest has this number, on records whose calls meet this tree
+pub record IsJsonReport (shown : Shown) (tree : List Entry) (oldest : ℕ) (versions : List Version) (records : List Record) (program : List ℕ) (report : Report) : Type 0 where
+  pub text : report.bytes.items
+      ≡ lines_from shown tree oldest versions 0 records ++ line_text (totals_json (totals_from oldest (kept_of shown tree versions)) program)
+  pub refused : report.refused ≡ refused_under_some (kept_of shown tree versions) records

@@ -4,7 +4,6 @@ ghost use Rattle.std.specs.Prelude.{◌≡◌, ◌∷◌, [], ℕ, List, OnOk, c
 ghost use Rattle.json.specs.Json.{string};
 ghost use Rattle.json.specs.Token as token;
 ghost use Rattle.json.specs.Tree.{json_tokens};
-ghost use Rattle.ll_rights.specs.Abis.{number_of};
 ghost use Rattle.ll_semantics.specs.declared.answer.Answer.TheVariants.{Refused};
 ghost use Rattle.ll_trace.specs.declared.op.Op.{Op as Call};
 ghost use Rattle.ll_tree.specs.Trees.{Entry};
@@ -12,8 +11,9 @@ ghost use Rattle.ll_explanations.specs.Meanings.{AreMade, condition_in, explanat
 ghost use Rattle.ll_reasons.specs.Meant.{reason_in};
 ghost use Rattle.ll_report.specs.Names as spec;
 ghost use Rattle.ll_json.specs.Numbers.{among_tokens};
+ghost use Rattle.ll_json.specs.Kept.{plain_members};
 ghost use Rattle.ll_json.specs.Parts.{array_of, named_tokens, values_tokens};
-ghost use Rattle.ll_json.specs.Records.{answer_json, answer_members, bare_layer, layers_json, versions_json, why_members};
+ghost use Rattle.ll_json.specs.Records.{answer_members, bare_layer, layers_json, why_members};
 ghost use Rattle.ll_json.specs.Told.{Tells, Told};
 ghost use Rattle.ll_json.specs.Why.{condition_json, reason_json};
 
@@ -22,31 +22,15 @@ use crate::objections::write_layers;
 use crate::reasons::write_reason;
 use crate::words::{
     Added, begin_array, begin_object, end_array, end_object, write_key, write_number, write_text,
-    write_whole,
 };
 use json::Writer;
 use ll_explanations::{Condition, Explanation};
 use ll_reasons::Reason;
-use ll_rights::Abi;
+use ll_report::error_name;
 use ll_rules::{Errno, LayerSet, MOST_LAYERS};
 use ll_semantics::Answer;
 use ll_trace::{Op, Record};
 use ll_tree::Tree;
-
-/// The name of an error.
-fn error_name(error: Errno) -> &'static str
-    ensures { result.now ≡ spec.error_name error }
-{
-    match error {
-        Errno::Perm => "EPERM",
-        Errno::BadFd => "EBADF",
-        Errno::Acces => "EACCES",
-        Errno::XDev => "EXDEV",
-        Errno::Inval => "EINVAL",
-        Errno::TooBig => "E2BIG",
-        Errno::NoMsg => "ENOMSG",
-    }
-}
 
 /// Writes a layer by its number alone.
 fn write_bare_layer(out: &mut Writer, number: u32) -> Added
@@ -194,7 +178,7 @@ fn write_moot(out: &mut Writer, op: &Op, explanation: &Explanation) -> Added
 
 /// Writes how a record is answered, and why.
 #[tactic(auto, unfolding(crate::specs::Records::answer_members))]
-fn write_answer_members(
+pub(crate) fn write_answer_members(
     out: &mut Writer,
     tree: &Tree,
     records: &[Record],
@@ -219,36 +203,18 @@ fn write_answer_members(
     }
 }
 
-/// Writes a member that is a version, as the oldest and the newest that give an answer.
-fn write_versions(out: &mut Writer, abi: Abi) -> Added
-    ensures { Tells result out.old out.new
-        (token.key (codes "abi") ∷ json_tokens (versions_json abi abi)) }
+/// Writes how a record is answered.
+pub(crate) fn write_plain_members(out: &mut Writer, answer: Answer) -> Added
+    ensures { Tells result out.old out.new (named_tokens (plain_members answer)) }
 {
-    write_key(out, "abi")?;
-    begin_array(out)?;
-    write_whole(out, abi.number())?;
-    write_whole(out, abi.number())?;
-    end_array(out)?;
-    Ok(())
-}
-
-/// Writes the answer that a version gives, with its explanation.
-pub(crate) fn write_answer(
-    out: &mut Writer,
-    tree: &Tree,
-    records: &[Record],
-    op: &Op,
-    abi: Abi,
-    answer: Answer,
-    explanation: &Explanation,
-) -> Added
-    ensures { OnOk result ((layers : List ℕ) → AreMade layers explanation.now
-        → Told out.old out.new (json_tokens (answer_json abi records.now layers answer
-        (explanation_in tree.now op.now explanation.now)))) }
-{
-    begin_object(out)?;
-    write_versions(out, abi)?;
-    write_answer_members(out, tree, records, op, answer, explanation)?;
-    end_object(out)?;
-    Ok(())
+    match answer {
+        Answer::Allowed => write_text(out, "answer", "allowed"),
+        Answer::Moot => write_text(out, "answer", "moot"),
+        Answer::Refused(error, numbers) => {
+            write_refusal(out, error)?;
+            write_key(out, "layers")?;
+            write_bare_layers(out, numbers)?;
+            Ok(())
+        }
+    }
 }

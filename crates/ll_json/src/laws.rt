@@ -3,7 +3,7 @@
 ghost use Rattle.std.specs.Prelude.{◌≡◌, ◌∷◌, [], Some, codes, false};
 ghost use Rattle.json.specs.Print.{print};
 ghost use Rattle.json.specs.Tree.{json_tokens};
-ghost use Rattle.ll_rights.specs.declared.abi.Abi.TheVariants.{V1, V4};
+ghost use Rattle.ll_rights.specs.declared.abi.Abi.TheVariants.{V4};
 ghost use Rattle.ll_rights.specs.declared.kind.Kind.TheVariants.{Fifo};
 ghost use Rattle.ll_rights.specs.Rights.{other, read_file, refer, truncate, write_file};
 ghost use Rattle.ll_rights.specs.NetRights.{bind_tcp};
@@ -15,7 +15,7 @@ ghost use Rattle.ll_reasons.specs.Conditions.{unhandled, unknown};
 ghost use Rattle.ll_reasons.specs.Explanations.{mootness, nothing, objections};
 ghost use Rattle.ll_reasons.specs.Objections.{closed, gained, kept, missing, mounting};
 ghost use Rattle.ll_reasons.specs.Reasons.{absent, of_kind, unsupported};
-ghost use Rattle.ll_json.specs.Records.{answer_json};
+ghost use Rattle.ll_json.specs.Records.{answer_json, answer_members};
 ghost use Rattle.ll_json.specs.Why.{condition_json, objection_json, reason_json};
 
 /// The text of some objections.
@@ -61,18 +61,18 @@ pub fn worked_conditions()
 /// The text of some answers, in a trace whose first record is on line 6.
 #[tactic(auto, unfolding(json::specs::Print::print_from, json::specs::Print::escape_byte, crate::specs::Why::objection_json, crate::specs::Why::layer_json, crate::specs::Why::reason_json, crate::specs::Records::answer_members, crate::specs::Records::layers_json, crate::specs::Records::why_members, ll_lines::specs::PathTexts::text_of))]
 pub fn worked_answers()
-    ensures explained { print (json_tokens (answer_json V1
+    ensures explained { print (json_tokens (answer_json 1 1 (answer_members
         (record { line = 6; process = record { 0 = 0 }; pid = 10; op = Nnp } ∷ []) (0 ∷ [])
         (Refused XDev (1 ∷ []))
-        (objections ((1, missing (refer ∷ []) (codes "a" ∷ []) ∷ mounting ∷ []) ∷ []))))
+        (objections ((1, missing (refer ∷ []) (codes "a" ∷ []) ∷ mounting ∷ []) ∷ [])))))
         ≡ codes
         "{\"abi\":[1,1],\"answer\":\"refused\",\"error\":\"EXDEV\",\"layers\":[{\"layer\":1,\"line\":6,\"objections\":[{\"missing\":[\"refer\"],\"on\":\"/a\"},{\"mounting\":true}]}]}" }
     ensures bare { print (json_tokens
-        (answer_json V1 [] [] (Refused XDev (1 ∷ 2 ∷ [])) nothing))
+        (answer_json 1 4 (answer_members [] [] (Refused XDev (1 ∷ 2 ∷ [])) nothing)))
         ≡ codes
-        "{\"abi\":[1,1],\"answer\":\"refused\",\"error\":\"EXDEV\",\"layers\":[{\"layer\":1},{\"layer\":2}]}" }
+        "{\"abi\":[1,4],\"answer\":\"refused\",\"error\":\"EXDEV\",\"layers\":[{\"layer\":1},{\"layer\":2}]}" }
     ensures moot { print (json_tokens
-        (answer_json V1 [] [] Moot (mootness (Some (absent (codes "none" ∷ []))))))
+        (answer_json 1 1 (answer_members [] [] Moot (mootness (Some (absent (codes "none" ∷ [])))))))
         ≡ codes
         "{\"abi\":[1,1],\"answer\":\"moot\",\"why\":{\"reason\":\"absent\",\"path\":\"/none\"}}" }
 {}

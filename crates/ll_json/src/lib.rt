@@ -1,18 +1,21 @@
-//! The report as JSON, record after record of a trace that was judged.
+//! The report as JSON Lines, record after record of a trace that was judged.
 #![tactic(auto)]
 
 mod answers;
 mod conditions;
+mod kept;
 mod laws;
-mod lines;
 mod objections;
 mod reasons;
-mod record;
 mod report;
 mod rights;
+mod rows;
+mod spans;
 #[cfg(test)]
 mod tests;
+mod totals;
 mod words;
 
+pub use kept::InJson;
 pub use laws::{worked_answers, worked_conditions, worked_objections};
 pub use report::json_report;

@@ -16,27 +16,17 @@ ghost use Rattle.ll_json.specs.Parts.{array_of, object_of, values_tokens, whole}
 ghost use Rattle.ll_json.specs.Told.{Tells, Told};
 ghost use Rattle.ll_json.specs.Why.{layer_json, objection_json, path_json, port_rights_json, rights_json};
 
-use crate::rights::{word_for, write_port_rights_as, write_rights_as};
+use crate::rights::{write_port_rights_as, write_rights_as};
 use crate::words::{
     Added, begin_array, begin_object, end_array, end_object, write_key, write_number, write_string,
     write_text, write_true,
 };
 use json::Writer;
+use ll_explain::{line_at, line_made, text_at, word_for};
 use ll_explanations::{LayerObjection, Objection};
 use ll_rights::{Fs, FsRight, Net};
 use ll_trace::{Op, Record};
 use ll_tree::{NodeId, Tree};
-
-/// The text of a node's path, and the root's for what is no node of the tree.
-fn text_at(tree: &Tree, node: NodeId) -> &str
-    ensures { result.now ≡ text_of (path_at tree.now node) }
-{
-    if node.index() < tree.nodes() {
-        tree.text(node)
-    } else {
-        "/"
-    }
-}
 
 /// Writes which rights are missing on a node.
 fn write_missing(out: &mut Writer, tree: &Tree, rights: Fs, node: NodeId) -> Added
@@ -110,16 +100,6 @@ fn path_opened(records: &[Record], place: u32) -> &str
     }
 }
 
-/// The line of the record at a place, or 0 where there is none.
-fn line_at(records: &[Record], place: u32) -> u64
-    ensures { result ≡ line_of (slice_get records.now place) }
-{
-    match records.get(place as usize) {
-        None => 0,
-        Some(record) => record.line,
-    }
-}
-
 /// Writes a member that is the word for one right.
 fn write_right_as(out: &mut Writer, name: &str, right: FsRight) -> Added
     ensures { Tells result out.old out.new
@@ -179,16 +159,6 @@ fn write_objection(
         } => write_gained(out, tree, *object, *rights, *directory),
         Objection::Mounting => write_mounting(out),
         Objection::Kept { right, opened } => write_kept(out, records, *right, *opened),
-    }
-}
-
-/// The line of the record that made a layer, or 0 where there is none.
-fn line_made(records: &[Record], made: Option<u32>) -> u64
-    ensures { result ≡ line_of (option_and_then (slice_get records.now) made) }
-{
-    match made {
-        None => 0,
-        Some(place) => line_at(records, place),
     }
 }
 

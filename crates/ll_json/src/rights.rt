@@ -4,7 +4,6 @@ ghost use Rattle.std.specs.Prelude.{◌≡◌, ◌∷◌};
 ghost use Rattle.std.specs.List.{flat_map};
 ghost use Rattle.json.specs.Token as token;
 ghost use Rattle.json.specs.Tree.{json_tokens};
-ghost use Rattle.ll_explain.specs.Words.{word_for};
 ghost use Rattle.ll_explanations.specs.Sets.{port_rights_in, rights_in};
 ghost use Rattle.ll_json.specs.Names.{name_in, port_name_in};
 ghost use Rattle.ll_json.specs.Told.{Tells};
@@ -12,18 +11,8 @@ ghost use Rattle.ll_json.specs.Why.{port_rights_json, rights_json};
 
 use crate::words::{Added, begin_array, end_array, write_key, write_string};
 use json::Writer;
+use ll_explain::word_for;
 use ll_rights::{Fs, FsRight, Net, NetRight};
-
-/// The word for a right by its name, which may be empty.
-pub(crate) fn word_for(name: &str) -> &str
-    ensures { result.now ≡ word_for name.now }
-{
-    if name.is_empty() {
-        "a right of another name"
-    } else {
-        name
-    }
-}
 
 /// Writes the name of a right for files, where a set has it.
 #[tactic(auto, unfolding(crate::specs::Names::name_in))]

@@ -1,11 +1,11 @@
 //! Reports as JSON, as the documents say them.
 
-use crate::json_report;
+use crate::{InJson, json_report};
 use ll_fixtures::TREE;
 use ll_options::Shown;
 use ll_pool::judge_alone;
 use ll_process::Case;
-use ll_report::Report;
+use ll_report::{Finding, Report};
 use ll_rights::Abi;
 use ll_trace::Trace;
 use ll_tree::Tree;
@@ -59,13 +59,17 @@ const REFUSED: &str = "\
 {\"line\":10,\"pid\":10,\"op\":\"add_path\",\"answers\":[{\"abi\":[4,4],\"answer\":\"refused\",\"error\":\"EINVAL\",\"layers\":[]}]}\n\
 {\"totals\":[{\"abi\":4,\"records\":12,\"allowed\":6,\"refused\":5,\"moot\":1}],\"version\":\"7.8.9\"}\n";
 
-/// The report on the trace.
+/// The report on the trace under ABI 4.
 fn report_on_trace(alloc: Global, shown: Shown) -> Result<Report, Fail> {
     let tree = Tree::read(alloc, TREE.as_bytes())?;
     let trace = Trace::read(alloc, TRACE.as_bytes())?;
     let case = Case::new(alloc, tree, trace, Abi::V4)?;
     let answers = judge_alone(alloc, &case)?;
-    Ok(json_report(alloc, &case, &answers, shown, "7.8.9")?)
+    let finding = Finding::of::<InJson>(alloc, &case, answers, shown, None)?;
+    let mut findings = Vec::new(alloc);
+    findings.push(finding)?;
+    let records = case.trace().records();
+    Ok(json_report(alloc, shown, 4, &findings, records, "7.8.9")?)
 }
 
 #[test]

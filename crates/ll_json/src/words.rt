@@ -1,6 +1,6 @@
 //! The words of JSON: brackets, names of members, texts and numbers.
 
-ghost use Rattle.std.specs.Prelude.{◌∷◌, [], true, decimal};
+ghost use Rattle.std.specs.Prelude.{◌≡◌, ◌∷◌, [], true, decimal};
 ghost use Rattle.json.specs.Token as token;
 ghost use Rattle.json.specs.Json.{string};
 ghost use Rattle.json.specs.Tree.{json_tokens};
@@ -8,10 +8,18 @@ ghost use Rattle.ll_json.specs.Parts.{object_of, whole};
 ghost use Rattle.ll_json.specs.Told.{Tells};
 
 use json::Writer;
-use std::alloc::AllocError;
+use std::alloc::{AllocError, Global};
+use std::mem;
 
 /// What writing gives: nothing, or that memory ran out.
 pub(crate) type Added = Result<(), AllocError>;
+
+/// Takes a text out of its place.
+pub(crate) fn taken(alloc: Global, text: &mut Vec<u8>) -> Vec<u8>
+    ensures { result.items ≡ text.old.items }
+{
+    mem::replace(text, Vec::new(alloc))
+}
 
 /// Begins an object.
 pub(crate) fn begin_object(out: &mut Writer) -> Added

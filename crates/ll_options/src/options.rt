@@ -1,6 +1,7 @@
 //! The options of an audit.
 
 use crate::abis::AbiRange;
+use crate::format::Format;
 use crate::shown::Shown;
 
 /// How the rulesets of a trace are taken.
@@ -15,10 +16,11 @@ pub enum Effort {
 }
 
 /// The options of an audit: the versions of Landlock's interface that answer, how rulesets are taken,
-/// and how much of the report is shown.
+/// how much of the report is shown, and in which form it is written.
 #[derive(Clone, Copy, Debug, PartialEq, Eq)]
 pub struct Options {
     pub abis: AbiRange,
     pub effort: Effort,
     pub shown: Shown,
+    pub format: Format,
 }

@@ -63,6 +63,15 @@ and-true : (b : Bool) → (b && true) ≡ b
 and-true true = refl
 and-true false = refl
 
+pub left_out_alike : (shown : Shown) (founds : List Found) (place : ℕ) (answer : Answer) → IsSaid (λ (found : Found). answer_at found place) answer founds
+    → is_row_left_out shown founds place ≡ is_left_out shown (verdict_of answer)
+left_out_alike shown founds place answer are = rw (
+  refused_alike place answer founds are,
+  agree_alike (λ (found : Found). answer_at found place)
+      (λ (a : Answer). verdict_text (verdict_of a)) answer founds are.1,
+  and-true shown.differing_alone,
+) refl
+
 -- a text, a line behind it and what is behind the line, taken together in another way
 joined : (before told blank verdict end behind : List ℕ)
     → (before ++ (told ++ blank ++ verdict ++ end)) ++ behind ≡ before ++ (told ++ (blank ++ verdict) ++ end ++ behind)
@@ -73,16 +82,8 @@ joined before told blank verdict end behind =
 -- the row of a record that all versions answer alike
 module _ (shown : Shown) (oldest : ℕ) (founds : List Found) (place : ℕ) (r : Record) (answer : Answer)
     (are : IsSaid (λ (found : Found). answer_at found place) answer founds) where
-  left_out_alike : is_row_left_out shown founds place ≡ is_left_out shown (verdict_of answer)
-  left_out_alike = rw (
-    refused_alike place answer founds are,
-    agree_alike (λ (found : Found). answer_at found place)
-        (λ (a : Answer). verdict_text (verdict_of a)) answer founds are.1,
-    and-true shown.differing_alone,
-  ) refl
-
   pub row_left_out : is_left_out shown (verdict_of answer) ≡ true → row_text shown oldest founds place (told_of r) ≡ []
-  row_left_out out = rw (left_out_alike ∙ out) refl
+  row_left_out out = rw (left_out_alike shown founds place answer are ∙ out) refl
 
   pub row_written : (before : List ℕ) → is_left_out shown (verdict_of answer) ≡ false
       → (before ++ line_text (line_of r answer)) ++ behind_line shown.explanations (versions_text Explanations oldest (explanations_said founds place))
@@ -91,6 +92,6 @@ module _ (shown : Shown) (oldest : ℕ) (founds : List Found) (place : ℕ) (r :
       joined before (told_of r) (codes " ") (verdict_text (verdict_of answer)) (codes "\n")
       (behind_line shown.explanations (versions_text Explanations oldest (explanations_said founds place)))
       ∙ rw (
-        left_out_alike ∙ shows,
+        left_out_alike shown founds place answer are ∙ shows,
         versions_alike (λ (found : Found). answer_at found place) (λ (a : Answer). verdict_text (verdict_of a)) answer Answers oldest founds are,
       ) refl

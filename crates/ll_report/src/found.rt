@@ -3,12 +3,12 @@
 ghost use Rattle.std.specs.Prelude.{◌≡◌, IfOk, length, map};
 ghost use Rattle.std.specs.List.{range_with_len};
 ghost use Rattle.ll_semantics.specs.Worlds.{judged};
-ghost use Rattle.ll_explain.specs.Explained.{text_at};
-ghost use Rattle.ll_report.specs.Found.{answer_at, explanation_at, found_under};
+ghost use Rattle.ll_report.specs.Found.{answer_at, explanation_at, found_by};
 ghost use Rattle.ll_report.specs.Rows.{said_by};
 
 use crate::report::push_verdict;
 use crate::spans::Form;
+use crate::telling::Telling;
 use crate::texts::Texts;
 use ll_options::Shown;
 use ll_process::{Answer, Case};
@@ -34,9 +34,9 @@ impl Model for Finding {
 }
 
 impl Finding {
-    /// What the answers to the records of a case are, with their explanations, where these are shown. An explanation
-    /// shares the memory of a like one that was found under a newer version.
-    pub fn of(
+    /// What the answers to the records of a case are, with their explanations in a form, where these are shown. An
+    /// explanation shares the memory of a like one that was found under a newer version.
+    pub fn of<T: Telling>(
         alloc: Global,
         case: &Case,
         answers: Vec<Answer>,
@@ -45,10 +45,10 @@ impl Finding {
     ) -> Result<Finding, NoMemory>
         requires { answers.items ≡ judged case.now.tree case.now.abi case.now.records }
         ensures { IfOk result (λ found. found
-            ≡ found_under shown case.now.tree case.now.records case.now.abi) }
+            ≡ found_by T.told shown case.now.tree case.now.records case.now.abi) }
     {
         let explanations = if shown.explanations {
-            explanations_of(alloc, case, &answers, newer)?
+            explanations_of::<T>(alloc, case, &answers, newer)?
         } else {
             Texts::new(alloc)
         };
@@ -59,14 +59,14 @@ impl Finding {
     }
 
     /// The answers to all records.
-    pub(crate) fn answers(&self) -> &[Answer]
+    pub fn answers(&self) -> &[Answer]
         ensures { result.now ≡ self.now.answers }
     {
         &self.answers
     }
 
     /// The answer to the record at a place.
-    pub(crate) fn answer(&self, place: usize) -> Answer
+    pub fn answer(&self, place: usize) -> Answer
         ensures { result ≡ answer_at self.now place }
     {
         match self.answers.get(place) {
@@ -76,7 +76,7 @@ impl Finding {
     }
 
     /// The explanation of the record at a place.
-    pub(crate) fn explanation(&self, place: usize) -> &[u8]
+    pub fn explanation(&self, place: usize) -> &[u8]
         ensures { result.now ≡ explanation_at self.now place }
     {
         self.explanations.get(place)
@@ -100,8 +100,8 @@ impl Finding {
     }
 }
 
-/// The explanations of the answers to all records of a case.
-fn explanations_of(
+/// The explanations of the answers to all records of a case, in a form.
+fn explanations_of<T: Telling>(
     alloc: Global,
     case: &Case,
     answers: &[Answer],
@@ -109,7 +109,7 @@ fn explanations_of(
 ) -> Result<Texts, NoMemory>
     requires { answers.now ≡ judged case.now.tree case.now.abi case.now.records }
     ensures { IfOk result (λ texts. texts
-        ≡ map (text_at case.now.tree case.now.abi case.now.records)
+        ≡ map (T.told case.now.tree case.now.abi case.now.records)
         (range_with_len 0 (length case.now.records))) }
 {
     let others = match newer {
@@ -119,7 +119,7 @@ fn explanations_of(
     let mut texts = Texts::new(alloc);
     let mut trails = TraceOrigins::new(alloc);
     for (place, answer) in answers.iter().enumerate() {
-        texts.push_explanation(alloc, case, &trails, place, *answer, others)?;
+        texts.push_explanation::<T>(alloc, case, &trails, place, *answer, others)?;
         trails.follow(alloc, case, place, *answer)?;
     }
     Ok(texts)

@@ -9,9 +9,13 @@ mod names;
 mod report;
 mod rows;
 mod spans;
+mod telling;
 mod texts;
 
 pub use found::Finding;
 pub use laws::{empty_report, spans_give_back_what_was_said};
 pub use ll_options::{ALL_LINES, Shown};
-pub use report::Report;
+pub use names::error_name;
+pub use report::{Report, Totals};
+pub use rows::{is_left_out, refused_under_some};
+pub use telling::{InWords, Telling};

@@ -6,7 +6,7 @@ ghost use Rattle.ll_report.specs.Names as spec;
 use ll_rules::Errno;
 
 /// The name of an error.
-pub(crate) fn error_name(error: Errno) -> &'static str
+pub fn error_name(error: Errno) -> &'static str
     ensures { result.now ≡ spec.error_name error }
 {
     match error {

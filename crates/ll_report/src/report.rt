@@ -208,15 +208,20 @@ fn is_moot(answer: &Answer) -> bool
 
 /// How many answers there are of each kind.
 #[derive(Clone, Copy, Debug)]
-pub(crate) struct Totals {
-    all: u64,
-    allowed: u64,
-    refused: u64,
-    moot: u64,
+pub struct Totals {
+    /// All answers.
+    pub all: u64,
+    /// The records that are allowed.
+    pub allowed: u64,
+    /// The records that are refused.
+    pub refused: u64,
+    /// The records about which the policy isn't asked.
+    pub moot: u64,
 }
 
 impl Totals {
-    pub(crate) fn of(answers: &[Answer]) -> Totals
+    /// How many of these answers there are of each kind.
+    pub fn of(answers: &[Answer]) -> Totals
         ensures all { result.all ≡ length answers.now }
         ensures allowed { result.allowed
             ≡ count_by (λ answer. words.is_allowed (verdict_of answer)) answers.now }

@@ -45,6 +45,28 @@ fn is_refused_under_some(findings: &[Finding], place: usize) -> bool
         .any(|finding| is_refused(&finding.answer(place)))
 }
 
+/// Whether the record at a place is left out of what is shown, by what is answered to it under each version.
+pub fn is_left_out(
+    alloc: Global,
+    shown: Shown,
+    findings: &[Finding],
+    place: usize,
+) -> Result<bool, AllocError>
+    ensures { IfOk result (λ out. out ≡ is_row_left_out shown findings.now place) }
+{
+    if let Some(answer) = common_answer(findings, place) {
+        return Ok(is_hidden(shown, &answer));
+    }
+    let versions = Versions {
+        alloc,
+        shown,
+        oldest: 0,
+        findings,
+    };
+    let answers = said_under(alloc, Form::Answers, findings, place)?;
+    Ok(versions.is_left_out(place, &answers))
+}
+
 /// What a report over neighbouring versions is made of: what is shown of it, the number of the oldest version, and what
 /// was found under each.
 #[derive(Drop)]
@@ -173,7 +195,7 @@ fn push_total_under(text: &mut Vec<u8>, abi: u64, finding: &Finding) -> Result<(
 }
 
 /// How many records some version refuses, of this many.
-fn refused_under_some(findings: &[Finding], records: usize) -> u64
+pub fn refused_under_some(findings: &[Finding], records: usize) -> u64
     ensures { result ≡ count_by (is_refused_under_some findings.now) (range_with_len 0 records) }
 {
     (0..records)

@@ -2,10 +2,9 @@
 
 ghost use Rattle.std.specs.Prelude.{◌≡◌, ◌∷◌, ◌++◌, ◌<◌, [], IfOk, OnOk, length, slice_get, unwrap_or};
 ghost use Rattle.ll_trails.specs.CaseTrails.{AreTrailsAt, IsAnswerAt};
-ghost use Rattle.ll_explain.specs.Explained.{text_at};
 ghost use Rattle.ll_report.specs.Texts.{text_in};
 
-use ll_explain::push_explanation;
+use crate::telling::Telling;
 use ll_process::{Answer, Case};
 use ll_rules::NoMemory;
 use ll_trails::TraceOrigins;
@@ -123,7 +122,7 @@ impl Texts {
 
     /// Adds the explanation of the record at a place, which shares the memory of the text at that place of the others
     /// where it is like it.
-    pub(crate) fn push_explanation(
+    pub(crate) fn push_explanation<T: Telling>(
         &mut self,
         alloc: Global,
         case: &Case,
@@ -136,10 +135,10 @@ impl Texts {
         requires answer { IsAnswerAt case.now place answer }
         requires trails { AreTrailsAt case.now place trails.now }
         ensures { OnOk result (self.new
-            ≡ self.old ++ text_at case.now.tree case.now.abi case.now.records place ∷ []) }
+            ≡ self.old ++ T.told case.now.tree case.now.abi case.now.records place ∷ []) }
     {
         let mut bytes = Vec::new(alloc);
-        push_explanation(alloc, &mut bytes, case, trails, place, answer)?;
+        T::push(alloc, &mut bytes, case, trails, place, answer)?;
         self.push_like(alloc, &bytes, place, others)?;
         Ok(())
     }

@@ -1,4 +1,4 @@
-//! Reports of which a part is shown, and explanations over a range of versions.
+//! Reports of which a part is shown, explanations over a range of versions, and reports as JSON.
 
 use crate::tests::ready::{TRACE, run};
 use ll_fixtures::TREE;
@@ -42,9 +42,19 @@ total 5 abi 2 allowed 5 refused 0 moot 0
 total 5 abi 3 allowed 4 refused 1 moot 0
 ";
 
+const REFUSED_IN_JSON: &str = "\
+{\"line\":7,\"pid\":10,\"op\":\"open\",\"answers\":[{\"abi\":[4,4],\"answer\":\"refused\",\"error\":\"EACCES\",\"layers\":[{\"layer\":1}]}]}\n\
+{\"totals\":[{\"abi\":4,\"records\":8,\"allowed\":7,\"refused\":1,\"moot\":0}],\"version\":\"0.2 (rattle-kit-13f logic dac8208d650f15bf)\"}\n";
+
+const DIFFERING_IN_JSON: &str = "\
+{\"line\":2,\"pid\":10,\"op\":\"create\",\"answers\":[{\"abi\":[1,1],\"answer\":\"refused\",\"error\":\"EINVAL\",\"layers\":[],\"why\":{\"condition\":\"unknown\",\"abi\":1,\"rights\":[\"truncate\"]}},{\"abi\":[2,2],\"answer\":\"refused\",\"error\":\"EINVAL\",\"layers\":[],\"why\":{\"condition\":\"unknown\",\"abi\":2,\"rights\":[\"truncate\"]}},{\"abi\":[3,4],\"answer\":\"allowed\"}]}\n\
+{\"line\":3,\"pid\":10,\"op\":\"restrict\",\"answers\":[{\"abi\":[1,2],\"answer\":\"refused\",\"error\":\"EBADF\",\"layers\":[],\"why\":{\"condition\":\"unheld\",\"rs\":3}},{\"abi\":[3,4],\"answer\":\"allowed\"}]}\n\
+{\"line\":4,\"pid\":10,\"op\":\"truncate\",\"answers\":[{\"abi\":[1,2],\"answer\":\"allowed\"},{\"abi\":[3,4],\"answer\":\"refused\",\"error\":\"EACCES\",\"layers\":[{\"layer\":1,\"line\":3,\"objections\":[{\"missing\":[\"truncate\"],\"on\":\"/a/f\"}]}]}]}\n\
+{\"totals\":[{\"abi\":1,\"records\":5,\"allowed\":3,\"refused\":2,\"moot\":0},{\"abi\":2,\"records\":5,\"allowed\":3,\"refused\":2,\"moot\":0},{\"abi\":3,\"records\":5,\"allowed\":4,\"refused\":1,\"moot\":0},{\"abi\":4,\"records\":5,\"allowed\":4,\"refused\":1,\"moot\":0}],\"version\":\"0.2 (rattle-kit-13f logic dac8208d650f15bf)\"}\n";
+
 #[test]
 fn a_part_of_the_report_is_shown(rt: HostRuntime) -> Result<(), Fail> {
-    let cases: [(&[&str], &str, &str); 3] = [
+    let cases: [(&[&str], &str, &str); 5] = [
         (
             ["landaudit", "--abi", "4", "t", "r", "--refused"].as_slice(),
             TRACE,
@@ -77,6 +87,26 @@ fn a_part_of_the_report_is_shown(rt: HostRuntime) -> Result<(), Fail> {
             .as_slice(),
             RIGHTS_OF_3,
             REFUSED_AT_BEST_EFFORT,
+        ),
+        (
+            ["landaudit", "--abi", "4", "t", "r", "--json", "--refused"].as_slice(),
+            TRACE,
+            REFUSED_IN_JSON,
+        ),
+        (
+            [
+                "landaudit",
+                "--abi",
+                "1-4",
+                "t",
+                "r",
+                "--json",
+                "--differs",
+                "--explain",
+            ]
+            .as_slice(),
+            RIGHTS_OF_3,
+            DIFFERING_IN_JSON,
         ),
     ];
     for (words, trace, report) in cases {

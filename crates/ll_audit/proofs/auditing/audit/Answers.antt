@@ -1,6 +1,7 @@
 use Rattle.std.proofs.Common.{subst}
 use Rattle.std.proofs.lemmas.Result.{IfOk-weaker}
 use Rattle.ll_options.specs.declared.shown.TheConstants.{ALL_LINES}
+use Rattle.ll_options.specs.declared.format.Format.TheVariants.{Text}
 use Rattle.ll_options.specs.Versions.{Range}
 use Rattle.ll_options.specs.declared.options.Effort.TheVariants.{AsRecorded}
 use Rattle.ll_audit.specs.ShownReports.{IsReportWith}
@@ -11,6 +12,7 @@ pub returns-clause-report : goal.returns-clause-report
 returns-clause-report g c =
     IfOk-weaker c.audit_with.result _ _
     (λ report is. with_all_lines c.args.abi c.args.tree.now c.args.trace.now report
-    (subst (λ (abis : Range). IsReportWith (record { abis = abis; effort = AsRecorded; shown = ALL_LINES }) c.args.tree.now c.args.trace.now report)
+    (subst
+    (λ (abis : Range). IsReportWith (record { abis = abis; effort = AsRecorded; shown = ALL_LINES; format = Text }) c.args.tree.now c.args.trace.now report)
     c.only.ensures is))
     c.audit_with.ensures.report

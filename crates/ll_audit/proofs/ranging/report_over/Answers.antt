@@ -5,10 +5,12 @@ use Rattle.std.proofs.lemmas.List.{length-map}
 use Rattle.ll_report.specs.Found.{Found}
 use Rattle.ll_report.specs.Rows.{is_refused_under_some, refused_under_some, rows_text, told_of, totals_from}
 use Rattle.ll_report.proofs.RowsLeft.{same_rows}
+use Rattle.ll_json.specs.Records.{about}
+use Rattle.ll_options.specs.declared.format.Format.TheVariants.{Text}
 use Rattle.ll_audit.specs.ShownReports.{findings}
 use Rattle.ll_rights.specs.Abis.{number_of}
 use Rattle.ll_options.proofs.Few.{small_number}
-use Rattle.ll_audit.proofs.VersionByVersion.{few_found}
+use Rattle.ll_audit.proofs.VersionByVersion.{few_found, same_told}
 use Rattle.ll_audit.proofs.ranging.report_over.Goals as goal
 
 pub over-requires : goal.over-requires
@@ -19,19 +21,20 @@ over-requires g c =
       ap number_of c.oldest-oldest.ensures.version,
       small_number c.args.options.now.abis.oldest,
       ap length (c.deref.ensures.value ∙ c.in_ok-all.ensures.findings),
-      few_found c.args.options.now c.in_ok-located.located.tree c.in_ok-located.located.trace,
+      few_found Text c.args.options.now c.in_ok-none.none.located.tree c.in_ok-none.none.located.trace,
     )
 
 pub returns-clause-report : goal.returns-clause-report
 returns-clause-report g c =
     let shown = c.args.options.now.shown in
     let oldest : ℕ = number_of c.args.options.now.abis.oldest in
-    let all : List Found = findings c.args.options.now c.args.tree c.args.trace in
+    let all : List Found = findings Text c.args.options.now c.args.tree c.args.trace in
     let same : c.deref.result.now ≡ all =
     c.deref.ensures.value ∙ c.in_ok-all.ensures.findings
-    ∙ ap₂ (findings c.args.options.now) c.in_ok-located.ensures.tree c.in_ok-located.ensures.trace in
+    ∙ ap₂ (findings Text c.args.options.now) c.in_ok-none.ensures.tree c.in_ok-none.ensures.trace in
     let told : map told_of c.records.result.now ≡ map told_of c.args.trace =
-    ap (map told_of) c.records.ensures.value ∙ c.in_ok-all.ensures.records ∙ ap (map told_of) c.in_ok-located.ensures.trace in
+    same_told c.records.result.now c.args.trace
+    (ap (map about) c.records.ensures.value ∙ c.in_ok-all.ensures.records ∙ ap (map about) c.in_ok-none.ensures.trace) in
     let many : length c.records.result.now ≡ length c.args.trace =
     omega (arith, ap length told, length-map c.records.result.now told_of, length-map c.args.trace told_of) in
     record {

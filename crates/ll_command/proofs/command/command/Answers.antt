@@ -23,13 +23,14 @@ returns c =
     let options = c.in_ok-arg-3.ensures.shape grain_local
     ∙ ap₂ with_rule (c.in_ok-arg-2.ensures.shape workers_local
     ∙ ap₂ with_rule (c.in_ok-arg.ensures.shape abi_local ∙ ap₂ with_rule start abi) workers) grain in
-    let flags = c.in_ok-arg-7.ensures.shape c.option-4.ensures.local
+    let flags = c.in_ok-arg-8.ensures.shape c.option-5.ensures.local
+    ∙ ap₂ with_rule (c.in_ok-arg-7.ensures.shape c.option-4.ensures.local
     ∙ ap₂ with_rule (c.in_ok-arg-6.ensures.shape c.option-3.ensures.local
     ∙ ap₂ with_rule (c.in_ok-arg-5.ensures.shape c.option-2.ensures.local
     ∙ ap₂ with_rule (c.in_ok-arg-4.ensures.shape c.option.ensures.local
-    ∙ ap₂ with_rule options c.option.ensures.rule) c.option-2.ensures.rule) c.option-3.ensures.rule) c.option-4.ensures.rule in
-    let tree = c.in_ok-arg-8.ensures.shape c.file_argument.ensures.local
+    ∙ ap₂ with_rule options c.option.ensures.rule) c.option-2.ensures.rule) c.option-3.ensures.rule) c.option-4.ensures.rule) c.option-5.ensures.rule in
+    let tree = c.in_ok-arg-9.ensures.shape c.file_argument.ensures.local
     ∙ ap₂ with_rule flags c.file_argument.ensures.rule in
-    IfOk-weaker c.arg-9.result _ _
+    IfOk-weaker c.arg-10.result _ _
     (λ made h. h.shape c.file_argument-2.ensures.local ∙ ap₂ with_rule tree c.file_argument-2.ensures.rule)
-    c.arg-9.ensures
+    c.arg-10.ensures

@@ -12,7 +12,7 @@ returns-clause-explained c = rw (decimal_digit 1 (lit< tt), decimal_digit 6 (lit
 
 pub returns-clause-bare : goal.returns-clause-bare
 unfolding answer_members layers_json why_members escape_byte print_from
-returns-clause-bare c = rw (decimal_digit 1 (lit< tt), decimal_digit 2 (lit< tt)) refl
+returns-clause-bare c = rw (decimal_digit 1 (lit< tt), decimal_digit 2 (lit< tt), decimal_digit 4 (lit< tt)) refl
 
 pub returns-clause-moot : goal.returns-clause-moot
 unfolding answer_members layers_json why_members reason_json text_of escape_byte print_from

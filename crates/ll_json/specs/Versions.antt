@@ -1,0 +1,15 @@
+-- The versions that answer a trace, as they take it.
+-- Source: docs/FORMATS.md, "Several versions".
+use Rattle.std.specs.Prelude.{◌≤◌, ℕ, List, [], ◌∷◌, length}
+use Rattle.ll_rights.specs.declared.abi.Abi.{Abi}
+use Rattle.ll_trace.specs.declared.record.Record.{Record}
+
+-- a version of Landlock's interface, and the records as they are taken under it
+pub record Version : Type 0 where
+  pub abi : Abi
+  pub records : List Record
+
+-- there are at least so many records under each version
+abbrev pub HaveAll : List Version → ℕ → Type 0
+HaveAll [] n = Unit {0}
+HaveAll (version ∷ newer) n = (n ≤ length version.records) × HaveAll newer n

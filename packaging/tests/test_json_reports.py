@@ -1,0 +1,171 @@
+"""The examples' reports as JSON say what their texts say, and the schema describes them."""
+
+from __future__ import annotations
+
+import json
+import re
+import unittest
+from copy import deepcopy
+from typing import Any
+
+from .places import TOP
+from .report_text import objects
+from .schema import CHECKS, SILENT, Validator
+
+DATA = TOP / "crates" / "ll_examples" / "data"
+SCHEMA = json.loads((TOP / "docs" / "report.schema.json").read_text(encoding="utf-8"))
+COMMAND = (TOP / "crates" / "ll_command" / "src" / "command.rt").read_text(encoding="utf-8")
+INDEX = [json.loads(line) for line in (DATA / "index.jsonl").read_text(encoding="utf-8").splitlines()]
+
+RECORD = {
+    "line": 7,
+    "pid": 300,
+    "op": "rename",
+    "answers": [
+        {
+            "abi": [1, 1],
+            "answer": "refused",
+            "error": "EXDEV",
+            "layers": [
+                {
+                    "layer": 1,
+                    "line": 6,
+                    "objections": [
+                        {"missing": ["refer"], "on": "/build/tmp"},
+                        {"gains": ["write_file"], "object": "/src/main.c", "in": "/build/tmp"},
+                    ],
+                }
+            ],
+        },
+        {"abi": [2, 5], "answer": "allowed"},
+    ],
+}
+LAST = {"totals": [{"abi": 4, "records": 7, "allowed": 6, "refused": 1, "moot": 0}], "version": "0.2"}
+
+
+def version() -> str:
+    """What `landaudit --version` prints behind the name."""
+    found = re.search(r'^pub const VERSION: &str = "(.+)";$', COMMAND, re.MULTILINE)
+    assert found is not None
+    return found[1]
+
+
+def abis_of(example: dict[str, Any]) -> range:
+    oldest, _, newest = str(example["abi"]).partition("-")
+    return range(int(oldest), int(newest or oldest) + 1)
+
+
+def changed(value: Any, way: list[str | int], to: Any) -> Any:
+    """A copy of a value, in which the one at the end of a way is another; without it, if that is None."""
+    copy = deepcopy(value)
+    at = copy
+    for step in way[:-1]:
+        at = at[step]
+    if to is None:
+        del at[way[-1]]
+    else:
+        at[way[-1]] = to
+    return copy
+
+
+class Examples(unittest.TestCase):
+    def test_each_report_says_what_its_text_says(self) -> None:
+        for example in INDEX:
+            with self.subTest(example["name"]):
+                text = (DATA / example["explained"]).read_text(encoding="utf-8")
+                lines = (DATA / example["json"]).read_text(encoding="utf-8").splitlines()
+                wanted = objects(text, abis_of(example), version())
+                self.assertEqual(len(lines), len(wanted))
+                for line, value in zip(lines, wanted):
+                    self.assertEqual(json.loads(line), value)
+
+    def test_each_line_is_printed_without_spaces_in_the_order_of_the_documents(self) -> None:
+        for example in INDEX:
+            text = (DATA / example["explained"]).read_text(encoding="utf-8")
+            printed = [
+                json.dumps(value, separators=(",", ":"), ensure_ascii=False)
+                for value in objects(text, abis_of(example), version())
+            ]
+            with self.subTest(example["name"]):
+                self.assertEqual((DATA / example["json"]).read_text(encoding="utf-8").splitlines(), printed)
+
+    def test_the_schema_describes_each_line(self) -> None:
+        schema = Validator(SCHEMA)
+        for example in INDEX:
+            for line in (DATA / example["json"]).read_text(encoding="utf-8").splitlines():
+                with self.subTest(example["name"], line=line):
+                    self.assertTrue(schema.allows(json.loads(line)))
+
+
+class Schema(unittest.TestCase):
+    def test_it_describes_the_lines_of_the_documents(self) -> None:
+        self.assertTrue(Validator(SCHEMA).allows(RECORD))
+        self.assertTrue(Validator(SCHEMA).allows(LAST))
+
+    def test_it_refuses_other_lines(self) -> None:
+        schema = Validator(SCHEMA)
+        layer: list[str | int] = ["answers", 0, "layers", 0]
+        for way, to in (
+            (["line"], 0),
+            (["line"], True),
+            (["line"], "7"),
+            (["pid"], -1),
+            (["op"], "touch"),
+            (["why"], "words"),
+            (["answers"], []),
+            (["answers"], None),
+            (["answers", 0, "abi"], [1]),
+            (["answers", 0, "abi"], [0, 1]),
+            (["answers", 0, "answer"], "denied"),
+            (["answers", 0, "answer"], "allowed"),
+            (["answers", 0, "error"], "EIO"),
+            (["answers", 0, "layers"], None),
+            (["answers", 0, "why"], {"reason": "root"}),
+            (["answers", 1, "why"], {"condition": "full"}),
+            ([*layer, "layer"], 17),
+            ([*layer, "line"], None),
+            ([*layer, "objections"], []),
+            ([*layer, "objections"], None),
+            ([*layer, "objections", 0, "missing"], ["reefer"]),
+            ([*layer, "objections", 0, "missing"], ["refer", "refer"]),
+            ([*layer, "objections", 0, "on"], "build"),
+            ([*layer, "objections", 0, "port"], 80),
+            ([*layer, "objections", 1, "in"], None),
+        ):
+            with self.subTest(way=way, to=to):
+                self.assertFalse(schema.allows(changed(RECORD, list(way), to)))
+        for way, to in ((["version"], ""), (["version"], None), (["totals"], []), (["totals", 0, "moot"], None)):
+            with self.subTest(way=way, to=to):
+                self.assertFalse(schema.allows(changed(LAST, list(way), to)))
+
+    def test_each_of_its_keywords_is_checked(self) -> None:
+        def words(schema: Any) -> set[str]:
+            below = [*schema.get("$defs", {}).values(), *schema.get("properties", {}).values(), *schema.get("oneOf", [])]
+            below += [schema["items"]] if "items" in schema else []
+            return set(schema).union(*(words(one) for one in below))
+
+        self.assertLessEqual(words(SCHEMA), {*CHECKS, *SILENT, "additionalProperties"})
+
+
+class Words(unittest.TestCase):
+    def test_each_condition_and_reason_but_one_is_in_an_example(self) -> None:
+        texts = "".join((DATA / example["json"]).read_text(encoding="utf-8") for example in INDEX)
+        for word, missing in (("condition", set()), ("reason", {"no_directory"})):
+            with self.subTest(word):
+                shown = set(re.findall(rf'"{word}":"(\w+)"', texts))
+                known = {one["properties"][word]["const"] for one in SCHEMA["$defs"][word]["oneOf"]}
+                self.assertEqual(known - shown, missing)
+                self.assertLessEqual(shown, known)
+
+    def test_the_documents_have_each_condition_and_reason(self) -> None:
+        formats = (TOP / "docs" / "FORMATS.md").read_text(encoding="utf-8")
+        section = formats.partition("## The report as JSON")[2].partition("\n## ")[0]
+        for word in ("condition", "reason"):
+            table = section.partition(f"| `{word}` | Others | In the text |\n|---|---|---|\n")[2].partition("\n\n")[0]
+            rows = {row.split("|")[1].strip(" `") for row in table.splitlines()}
+            with self.subTest(word):
+                self.assertEqual(rows, {one["properties"][word]["const"] for one in SCHEMA["$defs"][word]["oneOf"]})
+
+
+if __name__ == "__main__":
+    unittest.main()
