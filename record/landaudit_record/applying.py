@@ -183,7 +183,7 @@ def _nowhere(trace: Path, program: str | None, programs: list[str]) -> str:
     if not programs:
         return f"{trace} runs no program (it has no exec record): there is nowhere to put the policy"
     if program is None:
-        return f"no process that {trace} starts runs a program itself: name one by --program, as {programs[0]}"
+        return f"no process that {trace} starts runs a program itself: name one with --program, such as {programs[0]}"
     near = difflib.get_close_matches(program, [*map(_last_name, programs), *programs], n=1)
     meant = f", did you mean {near[0]}?" if near else ":"
     shown = ", ".join(programs[:MOST_PROGRAMS_SHOWN])
@@ -268,8 +268,8 @@ def write(trace: Path, places: Plan, inserted: list[Record], out: BinaryIO) -> N
     """Writes a trace with records put in by a plan; the trace's own lines stay as they are."""
     total = places.records(inserted)
     if total > MOST_RECORDS:
-        raise Problem(f"with the policy put in {places.times} times {trace} has {total:,} records, and landaudit "
-                      f"reads {MOST_RECORDS:,}: name another program by --program, or record less")
+        raise Problem(f"{trace} has {total:,} records with the policy in it {places.times} times, but landaudit reads "
+                      f"at most {MOST_RECORDS:,}: name another program with --program, or record less")
     with open(trace, "rb") as lines:
         for number, line in enumerate(lines, start=1):
             pid = places.before.get(number)

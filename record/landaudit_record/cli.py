@@ -43,7 +43,7 @@ RECORD = Program(
 )
 POLICY = Program(
     POLICIES,
-    "Put a Landlock policy in force, and see what it lets through where no program was recorded.",
+    "Put a Landlock policy in force, compare policies, and check them, without a recording.",
     "landaudit-policy confine policy.toml -- sort /etc/passwd",
     policy_commands.__name__,
     policy_commands.NAMES,

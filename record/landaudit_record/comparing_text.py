@@ -19,7 +19,7 @@ def lines(tally: Tally, title: str) -> Iterator[str]:
     yield title
     yield f"{tally.calls:>9,}  calls on rulesets or under a layer"
     yield f"{tally.agreed:>9,}  agree, {_percent(tally)} %"
-    yield f"{tally.moot:>9,}  of all, landaudit was not asked about"
+    yield f"{tally.moot:>9,}  of these, moot (Landlock is not asked)"
     if tally.differences:
         yield ""
         yield "differences by class"

@@ -40,7 +40,7 @@ def cut(trace: Path, folder: Path, weights: Mapping[int, int], most: int = MOST)
         pieces += 1
         again = living.again()
         if len(again) > most:
-            raise Problem(f"{trace} has too many processes at one time for a policy: name another program by --program")
+            raise Problem(f"{trace} has too many processes at one time for a policy: name another program with --program")
 
 
 def _calls(trace: Path) -> Iterator[list[tuple[int, Record]]]:

@@ -108,7 +108,7 @@ class Distilling:
             for number, record in jsonl.numbered(trace):
                 answer = next(answers, b"")
                 if not answer.startswith(b"%d %d " % (number, record["pid"])):
-                    raise Problem(f"{report} is no report on {trace}: use programs of one version")
+                    raise Problem(f"{report} is not a report on {trace}: use programs of one version")
                 if answer.endswith(b" allowed\n"):
                     self._take(record)
                 elif b" refused " in answer and (origin := of_policy(record)) is not None:
@@ -168,13 +168,14 @@ class Distilling:
 
 
 def _refused(record: Record, origin: Mapping[str, Any]) -> Problem:
-    """That the kernel refuses a call of the policy's own."""
+    """The problem that the kernel refuses one of the policy's own calls."""
     where = ", ".join([f"layer {origin['layer']}", *([origin["rule"]] if "rule" in origin else [])])
     if record["op"] == "add_path":
-        return Problem(f"{where}, parent {origin['parent']}: the kernel refuses this rule, as it is on no directory "
-                       "and has rights of directories alone: give it a rule of its own, by a group or rights of files")
-    return Problem(f"{where}: the kernel refuses its {record['op']}, as the program has too many layers of its own: "
-                   "try a policy of fewer layers")
+        return Problem(f"{where}, parent {origin['parent']}: the kernel refuses this rule: it has rights for "
+                       "directories only, and the parent is not a directory: give this parent a rule of its own, with "
+                       "a group or with rights for files")
+    return Problem(f"{where}: the kernel refuses its {record['op']}, since the program has too many layers of its own: "
+                   "try a policy with fewer layers")
 
 
 def call_of(record: Record) -> Call:

@@ -14,12 +14,12 @@ from .rights import NEWEST_ABI, OLDEST_ABI
 
 #: The words for single ABIs.
 _ABI_OF = {str(abi): abi for abi in range(OLDEST_ABI, NEWEST_ABI + 1)}
-OF_POLICY = "rights of the policy that it does not have are dropped"
+OF_POLICY = "rights of the policy that this ABI does not have are dropped"
 
 
 def add_recordings(parser: argparse.ArgumentParser) -> None:
     """The recordings that a subcommand is about."""
-    parser.add_argument("recordings", metavar="OUT", nargs="+", help="a recording's folder, or several")
+    parser.add_argument("recordings", metavar="OUT", nargs="+", help="the folder of a recording, or of several")
 
 
 def add_abi(parser: argparse.ArgumentParser, besides: str = OF_POLICY) -> None:
@@ -94,7 +94,7 @@ def add_as_recorded(parser: argparse.ArgumentParser) -> None:
     parser.add_argument(
         "--as-recorded",
         action="store_true",
-        help="judge the rulesets that the program makes itself as they were recorded (default: as a program makes them "
+        help="judge the rulesets that the program makes itself as they were recorded (default: as those of a program "
         "that drops the rights which the ABI does not have)",
     )
 

@@ -24,8 +24,8 @@ def lines(suggestion: Suggestion, policy: Policy) -> Iterator[str]:
 
 def _of_layer(layer: Layer, rules: list[Rule], groups: Mapping[str, int], policy: Policy) -> Iterator[str]:
     only = "" if len(policy.layers) == 1 else f": paste them under the [[layer]] of that number in {policy.path}"
-    beside = f" beside {counted(len(groups), 'group')}" if groups else ""
-    yield f"# {counted(len(rules), 'rule')}{beside} for layer {layer.number}{only}"
+    with_groups = f" and {counted(len(groups), 'group')}" if groups else ""
+    yield f"# {counted(len(rules), 'rule')}{with_groups} for layer {layer.number}{only}"
     if needs_refer(layer, rules):
         handled = _list(FS.ordered(layer.handled_access_fs.rights | {"refer"}))
         yield "# rules may grant refer only where the layer handles it; first change its line to"

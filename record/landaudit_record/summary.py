@@ -195,8 +195,8 @@ class Summaries:
             why, at = _because(told.record, answer, abi in told.missed)
             summary.moot.setdefault(why, Counter())[at] += 1
             if origin is not None:
-                text = (f"{_rule_text(origin, told.record)} is moot: {at} {why}; was it never touched in the run, or "
-                        "is the name wrong?")
+                text = (f"{_rule_text(origin, told.record)} is moot: {at} {why}; either the run never touched it, or "
+                        "the name is wrong")
                 _warn(summary, text, _brief(told.record, None) if at.startswith("/") else None)
                 summary.untouched.add(text)
 
@@ -287,7 +287,7 @@ def _rule_text(origin: dict[str, Any], record: Record) -> str:
 
 def _warn_of_many_moot(summary: Summary) -> None:
     some = f"{summary.moot_path_calls} of {summary.path_calls} calls on paths are"
-    _warn(summary, f"{some} moot, so the policy was not asked: does the tree list what the run touched?",
+    _warn(summary, f"{some} moot, so Landlock was not asked: does the tree list what the run touched?",
           Brief(f"{some} not asked: does the tree list them?"))
 
 

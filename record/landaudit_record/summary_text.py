@@ -29,7 +29,7 @@ MOST_UNUSED = 5
 _IN_WORDS = {
     "is not in the tree": "the recording has no such file",
     "is in the tree already": "it is there already",
-    "is not a directory": "it is no directory",
+    "is not a directory": "it is not a directory",
     explanations.NOT_OPEN: "its file is not open",
     MISSED: "its opening was refused or not asked",
 }
@@ -128,7 +128,7 @@ def _changes(step: Step) -> list[Cell]:
     named = (("breaks: ", step.breaks), ("refused no more: ", step.no_more))
     said = [layout.names([_kind(kind) for kind in kinds], said=what) for what, kinds in named if kinds]
     if step.warnings:
-        said.append(words(f"{counted(len(step.warnings), 'warning')} more: see --abi {step.abi}"))
+        said.append(words(f"{counted(len(step.warnings), 'more warning')}: see --abi {step.abi}"))
     return said
 
 
@@ -169,7 +169,7 @@ def _warnings(summary: Summary, style: Style, *, each: bool) -> Iterator[str]:
     for text in (*used, *shown):
         yield from _warning(summary.brief.get(text, Brief(text)), summary.warnings[text], style, with_rule=each)
     if len(unused) > len(shown):
-        more = f"{counted(len(unused) - len(shown), 'rule')} more that this run never used: --all lists them"
+        more = f"{counted(len(unused) - len(shown), 'more rule')} that this run never used: --all lists them"
         yield from _marked("warning:", more, style.yellow, style.width)
 
 
@@ -181,7 +181,7 @@ def _warning(brief: Brief, times: int, style: Style, *, with_rule: bool) -> Iter
     """A warning on one line where it fits, its path shortened for it."""
     said = brief.said
     if said is None:
-        said = "exists here, this run never used it" if _is_here(brief) else "no such path here"
+        said = "exists here, but this run never used it" if _is_here(brief) else "no such path here"
     said += f" ({counted(times, 'time')})" if times > 1 else ""
     said += f" ({brief.rule})" if with_rule and brief.rule else ""
     room = style.width - len("warning: ") - wide(plain(f": {said}"))
@@ -216,8 +216,8 @@ def _groups(summary: Summary, style: Style) -> Iterator[str]:
     yield from _heading(f"{title}, the earliest first, then the most frequent", style)
     columns = (_TIMES, _WHY, Column("where", short=True), *_behind(summary))
     yield from table(columns, [_group_row(group, summary) for group in shown], style.width)
-    more = f"{counted(len(groups) - len(shown), 'group')} more, and " if len(groups) > len(shown) else ""
-    yield from (f"  {line}" for line in layout.folded(f"{more}each kind by itself: --all lists them", style.width - 2))
+    more = f"{counted(len(groups) - len(shown), 'more group')} and " if len(groups) > len(shown) else ""
+    yield from (f"  {line}" for line in layout.folded(f"--all lists {more}each kind by itself", style.width - 2))
 
 
 def _group_row(group: Group, summary: Summary) -> list[Cell]:

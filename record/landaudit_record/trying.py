@@ -202,7 +202,7 @@ def _not_judged(policy: Policy, tree: Tree, *, here: bool) -> Iterator[str]:
     """What no ABI here judges of a policy, and rules that the kernel may understand otherwise than their author."""
     for layer in policy.layers:
         if layer.scoped:
-            yield f"layer {layer.number}: scoped is kept and not judged: {', '.join(layer.scoped)}"
+            yield f"layer {layer.number}: scopes are not judged: {', '.join(layer.scoped)}"
         for rule in layer.path_beneath:
             named = FS.ordered(rule.allowed_access.outright - FILE_RIGHTS)
             for parent in rule.parents:
@@ -217,7 +217,7 @@ def _notes_on_absent(where: str, parent: str, named: list[str], *, here: bool) -
         yield f"{where}: Landlock has no patterns: name the directory, or each file"
     elif named and here:
         if os.path.exists(parent) and not os.path.isdir(parent):
-            yield f"{where}: no directory here, so the kernel refuses {', '.join(named)} with EINVAL"
+            yield f"{where}: not a directory on this machine, so the kernel refuses {', '.join(named)} with EINVAL"
     elif named:
-        yield (f"{where}: not in the tree, so it is not known whether it is a directory: on anything else the kernel "
-               f"refuses {', '.join(named)} with EINVAL")
+        yield (f"{where}: not in the tree, so it may not be a directory: then the kernel refuses {', '.join(named)} "
+               "with EINVAL")

@@ -101,7 +101,7 @@ def _more(place: str, rights: Rights, exact: OnPaths, objects: Objects) -> tuple
         if more > 0:
             by_number[kind_of(right), more].append(right)
     if place in UNCOUNTED and by_number:
-        return (f"also all else under {place} ({', '.join(FS.ordered(rights))})",)
+        return (f"also everything else under {place} ({', '.join(FS.ordered(rights))})",)
     told = [(_number(number, kind), ", ".join(some)) for (kind, number), some in by_number.items()]
     return tuple(f"also {number} under {place} ({names})" for number, names in told)
 

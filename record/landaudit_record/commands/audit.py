@@ -19,7 +19,7 @@ from ..together import Member
 from ..trying import Auditing
 
 NAME = "audit"
-HELP = "say what a policy would refuse, or without one what the program's own layers refuse"
+HELP = "show what a policy would refuse or, without a policy, what the program's own layers refuse"
 EXAMPLE = """landaudit-record audit rec --policy policy.toml --abi 4
   landaudit-record audit rec again --policy policy.toml"""
 
@@ -36,8 +36,8 @@ def add_arguments(parser: argparse.ArgumentParser) -> None:
         "--accepted",
         metavar="FILE.toml",
         type=Path,
-        help="refusals that are known and fine: [[accepted]] with call, path (or from and to, or port) and reason; the "
-        "policy's file may have them too",
+        help="refusals that you know and accept: [[accepted]] with call, path (or from and to, or port) and reason; "
+        "the file of the policy may also have them",
     )
     add_program(parser)
     add_abis(parser)
@@ -45,17 +45,17 @@ def add_arguments(parser: argparse.ArgumentParser) -> None:
     parser.add_argument(
         "--all",
         action="store_true",
-        help=f"show each kind of refused calls, where more than {summary_text.MOST_ROWS} are shown in groups, and each "
+        help=f"show each kind of refused call, even if there are more than {summary_text.MOST_ROWS} kinds, and each "
         "rule that the run never used",
     )
     parser.add_argument(
         "--json",
         action="store_true",
-        help="print the same as data: that of each ABI is in 'abis' and, of several recordings, that of each in "
-        "'recordings'",
+        help="print the result as JSON: 'abis' is about each ABI and, for several recordings, 'recordings' about each "
+        "recording",
     )
     parser.add_argument(
-        "--html", metavar="FILE", type=Path, help="write all of it as a page for a browser too, which is one file"
+        "--html", metavar="FILE", type=Path, help="also write the result as a page for a browser, which is one file"
     )
     add_landaudit(parser)
 
@@ -79,9 +79,9 @@ def run(arguments: argparse.Namespace) -> int:
         each = [(it, _summaries(it, auditing, arguments.abis)) for it, auditing in zip(members, audits)]
         for auditing in audits:
             auditing.keep()
-    notes += (f"{auditing.recording.folder} can't be written: report and tried trace are not kept"
+    notes += (f"{auditing.recording.folder} can't be written: the report and the tried trace are not kept"
               for auditing in audits if not auditing.stays)
-    notes += (f"accepted and refused no more: {one} ({one.reason})" for one in accepting.set_apart(
+    notes += (f"accepted, but no longer refused: {one} ({one.reason})" for one in accepting.set_apart(
         accepted, [summary for _, summaries in each for summary in summaries]))
     summaries = [together.united(list(zip(members, of_abi))) for of_abi in zip(*(found for _, found in each))]
     _print(each, summaries, arguments, notes)

@@ -28,10 +28,10 @@ def add_arguments(parser: argparse.ArgumentParser) -> None:
     """Names the words of the subcommand."""
     parser.add_argument("recording", metavar="OUT", help="the folder of a recording that was made under a policy")
     add_abi(
-        parser, "if the recording names a newer right, its 'create' is EINVAL, and no layer is made"
+        parser, "if the recording names a newer right, its 'create' fails with EINVAL and makes no layer"
     )
     parser.add_argument("--json", action="store_true", help="print the result as JSON")
-    parser.add_argument("--differences", metavar="FILE", type=Path, help="write each difference, as JSON Lines")
+    parser.add_argument("--differences", metavar="FILE", type=Path, help="write each difference to FILE, as JSON Lines")
     add_landaudit(parser)
 
 

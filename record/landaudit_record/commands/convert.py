@@ -27,8 +27,8 @@ def add_port_rules(parser: argparse.ArgumentParser) -> None:
         "--port-rules",
         metavar="POLICY.toml",
         type=Path,
-        help="the policy that the command puts on itself: what it says of ports, which strace before 6.7 does not"
-        " decode, is taken from here in its order (if it is left out, from the policy that 'run --policy' put in force)",
+        help="the policy that the command puts on itself: strace before 6.7 does not decode what it says of ports, so"
+        " that is taken from this file, in its order (default: the policy that 'run --policy' put in force)",
     )
 
 
@@ -44,9 +44,10 @@ def converted(folder: Path, port_rules: Path | None) -> None:
     named = port_rules if port_rules is not None else in_force
     ports = Ports(policies.read(named) if named is not None else None)
     done = converting.convert(folder, ports)
-    say(f"{done.records:,} records of {done.processes:,} processes on {done.objects:,} objects, in {folder}")
+    processes = "1 process" if done.processes == 1 else f"{done.processes:,} processes"
+    say(f"{done.records:,} records of {processes} on {done.objects:,} objects, in {folder}")
     if done.unsaid:
-        say(f"not said, in {folder / 'unsaid.jsonl'}:")
+        say(f"not recorded, in {folder / 'unsaid.jsonl'}:")
         for reason, count in done.unsaid.most_common():
             say(f"  {count:>9,}  {reason}")
     if in_force is None:

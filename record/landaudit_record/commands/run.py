@@ -38,7 +38,7 @@ def add_arguments(parser: argparse.ArgumentParser) -> None:
         action="append",
         default=[],
         help="list DIR before the run, to know what the command overwrites, moves and removes there"
-        " (the working directory is listed in any case; may be given several times)",
+        " (the working directory is always listed; the option may be given several times)",
     )
     parser.add_argument(
         "--policy",
@@ -47,7 +47,7 @@ def add_arguments(parser: argparse.ArgumentParser) -> None:
         help="run the command under this policy (landaudit-policy confine), keep the policy in OUT/policy.toml, and say"
         " at the end what it refused",
     )
-    add_abi(parser, "with --policy, rights that it or the kernel does not have are dropped")
+    add_abi(parser, "with --policy, rights that this ABI or the kernel does not have are dropped")
     convert.add_port_rules(parser)
 
 
@@ -71,7 +71,7 @@ def run(arguments: argparse.Namespace) -> int:
     if outcome.ended:
         replace(about, ended=True).write(folder)
     else:
-        convert.say("strace was ended, and what it traced with it: the recording is not whole")
+        convert.say("strace was ended, and so was what it traced: the recording is not whole")
     _converted(folder, arguments)
     if policy is not None:
         policy.tell_refused(folder)
@@ -109,7 +109,7 @@ def _converted(folder: Path, arguments: argparse.Namespace) -> None:
     except (KeyboardInterrupt, OSError):
         ports = ["--port-rules", str(arguments.port_rules)] if arguments.port_rules is not None else []
         words = ["landaudit-record", "convert", str(arguments.out), *ports]
-        convert.say(f"the log is kept and not converted; next: {shlex.join(words)}")
+        convert.say(f"the log is kept but not converted; next: {shlex.join(words)}")
         raise
 
 

@@ -31,15 +31,15 @@ def add_arguments(parser: argparse.ArgumentParser) -> None:
         "--rules",
         metavar="N",
         type=_number,
-        help="at most N rules for a layer (if it is left out, as many as it takes to grant nothing else): they are put "
-        "on directories where that grants least, and each says what it grants more",
+        help="at most N rules for a layer (default: as many as it takes to grant nothing else): rules are put together "
+        "on directories where that grants least, and each says what more it grants",
     )
     parser.add_argument(
         "--style",
         choices=(EXACT, BASE),
         default=EXACT,
-        help="exact grants what is needed alone (so it is if the option is left out); base names groups of rules that "
-        "several of the paths are in, as a person does, by 'include': base, nameservice, ssl, tmp, languages",
+        help="exact (the default) grants only what is needed; base includes the groups of rules that contain several "
+        "of the paths, as a person does: base, nameservice, ssl, tmp, languages",
     )
     add_program(parser)
     add_abi(parser)
@@ -70,7 +70,7 @@ def run(arguments: argparse.Namespace) -> int:
 def _number(text: str) -> int:
     """A number of rules."""
     if not text.isdecimal() or not int(text):
-        raise argparse.ArgumentTypeError(f"{text!r} is no number of rules: give one from 1 on")
+        raise argparse.ArgumentTypeError(f"{text!r} is not a number of rules: give a number from 1 on")
     return int(text)
 
 

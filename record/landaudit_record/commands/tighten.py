@@ -8,7 +8,7 @@ from collections.abc import Iterator, Sequence
 from dataclasses import replace
 from pathlib import Path
 
-from .. import comments, landaudit, policies, policy_text, together, trees
+from .. import RECORDER, comments, landaudit, policies, policy_text, together, trees
 from ..distilling import Distilling, Question
 from ..options import add_abi, add_as_recorded, add_landaudit, add_program, add_recordings, note
 from ..policies import Policy
@@ -32,7 +32,7 @@ def add_arguments(parser: argparse.ArgumentParser) -> None:
     add_recordings(parser)
     parser.add_argument("--policy", metavar="POLICY.toml", type=Path, required=True, help="the policy")
     parser.add_argument(
-        "--list", action="store_true", help="print a table in its place: rule, right, how many calls need it, 0 first"
+        "--list", action="store_true", help="print a table instead: how many calls need each right, 0 first, and its rule"
     )
     add_program(parser)
     add_abi(parser)
@@ -55,11 +55,11 @@ def run(arguments: argparse.Namespace) -> int:
                           None if arguments.list else trees.united(one.tree for one in tried))
         after = [_questions(audit, one, done.policy, arguments.abi) for audit, one in zip(audits, tried)]
         if _more(before, after):
-            raise Problem("of the recordings something more is refused without what no call needs: report this fault",
-                          WANTING)
+            raise Problem("without the rights that no call needs, more calls of the recordings are refused: this is a "
+                          f"fault of {RECORDER}, please report it", WANTING)
     if passing := _more(after, before):
-        note([f"of these recordings {counted(passing, 'call')} would pass that the policy refuses: a move or link is "
-              "refused by which an object would gain rights, and such rights are taken away"])
+        note([f"{counted(passing, 'call')} of these recordings would pass that the policy refuses: Landlock refuses a "
+              "move or link by which an object would gain rights, and such rights are taken away"])
     together.note_missing(members)
     for line in _table(policy, done, arguments.abi) if arguments.list else _toml(policy, done):
         print(line)

@@ -107,7 +107,7 @@ def _hash(text: str) -> str:
 def _judged(about: About) -> str:
     """What was judged, and how."""
     what = "What the policy would refuse of the recording" if about.policy else "What the program's own layers refuse"
-    how = "as they were recorded" if about.as_recorded else "as a program makes them that drops rights the ABI has not"
+    how = "as they were recorded" if about.as_recorded else "as those of a program that drops the rights which the ABI does not have"
     return f"{what}. Rulesets that the program makes itself are judged {how}."
 
 

@@ -24,7 +24,7 @@ LONGEST = 300
 #: So many kinds are named of those that change from ABI to ABI.
 MOST_KINDS = 20
 
-MOOT = "A call is moot where the policy was not asked: the file is not there, say, or the call fails before."
+MOOT = "A call is moot if Landlock is not asked: for example, the file does not exist, or the call fails before."
 
 
 @dataclass(frozen=True)
@@ -137,7 +137,7 @@ def _changes(step: Step) -> Markup:
     changes = (("refused here and not before", step.breaks), ("refused no more", step.no_more))
     told = [_some(f"{counted(len(some), 'kind')} {what}", some) for what, some in changes if some]
     if step.warnings:
-        told.append(element("div", f"{counted(len(step.warnings), 'warning')} more"))
+        told.append(element("div", counted(len(step.warnings), "more warning")))
     return together(told)
 
 
@@ -146,7 +146,7 @@ def _some(title: str, some: Sequence[Kind]) -> Markup:
     words = ((kind.call, kind.place, kind.error) for kind in some[:MOST_KINDS])
     items = [element("li", element("code", " ".join(word for word in each if word != "-"))) for each in words]
     if len(some) > MOST_KINDS:
-        items.append(element("li", f"and {counted(len(some) - MOST_KINDS, 'kind')} more"))
+        items.append(element("li", f"and {counted(len(some) - MOST_KINDS, 'more kind')}"))
     return element("details", element("summary", title), element("ul", *items))
 
 
@@ -222,10 +222,10 @@ def moot(summary: Summary) -> Markup:
 
 def paths(abis: Sequence[int], found: Paths) -> Markup:
     """The tree of paths."""
-    told = paragraph("Calls on paths about which a policy is asked, at or below each directory. A call on two paths is "
-                     "counted once where both are below.")
+    told = paragraph("Calls on paths about which Landlock is asked, at or below each directory. A call on two paths is "
+                     "counted once if both are below.")
     buttons = (element("button", title, attributes={"type": "button", "id": name})
-               for title, name in (("Open where something is refused", "open"), ("Close all", "close")))
+               for title, name in (("Open directories with refusals", "open"), ("Close all", "close")))
     return together((told, element("div", *buttons, kind="tools", attributes={"id": "doors", "hidden": ""}),
                      tree(abis, found.root)))
 
@@ -233,9 +233,9 @@ def paths(abis: Sequence[int], found: Paths) -> Markup:
 def rules(abis: Sequence[int], tried: Tried, found: Paths) -> Markup:
     """The rules of the policy, with how many calls are at or below the place of each."""
     rows = (_rule(abis, *one) for one in _rules(tried.policy, tried.tree, found))
-    told = paragraph("How many calls are at a rule's place or below it, whichever rules and layers they pass or fail "
-                     "by; those on what is there under another name are not among them. Which rights no call needs, "
-                     "landaudit-record tighten says.")
+    told = paragraph("How many calls are at or below the path or port of a rule, whichever rules and layers allow or "
+                     "refuse them. Calls on an object there by another name are not counted. landaudit-record tighten "
+                     "says which rights no call needs.")
     heads = ("layer", "rule", "place", "rights", "allowed", "refused", "moot", "")
     return together((told, table("rules", heads, rows)))
 
@@ -263,7 +263,7 @@ def _rule(abis: Sequence[int], layer: str, rule: str, place: str, rights: str, c
 def unsaid(summary: Summary) -> Markup:
     """What was not recorded, and so is in none of the numbers."""
     if not summary.unsaid:
-        return paragraph("The recording left nothing out that it knows of.")
+        return paragraph("The recording left out nothing that it knows of.")
     rows = (row(f"{times:,}", named(name)) for name, times in summary.unsaid.most_common())
-    told = paragraph("Calls that the recording has no words for, by class; they are in none of the numbers above.")
+    told = paragraph("Calls that the recording can't show, by class. None of the numbers above counts them.")
     return together((told, table("unsaid", ("times", "class"), rows)))

@@ -22,10 +22,11 @@ NAME = "check"
 HELP = "check that a policy allows what it must allow, and refuses what it must refuse"
 EXAMPLE = "landaudit-policy check policy.toml cases.toml"
 CASES = """
-Cases are TOML: each [[refused]] or [[allowed]] has a call in the words of a
-trace (open r, open w create, exec, mknod fifo, rename, connect, ..) with path,
-from and to, or port; abi (one or a range) unless it is about all of them; and
-kind for a path that is not on this machine. The output is TAP, version 14."""
+A file of cases is TOML: each [[refused]] or [[allowed]] has a call in the words
+of a trace (open r, open w create, exec, mknod fifo, rename, connect, ..) with
+path, from and to, or port. It has abi (one or a range) unless it is about all
+ABIs, and kind for a path that does not exist on this machine. The output is TAP,
+version 14."""
 
 
 def add_arguments(parser: argparse.ArgumentParser) -> None:
@@ -103,7 +104,7 @@ def _outcomes(program: Path, policy: Policy, given: cases.Cases) -> Iterator[_Ou
         answers = {abi: by_abi[abi][number] for abi in case.abis}
         for found in answers.values():
             if found.answer.verdict == "moot":
-                raise Problem(f"{given.path}: {case.text}: the policy is not asked: {found.reason}")
+                raise Problem(f"{given.path}: {case.text}: Landlock is not asked: {found.reason}")
         yield _Outcome(case, answers, grants[number])
 
 

@@ -19,7 +19,7 @@ def add_arguments(parser: argparse.ArgumentParser) -> None:
     """Names the words of the subcommand."""
     parser.usage = "landaudit-policy confine [-h] POLICY.toml [--abi N] -- COMMAND.."
     add_policy(parser)
-    add_abi(parser, "rights that it or the kernel does not have are dropped")
+    add_abi(parser, "rights that this ABI or the kernel does not have are dropped")
 
 
 def run(arguments: argparse.Namespace) -> int:

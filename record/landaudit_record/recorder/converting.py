@@ -42,7 +42,7 @@ def convert(folder: Path, ports: Ports, limits: Limits = LIMITS) -> Converted:
             if event.line % LINES_APART == 0:
                 progress.show(recording.records)
         if recording.unsaid[NOT_UNDERSTOOD] > recording.records:
-            raise Problem(f"{log} is no log that 'landaudit-record run' wrote: record the program by it")
+            raise Problem(f"{log} is not a log that 'landaudit-record run' wrote: record the program with it")
         if recording.records == 0:
             raise Problem(f"{log} has no call of a program: record it again")
         kept.keep(folder / OBJECTS)
