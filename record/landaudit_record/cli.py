@@ -19,7 +19,7 @@ from .problems import Problem
 
 @dataclass(frozen=True)
 class Program:
-    """A program of this package: its name, the text of its help, and its subcommands, which are modules of a package."""
+    """A program of this package: its name, the text of its help, and its subcommands, the modules of a package."""
 
     name: str
     description: str
@@ -28,7 +28,7 @@ class Program:
     commands: Sequence[str]
 
     def modules(self, words: Sequence[str]) -> list[ModuleType]:
-        """All subcommands, or only the one that the words begin with: importing the others takes longer than parsing."""
+        """All subcommands, or only the one that begins the words: importing the others takes longer than parsing."""
         named = [name for name in self.commands if name == words[0]] if words else []
         return [importlib.import_module(f"{self.package}.{name}") for name in named or self.commands]
 
@@ -51,7 +51,7 @@ POLICY = Program(
 
 
 def parser(program: Program = RECORD, words: Sequence[str] = ()) -> argparse.ArgumentParser:
-    """The parser of a program's command line, with all subcommands, or only the one that the words begin with."""
+    """The parser of a program's command line, with all subcommands, or only the one that begins the words."""
     top = argparse.ArgumentParser(
         prog=program.name,
         description=program.description,

@@ -113,7 +113,7 @@ class Classes:
         return next((because for because, explains in self._tests if explains(call)), Class.UNNAMED)
 
     def _newer(self, call: Call) -> bool:
-        """A ruleset with rights that the ABI does not have: the ABI answers EINVAL, so its layers do not exist there."""
+        """A ruleset with rights that the ABI does not have: its `create` fails with EINVAL, and it makes no layer."""
         if call.op == "create":
             return call.answer.error == "EINVAL" and bool(newer_rights(call.record, self._abi))
         return call.by_kernel.newer
