@@ -29,7 +29,7 @@ if the policy named them."""
 
 
 def add_arguments(parser: argparse.ArgumentParser) -> None:
-    """Names the words of the subcommand."""
+    """Adds the arguments of the subcommand."""
     parser.description = f"{HELP}\n{POLICIES}"
     parser.add_argument("policy", metavar="POLICY.toml", help="the policy: layers, what they handle, and their rules")
     parser.add_argument("trace", metavar="TRACE", help="a recording's folder, or its trace.jsonl")
@@ -40,7 +40,7 @@ def add_arguments(parser: argparse.ArgumentParser) -> None:
 
 
 def _only_trace(folder: Path) -> Path:
-    """The trace of a recording that is in one part; of one in several, each is named by itself."""
+    """The trace of a recording of one part; if there are several parts, the user must name one."""
     parts = finished.opened(str(folder)).parts
     if len(parts) > 1:
         raise Problem(f"{folder} has {len(parts)} parts: name one of its traces, such as {parts[0].trace}", USAGE)
@@ -48,7 +48,7 @@ def _only_trace(folder: Path) -> Path:
 
 
 def _tree_beside(trace: Path) -> Path:
-    """The tree of a part, which is beside its trace and named alike."""
+    """The tree of a part, which is beside its trace and has a similar name."""
     name = trace.name.replace("trace", "tree", 1)
     return trace.with_name(name if name.startswith("tree") else "tree.jsonl")
 

@@ -25,7 +25,7 @@ EXAMPLE = """landaudit-record audit rec --policy policy.toml --abi 4
 
 
 def add_arguments(parser: argparse.ArgumentParser) -> None:
-    """Names the words of the subcommand."""
+    """Adds the arguments of the subcommand."""
     add_recordings(parser)
     parser.add_argument(
         "--policy",
@@ -67,7 +67,7 @@ Each = Sequence[tuple[Member, list[Summary]]]
 def run(arguments: argparse.Namespace) -> int:
     """Writes OUT/report.txt of each recording, and prints the summary of all.
 
-    The status is 1 if an ABI refuses something of any, else 5 if not all that a policy may refuse could be judged.
+    The status is 1 if an ABI refuses a record, else 5 if not everything that a policy may refuse could be judged.
     """
     program = landaudit.find(arguments.landaudit)
     policy = None if arguments.policy is None else policies.read(Path(arguments.policy))
@@ -95,7 +95,7 @@ def run(arguments: argparse.Namespace) -> int:
 
 
 def _summaries(member: Member, auditing: Auditing, abis: range) -> list[Summary]:
-    """Audits one recording. landaudit runs once for all ABIs that are judged by one trace; the newest is the last."""
+    """Audits one recording. landaudit runs once for all ABIs that are judged with one trace; the newest comes last."""
     tried = member.tried
     found = Summaries(abis, tried=tried is not None)
     for step in [abis] if tried is None else tried.steps(abis, best_effort=auditing.best_effort):
@@ -105,7 +105,7 @@ def _summaries(member: Member, auditing: Auditing, abis: range) -> list[Summary]
 
 
 def _print(each: Each, summaries: list[Summary], arguments: argparse.Namespace, notes: list[str]) -> None:
-    """Prints what is told; as data, with the notes apart from them."""
+    """Prints the result; as JSON, with the notes on standard error."""
     if arguments.json:
         note(notes)
         print(json.dumps(_data(each, summaries, arguments), indent=2))
@@ -133,14 +133,14 @@ def _lines(
 
 
 def _data(each: Each, summaries: list[Summary], arguments: argparse.Namespace) -> dict[str, Any]:
-    """The summary as data; of several recordings that of all together, and that of each in `recordings`."""
+    """The summary as data; for several recordings that of all together, with that of each in `recordings`."""
     about: dict[str, Any] = {key: getattr(arguments, key) for key in ("policy", "as_recorded")}
     alone: list[dict[str, Any]] = [{"recording": member.name, **about, **_data_of(found)} for member, found in each]
     return alone[0] if len(each) == 1 else {**about, **_data_of(summaries), "recordings": alone}
 
 
 def _data_of(summaries: list[Summary]) -> dict[str, Any]:
-    """What is said of the newest ABI, and what changes from ABI to ABI."""
+    """The data about the newest ABI, and the changes from ABI to ABI."""
     return {**as_data(summaries[-1]), "abis": by_abi.as_data(by_abi.steps(summaries))}
 
 

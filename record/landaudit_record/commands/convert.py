@@ -22,7 +22,7 @@ def add_arguments(parser: argparse.ArgumentParser) -> None:
 
 
 def add_port_rules(parser: argparse.ArgumentParser) -> None:
-    """The option that says what a strace before 6.7 can't read."""
+    """Adds the option for what a strace before 6.7 can't read."""
     parser.add_argument(
         "--port-rules",
         metavar="POLICY.toml",
@@ -39,7 +39,7 @@ def run(arguments: argparse.Namespace) -> int:
 
 
 def converted(folder: Path, port_rules: Path | None) -> None:
-    """Converts a recording, and says what came of it and what to do next."""
+    """Converts a recording, and says what the result is and what to do next."""
     in_force = recordings.policy_of(folder)
     named = port_rules if port_rules is not None else in_force
     ports = Ports(policies.read(named) if named is not None else None)
@@ -57,6 +57,6 @@ def converted(folder: Path, port_rules: Path | None) -> None:
 
 
 def say(text: str) -> None:
-    """A line for the user, apart from what the command wrote to standard output; a terminal that is gone gets none."""
+    """Prints a line for the user to standard error, if the terminal is still there."""
     with contextlib.suppress(OSError):
         print(f"landaudit-record: {text}", file=sys.stderr, flush=True)

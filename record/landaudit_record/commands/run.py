@@ -80,14 +80,14 @@ def run(arguments: argparse.Namespace) -> int:
 
 @dataclass(frozen=True)
 class _InForce:
-    """A policy that a command is recorded under, and the ABI that it is in force at."""
+    """A policy under which a command is recorded, and the ABI at which it is in force."""
 
     policy: Path
     abi: int
 
     @classmethod
     def of(cls, policy: Path, abi: int) -> _InForce:
-        """The policy, where all is there that it needs: it reads, the kernel has Landlock, and landaudit is built."""
+        """The policy, after checks that it reads, that the kernel has Landlock, and that landaudit is built."""
         policies.read(policy)
         landaudit.find(None)
         return cls(policy, confining.known_abi(abi))
@@ -97,13 +97,13 @@ class _InForce:
         return Path(shutil.copyfile(self.policy, folder / recordings.POLICY))
 
     def tell_refused(self, folder: Path) -> None:
-        """Says what the policy refused of a recording, apart from what the command wrote to standard output."""
+        """Prints to standard error what the policy refused in a recording."""
         words = [sys.executable, str(PROGRAMS / RECORDER), audit.NAME, str(folder), "--abi", str(self.abi)]
         subprocess.run(words, stdout=sys.stderr, check=False)
 
 
 def _converted(folder: Path, arguments: argparse.Namespace) -> None:
-    """Converts the log, which stays where that does not come to its end."""
+    """Converts the log, which is kept if the conversion does not finish."""
     try:
         convert.converted(folder, arguments.port_rules)
     except (KeyboardInterrupt, OSError):
@@ -115,7 +115,7 @@ def _converted(folder: Path, arguments: argparse.Namespace) -> None:
 
 @contextmanager
 def _made(folder: Path) -> Iterator[Path]:
-    """A new folder; if what is to be in it before the run fails, it is removed."""
+    """A new folder, which is removed if it can't be filled before the run."""
     try:
         folder.mkdir(parents=True)
     except FileExistsError:
@@ -128,7 +128,7 @@ def _made(folder: Path) -> Iterator[Path]:
 
 
 def _watched(folder: Path, directories: list[str]) -> list[str]:
-    """Lists directories before the run, says of which parts that failed, and gives those that were listed."""
+    """Lists directories before the run, says for which parts that failed, and returns those that were listed."""
     seen = recordings.watch(folder, directories)
     for directory in seen.too_large:
         convert.say(f"{directory} holds more than {recordings.MOST_WATCHED:,} objects and is not watched")

@@ -24,7 +24,7 @@ EXAMPLE = """landaudit-record suggest rec --policy policy.toml >> policy.toml
 
 
 def add_arguments(parser: argparse.ArgumentParser) -> None:
-    """Names the words of the subcommand."""
+    """Adds the arguments of the subcommand."""
     add_recordings(parser)
     parser.add_argument("--policy", metavar="POLICY.toml", required=True, help="the policy that the rules are for")
     parser.add_argument(
@@ -48,7 +48,7 @@ def add_arguments(parser: argparse.ArgumentParser) -> None:
 
 
 def run(arguments: argparse.Namespace) -> int:
-    """Prints the rules; the status is 1 if calls stay refused that no rule of the policy fixes."""
+    """Prints the rules; the status is 1 if calls stay refused that no rule of the policy can fix."""
     program = landaudit.find(arguments.landaudit)
     policy = policies.read(Path(arguments.policy))
     members = together.opened(arguments.recordings, policy, arguments.program)
@@ -81,6 +81,6 @@ def _making(recorded: Sequence[Recorded], arguments: argparse.Namespace) -> Maki
 
 
 def _recorded(member: Member) -> Recorded:
-    """What rules need to know of a recording."""
+    """The facts about a recording that rules depend on."""
     parts = member.recording.parts
     return Recorded(member.tree, leaving.cut_files(part.trace for part in parts))

@@ -24,15 +24,15 @@ HELP = "print the policy without the rights that no recording needs"
 EXAMPLE = "landaudit-record tighten --policy policy.toml rec > tight.toml"
 
 _Asked = dict[Path, Counter[Question]]
-"""What a recording asks a policy and is let pass, for each tree by itself."""
+"""The questions of a recording that a policy lets pass, for each tree by itself."""
 
 
 def add_arguments(parser: argparse.ArgumentParser) -> None:
-    """Names the words of the subcommand."""
+    """Adds the arguments of the subcommand."""
     add_recordings(parser)
     parser.add_argument("--policy", metavar="POLICY.toml", type=Path, required=True, help="the policy")
     parser.add_argument(
-        "--list", action="store_true", help="print a table instead: how many calls need each right, 0 first, and its rule"
+        "--list", action="store_true", help="print a table instead: the calls that need each right, 0 first, and its rule"
     )
     add_program(parser)
     add_abi(parser)
@@ -67,7 +67,7 @@ def run(arguments: argparse.Namespace) -> int:
 
 
 def _tightened(tightening: Tightening, policy: Policy, tree: Tree | None) -> Tightened:
-    """A policy without what isn't needed; for its text by a tree, of rules that can be written, none can be less."""
+    """A policy without the rights that are not needed; with a tree, one whose rules can be written."""
     done = tightening.tightened(policy)
     while tree is not None and (written := policy_text.in_words(done.policy, tree)) != done.policy:
         less = tightening.tightened(written)
@@ -76,7 +76,7 @@ def _tightened(tightening: Tightening, policy: Policy, tree: Tree | None) -> Tig
 
 
 def _questions(audit: Auditing, tried: Tried, policy: Policy, abi: int) -> _Asked:
-    """What a recording asks a policy, for each tree by itself."""
+    """The questions of a recording to a policy, for each tree by itself."""
     by_tree: dict[Path, Distilling] = {}
     for files in audit.judged(alone(abi), tried, policy, explain=False):
         audit.progress.say("reading what is asked")

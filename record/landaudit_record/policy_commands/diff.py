@@ -18,7 +18,7 @@ EXAMPLE = "landaudit-policy diff old.toml new.toml"
 
 
 def add_arguments(parser: argparse.ArgumentParser) -> None:
-    """Names the words of the subcommand."""
+    """Adds the arguments of the subcommand."""
     parser.add_argument("old", metavar="OLD.toml", type=Path, help="the old policy")
     parser.add_argument("new", metavar="NEW.toml", type=Path, help="the new policy, which replaces it")
     add_abis(parser, "Landlock's ABI, or a range (default: {all})")
