@@ -32,7 +32,7 @@ def add_arguments(parser: argparse.ArgumentParser) -> None:
     add_recordings(parser)
     parser.add_argument("--policy", metavar="POLICY.toml", type=Path, required=True, help="the policy")
     parser.add_argument(
-        "--list", action="store_true", help="print a table instead: the calls that need each right, 0 first, and its rule"
+        "--list", action="store_true", help="print a table instead: how many calls need each right, 0 first"
     )
     add_program(parser)
     add_abi(parser)

@@ -85,7 +85,7 @@ class _Outcome:
         return all(found.passes != self.case.refused for found in self.answers.values())
 
     def about(self) -> dict[str, str | Sequence[str]]:
-        """The answer at each ABI, with the rules that grant the call, or the layers that refuse it and what they lack."""
+        """The answer at each ABI, with the rules that grant the call, or the layers that refuse it and why."""
         about: dict[str, str | Sequence[str]] = {}
         for abis, found in _together(self.answers):
             about[f"abi {span(abis)}"] = list(_refusing(found)) if found.answer.refused else "allowed"
