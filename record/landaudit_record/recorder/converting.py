@@ -104,7 +104,7 @@ def _take_end(scene: Scene, ended: Ended) -> None:
 
 
 def _take_over(scene: Scene, event: Superseded) -> None:
-    """Takes an exec by a thread that is not the leader: it continues under the leader's number; the leader was killed."""
+    """Takes an exec by a thread beside the leader: it continues under the number of the leader, which was killed."""
     if (leader := scene.threads.get(event.tid)) is not None:
         scene.doubt(leader)
     thread = scene.threads.pop(event.by, None)

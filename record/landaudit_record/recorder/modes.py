@@ -1,4 +1,4 @@
-"""Which calls the kernel refuses by file modes, whatever a policy says (inode(7), path_resolution(7), credentials(7))."""
+"""Calls that the kernel refuses by file modes, whatever the policy (inode(7), path_resolution(7), credentials(7))."""
 
 from __future__ import annotations
 

@@ -10,7 +10,7 @@ from ..rights import NET
 
 
 class Ports:
-    """The rights for ports that each layer handles, and the rules on ports, in the policy's order, repeated for ever."""
+    """The rights for ports that each layer handles, and the rules on ports, in the policy's order, repeated."""
 
     def __init__(self, policy: Policy | None = None) -> None:
         layers = policy.layers if policy is not None else ()

@@ -128,7 +128,7 @@ def _wait(tracer: int) -> int:
 
 
 class _Passing:
-    """Passes signals that ask for the end to what the tracer traces; kills it after a while, or at the second signal."""
+    """Passes signals that ask for the end to what the tracer traces; kills it after a while, or at a second one."""
 
     def __init__(self) -> None:
         self.tracer: int | None = None

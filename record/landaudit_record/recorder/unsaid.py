@@ -15,7 +15,7 @@ class CannotSay(Exception):
 
 
 class NotAsked(CannotSay):
-    """A call that Landlock does not refuse: it failed before Landlock was asked, or Landlock is never asked about it."""
+    """A call that Landlock does not refuse: it failed before Landlock was asked, or Landlock is never asked."""
 
     asks = False
 

@@ -42,7 +42,7 @@ class Descriptor:
 
 
 def is_in_memory(path: str) -> bool:
-    """Whether strace shows a path for a file that has none, and that the kernel lets be opened whatever the policy."""
+    """Whether strace shows a path for a file that has none; the kernel allows opening it whatever the policy is."""
     return path.startswith("/memfd:")
 
 
