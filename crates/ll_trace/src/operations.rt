@@ -14,7 +14,7 @@ use ll_lines::Cause;
 use ll_lines::members::{flag_of, number_of, text_of, truth_of};
 use std::alloc::Global;
 
-/// The operation that an object says: its name is the member `op`.
+/// The operation of an object, by the name in its member `op`.
 #[tactic(auto, unfolding(crate::specs::Operations::operation_at))]
 pub fn operation_of(alloc: Global, value: &Value<'_>) -> Result<Op, Cause>
     ensures { Gives (λ op. op) result (operation_at (value_data value.now)) }
