@@ -17,7 +17,7 @@ use crate::{Layer, LayerSet};
 use ll_rights::Fs;
 use ll_tree::{NodeId, Tree};
 
-/// What a climb for one layer goes by.
+/// The tree and the layer of a climb for one layer.
 #[derive(Clone, Copy)]
 pub(crate) struct Alone<'a> {
     pub(crate) tree: &'a Tree,
@@ -26,8 +26,8 @@ pub(crate) struct Alone<'a> {
 }
 
 impl<'a> Alone<'a> {
-    /// The first node from one up on which the layer may have a rule, if there is one. On each node before it, where
-    /// the filter says that there is none, a question is counted.
+    /// The first node, from a given one up, on which the layer may have a rule, if there is one. On each node before,
+    /// where the filter says that there is none, a question is counted.
     fn next_marked(&self, from: Option<NodeId>, look_ups: &mut u64) -> Option<NodeId>
         requires from { IfSome from (IsNode self.now.tree.now) }
         requires room { look_ups.old + nodes_up self.now.tree.now from < 2 ^ 64 }
@@ -50,8 +50,8 @@ impl<'a> Alone<'a> {
         None
     }
 
-    /// What is left in the layer's lane once it was asked for its rules from a node up to the root, and how many
-    /// look-ups that took. It isn't asked for nothing.
+    /// What is left in the layer's lane after the layer was asked for its rules from a node up to the root, and the
+    /// number of look-ups. A layer with an empty lane isn't asked.
     fn climb(&self, node: NodeId, lane: u32) -> (u32, u64)
         requires { IsNode self.now.tree.now node }
         ensures left { (right : FsRight)
