@@ -44,7 +44,7 @@ complete -c landaudit-record -n '__landaudit_record_has audit' -l accepted -r -F
 complete -c landaudit-record -n '__landaudit_record_has tighten' -l list -d 'Print a table instead'
 complete -c landaudit-record -n '__landaudit_record_has suggest' -l rules -x -d 'At most this many rules for a layer'
 complete -c landaudit-record -n '__landaudit_record_has suggest' -l style -x -a 'exact base' -d 'Exact rules, or groups of rules too'
-complete -c landaudit-record -n '__landaudit_record_has apply' -l out -r -F -d 'Where the trace goes'
+complete -c landaudit-record -n '__landaudit_record_has apply' -l out -r -F -d 'File to write the trace to'
 complete -c landaudit-record -n '__landaudit_record_has apply' -l tree -r -F -d 'Tree'
 complete -c landaudit-record -n '__landaudit_record_has compare' -l differences -r -F -d 'Write each difference'
 complete -c landaudit-record -n __landaudit_record_runs -a '(__landaudit_record_command)'
