@@ -93,7 +93,7 @@ def _inside(abis: Sequence[int], node: Node, shape: Shape) -> Iterator[Markup]:
         yield _row(abis, end, name, shape)
     left = len(node.children) - len(named)
     if left:
-        said = f"{counted(left, 'more name')}" if named else counted(left, "name")
+        said = counted(left, "more name" if named else "name")
         yield element("li", element("div", *_cells(abis, said, rest, "rest"), kind="row"))
 
 
