@@ -1,4 +1,4 @@
-"""All that names the versions of Landlock's interface names the same."""
+"""All files that name the versions of Landlock's interface name the same ones."""
 
 from __future__ import annotations
 
@@ -10,7 +10,7 @@ from landaudit_record.rights import NEWEST_ABI, OLDEST_ABI
 from .places import MAN, TOP
 
 VERSIONS = TOP / "crates" / "ll_rights" / "src" / "abi.rt"
-#: The oldest and the newest, where a page says what an ABI is.
+#: The oldest and the newest, in the words by which a page says what an ABI is.
 NAMED = re.compile(r"(?:Landlock's interface|Landlock's ABI|ABI of Landlock), (\d+) to (\d+)")
 PAGES = (*MAN.glob("*.1"), TOP / "docs" / "FORMATS.md", TOP / "docs" / "GLOSSARY.md")
 

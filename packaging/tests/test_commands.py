@@ -1,5 +1,5 @@
-"""The commands that documents and manual pages show are commands that the programs understand, and the scripts and
-targets that they name are there."""
+"""The programs understand the commands that documents and manual pages show, and the scripts and targets that these
+name exist."""
 
 from __future__ import annotations
 
@@ -18,13 +18,13 @@ from . import options
 from .places import BUILT, MAN, TOP
 
 DOCUMENTS = [TOP / "README.md", TOP / "CONTRIBUTING.md", *(TOP / "docs").glob("*.md"), *MAN.iterdir()]
-#: What is behind a prompt: one command, or a pipe of several.
+#: The text after a prompt: one command, or a pipe of several.
 PROMPTED = re.compile(r"\$ ([^\n]*)")
-#: A command of a pipe; where its output goes is no part of it.
+#: A command of a pipe, without the redirection of its output.
 SHOWN = re.compile(r"(?:^|\| )(landaudit(?:-record|-policy)? [^|>]*)")
 #: Code in a sentence.
 SPAN = re.compile(r"`([^`\n]+)`")
-#: A file or folder of this repository, from its top or, where it is a crate's, from `crates`.
+#: A file or folder of this repository, relative to its top or, for one of a crate, to `crates`.
 PLACE = re.compile(r"(?:bench|completions|crates|docs|examples|man|packaging|record|ll_\w+)/[\w./-]*\Z")
 #: A script with its words, in a sentence or a block.
 SCRIPT = re.compile(r"(?:^ {4}|`)((?:bench|packaging|record)/[\w./-]+)( [^`#>\n]*)?", re.MULTILINE)
@@ -34,7 +34,7 @@ TARGET = re.compile(r"(?:^ {4}|`)make ([a-z]+)", re.MULTILINE)
 
 
 def commands() -> Iterator[tuple[Path, list[str]]]:
-    """Each command behind a prompt, with the document that shows it."""
+    """Each command after a prompt, with the document that shows it."""
     for document in DOCUMENTS:
         for line in PROMPTED.findall(document.read_text(encoding="utf-8")):
             for shown in SHOWN.findall(line):
@@ -49,7 +49,7 @@ def spans() -> Iterator[tuple[Path, str]]:
 
 
 def asked(words: list[str]) -> set[str]:
-    """The options that words name. A dash alone is standard input, and behind two is another command."""
+    """The options that words name. A single dash is standard input, and two dashes begin another command."""
     own = words[: words.index("--")] if "--" in words else words
     return {word.strip("[]") for word in own if word.strip("[]").startswith("-")} - {"-"}
 
@@ -88,7 +88,7 @@ class Commands(unittest.TestCase):
 class Places(unittest.TestCase):
     def test_files_and_folders(self) -> None:
         for document, span in spans():
-            # What is built is there only behind a build.
+            # Built files exist only after a build.
             if PLACE.match(span) and "/out" not in span:
                 with self.subTest(f"{document.name}: {span}"):
                     self.assertTrue((TOP / "crates" / span if span.startswith("ll_") else TOP / span).exists())
@@ -110,14 +110,14 @@ class Places(unittest.TestCase):
                         self.assertLessEqual(asked(words), self.having(script, words) if asked(words) else set())
 
     def having(self, script: str, words: list[str]) -> set[str]:
-        """The options that a script's help has, for the subcommand that is named first if there is one."""
+        """The options in a script's help, for the subcommand that is named first, if any."""
         kind = [word for word in words[:1] if word.isalpha() and word.islower()]
         run = subprocess.run([TOP / script, *kind, "--help"], capture_output=True, text=True, check=True)
         return set(re.findall(r"--[\w-]+", run.stdout))
 
 
 class Generated(unittest.TestCase):
-    """`bench/generate` writes files that read: it makes all that the benchmarks audit."""
+    """`bench/generate` writes files that read: it makes everything that the benchmarks audit."""
 
     def setUp(self) -> None:
         self.folder = Path(self.enterContext(tempfile.TemporaryDirectory()))
@@ -126,7 +126,7 @@ class Generated(unittest.TestCase):
         subprocess.run([TOP / "bench" / "generate", *words, self.folder], check=True)
 
     def report(self) -> str:
-        """What the built program says of the files."""
+        """What the built program says about the files."""
         words = [BUILT, "--abi", "5", self.folder / "tree.jsonl", self.folder / "trace.jsonl"]
         run = subprocess.run(words, capture_output=True, text=True, check=False)
         self.assertIn(run.returncode, (0, 1), run.stderr)

@@ -1,4 +1,4 @@
-"""Completions offer just the options and subcommands that the programs have: asked of each shell that is installed."""
+"""Completions offer exactly the options and subcommands of the programs, in each shell that is installed."""
 
 from __future__ import annotations
 
@@ -72,7 +72,7 @@ def fish(line: str) -> set[str]:
 
 
 class Zsh:
-    """A zsh on a terminal, where alone it completes; it prints each match, and a word at the end of all."""
+    """A zsh on a terminal, since it completes nowhere else; it prints each match, and a word at the end."""
 
     def __init__(self, folder: Path) -> None:
         self._child, self._terminal = pty.fork()
@@ -91,7 +91,7 @@ class Zsh:
         os.waitpid(self._child, 0)
 
     def _send(self, text: str) -> str:
-        """Sends text to the terminal, and gives what comes back up to the end, for which it waits ten seconds."""
+        """Sends text to the terminal, and returns what comes back up to the end, for which it waits ten seconds."""
         os.write(self._terminal, text.encode())
         found = ""
         while "the end" not in found and select.select([self._terminal], [], [], 10)[0]:
@@ -100,7 +100,7 @@ class Zsh:
 
 
 class Asked:
-    """What each shell has to offer."""
+    """What each shell must offer."""
 
     def assert_offers(self, line: str, wanted: set[str]) -> None:
         """Sees what a shell offers for the last word of a line."""

@@ -12,7 +12,7 @@ from .places import TOP
 
 EXAMPLE = TOP / "examples" / "first-path"
 
-#: Says on standard error how it was called, and does what the test asks of it.
+#: Says on standard error how it was called, and does what the test asks for.
 STAND_IN = '#!/bin/sh\necho "a stand-in for rt, in ${PWD##*/}: $*" >&2\n%s\n'
 
 
@@ -21,7 +21,7 @@ class Make(unittest.TestCase):
         self.folder = Path(self.enterContext(tempfile.TemporaryDirectory()))
 
     def make(self, does: str, *words: str) -> subprocess.CompletedProcess[str]:
-        """Runs make, where rt is a stand-in that does this."""
+        """Runs make with a stand-in for rt that does this."""
         stand_in = self.folder / "rt"
         stand_in.write_text(STAND_IN % does, encoding="utf-8")
         stand_in.chmod(0o755)

@@ -1,4 +1,4 @@
-"""The manual pages name just the options that the programs have."""
+"""The manual pages name exactly the options that the programs have."""
 
 from __future__ import annotations
 
@@ -12,7 +12,7 @@ from landaudit_record import cli
 from . import options
 from .places import BUILT, MAN
 
-#: The words behind `Fl`: `-abi Ar N`, or `h , -help`.
+#: The words after `Fl`: `-abi Ar N`, or `h , -help`.
 FLAG = re.compile(r"\bFl ((?:-{0,2}[\w-]+)(?: [|,] -{0,2}[\w-]+)*)")
 
 
@@ -51,7 +51,7 @@ class Landaudit(unittest.TestCase):
     @unittest.skipUnless(BUILT.exists(), f"{BUILT} is not built")
     def test_the_help_of_the_built_program(self) -> None:
         run = subprocess.run([BUILT, "--help"], capture_output=True, text=True, check=True)
-        # What stands for a value, as <N[-M]>, names no option.
+        # A placeholder for a value, such as <N[-M]>, names no option.
         text = re.sub(r"<[^>]*>", "", run.stdout)
         self.assertEqual(set(re.findall(r"(?<![\w-])--?\w[\w-]*", text)), options.of_landaudit())
 

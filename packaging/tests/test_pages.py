@@ -1,4 +1,4 @@
-"""The manual pages are well formed, and say what the documents say."""
+"""The manual pages are well formed, and agree with the documents."""
 
 from __future__ import annotations
 

@@ -1,4 +1,4 @@
-"""`pip install .` installs the recorder, without a network where setuptools and wheel are there."""
+"""`pip install .` installs the recorder, without a network if setuptools and wheel are installed."""
 
 from __future__ import annotations
 

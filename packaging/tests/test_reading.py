@@ -1,4 +1,4 @@
-"""docs/READING.md names all types of the code that the definitions read which it lists."""
+"""docs/READING.md names all types of the code that its listed definitions read."""
 
 from __future__ import annotations
 

@@ -1,4 +1,4 @@
-"""docs/ASSURANCE.md lists all that the check of landaudit rests on, as the check itself names it."""
+"""docs/ASSURANCE.md lists everything that the check of landaudit rests on, as the check itself names it."""
 
 from __future__ import annotations
 

@@ -1,4 +1,4 @@
-"""Refusals that are known and fine, as a policy's author lists them: in the policy's file, or in one beside it.
+"""Refusals that the author of a policy knows and accepts, listed in the policy's file or in a separate one.
 
     [[accepted]]
     call = "ioctl"
@@ -21,7 +21,7 @@ from .summary import Accepted, Summary
 
 
 def read(path: Path, *, only: bool = True) -> list[Accepted]:
-    """What a file accepts; whatever is wrong with it is a Problem. `only` says that nothing else is to be in it."""
+    """What a file accepts; any error in it is a Problem. With `only`, the file may contain nothing else."""
     document, place = documents.read(path), Place(path)
     if only:
         check_keys(document, (ACCEPTED,), place)
@@ -55,7 +55,7 @@ def _text(table: Mapping[str, Any], key: str, place: Place) -> str:
 
 
 def set_apart(known: Sequence[Accepted], summaries: Iterable[Summary]) -> Iterator[Accepted]:
-    """Takes what is accepted out of the refusals of summaries, and gives what of it occurs in none."""
+    """Moves the accepted refusals of summaries from `refusals` to `accepted`, and yields those that occur in none."""
     by_kind = {(one.call, one.place): one for one in known}
     occurred: set[Accepted] = set()
     for summary in summaries:

@@ -27,7 +27,7 @@ from .trees import LinkLoop, Tree, upwards
 MOST_PROGRAMS_SHOWN = 8
 MOST_RECORDS = 1_000_000
 MOST_LINES_OF_A_CALL = 1_000
-#: How lines begin that say nothing of programs, processes and rulesets, as landaudit-record writes them.
+#: The beginnings of lines, as landaudit-record writes them, that are not about programs, processes and rulesets.
 _KNOWN = len(b'{"op":"nnp"')
 _TELL_NOTHING = frozenset(
     f'{{"op":"{op}"'[:_KNOWN].encode()
@@ -37,7 +37,7 @@ _TELL_NOTHING = frozenset(
 )
 _AGAIN = b'"again":true'
 _BLANKS = b" \t\r\n"
-#: A path that nothing has, for the record of a rule that is on nothing.
+#: A path that no object has, for the record of a rule that is on no object.
 NOWHERE = "/~new~"
 
 
@@ -45,9 +45,9 @@ NOWHERE = "/~new~"
 class Plan:
     """Where a policy goes in a trace.
 
-    `before` are the lines before which it goes, each with the process; `behind` those behind which it goes, since they
-    give once more to a process what it had when it ran a program. `rs` is a ruleset's number that the trace never uses,
-    `lines` how many it has, `programs` those that it runs.
+    `before` has the lines before which it goes, each with the process; `behind` has the lines after which it goes,
+    since they repeat for a process what it had when it ran a program. `rs` is a ruleset number that the trace never
+    uses, `lines` the number of its lines, and `programs` the programs that it runs.
     """
 
     before: dict[int, int]
@@ -67,10 +67,10 @@ class Plan:
 
 
 class _Planning:
-    """A walk over a trace that finds where a policy goes; lines of which nothing depends are not taken apart.
+    """A walk over a trace that finds where a policy goes; it does not parse lines on which nothing depends.
 
-    Who has run no program yet of those that the recording starts is in `_starting`, and the last lines are kept, among
-    which the records of a system call are looked for that come before its last.
+    `_starting` has the processes that the recording starts and that have run no program yet. `_last` has the last
+    lines, in which the walk looks for the earlier records of a system call.
     """
 
     def __init__(self, trace: Path, tree: Tree, program: str | None) -> None:
@@ -121,9 +121,9 @@ class _Planning:
         return self._named is not None and (real in self._named or _last_name(real) == self._program)
 
     def _first_line(self, first: int, pid: int, call: Any) -> int:
-        """The line at which the records of a process's system call begin, of which this line has the last.
+        """The line of the first record of a system call, given the line of its last record.
 
-        What a process is started with comes before its first call, whatever that shares with it.
+        The records that start a process come before its first call, even if they share its number.
         """
         for number, line in reversed(self._last) if call is not None else ():
             if not line.strip(_BLANKS):
@@ -141,15 +141,15 @@ class _Planning:
 def plan(trace: Path, tree: Tree, program: str | None) -> Plan:
     """Where a policy goes in a trace.
 
-    It goes before the first program of each starting process or, where a
-    program is named, before each run of that program; in front of the first of
-    the records that stand for the same system call.
+    It goes before the first program of each starting process or, if a program
+    is named, before each run of that program: before the first of the records
+    that stand for the system call.
     """
     return plans([trace], tree, program)[0]
 
 
 def plans(traces: Sequence[Path], tree: Tree, program: str | None) -> list[Plan]:
-    """Where a policy goes in the traces of a recording's parts, as `plan` says; somewhere, it goes."""
+    """Where a policy goes in the traces of a recording's parts, as `plan` says; a Problem if it goes nowhere."""
     found = [places(trace, tree, program) for trace in traces]
     if not any(one.times for one in found):
         raise Problem(_nowhere(traces[0], program, sorted(set().union(*(one.programs for one in found)))))
@@ -179,11 +179,11 @@ def _last_name(path: str) -> str:
 
 
 def _nowhere(trace: Path, program: str | None, programs: list[str]) -> str:
-    """Why a policy found no place in a trace, and what to do."""
+    """The message that a policy goes nowhere in a trace, and what to do."""
     if not programs:
         return f"{trace} runs no program (it has no exec record): there is nowhere to put the policy"
     if program is None:
-        return f"no process that {trace} starts runs a program itself: name one by --program, as {programs[0]}"
+        return f"no process that {trace} starts runs a program itself: name one with --program, such as {programs[0]}"
     near = difflib.get_close_matches(program, [*map(_last_name, programs), *programs], n=1)
     meant = f", did you mean {near[0]}?" if near else ":"
     shown = ", ".join(programs[:MOST_PROGRAMS_SHOWN])
@@ -199,7 +199,7 @@ def _resolved(tree: Tree, path: str, place: str, *, before_run: bool = False) ->
 
 
 def records(policy: Policy, layers: tuple[FittedLayer, ...], tree: Tree, rs: int) -> list[Record]:
-    """A policy's records for one process, without its pid. Each says in `policy` what of the policy it is."""
+    """A policy's records for one process, without a pid. The member `policy` of each names its part of the policy."""
     made: list[Record] = [{"op": "nnp", "policy": {}}]
     for layer in layers:
         made.extend(_of_layer(policy, layer, tree, rs))
@@ -233,11 +233,11 @@ def _of_layer(policy: Policy, layer: FittedLayer, tree: Tree, rs: int) -> Iterat
 
 
 def _on(tree: Tree, path: str) -> Iterator[tuple[str, dict[str, Any]]]:
-    """The names on which the records of a rule are, each with what is to be told of it.
+    """The names on which the records of a rule are, each with further members for the record.
 
-    A rule is on an object, so it is on all names of that. What the run makes has none, since nobody can open it before
-    the run: the record is on a name that nothing has, and moot; `made` says where a rule would be. `replaced` says so
-    where another object is at the path later in the run.
+    A rule is on an object, so it has a record for each name of the object. An object that the run makes has no rule,
+    since nobody can open it before the run: the record is on a name that no object has, and moot, and `made` names the
+    directory to grant on. If the run later puts another object at the path, `replaced` names that directory.
     """
     made = next((over for over in upwards(path) if over in tree.made), None)
     if made is None and path not in tree.kinds:
@@ -252,7 +252,7 @@ def _on(tree: Tree, path: str) -> Iterator[tuple[str, dict[str, Any]]]:
 def at_best_effort(inserted: Iterable[Record], abi: int) -> Iterator[Record]:
     """A policy's records as landaudit judges them at best effort: without the rights that an ABI does not have.
 
-    A rule that has none left is left out.
+    A rule that has no rights left is left out.
     """
     for record in inserted:
         known = {
@@ -265,11 +265,11 @@ def at_best_effort(inserted: Iterable[Record], abi: int) -> Iterator[Record]:
 
 
 def write(trace: Path, places: Plan, inserted: list[Record], out: BinaryIO) -> None:
-    """Writes a trace with records put in by a plan; the trace's own lines stay as they are."""
+    """Writes a trace with records inserted by a plan; the trace's own lines do not change."""
     total = places.records(inserted)
     if total > MOST_RECORDS:
-        raise Problem(f"with the policy put in {places.times} times {trace} has {total:,} records, and landaudit "
-                      f"reads {MOST_RECORDS:,}: name another program by --program, or record less")
+        raise Problem(f"{trace} has {total:,} records with the policy in it {places.times} times, but landaudit reads "
+                      f"at most {MOST_RECORDS:,}: name another program with --program, or record less")
     with open(trace, "rb") as lines:
         for number, line in enumerate(lines, start=1):
             pid = places.before.get(number)

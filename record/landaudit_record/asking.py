@@ -1,6 +1,6 @@
-"""Asks landaudit about calls that no program made: a tree and a trace are written for them, and its report is read.
+"""Asks landaudit about calls that no program made: writes a tree and a trace for them, and reads the report.
 
-A question is one or several records of a process, as the opening of a device and an ioctl on it. The policy lets it
+A question is one or several records of a process, such as the open of a device and an ioctl on it. The policy lets it
 pass if landaudit allows each of them.
 """
 
@@ -29,7 +29,7 @@ FIRST_DESCRIPTOR = 3
 
 @dataclass(frozen=True)
 class Found:
-    """What landaudit answers a question: the answer to the record that decides it, its first that is not allowed."""
+    """landaudit's answer to a question: the answer to its first record that is not allowed, else to its last."""
 
     record: Record
     answer: Answer
@@ -41,22 +41,22 @@ class Found:
 
     @property
     def objections(self) -> dict[int, tuple[Objection, ...]]:
-        """What each layer that refuses objects to, by the layer's number."""
+        """The objections of each layer that refuses, by the layer's number."""
         return {it.layer: it.objections for it in explanations.refusing(self.record, self.answer)}
 
     @property
     def reason(self) -> str:
-        """Why the policy is not asked, where it isn't."""
+        """Why Landlock is not asked, if it is not."""
         return " ".join(self.answer.explanation)
 
 
 def opening(path: str, mode: str, **flags: bool) -> Record:
-    """A record that opens a path, by the next free number."""
+    """A record that opens a path with the next free number."""
     return {"op": "open", "path": path, "mode": mode, **flags}
 
 
 def under(policy: Policy, abi: int, tree: Tree) -> list[Record]:
-    """The records by which a process confines itself by a policy; those of a rule say which."""
+    """The records by which a process confines itself with a policy; the record of a rule names the rule."""
     layers, _ = fitting.fit(policy, abi)
     return applying.records(policy, layers, tree, RULESET)
 
@@ -66,7 +66,7 @@ def ask(
 ) -> list[dict[int, list[Found]]]:
     """What landaudit answers to the questions of each process, by ABI.
 
-    Each process confines itself first by its own records; a rule of these that the kernel would refuse is a Problem.
+    Each process first confines itself by its own records; if the kernel would refuse one of these, that is a Problem.
     """
     with tempfile.TemporaryDirectory(prefix="landaudit-") as folder:
         files = _Files(Path(folder))
@@ -109,7 +109,7 @@ def write_tree(file: Path, kinds: Mapping[str, str]) -> None:
 
 
 def _trace(confined: Sequence[Sequence[Record]], questions: Sequence[Sequence[Question]]) -> Iterator[Record]:
-    """The records of all processes, one process after another. What a question opens gets a number of its own."""
+    """The records of all processes, one process after another. Each open of a question has a number of its own."""
     for pid, (own, asked) in enumerate(zip(confined, questions), start=1):
         yield {"op": "start", "pid": pid}
         yield from ({**record, "pid": pid} for record in own)
@@ -126,7 +126,7 @@ def _answers(files: _Files, abi: int) -> Iterator[tuple[Record, Answer]]:
 
 
 def _see_rule(record: Record, answer: Answer) -> None:
-    """Sees that a policy's own record is not refused."""
+    """Checks that a policy's own record is not refused."""
     if answer.refused:
         origin = record.get("policy", {})
         parts = [f"layer {origin['layer']}" if "layer" in origin else "the policy", *filter(None, [origin.get("rule")])]

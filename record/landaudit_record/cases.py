@@ -8,8 +8,8 @@
     port = 443
     abi = "4-5"
 
-A path has the kind that it has on this machine; of one that is not there the case says it, by `kind`. What a call
-makes is not there beforehand. Without `abi` a case is about every ABI.
+A path has the kind that it has on this machine; if it does not exist, `kind` of the case says its kind. An object that
+a call makes does not exist before. Without `abi`, a case is about every ABI.
 """
 
 from __future__ import annotations
@@ -33,7 +33,7 @@ ALL_ABIS = range(OLDEST_ABI, NEWEST_ABI + 1)
 KINDS = ("reg", "dir", "sym", "char", "block", "fifo", "sock")
 MODES = ("r", "w", "rw")
 MADE = ("reg", "char", "block", "fifo", "sock")
-#: The calls on a path that is there; those of the first follow a link at its end.
+#: The calls on a path that exists; those of the first set follow a link at its end.
 FOLLOWING = ("truncate", "exec")
 ON_LINKS = ("unlink", "rmdir")
 MAKING = ("mkdir", "symlink")
@@ -75,7 +75,7 @@ class Cases:
 
 
 def read(path: Path) -> Cases:
-    """The cases in a file; whatever is wrong with it is a Problem that names where it is and what would be right."""
+    """The cases in a file; any error in it is a Problem that names its position and says what would be right."""
     document, place = documents.read(path), Place(path)
     check_keys(document, ("refused", "allowed"), place)
     found = Cases(path)
@@ -181,7 +181,7 @@ class _Reader:
         return ({"op": op, "from": moved, "to": there},)
 
     def _there(self, key: str, kind_key: str, *, follows: bool, or_new: bool = False) -> str:
-        """The path of an object that is there, which is then listed; or of a new one, where the call makes it."""
+        """The path of an object that exists, which is then listed; or of a new one if the call makes it."""
         path = self._real(key, follows=follows)
         given, seen = self.table.get(kind_key), disk.look(path)
         if given is not None and given not in KINDS:
@@ -216,7 +216,7 @@ class _Reader:
         return joined(os.path.realpath(directory or ROOT), name)
 
     def _list(self, path: str, kind: str, key: str) -> None:
-        """Lists an object and the directories over it; one path has one kind in all cases."""
+        """Lists an object and the directories above it; one path has one kind in all cases."""
         while True:
             known = self.tree.kinds.setdefault(path, kind)
             if known != kind:

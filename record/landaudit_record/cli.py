@@ -19,7 +19,7 @@ from .problems import Problem
 
 @dataclass(frozen=True)
 class Program:
-    """A program of this package: its name, what its help says, and its subcommands, a module each of a package."""
+    """A program of this package: its name, the text of its help, and its subcommands, the modules of a package."""
 
     name: str
     description: str
@@ -28,7 +28,7 @@ class Program:
     commands: Sequence[str]
 
     def modules(self, words: Sequence[str]) -> list[ModuleType]:
-        """All subcommands, or the one that some words begin with: to import the others takes longer than to parse."""
+        """All subcommands, or only the one that begins the words: importing the others takes longer than parsing."""
         named = [name for name in self.commands if name == words[0]] if words else []
         return [importlib.import_module(f"{self.package}.{name}") for name in named or self.commands]
 
@@ -43,7 +43,7 @@ RECORD = Program(
 )
 POLICY = Program(
     POLICIES,
-    "Put a Landlock policy in force, and see what it lets through where no program was recorded.",
+    "Put a Landlock policy in force, compare policies, and check them, without a recording.",
     "landaudit-policy confine policy.toml -- sort /etc/passwd",
     policy_commands.__name__,
     policy_commands.NAMES,
@@ -51,7 +51,7 @@ POLICY = Program(
 
 
 def parser(program: Program = RECORD, words: Sequence[str] = ()) -> argparse.ArgumentParser:
-    """The parser of a program's command line, with all subcommands, or the one with which some words begin."""
+    """The parser of a program's command line, with all subcommands, or only the one that begins the words."""
     top = argparse.ArgumentParser(
         prog=program.name,
         description=program.description,
@@ -75,7 +75,7 @@ def parser(program: Program = RECORD, words: Sequence[str] = ()) -> argparse.Arg
 
 
 def parse(words: Sequence[str], program: Program = RECORD) -> argparse.Namespace:
-    """The arguments of a subcommand; what is behind the first `--` is a command of its own, in `behind`."""
+    """The arguments of a subcommand; the words after the first `--` are a command of their own, in `behind`."""
     end = words.index("--") if "--" in words else len(words)
     arguments, left = parser(program, words[:end]).parse_known_args(words[:end])
     if left:

@@ -1,7 +1,7 @@
-"""The comments of a policy's file, each with the part of the policy that it is written at.
+"""The comments of a policy's file, each with the part of the policy that it belongs to.
 
-A comment belongs to the table that follows it, or that it stands in. Those at the top, with a blank line behind them,
-belong to the whole policy.
+A comment belongs to the table that follows it or contains it. Comments at the top that a blank line follows belong to
+the whole policy.
 """
 
 from __future__ import annotations

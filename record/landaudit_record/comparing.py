@@ -1,7 +1,7 @@
 """Compares landaudit's answers with what the kernel did, and puts each difference into a class.
 
-The classes that have a name in docs/SEMANTICS.md are those of "Where a running kernel differs" and of what it says
-is not judged or left out.
+The classes with a name in docs/SEMANTICS.md are those of "Where a running kernel differs", and of the calls that the
+document does not judge or leaves out.
 """
 
 from __future__ import annotations
@@ -69,9 +69,9 @@ def errors_of_landlock(op: str) -> frozenset[str]:
 def agree(call: Call) -> bool:
     """Whether landaudit's answer is what the kernel did.
 
-    A call that landaudit refuses has just that error. A call on a ruleset is let through by both. Any other call that
-    landaudit allows, or is not asked about, the kernel does not refuse by Landlock: it may do so for another reason.
-    What the kernel let through on a path, Landlock was asked about, so landaudit must have been.
+    If landaudit refuses a call, the kernel answered exactly that error. If landaudit allows a call on a ruleset, the
+    kernel did too. If any other call is allowed or moot, Landlock did not refuse it: the kernel may have refused it for
+    another reason. If the kernel allowed a call on a path, it asked Landlock, so the call must not be moot.
     """
     answer = call.answer
     if answer.refused:
@@ -109,17 +109,17 @@ class Classes:
         )
 
     def of(self, call: Call) -> Class:
-        """The first class that explains why a call differs."""
+        """The first class that explains a difference."""
         return next((because for because, explains in self._tests if explains(call)), Class.UNNAMED)
 
     def _newer(self, call: Call) -> bool:
-        """A ruleset with rights that the ABI does not have is EINVAL there, and what comes of it is not there."""
+        """A ruleset with rights that the ABI does not have: its `create` fails with EINVAL, and it makes no layer."""
         if call.op == "create":
             return call.answer.error == "EINVAL" and bool(newer_rights(call.record, self._abi))
         return call.by_kernel.newer
 
     def _before_the_tree(self, call: Call) -> bool:
-        """The shapes of calls that the tree forbids, and that the kernel asks Landlock about all the same."""
+        """Forms of calls that the tree forbids, but about which the kernel asks Landlock."""
         if not call.partly_moot or call.kernel not in errors_of_landlock(call.op):
             return False
         record = call.record
@@ -140,12 +140,12 @@ class Classes:
         return self._tree.kind(record[member])
 
     def _unlike(self, record: Record) -> bool:
-        """Whether a rename would put a directory in the place of something else, or the reverse."""
+        """Whether a rename would put a directory in the place of another kind of object, or the reverse."""
         moved, onto = self._kind(record, "from"), self._kind(record, "to")
         return None not in (moved, onto) and (moved == "dir") != (onto == "dir")
 
     def _whiteout(self, call: Call) -> bool:
-        """A character device that is made, removed or moved: of these, a kernel judges a whiteout in another way."""
+        """A character device that is made, removed or moved: a kernel judges a whiteout among them in another way."""
         record = call.record
         if call.op == "mknod":
             return str(record["kind"]) == "char"
@@ -160,7 +160,7 @@ class Classes:
         return source is not None and target is not None and source.st_dev != target.st_dev
 
     def _modes(self, call: Call) -> bool:
-        """A refusal by privileges (of a mount), or because a file may not be run whatever the policy."""
+        """A refusal by privileges (of a mount), or because a file may not be run whatever the policy is."""
         if call.answer.refused:
             return False
         if call.op == "mount":
@@ -179,7 +179,7 @@ def _left_out(call: Call) -> bool:
 
 
 def _ports_and_moves(call: Call) -> bool:
-    """A layer without rights for files, beside one that has some, refuses moves to another directory."""
+    """A layer without rights for files, together with one that has some, refuses moves to another directory."""
     files = [bool(layer.handled_fs) for layer in call.domain]
     moved = call.op in MOVES and call.kernel == "EXDEV" and not call.answer.refused
     return moved and any(files) and not all(files)
@@ -203,7 +203,7 @@ def _ioctl(call: Call) -> bool:
 
 @dataclass
 class Tally:
-    """The calls that were compared: how many there were, how many landaudit was not asked about, and what differs."""
+    """The calls that were compared: their number, the number of moot calls, and what differs."""
 
     calls: int = 0
     moot: int = 0
@@ -223,7 +223,7 @@ class Tally:
 
 
 def compare(calls: Iterable[Call], classes: Classes, tally: Tally) -> Iterator[Difference]:
-    """Gives each call that differs, and counts all of them."""
+    """Yields each call that differs, and counts all calls."""
     for call in calls:
         tally.calls += 1
         tally.by_op[call.op] += 1

@@ -19,7 +19,7 @@ def lines(tally: Tally, title: str) -> Iterator[str]:
     yield title
     yield f"{tally.calls:>9,}  calls on rulesets or under a layer"
     yield f"{tally.agreed:>9,}  agree, {_percent(tally)} %"
-    yield f"{tally.moot:>9,}  of all, landaudit was not asked about"
+    yield f"{tally.moot:>9,}  of these, moot (Landlock is not asked)"
     if tally.differences:
         yield ""
         yield "differences by class"
@@ -31,7 +31,7 @@ def lines(tally: Tally, title: str) -> Iterator[str]:
 
 
 def _percent(tally: Tally) -> str:
-    """The share that agrees, cut and not rounded, so that 100 stands for all alone."""
+    """The share that agrees, rounded down, so that 100 means all calls."""
     thousandths = 100_000 * tally.agreed // tally.calls
     return f"{thousandths // 1000}.{thousandths % 1000:03}"
 
@@ -43,7 +43,7 @@ def _example(difference: Difference) -> str:
 
 
 def place(call: Call) -> str:
-    """What a call is about, without what its process holds: its path or paths, its port, else its descriptor."""
+    """What a call is about: its path or paths, its port, else its descriptor."""
     record = call.record
     if "from" in record:
         return f"{shown(record, 'from')} -> {shown(record, 'to')}"

@@ -1,7 +1,7 @@
-"""A policy in force: this process restricts itself by its layers, by best effort, and then becomes a command.
+"""Puts a policy in force: this process restricts itself by its layers, at best effort, and then becomes a command.
 
-Best effort is what the kernel's document advises: what the ABI does not have is dropped, and rules whose object is
-not there are left out. Here as in a trace, a rule that the kernel refuses is a fault of the policy.
+Best effort is what the kernel's document advises: rights that the ABI does not have are dropped, and rules whose object
+does not exist are left out. As in a trace, a rule that the kernel refuses is an error in the policy.
 """
 
 from __future__ import annotations
@@ -22,11 +22,11 @@ from .policies import Policy
 from .problems import WANTING, Problem
 from .rights import FILE_RIGHTS, NET
 
-#: What Python ignores from its start on (signal(7)); a program that is run is to have them as they were.
+#: Signals that Python ignores from its start (signal(7)); a program that is run gets them as they were.
 IGNORED_BY_PYTHON = (signal.SIGPIPE, signal.SIGXFSZ)
-#: The first ABI that has scopes; they are put in force wherever the kernel has them.
+#: The first ABI that has scopes; they are put in force if the kernel has them.
 ABI_OF_SCOPES = 6
-#: How the opening of a rule's object ends where it is not there, or can't be reached.
+#: The errors of opening the object of a rule that does not exist or can't be reached.
 NOT_THERE = (errno.ENOENT, errno.ENOTDIR, errno.EACCES, errno.ELOOP)
 GIVEN_ENVIRONMENT = Path("/proc/self/environ")
 _MISSING = {
@@ -36,7 +36,7 @@ _MISSING = {
 
 
 def known_abi(asked: int) -> int:
-    """The ABI to go by: the one that is asked for, or the kernel's where that is older."""
+    """The ABI to use: the one that is asked for, or the kernel's if that is older."""
     try:
         return min(asked, landlock.kernel_abi())
     except OSError as error:
@@ -44,7 +44,7 @@ def known_abi(asked: int) -> int:
 
 
 def confine(policy: Policy, abi: int) -> list[str]:
-    """Restricts this process by each layer of a policy, the oldest first. Gives a note for all that is left out."""
+    """Restricts this process by each layer of a policy, the oldest first; returns notes on what is left out."""
     layers, notes = fitting.fit(policy, abi)
     fitted = {layer.number: layer for layer in layers}
     scopes = landlock.kernel_abi() >= ABI_OF_SCOPES
@@ -78,7 +78,7 @@ def _restrict(policy: Policy, layer: FittedLayer, scoped: Sequence[str], abi: in
 
 
 def _add_parent(policy: Policy, ruleset: int, layer: int, rule: FittedPathRule, parent: str) -> Iterator[str]:
-    """A rule on an object, if that is there; a link is followed."""
+    """A rule on an object, if the object exists; a link is followed."""
     where = f"layer {layer}, {rule.place}"
     try:
         place = os.open(parent, os.O_PATH | os.O_CLOEXEC)
@@ -123,7 +123,7 @@ def under(policy: Path, abi: int, command: Sequence[str]) -> list[str]:
 
 
 def become(command: Sequence[str], environment: Mapping[bytes, bytes]) -> NoReturn:
-    """Becomes a command; where that can't be, by the policy perhaps, it is a Problem."""
+    """Becomes a command; if that fails, perhaps because of the policy, it is a Problem."""
     for number in IGNORED_BY_PYTHON:
         signal.signal(number, signal.SIG_DFL)
     try:

@@ -1,4 +1,4 @@
-"""Cuts a trace that would be too long with a policy's records in it."""
+"""Cuts a trace that would be too long with the records of a policy in it."""
 
 from __future__ import annotations
 
@@ -10,15 +10,15 @@ from .jsonl import Record
 from .living import Living
 from .problems import Problem
 
-#: How much a piece weighs, of what landaudit reads: the rest is for what living processes are given once more.
+#: The largest weight of a piece. landaudit reads more: the rest is for the records that restore living processes.
 MOST = 700_000
 
 
 def cut(trace: Path, folder: Path, weights: Mapping[int, int], most: int = MOST) -> Iterator[Path]:
     """Pieces of a trace, each a trace of its own that begins with what all living processes have.
 
-    A record weighs 1, or what is said of its line. A piece ends between two system calls, before it would weigh more
-    than the most. The next one is written once this one was taken.
+    A record weighs 1, or what is given for its line. A piece ends between two system calls, before it would be too
+    heavy. The next piece is written after this one was used.
     """
     living = Living()
     pieces = 0
@@ -40,11 +40,11 @@ def cut(trace: Path, folder: Path, weights: Mapping[int, int], most: int = MOST)
         pieces += 1
         again = living.again()
         if len(again) > most:
-            raise Problem(f"{trace} has too many processes at one time for a policy: name another program by --program")
+            raise Problem(f"{trace} has too many processes at a time for a policy: name another program with --program")
 
 
 def _calls(trace: Path) -> Iterator[list[tuple[int, Record]]]:
-    """The records of each system call that are together, with their lines; what begins a part is together too."""
+    """The records of each system call, with their lines; the records at the beginning of a part are one group too."""
     together: list[tuple[int, Record]] = []
     for number, record in jsonl.numbered(trace):
         if together and not _is_one_call(together[-1][1], record):

@@ -1,9 +1,9 @@
 """What one policy lets pass and another refuses, for every call on every tree.
 
 landaudit is asked about one object, directory and port of each region (`regions`), with single rights, and about moves
-between each two regions. The rest follows by laws of the crate `ll_regions`: a set of rights is refused where one of
-them is (`rights_are_refused_one_by_one`), a rename is let through where the link and the removal are, and an exchange
-where both renames are (`moves_made_of_others`).
+between each two regions. The rest follows by laws of the crate `ll_regions`: a set of rights is refused if one of the
+rights is (`rights_are_refused_one_by_one`), a rename passes if the link and the removal pass, and an exchange passes if
+both renames do (`moves_made_of_others`).
 """
 
 from __future__ import annotations
@@ -27,11 +27,11 @@ from .rights import NEWEST_ABI
 from .trees import ROOT, Tree, upwards
 
 MOST_RECORDS = 900_000
-"""How many records a trace is given at most; landaudit reads some more."""
+"""The most records that a trace gets; landaudit reads some more."""
 
 MOST_OBJECTS = 65_536
 PROCESSES = 4
-"""Among how many processes the questions of a policy are spread, so that several workers judge them."""
+"""The number of processes that share the questions of a policy, so that several workers judge them."""
 
 MOUNT = "mount"
 _MAKING = {"reg": "make_reg", "sym": "make_sym", "char": "make_char", "block": "make_block", "fifo": "make_fifo",
@@ -52,7 +52,7 @@ class About:
 
 @dataclass(frozen=True)
 class Move:
-    """A move: of an object of a kind, beneath a path or that path itself, to what is under another path."""
+    """A move of an object of a kind, beneath a path or at that path itself, to a place under another path."""
 
     kind: str
     source: str
@@ -65,7 +65,7 @@ Subject = About | Move
 
 @dataclass
 class Differences:
-    """What one policy lets pass and another refuses, by the ABIs at which it does, and how many calls were tried."""
+    """What one policy lets pass and another refuses, with the ABIs at which it does, and how many calls were tried."""
 
     more: dict[Subject, Abis] = field(default_factory=dict)
     less: dict[Subject, Abis] = field(default_factory=dict)
@@ -85,7 +85,7 @@ class Differences:
 
 @dataclass(frozen=True)
 class _Question:
-    """Records of one process, without its pid: the last one is asked about, where those before it are allowed."""
+    """Records of one process, without its pid. The question is the last record, if those before it are allowed."""
 
     subject: Subject
     records: tuple[str, ...]
@@ -93,7 +93,7 @@ class _Question:
 
 @dataclass(frozen=True)
 class _Passes:
-    """At which ABIs a policy allows all records of a question but the last, and at which all of them."""
+    """The ABIs at which a policy allows all records of a question but the last, and those at which it allows all."""
 
     reached: Abis
     whole: Abis
@@ -110,7 +110,7 @@ class _Answer:
 
 
 def differences(program: Path, old: Policy, new: Policy, abis: range) -> Differences:
-    """All in which two policies differ at some ABIs."""
+    """All differences of two policies at some ABIs."""
     regions = Regions.of((old, new))
     kinds = regions.kinds()
     if len(kinds) > MOST_OBJECTS:
@@ -135,7 +135,7 @@ def differences(program: Path, old: Policy, new: Policy, abis: range) -> Differe
 
 
 def _confined(policy: Policy, regions: Regions) -> list[Record]:
-    """The records by which a process confines itself, with each path's rule also on what stands for it as a file."""
+    """The records by which a process confines itself; each rule on a path is also on the file that stands for it."""
     layers, _ = fitting.fit(policy, NEWEST_ABI)
     files = tuple(_with_files(layer, regions) for layer in layers)
     return applying.records(policy, files, Tree(regions.kinds()), RULESET)
@@ -155,7 +155,7 @@ def _with_files(layer: FittedLayer, regions: Regions) -> FittedLayer:
 
 
 def _record(op: str, **members: object) -> str:
-    """A record without a pid, as it is written behind one."""
+    """A record without a pid, as it is written after one."""
     return "".join([f'"op":"{op}"', *(f',"{key}":{json_of(of)}' for key, of in members.items())])
 
 
@@ -184,7 +184,7 @@ def _rights(regions: Regions) -> Iterator[_Question]:
 
 
 def _on_files(region: Region, file: str, device: str, fds: Iterator[int]) -> Iterator[_Question]:
-    """The rights on files, each by itself; an ioctl needs a device that is open, by whichever mode."""
+    """The rights on files, each by itself; an ioctl needs an open device, in any mode."""
     yield _Question(About("read_file", region), (_record("open", path=file, mode="r", fd=next(fds)),))
     yield _Question(About("write_file", region), (_record("open", path=file, mode="w", fd=next(fds)),))
     yield _Question(About("execute", region), (_record("exec", path=file),))
@@ -198,7 +198,7 @@ def _on_files(region: Region, file: str, device: str, fds: Iterator[int]) -> Ite
 def _moves(regions: Regions, making: dict[str, set[str]]) -> Iterator[_Question]:
     """Links of files and renames of directories from each region to each other place.
 
-    A directory in which neither policy lets an object of a kind be made lets none come: it isn't asked about.
+    If neither policy allows making an object of a kind in a directory, no move to it passes: it is not asked about.
     """
     for to in regions.paths:
         new = json_of(regions.child(regions.child(to, "to"), "new"))
@@ -210,7 +210,7 @@ def _moves(regions: Regions, making: dict[str, set[str]]) -> Iterator[_Question]
 
 
 def _moved(regions: Regions, kind: str, to: str) -> Iterator[tuple[Move, str]]:
-    """The objects of a kind that can come under a path: one beneath each path, and each path with a rule itself."""
+    """The objects of a kind that can move under a path: one beneath each path, and each path with a rule itself."""
     for source in regions.paths:
         yield Move(kind, source, False, to), regions.child(source, kind)
     if kind == "dir":
@@ -238,7 +238,7 @@ class _Asker:
         return self.folder / "tree.jsonl"
 
     def asked(self, questions: Iterable[_Question]) -> Iterator[tuple[_Question, tuple[_Passes, _Passes]]]:
-        """Each question with where the first policy lets it pass, and where the other does."""
+        """Each question with the ABIs at which the first policy lets it pass, and those at which the other does."""
         spent = PROCESSES * sum(len(own) + 1 for own in self.confined)
         batch: list[_Question] = []
         records = 0
@@ -288,7 +288,7 @@ class _Reader:
         self._known: dict[str, _Answer] = {}
 
     def process(self, own: Sequence[Record], questions: Sequence[_Question]) -> list[_Passes]:
-        """Where each question of a process passes."""
+        """The ABIs at which each question of a process passes."""
         self._next()
         for record in own:
             if self._next().refused and record["op"] != "add_path":
@@ -296,7 +296,7 @@ class _Reader:
         return [self._passes(question) for question in questions]
 
     def _passes(self, question: _Question) -> _Passes:
-        """Where the records of a question are allowed. What is moot is so for one that was refused before it."""
+        """The ABIs at which the records of a question are allowed. A record may be moot only after a refused one."""
         answer = self._next()
         passes = answer.alone
         moot = answer.moot
@@ -305,11 +305,11 @@ class _Reader:
             moot |= answer.moot & reached
             passes = _Passes(reached, reached & answer.allowed)
         if moot:
-            raise Problem(f"landaudit says that the policy is not asked about {' '.join(question.records)}")
+            raise Problem(f"landaudit says that Landlock is not asked about {' '.join(question.records)}")
         return passes
 
     def _next(self) -> _Answer:
-        """What the next line answers; two that say the same have one answer."""
+        """The answer on the next line; equal lines share one answer."""
         text = next(self._lines, "").partition(" ")[2].partition(" ")[2].partition(" ")[2]
         known = self._known.get(text)
         if known is None:

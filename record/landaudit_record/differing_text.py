@@ -1,4 +1,4 @@
-"""What two policies differ in, in words: rights by region, ports, mounts, and moves by where from and where to."""
+"""The differences of two policies in words: rights by region, ports, mounts, and moves by source and target."""
 
 from __future__ import annotations
 
@@ -88,7 +88,7 @@ def _ports(subjects: list[About], regions: Regions) -> Iterator[str]:
 
 
 def _of_ports(differing: set[int | None], regions: Regions) -> str:
-    """Some ports in words, as `port 80`, or `every port, but for port 22` where those without a rule are among them."""
+    """Some ports in words: `port 80`, or `every port, but for port 22` if ports without a rule are among them."""
     every = None in differing
     named = ", ".join(f"port {port}" for port in regions.ports if (port in differing) != every)
     if not every:

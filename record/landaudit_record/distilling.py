@@ -1,12 +1,12 @@
 """What the calls of a recording ask a policy: each question once, with how many calls ask it.
 
-Landlock answers a call by its process's layers and by what the call names, and what is done with a descriptor by the
-layers that were there when it was opened. So of all calls that a policy lets pass it is enough to ask those that
-differ in these again, each by itself, of a policy that grants less: that one refuses none of them just if it refuses
-nothing of the whole recording that passed. For take the first call that it would refuse there: until then all went as
-before, so the call's layers and what its descriptor is open on are those that are asked about here. It may let a
-move or link pass that was refused, where the object would have gained rights that are no longer there: nothing that
-follows depends on one.
+Landlock answers a call by the layers of its process and by what the call names, and a call on a descriptor by the
+layers that the process had when it opened the descriptor. So, to try a policy that grants less, it is enough to ask one
+call of each group that agrees in these, each by itself: the new policy refuses none of them exactly if it refuses no
+call of the whole recording that passed before. Proof: take the first call of the recording that it would refuse. Until
+then, everything went as before, so the call's layers, and what its descriptor is open on, are those of a question here.
+The new policy may let a move or link pass that was refused, if the object would have gained rights that are no longer
+granted: nothing that follows depends on such a call.
 """
 
 from __future__ import annotations
@@ -22,7 +22,7 @@ from .jsonl import Record
 from .problems import Problem
 from .processes import of_policy
 
-#: Of calls that Landlock judges by themselves, the members by which it does.
+#: The calls that Landlock judges by themselves, with the members that decide.
 _JUDGED: Mapping[str, tuple[str, ...]] = {
     "open": ("path", "mode", "create", "trunc"),
     "truncate": ("path",),
@@ -38,7 +38,7 @@ _JUDGED: Mapping[str, tuple[str, ...]] = {
     "bind": ("port",),
     "connect": ("port",),
 }
-#: Calls on a descriptor, which Landlock judges by what was so when that was opened.
+#: Calls on a descriptor, which Landlock judges by the layers at the time when the descriptor was opened.
 _USES: Mapping[str, tuple[str, ...]] = {"ftruncate": (), "ioctl": ("driver",)}
 _ON_RULESETS: Mapping[str, tuple[str, ...]] = {
     "create": ("fs", "net"),
@@ -50,16 +50,16 @@ _ON_RULESETS: Mapping[str, tuple[str, ...]] = {
 _MEMBERS = {**_JUDGED, **_USES, **_ON_RULESETS}
 
 Call = tuple[Any, ...]
-"""A call without its process and its number: its operation, and behind it the members by which it is judged."""
+"""A call without its process and its number: its operation, and then the members that decide the answer."""
 
 Enforced = int | tuple[Call, ...]
-"""A layer of the policy by its number, or one of a program's own by the calls that it was made by."""
+"""A layer: one of the policy by its number, or one of the program by the calls that made it."""
 
 Domain = tuple[Enforced, ...]
 
 
 class Question(NamedTuple):
-    """What is asked: layers, the oldest first, and one call, or two of which the first opens what the second uses."""
+    """A question: layers, the oldest first, and one call, or two of which the first opens what the second uses."""
 
     domain: Domain
     calls: tuple[Call, ...]
@@ -73,7 +73,7 @@ class Question(NamedTuple):
 
 @dataclass(slots=True)
 class _Ruleset:
-    """A ruleset that processes hold, with the calls so far or, where it is the policy's, the number of its layer."""
+    """A ruleset that processes hold, with its calls so far or, if it is the policy's, the number of its layer."""
 
     made: list[Call]
     of_policy: int | None
@@ -85,7 +85,7 @@ class _Ruleset:
 
 @dataclass(slots=True)
 class _Process:
-    """What a process has: its layers, its rulesets by number, and of each descriptor the question that opened it."""
+    """What a process has: its layers, its rulesets by number, and for each descriptor the question that opened it."""
 
     domain: Domain = ()
     rulesets: dict[int, _Ruleset] = field(default_factory=dict)
@@ -103,12 +103,12 @@ class Distilling:
         self._by_pid: dict[int, _Process] = {}
 
     def follow(self, trace: Path, report: Path) -> None:
-        """Takes up a trace by a report that explains nothing. What is refused or moot changes nothing."""
+        """Reads a trace with a report without explanations. Records that are refused or moot change nothing."""
         with open(report, "rb") as answers:
             for number, record in jsonl.numbered(trace):
                 answer = next(answers, b"")
                 if not answer.startswith(b"%d %d " % (number, record["pid"])):
-                    raise Problem(f"{report} is no report on {trace}: use programs of one version")
+                    raise Problem(f"{report} is not a report on {trace}: use programs of one version")
                 if answer.endswith(b" allowed\n"):
                     self._take(record)
                 elif b" refused " in answer and (origin := of_policy(record)) is not None:
@@ -116,7 +116,7 @@ class Distilling:
         self._by_pid.clear()
 
     def _take(self, record: Record) -> None:
-        """Takes up a record that is allowed."""
+        """Reads a record that is allowed."""
         op, pid = record["op"], record["pid"]
         if op == "start":
             self._by_pid[pid] = _Process()
@@ -134,7 +134,7 @@ class Distilling:
             self._change(process, op, record)
 
     def _ask(self, domain: Domain, record: Record, calls: tuple[Call, ...]) -> Question | None:
-        """Counts a question, if the policy is asked; what begins a part only gives once more what there was."""
+        """Counts a question, if the policy is asked; the records that begin a part only repeat what there was."""
         if not any(type(layer) is int for layer in domain):
             return None
         question = Question(domain, calls)
@@ -168,23 +168,24 @@ class Distilling:
 
 
 def _refused(record: Record, origin: Mapping[str, Any]) -> Problem:
-    """That the kernel refuses a call of the policy's own."""
+    """The problem that the kernel refuses one of the policy's own calls."""
     where = ", ".join([f"layer {origin['layer']}", *([origin["rule"]] if "rule" in origin else [])])
     if record["op"] == "add_path":
-        return Problem(f"{where}, parent {origin['parent']}: the kernel refuses this rule, as it is on no directory "
-                       "and has rights of directories alone: give it a rule of its own, by a group or rights of files")
-    return Problem(f"{where}: the kernel refuses its {record['op']}, as the program has too many layers of its own: "
-                   "try a policy of fewer layers")
+        return Problem(f"{where}, parent {origin['parent']}: the kernel refuses this rule: it has rights for "
+                       "directories only, and the parent is not a directory: give this parent a rule of its own, with "
+                       "a group or with rights for files")
+    return Problem(f"{where}: the kernel refuses its {record['op']}, since the program has too many layers of its own: "
+                   "try a policy with fewer layers")
 
 
 def call_of(record: Record) -> Call:
-    """A record without what its answer does not depend on."""
+    """A record with only the members that its answer depends on."""
     op = record["op"]
     return (op, *[tuple(value) if type(value) is list else value for value in map(record.get, _MEMBERS[op])])
 
 
 def text(call: Call, member: str, number: int) -> str:
-    """A call as a line of a trace has it behind its process, with the number of its descriptor or its ruleset."""
+    """A call as the end of a line, after its process, with the number of its descriptor or its ruleset."""
     op, *values = call
     named = [(name, value) for name, value in zip(_MEMBERS[op], values) if value is not None]
     said = [("op", op), *named, (member, number)]

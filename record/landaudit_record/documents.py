@@ -1,4 +1,4 @@
-"""TOML documents that people write: reading them, and saying where in one something is wrong and what would be right."""
+"""Reads TOML documents that people write, and says where an error is and what would be right."""
 
 from __future__ import annotations
 
@@ -16,7 +16,7 @@ T = TypeVar("T")
 
 @dataclass(frozen=True)
 class Place:
-    """Where in a document something is, so that a fault can name it."""
+    """A position in a document, so that an error can name it."""
 
     path: Path
     steps: tuple[str, ...] = ()
@@ -25,7 +25,7 @@ class Place:
         return Place(self.path, (*self.steps, step))
 
     def fault(self, text: str) -> NoReturn:
-        """Says what is wrong here."""
+        """Raises the Problem that this position has an error."""
         where = ", ".join(self.steps)
         raise Problem(f"{self.path}: {where}: {text}" if where else f"{self.path}: {text}")
 
@@ -58,7 +58,7 @@ def tables(value: Any, key: str, place: Place) -> list[Mapping[str, Any]]:
 
 
 def check_keys(table: Mapping[str, Any], known: tuple[str, ...], place: Place, all_needed: bool = False) -> None:
-    """Sees that a table has no key that isn't known and, where all are needed, each of them."""
+    """Checks that a table has only known keys and, if all are needed, each of them."""
     for key in table:
         if key not in known:
             place.fault(f"unknown key {unknown(key, known)}")
@@ -68,7 +68,7 @@ def check_keys(table: Mapping[str, Any], known: tuple[str, ...], place: Place, a
 
 
 def unknown(word: str, known: Iterable[str]) -> str:
-    """An unknown word with what would be right: a near name where one is near, and all names."""
+    """An unknown word with what would be right: a similar name, if there is one, and all names."""
     names = list(known)
     near = difflib.get_close_matches(word, names, n=1)
     meant = f", did you mean {near[0]!r}?" if near else ":"

@@ -1,16 +1,17 @@
-"""Why landaudit refuses a record, or does not ask the policy about it: what is behind the record's own line.
+"""Reads why landaudit refuses a record or finds it moot: the lines after the record's own line.
 
-These are the tables of docs/FORMATS.md, "Explanations". Paths are there
-without quotes and may hold any words, so a line taken by itself may be read in
-several ways. The record tells which of them is meant:
+These are the tables of docs/FORMATS.md, "Explanations". Paths have no quotes
+there and may contain any words, so a line by itself can have several meanings.
+The record decides which one is right:
 
-- A call that is no move has one objection. The path in it goes on to the end of
-  the line; of `ftruncate` and `ioctl`, to the words that say where it was opened.
+- A call that is not a move has one objection. Its path goes on to the end of
+  the line or, for `ftruncate` and `ioctl`, to the words that say where it was
+  opened.
 - A move has up to four objections, in one order, about its two paths and their
-  directories. They are looked for by these paths, and so are the reasons that
-  name both paths.
+  directories. They are found by these paths, and so are the reasons that name
+  both paths.
 
-All other lines can be read in one way alone.
+Every other line has only one meaning.
 """
 
 from __future__ import annotations
@@ -60,7 +61,7 @@ class Closed:
 
 @dataclass(frozen=True)
 class Gained:
-    """Rights that an object would have in a directory that it goes to, and does not have as it is."""
+    """Rights that an object would have in the directory that it moves to, and does not have where it is."""
 
     path: str
     rights: tuple[str, ...]
@@ -72,7 +73,7 @@ class Gained:
 
 @dataclass(frozen=True)
 class Mounting:
-    """The layer handles rights for files, so what is mounted stays as it is, whatever its rules are."""
+    """The layer handles rights for files, so it forbids every change of the mounts, whatever its rules are."""
 
     def __str__(self) -> str:
         return _HANDLES_FILES
@@ -82,7 +83,7 @@ class Mounting:
 class Kept:
     """A right that was missing on a file when it was opened, by the record on the line `opened` of the trace.
 
-    Two that differ in this line alone are equal.
+    Two that differ only in this line are equal.
     """
 
     rights: tuple[str]
@@ -98,7 +99,7 @@ Objection = Missing | Closed | Gained | Mounting | Kept
 
 @dataclass(frozen=True)
 class Refusing:
-    """All that a layer objects to in a record; `line` is that of the `restrict` which made the layer."""
+    """All objections of a layer to a record; `line` is the line of the `restrict` that made the layer."""
 
     layer: int
     line: int
@@ -107,7 +108,7 @@ class Refusing:
 
 @dataclass(frozen=True)
 class Condition:
-    """By which condition a record fails by itself. `of_abi` says that the ABI does not have what is asked for."""
+    """The condition by which a record fails by itself. `of_abi` says that the ABI does not have what is asked for."""
 
     text: str
     of_abi: bool
@@ -115,7 +116,7 @@ class Condition:
 
 @dataclass(frozen=True)
 class Reason:
-    """Why the policy is not asked. `at` is what that is said of: a path, both paths of a move, a number, or a port."""
+    """Why Landlock is not asked. `at` is what the reason is about: a path, two paths of a move, a number, or a port."""
 
     at: tuple[str, ...]
     why: str
@@ -152,7 +153,7 @@ _REASONS = tuple(
 
 
 def refusing(record: Record, answer: Answer) -> tuple[Refusing, ...]:
-    """The layers that refuse a record, each with what it objects to."""
+    """The layers that refuse a record, each with its objections."""
     found = tuple(_of_layer(record, answer, said) for said in answer.explanation)
     if tuple(layer.layer for layer in found) != answer.layers:
         raise _unreadable(answer, answer.explanation)
@@ -160,7 +161,7 @@ def refusing(record: Record, answer: Answer) -> tuple[Refusing, ...]:
 
 
 def condition(answer: Answer) -> Condition:
-    """By which condition a record fails that no layer refuses."""
+    """The condition by which a record fails that no layer refuses."""
     text = _alone(answer)
     of_abi = _OF_ABI.fullmatch(text) is not None
     if not of_abi and _OF_CALL.fullmatch(text) is None:
@@ -169,7 +170,7 @@ def condition(answer: Answer) -> Condition:
 
 
 def reason(record: Record, answer: Answer) -> Reason:
-    """Why the policy is not asked about a moot record."""
+    """Why Landlock is not asked about a moot record."""
     text = _alone(answer)
     if text == LEFT_OUT and record["op"] in _RULES:
         return Reason((record["path"] if record["op"] == "add_path" else f"port {record['port']}",), LEFT_OUT)
@@ -193,7 +194,7 @@ def _unreadable(answer: Answer, said: Sequence[str]) -> Problem:
 
 
 def _plain(answer: Answer, said: str) -> str:
-    """A line with its paths as they are: they are written as JSON writes texts inside its quotes."""
+    """A line with its paths unescaped: they are escaped as in a JSON string."""
     try:
         return str(json.loads(f'"{said}"'))
     except ValueError as error:
@@ -216,7 +217,7 @@ def _of_layer(record: Record, answer: Answer, said: str) -> Refusing:
 
 
 def _objections(record: Record, text: str) -> tuple[Objection, ...]:
-    """What a layer objects to in a record; nothing if the text is none of the record's."""
+    """The objections of a layer to a record; none if the text does not fit the record."""
     match record["op"]:
         case "rename" | "link":
             return _of_move(record["from"], record["to"], text)
@@ -233,7 +234,7 @@ def _objections(record: Record, text: str) -> tuple[Objection, ...]:
 
 
 def _of_move(moved: str, to: str, text: str) -> tuple[Objection, ...]:
-    """What a layer objects to in a move, by its paths: what is missing on both directories, what each object gains."""
+    """The objections of a layer to a move, by its paths: rights missing on directories, and gains of each object."""
     source, target = directory_of(moved), directory_of(to)
     parts = [("", f" on {source}; "), ("", f" on {target}; ")]
     parts += [(f"{moved} would gain ", f" in {target}; "), (f"{to} would gain ", f" in {source}; ")]
@@ -247,7 +248,7 @@ def _of_move(moved: str, to: str, text: str) -> tuple[Objection, ...]:
 
 
 def _split(text: str, parts: Sequence[tuple[str, str]]) -> tuple[tuple[str, ...], ...] | None:
-    """The rights of each part, which are between two texts; none of a part that is left out, None if it can't be."""
+    """The rights of each part, which are between two texts: none for a part that is left out, None if nothing fits."""
     if not parts:
         return None if text else ()
     before, behind = parts[0]
@@ -261,7 +262,7 @@ def _split(text: str, parts: Sequence[tuple[str, str]]) -> tuple[tuple[str, ...]
 
 
 def _reasons_of_move(moved: str, to: str) -> dict[str, str]:
-    """The reasons that name both paths of a move, as landaudit writes them and without the paths."""
+    """The reasons that name both paths of a move, as landaudit writes them, and without the paths."""
     return {
         f"{moved} would go beneath itself, to {to}": "would go beneath itself",
         f"{moved} would take the place of {to}, which it is in": "would take the place of what it is in",

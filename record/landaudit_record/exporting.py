@@ -1,6 +1,6 @@
-"""A policy as code: a C99 function that confines its process as `confining` does, with the kernel's headers alone.
+"""A policy as code: a C99 function that confines its process as `confining` does, with only the kernel's headers.
 
-The tables of the code are the policy. The functions behind them are the same for every policy, and follow "Defining
+The tables of the code are the policy. The functions after them are the same for every policy, and follow "Defining
 and enforcing a security policy" in the kernel's userspace document on Landlock.
 """
 
@@ -183,7 +183,7 @@ def c_code(policy: Policy, comments: Comments) -> Iterator[str]:
 
 
 def _rights() -> Iterator[str]:
-    """The rights by names of their own: a header may be older than they are."""
+    """The rights under separate names, since a header may be older than a right."""
     for family, prefix in ((FS, "FS"), (NET, "NET")):
         yield f"/* The rights {family.what}, as LANDLOCK_ACCESS_{prefix}_ names them. */"
         for right in family.since:
@@ -271,13 +271,13 @@ def _wrapped(text: str) -> list[str]:
 
 
 def _comment(texts: Iterable[str], indent: str) -> Iterator[str]:
-    """Texts as a comment, of which none ends it or begins another."""
+    """Texts as a comment; no text can end it or begin another."""
     for text in texts:
         plain = "".join(character if character.isprintable() else " " for character in text)
         yield f"{indent}/* {plain.replace('*/', '* /').replace('/*', '/ *')} */"
 
 
 def _text(text: str) -> str:
-    """A text as C writes it: what is not plain as an octal escape of three digits, byte by byte."""
+    """A text as a C string: each byte that is not plain is an octal escape of three digits."""
     plain = (chr(byte) if 32 <= byte < 127 and chr(byte) not in '"\\?' else f"\\{byte:03o}" for byte in text.encode())
     return f'"{"".join(plain)}"'

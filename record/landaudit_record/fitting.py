@@ -1,7 +1,7 @@
-"""A policy as one ABI knows it, by best effort: what the ABI does not have is dropped, never asked for.
+"""A policy at one ABI, at best effort: rights that the ABI does not have are dropped.
 
-This is what the kernel's document advises and libraries do. A program that asks
-an older kernel for a right that it does not know gets EINVAL, and no layer.
+The kernel's document advises this, and libraries do it. A program that asks an
+older kernel for a right that it does not know gets EINVAL, and no layer.
 """
 
 from __future__ import annotations
@@ -14,9 +14,9 @@ from .rights import FILE_RIGHTS, FS, NET, Family, Rights
 
 @dataclass(frozen=True)
 class FittedPathRule:
-    """What a rule grants under its parents: by a group, a parent that is a file gets the rights for files alone.
+    """What a rule grants under its parents; a parent that is a file gets only those rights of a group that files have.
 
-    `group` is the group of rules that it is of, if any: what of its parents is not there is left out in silence.
+    `group` is the group of rules that the rule belongs to, if any: its missing parents are left out without a note.
     """
 
     place: str
@@ -26,10 +26,10 @@ class FittedPathRule:
     group: str | None = None
 
     def on(self, kind: str | None) -> list[str]:
-        """What the rule asks to be granted on an object of a kind; None is an object that is not listed.
+        """The rights that the rule asks for on an object of a kind; None is an object that is not listed.
 
-        Where nothing of the rule applies to a file, all of it is asked for, and
-        the kernel refuses that rule: the audit then names it.
+        If no right of the rule applies to a file, the rule asks for all of them
+        and the kernel refuses it: the audit then names the rule.
         """
         return self.on_directory if kind in ("dir", None) else self.on_file or self.on_directory
 
@@ -45,7 +45,7 @@ class FittedPortRule:
 
 @dataclass(frozen=True)
 class FittedLayer:
-    """A layer of which the ABI knows every right. The number is the one in the policy."""
+    """A layer with only rights that the ABI knows. The number is the one in the policy."""
 
     number: int
     handled_fs: list[str]
@@ -55,14 +55,14 @@ class FittedLayer:
 
 
 def fit(policy: Policy, abi: int) -> tuple[tuple[FittedLayer, ...], list[str]]:
-    """A policy's layers as an ABI knows them, and a note for all that was dropped though it was named outright."""
+    """A policy's layers at an ABI, and a note for each right that was dropped although the policy names it."""
     notes: list[str] = []
     layers = tuple(fitted for layer in policy.layers if (fitted := _layer(layer, abi, notes)) is not None)
     return layers, notes
 
 
 def _layer(layer: Layer, abi: int, notes: list[str]) -> FittedLayer | None:
-    """A layer without what the ABI does not have, or None where nothing that it handles is left."""
+    """A layer without the rights that the ABI does not have, or None if it then handles no right."""
     where = f"layer {layer.number}"
     handled_fs = _known(layer.handled_access_fs, FS, abi, f"{where}, handled_access_fs", notes)
     handled_net = _known(layer.handled_access_net, NET, abi, f"{where}, handled_access_net", notes)

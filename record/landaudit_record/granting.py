@@ -1,7 +1,7 @@
 """Which rules of a policy let a call pass.
 
-landaudit is asked again, once for each layer by itself without its rules, and once for each of its rules alone: a rule
-grants what the layer lacks without rules and no longer lacks with this one.
+landaudit is asked again, once for each layer without its rules, and once for each of its rules by itself: a rule grants
+what the layer lacks without rules and does not lack with this rule.
 """
 
 from __future__ import annotations
@@ -20,7 +20,7 @@ from .trees import Tree, upwards
 
 @dataclass(frozen=True)
 class Grant:
-    """What a rule grants of a call: rights, on a path or a port."""
+    """What a rule grants for a call: rights, on a path or a port."""
 
     layer: int
     rule: str
@@ -52,7 +52,7 @@ class _Alone:
         return Policy(path, (replace(self.layer, path_beneath=paths, net_port=ports),))
 
     def concerns(self, question: Question) -> bool:
-        """Whether the rule is on what a question names or above it; a layer without rules concerns all."""
+        """Whether the rule is on an object of a question or above it; a layer without rules concerns every question."""
         if self.rule is None:
             return True
         if isinstance(self.rule, PortRule):
@@ -72,7 +72,7 @@ def _parts(policy: Policy) -> Iterator[_Alone]:
 
 
 def grants(program: Path, policy: Policy, tree: Tree, questions: Sequence[Question]) -> list[list[Grant]]:
-    """For each question, what which rule of the policy grants of it, at the newest ABI."""
+    """For each question, the rules of the policy that grant something of it at the newest ABI, with what they grant."""
     parts = [(part, [n for n, it in enumerate(questions) if part.concerns(it)]) for part in _parts(policy)]
     parts = [(part, concerned) for part, concerned in parts if concerned]
     confined = [asking.under(part.policy(policy.path), NEWEST_ABI, tree) for part, _ in parts]

@@ -1,7 +1,7 @@
-"""Many kinds of refused calls in few groups: what is lacking, and the directory that it is lacking below.
+"""Puts many kinds of refused calls into few groups: by what is lacking, and below which directory.
 
-A group is what a reader would write one rule for. Its directory is the deepest one over all its paths. One that is near
-the root, or of which one directory has most, is taken apart while the groups are few.
+A reader would write one rule for a group. Its directory is the deepest one above all its paths. A group is split, while
+there are few groups, if its directory is near the root or if one directory below has most of the group.
 """
 
 from __future__ import annotations
@@ -18,16 +18,16 @@ from .rights import FILE_RIGHTS
 from .summary import Refusal
 from .trees import ROOT
 
-#: So many groups are made at most by taking larger ones apart.
+#: The most groups that splitting makes.
 FEW = 12
-#: A directory so near the root says little.
+#: A directory with fewer names than this is near the root and says little.
 _NEAR_ROOT = 2
-#: A directory that has so much of a group says more than the one over it.
+#: A directory that has this share of a group says more than the one above it.
 _MOST = 0.75
 
 
 class Lacking(NamedTuple):
-    """What the calls of a group have in common: what is objected to, by which error, and by which layers."""
+    """What the calls of a group have in common: the objections, the error, and the layers."""
 
     objections: tuple[str, ...]
     error: str
@@ -48,7 +48,7 @@ class Kind:
 
 @dataclass(frozen=True)
 class Group:
-    """Kinds of refused calls that lack the same; each has its first spot at or below the directory."""
+    """Kinds of refused calls that lack the same; the first spot of each is at or below the directory."""
 
     lacking: Lacking
     directory: str
@@ -71,14 +71,14 @@ class Group:
 
     @property
     def others(self) -> list[str]:
-        """The directory over the paths of each further objection."""
+        """The directory above the paths of each further objection."""
         return [_common([kind.spots[index] for kind in self.kinds]) for index in range(1, len(self.kinds[0].spots))]
 
 
 def grouped(refusals: Iterable[tuple[Refusal, Counter[str]]]) -> list[Group]:
     """The groups of some refusals, which are in the order of the trace.
 
-    That of the first call comes first, since there the program breaks; of the others those with the most calls.
+    The group of the first call comes first, since the program breaks there; then come the groups with the most calls.
     """
     found: defaultdict[Lacking, list[Kind]] = defaultdict(list)
     for order, (refusal, programs) in enumerate(refusals):
@@ -109,7 +109,7 @@ def _lacking(refusal: Refusal) -> tuple[Lacking, tuple[str, ...]]:
 
 
 def _objection(objection: Objection) -> tuple[str, str]:
-    """What a layer objects to, and where."""
+    """The objection of a layer, and where it is."""
     match objection:
         case Missing(rights=rights, path=path):
             return ", ".join(rights), path
@@ -123,7 +123,7 @@ def _objection(objection: Objection) -> tuple[str, str]:
 
 
 def _common(paths: Sequence[str]) -> str:
-    """The deepest directory over some paths, or the one path that they are; nothing for what is no path."""
+    """The deepest directory above some paths, or the path itself if they are all the same; "" if they are not paths."""
     return posixpath.commonpath(paths) if paths and all(path.startswith(ROOT) for path in paths) else ""
 
 
@@ -132,7 +132,7 @@ def _group(lacking: Lacking, kinds: Sequence[Kind]) -> Group:
 
 
 def _apart(groups: list[Group]) -> list[Group]:
-    """Groups of which the loosest ones are taken apart: the nearest to the root first, while there are few."""
+    """Splits the loosest groups, those nearest to the root first, while there are few groups."""
     done: list[Group] = []
     waiting = [_loosest_first(group) for group in groups]
     heapq.heapify(waiting)
@@ -149,7 +149,7 @@ def _apart(groups: list[Group]) -> list[Group]:
 
 
 def _loosest_first(group: Group) -> tuple[int, int, int, Group]:
-    """A group in the order in which groups are taken apart; no two have the same first call."""
+    """The key by which groups are ordered for splitting; no two groups have the same first call."""
     return _depth(group.directory), -len(group.kinds), group.order, group
 
 

@@ -14,7 +14,7 @@ Record = dict[str, Any]
 
 _encode = json.JSONEncoder(ensure_ascii=False, separators=(",", ":")).encode
 _encode_escaped = json.JSONEncoder(separators=(",", ":")).encode
-#: A text as JSON. Records repeat their texts: this many different ones are kept as they are written.
+#: A text as JSON. Records repeat their texts, so the JSON forms of this many different texts are kept.
 text = lru_cache(16_384)(_encode)
 
 

@@ -19,10 +19,9 @@ RULESET_CALLS = frozenset({"create", "add_path", "add_port", "restrict"})
 
 @dataclass(frozen=True)
 class ByKernel:
-    """What a process has by the kernel's answers and not by landaudit's.
+    """What a process has by the kernel's answers but not by landaudit's, perhaps from the process that forked it.
 
-    `newer` is a ruleset with rights newer than the ABI, `layer` a layer; it may have them from the process that it
-    was forked from.
+    `newer` says that it has a ruleset with rights newer than the ABI, `layer` that it has a layer.
     """
 
     newer: bool = False
@@ -36,7 +35,7 @@ NOTHING_MORE = ByKernel()
 class Call:
     """One system call: the records that stand for it, and landaudit's answers to them.
 
-    `domain` is what the process is under by landaudit's answers; `by_kernel` is what the kernel alone gave it.
+    `domain` is the domain of the process by landaudit's answers; `by_kernel` is what only the kernel gave it.
     """
 
     records: tuple[Record, ...]
@@ -56,24 +55,24 @@ class Call:
 
     @property
     def op(self) -> str:
-        """What the call is: an exec, whatever the kernel opens for it, else its record's operation."""
+        """The operation of the call: exec for an exec, whatever the kernel opens for it, else that of its record."""
         return "exec" if any(record["op"] == "exec" for record in self.records) else str(self.records[0]["op"])
 
     @property
     def record(self) -> Record:
-        """The record that tells the call: of an exec, the one of the program itself."""
+        """The record that shows the call: for an exec, the record of the program itself."""
         return next(record for record in self.records if record["op"] == self.op)
 
     @property
     def answer(self) -> Answer:
-        """landaudit's answer to the whole: the first refusal, else an answer that allows, else that it is moot."""
+        """landaudit's answer to the whole call: the first refusal, else an answer that allows it, else moot."""
         refused = next((answer for answer in self.answers if answer.refused), None)
         allowed = next((answer for answer in self.answers if answer.verdict == "allowed"), None)
         return refused or allowed or self.answers[0]
 
     @property
     def partly_moot(self) -> bool:
-        """Whether landaudit was not asked about some record."""
+        """Whether some record is moot."""
         return any(answer.verdict == "moot" for answer in self.answers)
 
     @property
@@ -90,18 +89,18 @@ def newer_rights(record: Record, abi: int) -> list[str]:
 
 
 class _Apart:
-    """The processes to which the kernel gave what landaudit refused."""
+    """The processes to which the kernel gave something that landaudit refused."""
 
     def __init__(self, abi: int) -> None:
         self._abi = abi
         self._by_pid: dict[int, ByKernel] = {}
 
     def of(self, pid: int) -> ByKernel:
-        """What a process has by the kernel alone."""
+        """What a process has only by the kernel's answers."""
         return self._by_pid.get(pid, NOTHING_MORE)
 
     def follow(self, record: Record, answer: Answer) -> None:
-        """Takes up a record: a ruleset or a layer that only the kernel gave, and children."""
+        """Follows a record: a ruleset or a layer that only the kernel gave, and forks."""
         pid = record["pid"]
         by_kernel = self.of(pid)
         kernel_alone = record.get("kernel") == "ok" and answer.verdict != "allowed"
@@ -117,7 +116,7 @@ class _Apart:
 
 
 def judged_calls(judged: Iterable[Judged], abi: int) -> Iterator[Call]:
-    """The calls that count: those on rulesets, and all others of a process that is under a layer."""
+    """The calls to compare: those on rulesets, and all others of a process that is under a layer."""
     apart = _Apart(abi)
     for (pid, _), together in groupby(judged, key=lambda found: (found[0]["pid"], found[0].get("call"))):
         by_kernel = apart.of(pid)

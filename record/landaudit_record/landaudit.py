@@ -1,4 +1,4 @@
-"""landaudit itself: where it is, how it is run, and what its report says."""
+"""The program landaudit: finds it, runs it, and reads its report."""
 
 from __future__ import annotations
 
@@ -14,12 +14,12 @@ from pathlib import Path
 from .problems import UNREADABLE, WANTING, Problem
 from .wording import span
 
-#: Lines of a report that begin with it explain the record's line before them.
+#: Lines of a report that begin with this explain the line of the record before them.
 EXPLAINS = "    "
 _ABIS = r"([0-9]+)(?:-([0-9]+))?"
-#: What some ABIs of a range answer, where not all of them answer alike.
+#: The answer of some ABIs of a range, if not all of them answer alike.
 _ANSWERED = re.compile(rf"{_ABIS} (allowed|moot|refused \S+ \S+)")
-#: Before lines that explain the answer of some ABIs of a range, where not all of them have the same lines.
+#: The heading of lines that explain the answer of some ABIs of a range, if not all of them have the same lines.
 _HEADING = re.compile(rf"abi {_ABIS}:")
 MOST_WORKERS = 64
 BUILT = Path(__file__).resolve().parents[2] / "crates" / "landaudit" / "out" / "landaudit"
@@ -27,7 +27,7 @@ BUILT = Path(__file__).resolve().parents[2] / "crates" / "landaudit" / "out" / "
 
 @dataclass(frozen=True)
 class Answer:
-    """What the report says of one record; `explanation` are the lines that say why, as they are written there."""
+    """What the report says about one record; `explanation` has the lines that say why, as the report has them."""
 
     line: int
     pid: int
@@ -45,7 +45,7 @@ class Answer:
 def find(named: str | None) -> Path:
     """The program that is named, else the one that `make landaudit` built, the installed one, or the one on PATH.
 
-    Where landaudit-record is installed, landaudit is beside it.
+    An installed landaudit-record has landaudit beside it.
     """
     if named is not None:
         if os.access(named, os.X_OK) and Path(named).is_file():
@@ -80,11 +80,11 @@ def audit(
     explain: bool = True,
     only_refused: bool = False,
 ) -> int:
-    """Runs landaudit once for all ABIs of a range, and writes its report to a file: with explanations or without, and
-    of all records or of those alone that some ABI refuses.
+    """Runs landaudit once for all ABIs of a range, and writes its report to a file: with or without explanations, and
+    with all records or only those that some ABI refuses.
 
-    The status is 0, or 1 if some ABI refuses something. At best effort rulesets lose the rights that an ABI does not
-    have; else they are judged as they were recorded. A fault of the run is a Problem.
+    The status is 0, or 1 if some ABI refuses a record. At best effort, rulesets lose the rights that an ABI does not
+    have; otherwise they are judged as they were recorded. A failure of the run is a Problem.
     """
     command = [str(program), "--abi", span(abis), *(["--best-effort"] if best_effort else [])]
     command += [*(["--explain"] if explain else []), *(["--refused"] if only_refused else [])]
@@ -102,7 +102,7 @@ def audit(
 
 
 def answers(report: Path, abi: int | None = None) -> Iterator[Answer]:
-    """The answers of a report at an ABI, in its order, without the totals; a report on one ABI needs none named."""
+    """The answers of a report at an ABI, in order, without the totals; for a report on one ABI, `abi` may be None."""
     with open(report, encoding="utf-8") as lines:
         for line, explanation in _explained(lines):
             if line and not line.startswith("total "):
@@ -110,7 +110,7 @@ def answers(report: Path, abi: int | None = None) -> Iterator[Answer]:
 
 
 def answered(text: bytes, explanation: Sequence[bytes], abis: range) -> tuple[Answered, ...]:
-    """The answers of a report's line and those behind it that are not `allowed`, each with the ABIs that give it."""
+    """The answers of a report's line that are not `allowed`, with their explanations and the ABIs that give them."""
     line = text.decode()
     why = tuple(said.decode().removeprefix(EXPLAINS).removesuffix("\n") for said in explanation)
     if not _differs(line, why):
@@ -129,7 +129,7 @@ def _differs(line: str, why: Sequence[str]) -> bool:
 
 
 def _explained(lines: Iterable[str]) -> Iterator[tuple[str, tuple[str, ...]]]:
-    """The lines that are by themselves, each with those that explain it."""
+    """The lines of records and totals, each with the lines that explain it."""
     alone, explanation = "", []
     for line in lines:
         if line.startswith(EXPLAINS):
@@ -141,7 +141,7 @@ def _explained(lines: Iterable[str]) -> Iterator[tuple[str, tuple[str, ...]]]:
 
 
 def _answer(text: str, explanation: tuple[str, ...], abi: int | None) -> Answer:
-    """The answer of a line at an ABI, with those of the lines behind it that explain this answer."""
+    """The answer of a line at an ABI, with those of the following lines that explain this answer."""
     line, pid, op, answered = text.rstrip("\n").split(" ", 3)
     verdict, *rest = _answered(answered, abi, text).split(" ")
     error = rest[0] if rest else None
@@ -150,7 +150,7 @@ def _answer(text: str, explanation: tuple[str, ...], abi: int | None) -> Answer:
 
 
 def _answered(text: str, abi: int | None, line: str) -> str:
-    """What an ABI answers: where ABIs differ, each answer is behind those that give it."""
+    """The answer of an ABI: if ABIs differ, each answer comes after the ABIs that give it."""
     if not text[0].isdigit():
         return text
     found = next((found for found in _ANSWERED.finditer(text) if _is_among(abi, found)), None)
@@ -162,7 +162,7 @@ def _answered(text: str, abi: int | None, line: str) -> str:
 
 
 def _explaining(explanation: Iterable[str], abi: int | None) -> Iterator[str]:
-    """The lines that explain what an ABI answers: those behind no heading, or behind one that it is among."""
+    """The lines that explain the answer of an ABI: those without a heading, or under one that includes the ABI."""
     meant = True
     for line in explanation:
         heading = _HEADING.fullmatch(line)

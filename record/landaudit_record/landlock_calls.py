@@ -22,14 +22,14 @@ _libc = ctypes.CDLL(None, use_errno=True)
 
 
 def kernel_abi() -> int:
-    """The ABI of the running kernel; OSError where it has no Landlock."""
+    """The ABI of the running kernel; OSError if it has no Landlock."""
     return _call(_CREATE_RULESET, None, ctypes.c_size_t(0), ctypes.c_uint32(_CREATE_RULESET_VERSION))
 
 
 def create_ruleset(fs: Collection[str], net: Collection[str] | None = None, scoped: Collection[str] = ()) -> int:
     """A new ruleset's descriptor, close-on-exec.
 
-    With None for `net` the structure is the shorter one of ABI 1, with scopes the longer one of ABI 6.
+    With None for `net`, the structure is the shorter one of ABI 1; with scopes, it is the longer one of ABI 6.
     """
     attributes = struct.pack("=Q", _bits(FS, fs))
     if net is not None or scoped:
@@ -40,7 +40,7 @@ def create_ruleset(fs: Collection[str], net: Collection[str] | None = None, scop
 
 
 def add_path_beneath(ruleset: int, parent: int, allowed: Collection[str]) -> None:
-    """Adds a rule on what an open descriptor stands for."""
+    """Adds a rule on the object of an open descriptor."""
     rule = struct.pack("=Qi", _bits(FS, allowed), parent)
     _call(_ADD_RULE, ctypes.c_int(ruleset), ctypes.c_int(_RULE_PATH_BENEATH), rule, ctypes.c_uint32(0))
 
@@ -52,12 +52,12 @@ def add_net_port(ruleset: int, port: int, allowed: Collection[str]) -> None:
 
 
 def restrict_self(ruleset: int) -> None:
-    """Confines this thread by a ruleset as it is now."""
+    """Restricts this thread by a ruleset as it is now."""
     _call(_RESTRICT_SELF, ctypes.c_int(ruleset), ctypes.c_uint32(0))
 
 
 def set_no_new_privs() -> None:
-    """What restrict_self asks of a process without CAP_SYS_ADMIN."""
+    """Sets no_new_privs, which restrict_self requires of a process without CAP_SYS_ADMIN."""
     unused = ctypes.c_ulong(0)
     if _libc.prctl(_PR_SET_NO_NEW_PRIVS, ctypes.c_ulong(1), unused, unused, unused):
         raise _error()

@@ -1,6 +1,6 @@
-"""What a run leaves behind: files that it made by opening and cutting them, which the run after finds there.
+"""What a run leaves behind: files that it made by an open that truncates, and that the next run finds.
 
-Such an open asks to make and to write where nothing is, and to cut where the file is.
+Such an open asks to make and write the file if it does not exist, and to truncate it if it does.
 """
 
 from __future__ import annotations
@@ -12,7 +12,7 @@ from . import jsonl
 from .processes import shown
 from .trees import ROOT, upwards
 
-#: How the lines of records begin as landaudit-record writes them, and those that make, move or remove a name.
+#: The beginnings of records as landaudit-record writes them, and those of records that make, move or remove a name.
 _OP = b'{"op":"'
 _OPEN = b'{"op":"open"'
 _GOES = (b'{"op":"unlink"', b'{"op":"rename"')
@@ -20,7 +20,7 @@ _CREATES = b'"create":true'
 
 
 def cut_files(traces: Iterable[Path]) -> set[str]:
-    """The real paths of files that a run makes by opening them to be cut, and that are there when it ends."""
+    """The real paths of files that a run makes by an open that truncates, and that exist when it ends."""
     there: set[str] = set()
     for trace in traces:
         for record in _telling(trace):
@@ -37,7 +37,7 @@ def cut_files(traces: Iterable[Path]) -> set[str]:
 
 
 def _telling(trace: Path) -> Iterator[jsonl.Record]:
-    """The records of calls that went well and may make, move or remove a name."""
+    """The records of calls that succeeded and may make, move or remove a name."""
     with open(trace, "rb") as lines:
         for number, line in enumerate(lines, start=1):
             known = line.startswith(_OP)

@@ -1,11 +1,11 @@
-"""What the living processes of a trace have, and the records that give it to them once more, where a part begins.
+"""What the living processes of a trace have, and the records that give it to them again at the beginning of a part.
 
-Landlock judges a call by its process's layers, and what is done with a descriptor by the layers that were there when
-it was opened. So a process is told by the steps by which it, or a process that it comes from, came to its layers, and
-each descriptor by its opening and the step behind which that was. Processes that were forked from one another share
-steps, and a ruleset that several of them hold is one ruleset: so the steps are a tree, and one carrier walks along
-each of its branches and forks where it parts. Nothing is known of what landaudit answers, so nothing that may have
-been refused is taken to be there: what is done again is what was done, in its order.
+Landlock judges a call by the layers of its process, and a call on a descriptor by the layers that the process had when
+it opened the descriptor. So a process is described by the steps by which it, or a process that it was forked from, got
+its layers, and a descriptor by its opening and the step before that. Processes that were forked from one another share
+steps, and a ruleset that several of them hold is one ruleset. So the steps form a tree; a carrier walks along each
+branch and forks where the branch divides. landaudit's answers are not known here, so no call is assumed to have been
+allowed: the calls of the run are repeated, in their order.
 """
 
 from __future__ import annotations
@@ -17,9 +17,9 @@ from typing import Any
 from .jsonl import Record
 
 Members = Mapping[str, Any]
-#: Numbers of processes, descriptors and rulesets of the carriers alone: Linux has none so high.
+#: The first number of the processes, descriptors and rulesets that only carriers have: Linux has none so high.
 FIRST_OF_CARRIERS = 1 << 40
-#: What a record says that landaudit does not read, and that is said once more: the real path.
+#: Members that landaudit does not read but that are repeated: the real path.
 _SHOWN = ("shown", "shown_to")
 
 
@@ -34,7 +34,7 @@ class Ruleset:
 
 @dataclass(frozen=True, slots=True)
 class Started:
-    """A process that is there when the trace begins, with the members of its `start`."""
+    """A process that exists when the trace begins, with the members of its `start`."""
 
     members: Record
 
@@ -61,7 +61,7 @@ class Made:
 
 @dataclass(frozen=True, slots=True)
 class Confined:
-    """A layer came of a ruleset as it was with the first `rules` of its rules."""
+    """A layer was made from a ruleset with the first `rules` of its rules."""
 
     ruleset: Ruleset
     rules: int
@@ -69,7 +69,7 @@ class Confined:
 
 @dataclass(slots=True, eq=False)
 class Step:
-    """Something that decides what later calls are answered, and the step before it."""
+    """An event that decides the answers to later calls, and the step before it."""
 
     did: Started | Promised | Ran | Made | Confined
     before: Step | None
@@ -77,7 +77,7 @@ class Step:
 
 @dataclass(slots=True, eq=False)
 class Opened:
-    """A descriptor's opening: the members of its `open` or `adopt`, and the step behind which it was.
+    """The opening of a descriptor: the members of its `open` or `adopt`, and the last step before it.
 
     What is adopted is never refused, so it is `certain`.
     """
@@ -94,17 +94,17 @@ class Opened:
         return _of("open", self.members, "path", "mode", "create", "trunc", *_SHOWN)
 
     def like(self, other: Opened) -> bool:
-        """Whether both are answered alike."""
+        """Whether both get the same answer."""
         return self.step is other.step and self.record == other.record
 
 
-#: What a number may be open on: the last of these openings that was let through.
+#: What a number may be open on: the last of these openings that was allowed.
 Openings = tuple[Opened, ...]
 
 
 @dataclass(slots=True, eq=False)
 class _Living:
-    """What a process has; `starting` says that it is one that the recording starts, before its first program."""
+    """What a process has; `starting` says that the recording starts it and that it has run no program yet."""
 
     step: Step
     starting: bool = False
@@ -121,13 +121,13 @@ class _Living:
 
 
 class Living:
-    """The processes that live, followed record by record."""
+    """The living processes, followed record by record."""
 
     def __init__(self) -> None:
         self._by_pid: dict[int, _Living] = {}
 
     def follow(self, op: str, pid: int, members: Members, kernel: str | None = None) -> None:
-        """Takes up a record of the trace; one of a process that is not known says nothing."""
+        """Follows a record of the trace; the record of an unknown process changes nothing."""
         change = _CHANGES.get(op)
         if change is not None:
             living = self._by_pid.get(pid)
@@ -137,7 +137,7 @@ class Living:
             self._follow_process(op, pid, members, kernel)
 
     def _follow_process(self, op: str, pid: int, members: Members, kernel: str | None) -> None:
-        """Takes up the beginning or the end of a process, or a program that it runs."""
+        """Follows the beginning or the end of a process, or a program that it runs."""
         living = self._by_pid.get(pid)
         if op == "start":
             given = {name: True for name in ("nnp", "admin") if members.get(name)}
@@ -153,7 +153,7 @@ class Living:
             living.starting = False
 
     def follow_written(self, record: Record) -> None:
-        """Takes up a record as a trace has it, one that is written again too."""
+        """Follows a record as a trace has it, also one that is written again."""
         self.follow(record["op"], record["pid"], record, record.get("kernel"))
         living = self._by_pid.get(record.get("child", record["pid"]))
         if living is None or "again" not in record:
@@ -169,7 +169,7 @@ class Living:
 
 
 def _of(op: str, members: Members, *names: str) -> Record:
-    """A record without its process, with those of some members that say something."""
+    """A record without its process, with those of the given members that are set."""
     return {"op": op, **{name: members[name] for name in names if members.get(name) not in (None, False)}}
 
 
@@ -190,14 +190,14 @@ def _close(living: _Living, _: str, members: Members) -> None:
 
 
 def _put_below(descriptors: dict[int, Openings], fd: int, opened: Opened) -> None:
-    """Opens a number: where it is open already the call is moot, so what is there goes before."""
+    """Opens a number: if it is open already the call is moot, so earlier openings come first."""
     there = descriptors.get(fd, ())
     if not any(one.certain for one in there):
         descriptors[fd] = (opened, *there)
 
 
 def _duplicate(living: _Living, _: str, members: Members) -> None:
-    """Opens a number by another one: where that is not open, what is there stays."""
+    """Opens a number as a duplicate of another: if that is not open, the number stays as it is."""
     descriptors, fd, to = living.descriptors, members["fd"], members["to"]
     above = descriptors.get(fd, ())
     if fd == to or not above:
@@ -210,7 +210,7 @@ def _duplicate(living: _Living, _: str, members: Members) -> None:
 
 
 def _confine(living: _Living, op: str, members: Members) -> None:
-    """Takes up no_new_privs and the calls on rulesets."""
+    """Follows no_new_privs and the calls on rulesets."""
     if op == "nnp":
         if not living.promised:
             living.promised = True
@@ -233,7 +233,7 @@ def _confine(living: _Living, op: str, members: Members) -> None:
 
 
 def _openings(living: _Living) -> dict[Opened, int | None]:
-    """What has to be opened for a process, each with the number under which alone it may be opened at once."""
+    """What must be opened for a process, each with the number under which it may be opened directly, if any."""
     found: dict[Opened, int | None] = {}
     for fd, openings in living.descriptors.items():
         for opened in openings:
@@ -242,7 +242,7 @@ def _openings(living: _Living) -> dict[Opened, int | None]:
     return found
 
 
-#: What a record changes of its process.
+#: How each operation changes its process.
 _CHANGES: dict[str, Callable[[_Living, str, Members], None]] = {
     "open": _open,
     "close": _close,
@@ -261,7 +261,7 @@ class _Carrier:
     rulesets: dict[int, Ruleset] = field(default_factory=dict)
 
 
-#: A carrier that is in front of a step, and the processes that come behind it.
+#: A carrier that is before a step, and the processes that come after the step.
 _Way = tuple[_Carrier, Step, list[int]]
 
 
@@ -285,7 +285,7 @@ class _Again:
         return self._records
 
     def _roots(self) -> dict[Step, list[int]]:
-        """The first steps with the processes that come behind each; those behind every other step are kept."""
+        """The first steps, each with the processes that come after it; those after every other step are kept."""
         roots: dict[Step, list[int]] = {}
         for pid, living in self._by_pid.items():
             step = living.step
@@ -296,7 +296,7 @@ class _Again:
         return roots
 
     def _pid_for(self, pids: list[int]) -> int:
-        """Who carries some processes: a process that is alone walks by itself."""
+        """The carrier of some processes: a process that is alone carries itself."""
         return pids[0] if len(pids) == 1 else self._made_up()
 
     def _made_up(self) -> int:
@@ -311,7 +311,7 @@ class _Again:
         return said
 
     def _walk(self, carrier: _Carrier, step: Step, pids: list[int]) -> list[_Way]:
-        """Takes steps up to the next at which processes part, or at which one of them is; gives the ways from there."""
+        """Takes steps up to the next one where processes divide or one of them stops; returns the ways from it."""
         while True:
             self._take(carrier, step, pids)
             here = [pid for pid in pids if self._by_pid[pid].step is step]
@@ -378,7 +378,7 @@ class _Again:
             self._say(carrier.pid, {**rule, "rs": rs})
 
     def _open_at(self, carrier: _Carrier, step: Step, pids: list[int]) -> None:
-        """Opens what processes have open since this step, for one that is alone under its own number if it may be."""
+        """Opens what processes have open since this step; for a process alone, under its own number if possible."""
         for pid in pids:
             for opened, number in self._openings[pid].items():
                 if opened.step is step and opened not in carrier.opened:

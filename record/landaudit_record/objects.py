@@ -1,4 +1,4 @@
-"""How many objects there are under a directory: on this disk, and those of recordings that this disk does not have."""
+"""Counts the objects under a directory: those on this disk, and those of recordings that this disk does not have."""
 
 from __future__ import annotations
 
@@ -10,16 +10,16 @@ from dataclasses import dataclass
 from .rights import FILE_RIGHTS
 from .trees import ROOT, Tree, upwards
 
-#: What is not counted: it changes from moment to moment, or has no end.
+#: Directories that are not counted: they change all the time, or have no end.
 UNCOUNTED = (ROOT, "/proc", "/sys")
-#: As how many objects that counts, and as how many a disk at most.
+#: The number of objects that these count as, and the most that a disk counts as.
 WITHOUT_END = 10_000_000
 _DEVICES = ("char", "block")
 
 
 @dataclass
 class Count:
-    """Numbers of objects by what rights apply to them; devices are files too."""
+    """Numbers of objects by the rights that apply to them; devices are files too."""
 
     files: int = 0
     directories: int = 0
@@ -32,7 +32,7 @@ class Count:
         self.devices += other.devices
 
     def of(self, right: str) -> int:
-        """How many a right applies to."""
+        """The number of objects that a right applies to."""
         match kind_of(right):
             case "devices":
                 return self.devices
@@ -42,12 +42,12 @@ class Count:
 
 
 def kind_of(right: str) -> str:
-    """To what kind of objects a right applies, as `Count` names it."""
+    """The kind of objects that a right applies to, as `Count` names it."""
     return "devices" if right == "ioctl_dev" else "files" if right in FILE_RIGHTS else "directories"
 
 
 class Objects:
-    """The objects under directories, each directory counted once; what is counted stays as it is."""
+    """The objects under directories; each directory is counted once, and its count is kept."""
 
     def __init__(self, trees: Sequence[Tree]) -> None:
         self._found: dict[str, Count] = {}
@@ -70,7 +70,7 @@ class Objects:
         return self._found[path]
 
     def _on_disk(self, path: str) -> Count:
-        """What is on the disk, each directory behind those that are in it."""
+        """Counts what is on the disk, each directory after those in it."""
         if path not in self._counts:
             self._counts[path] = _alone(path)
             for directory, entries in reversed(list(self._walk(path))):
@@ -81,7 +81,7 @@ class Objects:
         return self._counts[path]
 
     def _walk(self, top: str) -> Iterator[tuple[str, list[os.DirEntry[str]]]]:
-        """Each directory that is not counted yet with what is in it, before those that are in it."""
+        """Each directory that is not counted yet, with its contents, before the directories in it."""
         waiting, seen = [top] if os.path.isdir(top) else [], 0
         while waiting:
             directory = waiting.pop()
@@ -92,7 +92,7 @@ class Objects:
 
 
 def _entries(directory: str) -> list[os.DirEntry[str]]:
-    """What is in a directory; nothing where it can't be read."""
+    """The contents of a directory; nothing if it can't be read."""
     try:
         with os.scandir(directory) as entries:
             return list(entries)
@@ -105,14 +105,14 @@ def _is_directory(entry: os.DirEntry[str]) -> bool:
 
 
 def _of_entry(entry: os.DirEntry[str]) -> Count:
-    """An entry that is no directory; a link is no object that a rule is on."""
+    """The count of an entry that is not a directory; a rule is never on a link."""
     if entry.is_symlink():
         return Count()
     return Count(files=1) if entry.is_file(follow_symlinks=False) else _alone(entry.path)
 
 
 def _alone(path: str) -> Count:
-    """What is at a path, without what is under it; nothing where it can't be seen."""
+    """What is at a path, without what is under it; nothing if it can't be seen."""
     try:
         mode = os.lstat(path).st_mode
     except OSError:

@@ -14,16 +14,16 @@ from .rights import NEWEST_ABI, OLDEST_ABI
 
 #: The words for single ABIs.
 _ABI_OF = {str(abi): abi for abi in range(OLDEST_ABI, NEWEST_ABI + 1)}
-OF_POLICY = "rights of the policy that it does not have are dropped"
+OF_POLICY = "rights of the policy that this ABI does not have are dropped"
 
 
 def add_recordings(parser: argparse.ArgumentParser) -> None:
-    """The recordings that a subcommand is about."""
-    parser.add_argument("recordings", metavar="OUT", nargs="+", help="a recording's folder, or several")
+    """Adds the recordings that a subcommand is about."""
+    parser.add_argument("recordings", metavar="OUT", nargs="+", help="the folder of a recording, or of several")
 
 
 def add_abi(parser: argparse.ArgumentParser, besides: str = OF_POLICY) -> None:
-    """The one ABI by which calls are judged, and what else comes of it."""
+    """Adds the option for the one ABI at which calls are judged; `besides` says what else it does."""
     parser.add_argument(
         "--abi",
         type=abi,
@@ -55,7 +55,7 @@ def abis(text: str) -> range:
 
 
 class _Once(argparse.Action):
-    """An option that may be given once: a second one would take the place of the first unnoticed."""
+    """An option that may be given only once: a second one would silently replace the first."""
 
     def __call__(
         self,
@@ -64,7 +64,7 @@ class _Once(argparse.Action):
         values: Any,
         option_string: str | None = None,
     ) -> None:
-        """Keeps the value, where there is none yet but the default."""
+        """Stores the value, if there is none yet but the default."""
         if getattr(namespace, self.dest) is not self.default:
             raise argparse.ArgumentError(self, "is given twice: give one ABI, or a range such as 2-5")
         setattr(namespace, self.dest, values)
@@ -77,7 +77,7 @@ OF_SUMMARY = (
 
 
 def add_abis(parser: argparse.ArgumentParser, text: str = OF_SUMMARY) -> None:
-    """The ABIs by which calls are judged; the policy is written by each of them."""
+    """Adds the option for the ABIs at which calls are judged; the policy is written for each of them."""
     parser.add_argument(
         "--abi",
         dest="abis",
@@ -90,17 +90,17 @@ def add_abis(parser: argparse.ArgumentParser, text: str = OF_SUMMARY) -> None:
 
 
 def add_as_recorded(parser: argparse.ArgumentParser) -> None:
-    """How the rulesets are judged that the program makes itself."""
+    """Adds the option that says how the program's own rulesets are judged."""
     parser.add_argument(
         "--as-recorded",
         action="store_true",
-        help="judge the rulesets that the program makes itself as they were recorded (default: as a program makes them "
+        help="judge the rulesets that the program makes itself as they were recorded (default: as those of a program "
         "that drops the rights which the ABI does not have)",
     )
 
 
 def add_policy(parser: argparse.ArgumentParser) -> None:
-    """The policy that a subcommand is about."""
+    """Adds the policy that a subcommand is about."""
     parser.add_argument(
         "policy",
         metavar="POLICY.toml",
@@ -110,7 +110,7 @@ def add_policy(parser: argparse.ArgumentParser) -> None:
 
 
 def add_program(parser: argparse.ArgumentParser) -> None:
-    """The program that a policy is put before."""
+    """Adds the option for the program that a policy is put before."""
     parser.add_argument(
         "--program",
         metavar="NAME",
@@ -120,7 +120,7 @@ def add_program(parser: argparse.ArgumentParser) -> None:
 
 
 def add_landaudit(parser: argparse.ArgumentParser) -> None:
-    """Where landaudit is."""
+    """Adds the option that says where landaudit is."""
     parser.add_argument(
         "--landaudit",
         metavar="PATH",

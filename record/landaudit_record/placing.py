@@ -1,4 +1,4 @@
-"""Where the rule for a path can be, so that it is of use in each run: on the path itself, or over it for a cause."""
+"""Where the rule for a path can be, so that it is useful in each run: on the path itself, or above it for a reason."""
 
 from __future__ import annotations
 
@@ -23,7 +23,7 @@ class Cause(Enum):
 
 @dataclass(frozen=True)
 class Spot:
-    """Where the rule for a path is, the real path, and why it is not there if it isn't."""
+    """Where the rule for a path is, the real path, and the reason if these differ."""
 
     place: str
     path: str
@@ -31,7 +31,7 @@ class Spot:
 
 
 class Placing:
-    """Where rules are for what some recordings ask for, each by its tree, the paths, and its processes' numbers."""
+    """Places of rules for what some recordings ask for, each with its tree, the paths, and its processes' numbers."""
 
     def __init__(self, trees: Sequence[Tree], asked: Sequence[Iterable[str]], pids: Sequence[Set[int]]) -> None:
         self._trees = trees
@@ -46,7 +46,7 @@ class Placing:
         return spot if other is None else Spot(directory_of(other), spot.path, Cause.MADE_UP)
 
     def new(self, recording: int, directory: str, path: str) -> Spot:
-        """Where the rule is for a real path that a call of a recording was to make in a directory."""
+        """Where the rule is for a real path that a call of a recording would make in a directory."""
         place = self.spot(recording, directory).place
         return Spot(place, path, _cause_of_made(place, path))
 
@@ -63,8 +63,8 @@ class Placing:
 def _there_before(tree: Tree, path: str) -> Spot:
     """Where a rule for a path can be before the run of its recording.
 
-    It is not on a link, not on what a process has in /proc, nor on what the run makes; for an object that is moved, it
-    is on where that was.
+    It is not on a link, not on the files of a process in /proc, and not on what the run makes; for an object that is
+    moved, it is on its place before the move.
     """
     real, process = tree.real(path), varying.of_process(path)
     if process is not None:
@@ -78,12 +78,12 @@ def _there_before(tree: Tree, path: str) -> Spot:
 
 
 def _cause_of_made(directory: str, path: str) -> Cause:
-    """Why a rule is on a directory over what is made at a path, by the names on the way."""
+    """Why a rule is on a directory above what is made at a path, by the names on the way."""
     return Cause.MADE_UP if any(map(varying.looks_made_up, path.removeprefix(directory).split("/"))) else Cause.MADE
 
 
 def remarks(place: str, spots: Sequence[Spot]) -> Iterator[str]:
-    """What to say of a rule by what it is for."""
+    """The remarks on a rule, by what it is for."""
     for cause in Cause:
         names = sorted({_named(place, spot) for spot in spots if spot.cause is cause})
         if names:
@@ -91,7 +91,7 @@ def remarks(place: str, spots: Sequence[Spot]) -> Iterator[str]:
 
 
 def doubtful(place: str) -> tuple[str, str] | None:
-    """The path on the way to a rule's place whose name looks made up though it was there, with what to say of it."""
+    """A path on the way to a rule's place whose name looks made up although it existed, with a remark on it."""
     path = next((over for over in upwards(place) if varying.looks_made_up(over.rpartition("/")[2])), None)
     if path is None:
         return None
@@ -99,7 +99,7 @@ def doubtful(place: str) -> tuple[str, str] | None:
 
 
 def _named(place: str, spot: Spot) -> str:
-    """What a rule is for, by its path under the rule's place where that tells as much."""
+    """What a rule is for: its path, relative to the rule's place if that is enough."""
     if spot.cause in (Cause.REPLACED, Cause.LINK, Cause.OF_PROCESS) or place == ROOT:
         return spot.path
     return spot.path.removeprefix(place + "/")

@@ -1,6 +1,6 @@
-"""A policy as its author writes it: a TOML file in the words of Landlock's own structures.
+"""A policy as its author writes it: a TOML file with the names of Landlock's own structures.
 
-A policy has layers, and a layer what it handles and its rules:
+A policy has layers; a layer says what it handles, and has rules:
 
     [[layer]]
     handled_access_fs = ["all"]
@@ -18,9 +18,9 @@ kernel refuses the whole rule otherwise; a group in a rule stands for those of
 its rights that the layer handles.
 
 `include` names groups of rules, each a TOML file in `groups`: at the top for all
-layers, in a layer, or in a `[[layer.path_beneath]]` in the place of all else.
-Their rights are taken as those of groups are, and what of their paths is not
-there is left out in silence, since one group is for many machines.
+layers, in a layer, or in a `[[layer.path_beneath]]` instead of everything else.
+Their rights count as groups of rights do, and missing paths are left out without
+a note, since one group is for many machines.
 """
 
 from __future__ import annotations
@@ -36,7 +36,7 @@ from .documents import Place, check_keys, listed, one_or_several, tables, unknow
 from .rights import FS, NET, NONE, Family, Rights
 
 ACCEPTED = "accepted"
-"""The key of what is no part of a policy: refusals that are known and fine, which `accepting` reads."""
+"""A key that is not part of the policy: refusals that are known and accepted, which `accepting` reads."""
 
 MOST_LAYERS = 16
 HIGHEST_PORT = 65535
@@ -64,7 +64,7 @@ class Access:
 
 @dataclass(frozen=True)
 class PathRule:
-    """A rule under each of some paths. `place` names it, as `path_beneath 2`; `group` is what it is of, if of any."""
+    """A rule under each of some paths. `place` names it, such as `path_beneath 2`; `group` is its group, if any."""
 
     place: str
     allowed_access: Access
@@ -74,7 +74,7 @@ class PathRule:
 
 @dataclass(frozen=True)
 class PortRule:
-    """A rule on each of some TCP ports. `place` names it, as `net_port 1`."""
+    """A rule on each of some TCP ports. `place` names it, such as `net_port 1`."""
 
     place: str
     allowed_access: Access
@@ -83,7 +83,7 @@ class PortRule:
 
 @dataclass(frozen=True)
 class Layer:
-    """One layer: what it handles, its rules, and its scopes (ABI 6), which are kept and not judged.
+    """One layer: what it handles, its rules, and its scopes (ABI 6), which are kept but not judged.
 
     Layers are numbered from 1.
     """
@@ -105,7 +105,7 @@ class Policy:
 
 
 def read(path: Path) -> Policy:
-    """The policy in a file; whatever is wrong with it is a Problem that names where it is and what would be right."""
+    """The policy in a file; any error in it is a Problem that names its position and says what would be right."""
     return _policy(documents.read(path), Place(path))
 
 
@@ -122,7 +122,7 @@ def _policy(document: Mapping[str, Any], place: Place) -> Policy:
 
 
 def _layer(table: Mapping[str, Any], number: int, included: Sequence[str], place: Place) -> Layer:
-    """A layer, with the rules of groups that its policy includes behind its own."""
+    """A layer, with the rules of the groups that its policy includes after its own."""
     keys = ("handled_access_fs", "handled_access_net", "include", "path_beneath", "net_port", "scoped")
     check_keys(table, keys, place)
     fs = _access(table.get("handled_access_fs", []), FS, place / "handled_access_fs")
@@ -163,7 +163,7 @@ def group_rules(name: str, handled: Rights) -> Iterator[PathRule]:
 
 @cache
 def _group(name: str) -> tuple[PathRule, ...]:
-    """The rules of a group, of a layer that handles all."""
+    """The rules of a group in a layer that handles all rights."""
     place = Place(GROUPS / f"{name}.toml")
     document = documents.read(place.path)
     check_keys(document, ("path_beneath",), place, all_needed=True)
@@ -194,7 +194,7 @@ def _rules(
 def _path_rule(
     table: Mapping[str, Any], name: str, handled: Rights, included: list[str], place: Place
 ) -> PathRule | None:
-    """A rule; None where groups are included in its place, which are then among those that are."""
+    """A rule; None if it only includes groups, which are then added to `included`."""
     if "include" in table:
         check_keys(table, ("include",), place)
         included += _included(table, place)

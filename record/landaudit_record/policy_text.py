@@ -13,14 +13,14 @@ from .trees import Tree
 from .wording import printable
 
 Remark = Callable[[int, str], str | None]
-#: Behind the name of a rule, for the part of it that is on files.
+#: Added to the name of a rule, for its part that is on files.
 _OF_FILES = " (files)"
 
 
 def in_words(policy: Policy, tree: Tree) -> Policy:
-    """The policy with rules that can be written: those for files apart, where a group is there in part.
+    """The policy with rules that can be written: rules for files are separate if only part of a group is granted.
 
-    A group means of a file's rights those that it can have, and rights that are named are meant as they are.
+    On a file, a group stands for the rights that a file can have; a right that is named stands for itself.
     """
     return replace(policy, layers=tuple(
         replace(layer, path_beneath=tuple(part for rule in layer.path_beneath for part in _by_kind(rule, layer, tree)))
@@ -29,7 +29,7 @@ def in_words(policy: Policy, tree: Tree) -> Policy:
 
 
 def _by_kind(rule: PathRule, layer: Layer, tree: Tree) -> Iterator[PathRule]:
-    """A rule, or one for its directories and one for its files where its rights can't be in the same words for both."""
+    """A rule, or one for its directories and one for its files if the same words can't stand for the rights of both."""
     access, handled = rule.allowed_access, layer.handled_access_fs.rights
     named = set(_words(access, FS, handled)) - set(FS.groups)
     kinds = {parent: tree.kind(tree.resolved(parent, before_run=True)) for parent in rule.parents}
@@ -46,9 +46,9 @@ def _by_kind(rule: PathRule, layer: Layer, tree: Tree) -> Iterator[PathRule]:
 
 
 def lines(policy: Policy, comments: Comments, remark: Remark) -> Iterator[str]:
-    """The lines of a policy with its comments; `remark` says more of a rule, by the layer's number and its name.
+    """The lines of a policy with its comments; `remark` gives a remark on a rule, by the layer's number and its name.
 
-    Its rules are such as `in_words` makes.
+    The policy's rules must be as `in_words` makes them.
     """
     yield from _comments(comments.whole)
     if comments.whole:
@@ -78,7 +78,7 @@ def _layer(layer: Layer, comments: Comments, remark: Remark) -> Iterator[str]:
 
 
 def _head(layer: Layer, rule: PathRule | PortRule, comments: Comments, remark: Remark) -> Iterator[str]:
-    """What is said before a rule."""
+    """The comments before a rule."""
     yield ""
     yield from _comments(comments.on_rule(layer.number, rule.place.removesuffix(_OF_FILES)))
     if isinstance(rule, PathRule) and rule.group is not None:
@@ -93,7 +93,7 @@ def _comments(texts: list[str]) -> Iterator[str]:
 
 
 def _words(access: Access, family: Family, handled: Rights) -> list[str]:
-    """Rights by groups, where all of one are there, and by their names; no right is named that is not handled."""
+    """Rights as groups, if all rights of a group are there, and as names; no right that is not handled is named."""
     for name, group in family.groups.items():
         if group == access.grouped:
             return [name, *family.ordered(access.outright - group)]
@@ -112,5 +112,5 @@ def _one_or_several(values: list[str] | list[int]) -> str:
 
 
 def _text(text: str) -> str:
-    """A text as TOML's basic strings have it, which is as JSON has it but for the character DEL."""
+    """A text as a TOML basic string: the same as in JSON except for the character DEL."""
     return json.dumps(text, ensure_ascii=False).replace("\x7f", "\\u007F")

@@ -1,4 +1,4 @@
-"""What the records of a trace say of processes, and the layers that they and their answers leave them."""
+"""The processes of a trace: what the records say about them, and the layers that they have by records and answers."""
 
 from __future__ import annotations
 
@@ -27,7 +27,7 @@ class Process:
 
 
 def program_run(record: Record) -> str | None:
-    """The program that a record runs: the path of an exec of the program itself which the kernel let through."""
+    """The program that a record runs: the path of an exec of the program itself that the kernel allowed."""
     if record.get("op") != "exec" or "role" in record or record.get("kernel", "ok") != "ok":
         return None
     path = record.get("path")
@@ -35,13 +35,13 @@ def program_run(record: Record) -> str | None:
 
 
 def shown(record: Record, member: str) -> str | None:
-    """The path of a record as a person knows it; None if the record has no such member."""
+    """The real path of a record, as a person knows it; None if the record has no such member."""
     instead = record.get({"path": "shown", "from": "shown", "to": "shown_to"}.get(member, ""))
     return instead if isinstance(instead, str) else record.get(member)
 
 
 def shown_path(record: Record, path: str) -> str:
-    """A path that landaudit names of a record, its own or that of a directory over it, as a person knows it."""
+    """A path that landaudit names for a record (its own, or that of a directory above it), as a person knows it."""
     for member in ("path", "from", "to"):
         text, real = record.get(member), shown(record, member)
         if isinstance(text, str) and real is not None and (text == path or text.startswith(path.rstrip("/") + "/")):
@@ -52,7 +52,7 @@ def shown_path(record: Record, path: str) -> str:
 
 
 def of_policy(record: Record) -> dict[str, Any] | None:
-    """What of the tried policy a record is, None if it is the recording's own."""
+    """The part of the tried policy that a record belongs to, None if it is the recording's own."""
     origin = record.get("policy")
     return origin if isinstance(origin, dict) else None
 
@@ -68,7 +68,7 @@ class Processes:
         return self._by_pid[pid]
 
     def follow(self, record: Record, answer: Answer) -> None:
-        """Takes up what a record changes: its process, if it is allowed."""
+        """Follows a record: it changes its process if it is allowed."""
         pid = record["pid"]
         if record["op"] == "start":
             self._by_pid[pid] = Process()

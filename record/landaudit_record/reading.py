@@ -1,7 +1,7 @@
-"""Reads a trace together with its report: each record with its answer, or only those that an audit tells of.
+"""Reads a trace together with its report: each record with its answer, or only those that an audit shows.
 
 Most records are allowed and change nothing that a summary needs. `Walk` goes over a trace and its report once, for all
-ABIs of the report, and takes apart only the lines of the other records.
+ABIs of the report, and parses only the lines of the other records.
 """
 
 from __future__ import annotations
@@ -25,7 +25,7 @@ Judged = tuple[Record, Answer, Process]
 #: What a call is about by name: its path or both paths, as a person knows them, or its port.
 Place = tuple[str, ...] | int
 
-#: Calls on paths, and what the kernel answers to those of them that it asked Landlock about.
+#: Calls on paths, and the kernel's answers to those about which it asked Landlock.
 PATH_CALLS = frozenset(
     {"open", "truncate", "exec", "mknod", "mkdir", "symlink", "unlink", "rmdir", "rename", "link"},
 )
@@ -36,14 +36,14 @@ ASKS_FOR_LAYERS = frozenset({"create", "restrict"})
 #: Calls on TCP ports.
 PORT_CALLS = frozenset({"bind", "connect"})
 
-#: Operations whose records are taken apart whatever their answers are.
+#: Operations whose records are parsed whatever their answers are.
 _TELLING = ASKS_FOR_LAYERS | {"start", "fork", "exit", "exec", "add_path", "add_port"}
 _BOOKS = {"nnp", "close_rs", "adopt", "dup", "close", "ftruncate", "mount", "bind", "connect", "ioctl"}
 _OPS = _TELLING | PATH_CALLS | _BOOKS
-#: Progress is shown each time that so many records were read.
+#: The number of records after which progress is shown again.
 EVERY = 10_000
 _OPENS = ("open", "adopt", "dup")
-#: How records begin as landaudit-record writes them: enough of a line to know the operation.
+#: The beginnings of records as landaudit-record writes them: enough of a line to know the operation.
 _KNOWN = len('{"op":"nnp"')
 _BEGINS = {f'{{"op":"{op}"'[:_KNOWN].encode(): op for op in _OPS}
 _KERNEL = b'"kernel":"'
@@ -54,9 +54,9 @@ _BLANKS = b" \t\r\n"
 
 
 def judged(trace: Path, report: Path, abi: int | None = None) -> Iterator[Judged]:
-    """Each record, its answer, and its process as it is before the record. A `start` has no process yet: a new one.
+    """Each record, its answer, and its process before the record. The process of a `start` is a new one.
 
-    Of a report over several ABIs, the answers are those of the one that is named.
+    From a report over several ABIs, the answers are those at the given ABI.
     """
     processes = Processes()
     for found, answer in zip_longest(jsonl.numbered(trace), answers(report, abi)):
@@ -74,12 +74,12 @@ def _other(trace: Path, report: Path) -> Problem:
 
 @dataclass(frozen=True, slots=True)
 class Told:
-    """A record that is not allowed under all ABIs, or that changes what is kept: its line, and its answers.
+    """A record that is not allowed at all ABIs, or that changes what is kept: its line, and its answers.
 
     `answered` has the answers that are not `allowed`, each with the ABIs that give it; `program` is what the process
     runs, None before its first program; `asked` says whether it is a call on a path that Landlock was asked about;
-    `missed` are the ABIs under which its descriptor would be open had its opening been allowed; `confined` says that
-    the process had a layer in the run.
+    `missed` are the ABIs at which its descriptor would be open if its open had been allowed; `confined` says that the
+    process had a layer in the run.
     """
 
     line: int
@@ -94,9 +94,9 @@ class Told:
 class Walk:
     """One walk over a trace and its report over some ABIs.
 
-    The records at the beginning that only give processes once more what they had are walked over and not told.
-    `records` and `path_calls` count what was walked over so far without them, the latter where Landlock was asked;
-    `files` are both; `confines` says whether a process asked for a layer.
+    The records at the beginning that only restore processes are followed but not yielded. `records` and `path_calls`
+    count the other records so far, the latter those about which Landlock was asked; `files` are both files; `confines`
+    says whether a process asked for a layer.
     """
 
     def __init__(self, trace: Path, report: Path, abis: range, progress: Progress | None = None) -> None:
@@ -114,11 +114,11 @@ class Walk:
         self.confines = False
 
     def policy_of(self, line: int) -> int | None:
-        """The number in the tried policy of the layer that the `restrict` on a line made; None if it is no policy's."""
+        """The policy's number for the layer that the `restrict` on a line made; None if it is not the policy's."""
         return self._policies.get(line)
 
     def opened(self, line: int) -> str | None:
-        """The path, to show, that the record on a line opened."""
+        """The path to show for what the record on a line opened."""
         with open(self.files[0], "rb") as trace:
             trace.seek(self._offsets[line - 1])
             return shown(jsonl.read(self.files[0], line, trace.readline()), "path")
@@ -163,7 +163,7 @@ class Walk:
             raise _other(*self.files)
 
     def _told(self, number: int, line: bytes, answer: bytes, why: list[bytes]) -> Told:
-        """Takes a record and its answer apart, and keeps what they change."""
+        """Parses a record and its answer, and keeps what they change."""
         record = jsonl.read(self.files[0], number, line)
         pid = record.get("pid")
         if type(pid) is not int or not answer.startswith(b"%d %d " % (number, pid)):
@@ -212,7 +212,7 @@ class Walk:
             self._programs[record.get("child", pid)] = record["ran"][-1]["path"]
 
     def _miss(self, pid: int, fd: int, abis: frozenset[int]) -> None:
-        """Keeps the ABIs under which a number is not open because its opening was not allowed."""
+        """Keeps the ABIs at which a number is not open because its open was not allowed."""
         missed = self._missed.setdefault(pid, {}) if abis else self._missed.get(pid, {})
         self._watched += (bool(abis) - (fd in missed)) * _may_be_opened(fd)
         if abis:
@@ -222,23 +222,23 @@ class Walk:
 
 
 def _may_be_opened(fd: int) -> bool:
-    """Whether a number may be opened again: those that a recorder makes up for one call never are."""
+    """Whether a number may be opened again: numbers that a recorder makes up for one call never are."""
     return fd < FIRST_MADE_UP
 
 
 def _asked(line: bytes) -> bool:
-    """Whether the kernel asked Landlock about a call that landaudit-record wrote: by what the kernel answered."""
+    """Whether the kernel asked Landlock about a call that landaudit-record wrote, by the kernel's answer."""
     at = line.rfind(_KERNEL)
     return at < 0 or line.startswith(_ASKED, at + len(_KERNEL))
 
 
 def _not_given(told: Told) -> frozenset[int]:
-    """The ABIs under which an opening was refused or moot."""
+    """The ABIs at which an open was refused or moot."""
     return frozenset(abi for abis, _ in told.answered for abi in abis)
 
 
 def call_text(record: Record) -> str:
-    """A call in a word or some, as `open rw create`."""
+    """A call in one or several words, such as `open rw create`."""
     op = record["op"]
     if op == "rename" and record.get("exchange"):
         return "exchange"
@@ -248,7 +248,7 @@ def call_text(record: Record) -> str:
 
 
 def place_of(record: Record) -> Place | None:
-    """What Landlock was asked about by name; None for a call on neither paths nor ports, and one that was not asked."""
+    """The paths or port that Landlock was asked about; None for other calls, and if Landlock was not asked."""
     if record["op"] in PATH_CALLS and record.get("kernel") in ASKED_LANDLOCK:
         return tuple(str(shown(record, member)) for member in ("path", "from", "to") if member in record)
     return int(record["port"]) if record["op"] in PORT_CALLS else None

@@ -1,13 +1,13 @@
 """The regions of two policies, and one object, directory, port and move of each to try.
 
-What a policy answers depends on a path only through the rules on it and on what is above it. So of all paths that
-have the same rules above them one is enough: the root stands for all that has none but its own, and each path with a
-rule for all beneath it that has no other. These are laws of the crate `ll_regions`: `one_answer_in_a_region`,
-`one_object_in_each_region`, `one_port_in_each_region`, `one_move_of_each_form`.
+A policy's answer depends on a path only through the rules on the path and above it. So one path stands for all paths
+that have the same rules on or above them: the root stands for all paths that have only its rules, and each path with a
+rule stands for everything beneath it that has no other rule. These are laws of the crate `ll_regions`:
+`one_answer_in_a_region`, `one_object_in_each_region`, `one_port_in_each_region`, `one_move_of_each_form`.
 
-A path with a rule is tried as a directory. As a file it has a rule with other rights, since a file can't have them
-all, and nothing beneath it: so it is tried under a name beside it, with that rule on it. Names of what is tried are
-made by a word that no path with a rule has.
+A path with a rule is tried as a directory. As a file, it has a rule with other rights, since a file can't have all of
+them, and nothing is beneath it: so it is also tried under a name beside it, with that rule on it. The names of tried
+objects contain a word that no path with a rule has.
 """
 
 from __future__ import annotations
@@ -18,7 +18,7 @@ from dataclasses import dataclass
 from .policies import HIGHEST_PORT, Policy
 from .trees import ROOT, Tree, joined, upwards
 
-#: The kinds of objects that are no directories; a rule on a link is on what the link leads to.
+#: The kinds of objects other than directories; a rule on a link is on what the link leads to.
 FILE_KINDS = ("reg", "sym", "char", "block", "fifo", "sock")
 RULED_KINDS = ("reg", "char", "block", "fifo", "sock")
 
@@ -27,7 +27,7 @@ RULED_KINDS = ("reg", "char", "block", "fifo", "sock")
 class Regions:
     """The paths and ports that two policies have rules on, and a word that is in no such path.
 
-    Of the paths the root is the first, whether it has a rule or not, and each is behind all that are above it.
+    The root is the first path, whether it has a rule or not, and each path comes after all paths above it.
     """
 
     paths: tuple[str, ...]
@@ -48,12 +48,12 @@ class Regions:
 
     @property
     def ruled(self) -> tuple[str, ...]:
-        """The paths but the root: what may be a file, and be moved."""
+        """The paths except the root, which may be files and may be moved."""
         return self.paths[1:]
 
     @property
     def other_port(self) -> int:
-        """A port without a rule, which stands for all of these."""
+        """A port without a rule, which stands for all ports without a rule."""
         return next((port for port in range(HIGHEST_PORT + 1) if port not in self.ports), HIGHEST_PORT)
 
     def child(self, directory: str, name: str) -> str:
@@ -61,11 +61,11 @@ class Regions:
         return joined(directory, self.word + name)
 
     def as_file(self, path: str, kind: str) -> str:
-        """What stands for a path where it is a file of a kind."""
+        """The path that stands for a path as a file of a kind."""
         return path + self.word + kind
 
     def above(self, path: str) -> str | None:
-        """The region that a path's region is in, None for the root."""
+        """The region that contains a path's region, None for the root."""
         known = set(self.paths)
         return next((over for over in list(upwards(path))[1:] if over in known), None)
 
@@ -81,22 +81,22 @@ class Regions:
 
 
 def as_named(path: str) -> str:
-    """A policy's path as it names it: without doubled slashes, `.` and `..`. No link is followed: on every tree."""
+    """A path as a policy names it, without doubled slashes, `.` and `..`. No link is followed, on any tree."""
     return Tree().resolved(path)
 
 
 @dataclass(frozen=True)
 class Region:
-    """Where a right or a move differs: what is under a path, or the path itself where it is a file."""
+    """Where a right or a move differs: at everything under a path, or at the path itself as a file."""
 
     path: str
     as_file: bool = False
 
 
 def phrases(regions: Regions, differing: set[Region], of_files: bool) -> Iterator[str]:
-    """A set of regions in words, as `under /etc, but for /etc/ssl`.
+    """A set of regions in words, such as `under /etc, but for /etc/ssl`.
 
-    `of_files` says that files can be asked about too, so that a path which is one is told where it isn't as the rest.
+    `of_files` says that files were asked about too: then a path inside that does not differ as a file is named.
     """
     under = {region.path for region in differing if not region.as_file}
     alone = {region.path for region in differing if region.as_file}

@@ -1,4 +1,4 @@
-"""Landlock's access rights: their names, the ABI that each came with, and groups of them by name."""
+"""Landlock's access rights: their names, the ABI that introduced each, and named groups of rights."""
 
 from __future__ import annotations
 
@@ -22,7 +22,7 @@ class Family:
     """The rights for files, or those for the network.
 
     `since` has each right's first ABI, in the order of the kernel's bits;
-    `groups` are sets of rights that have one name, as libraries have them.
+    `groups` has sets of rights with one name, as libraries have them.
     """
 
     what: str
@@ -81,5 +81,5 @@ FS = Family(
 )
 NET = Family(what="for TCP ports", since=_NET_SINCE, groups={"all": frozenset(_NET_SINCE)})
 
-# The rights that apply to what is no directory.
+# The rights that apply to objects other than directories.
 FILE_RIGHTS: Rights = frozenset({"execute", "write_file", "read_file", "truncate", "ioctl_dev"})

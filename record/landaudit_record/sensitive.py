@@ -1,4 +1,4 @@
-"""What a policy's author is warned of: rules that reach secrets, the kernel's own files, or everything."""
+"""Warnings for the author of a policy: rules that reach secrets, the kernel's own files, or everything."""
 
 from __future__ import annotations
 
@@ -9,11 +9,11 @@ from pathlib import Path
 from .rights import FILE_RIGHTS, Rights
 from .trees import ROOT, upwards
 
-#: Files with secrets that are at one place on every machine, and folders of them.
+#: Files with secrets, and folders of them, that have the same path on every machine.
 SECRETS = ("/etc/shadow", "/etc/gshadow", "/etc/ssl/private", "/root/.ssh", "/root/.gnupg")
-#: The folder with those of users.
+#: The folder with the secrets of users.
 HOMES = "/home"
-#: Names of what has keys, wherever it is.
+#: Names of files and folders with keys, wherever they are.
 _OF_KEYS = re.compile(r"\.ssh|\.gnupg|.*\.key")
 _OF_KERNEL = {
     "/proc": "it has files of every process, and settings of the kernel",
@@ -24,7 +24,7 @@ _OF_USERS = "*/.ssh"
 
 
 def warnings(place: str, rights: Rights) -> Iterator[str]:
-    """What to be warned of in a rule on a path."""
+    """The warnings for a rule on a path."""
     if place == ROOT:
         yield f"warning: {', '.join(sorted(rights))} on everything that there is"
         return

@@ -1,4 +1,4 @@
-"""Signals that end a command: they end it in order, so that nothing stays that it made for itself alone."""
+"""Signals that end a command: it ends in order and removes its temporary files."""
 
 from __future__ import annotations
 
@@ -10,7 +10,7 @@ from types import FrameType
 from typing import Never
 
 SIGNALS = (signal.SIGTERM, signal.SIGHUP, signal.SIGQUIT)
-"""Those that a user, a terminal or a system sends to end a program, beside SIGINT (signal(7))."""
+"""The signals that a user, a terminal or a system sends to end a program, besides SIGINT (signal(7))."""
 
 
 class Stopped(KeyboardInterrupt):
@@ -28,7 +28,7 @@ def number_of(interrupt: KeyboardInterrupt) -> int:
 
 @contextmanager
 def in_order() -> Iterator[None]:
-    """Lets the signals raise Stopped, as SIGINT raises KeyboardInterrupt; one that is ignored stays ignored (nohup)."""
+    """Makes the signals raise Stopped, as SIGINT raises KeyboardInterrupt; an ignored signal stays ignored (nohup)."""
     if threading.current_thread() is not threading.main_thread():
         yield
         return

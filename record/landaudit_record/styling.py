@@ -1,4 +1,4 @@
-"""Groups of rules in the place of rules, as a person names them: those that several of the paths are in."""
+"""Groups of rules instead of single rules, as a person would write: the groups that contain several of the paths."""
 
 from __future__ import annotations
 
@@ -11,7 +11,7 @@ from .rights import FILE_RIGHTS, Rights
 from .trees import Tree, upwards
 from .wants import Call, OnPaths, Wanted
 
-#: So many of the paths that are asked for a group has at least, beside those of the groups before it.
+#: The fewest asked paths that a group must have, besides those of the groups before it.
 FEWEST = 2
 #: The group that comes before all others.
 FIRST = "base"
@@ -19,14 +19,14 @@ FIRST = "base"
 
 @dataclass(frozen=True)
 class Styled:
-    """The groups for a layer, each with how many calls need it, and what is lacking beside them."""
+    """The groups for a layer, each with how many calls need it, and what is still lacking with them."""
 
     groups: Mapping[str, int]
     left: Wanted
 
 
 def with_groups(wanted: Wanted, handled: Rights, trees: Sequence[Tree]) -> Styled:
-    """The groups that have what is lacking, those first that have most of it."""
+    """The groups that have what is lacking; those that have most of it come first."""
     groups: dict[str, int] = {}
     left = wanted.paths
     names = [name for name in policies.group_names() if name != FIRST]
@@ -41,7 +41,7 @@ def with_groups(wanted: Wanted, handled: Rights, trees: Sequence[Tree]) -> Style
 
 
 def _granted(rules: Iterable[PathRule], trees: Sequence[Tree]) -> dict[str, set[str]]:
-    """The rights that rules grant on what recordings met, by its path there."""
+    """The rights that rules grant on paths of the recordings, by path."""
     found: dict[str, set[str]] = {}
     for rule in rules:
         for parent in rule.parents:
@@ -54,7 +54,7 @@ def _granted(rules: Iterable[PathRule], trees: Sequence[Tree]) -> dict[str, set[
 
 
 def _covered(paths: OnPaths, granted: Mapping[str, set[str]]) -> OnPaths:
-    """What of some wants is granted on the path or over it."""
+    """The part of some wants that is granted on the path or above it."""
     found: OnPaths = {}
     for path, rights in paths.items():
         here = set[str]().union(*(granted.get(over, ()) for over in upwards(path)))

@@ -19,15 +19,15 @@ from .trees import Tree, directory_of
 from .wants import Call, Rule, Wanted, Wants
 
 MOST_ROUNDS = 30
-#: How a call ends by file modes, by file systems and between two of them, where its process has no layer; and how it
-#: ends before Landlock is asked in any case.
+#: The errors of a call in a process without layers that come from file modes, from file systems and from moves between
+#: them; and the errors that always come before Landlock is asked.
 _BY_ITSELF = ("EACCES", "EPERM", "EXDEV")
 _BEFORE_LANDLOCK = ("EROFS",)
 
 
 @dataclass(frozen=True)
 class Recorded:
-    """What is known of a recording: its tree, and the files that its run makes, cuts and leaves behind."""
+    """What is known of a recording: its tree, and the files that its run makes, truncates and leaves behind."""
 
     tree: Tree
     cut: Set[str] = frozenset()
@@ -35,10 +35,10 @@ class Recorded:
 
 @dataclass
 class Round:
-    """What one audit shows: what the policy's layers lack by recording, and refusals for which there is no rule.
+    """What one audit shows: what the policy's layers lack, by recording, and refusals that no rule can fix.
 
-    `new` has by recording and directory the real paths of what calls were to make there; `pids` are the processes of
-    each recording.
+    `new` has, by recording and directory, the real paths of objects that calls would make there; `pids` has the
+    processes of each recording.
     """
 
     wants: dict[int, dict[int, Wants]] = field(default_factory=dict)
@@ -51,11 +51,11 @@ class Round:
 
 @dataclass(frozen=True)
 class Suggestion:
-    """The rules for each layer by its number, and what stays refused with them.
+    """The rules for each layer by its number, and the calls that they leave refused.
 
-    `unmended` are refusals of the policy's layers that no rule fixes, `of_program` those of layers that the program
-    makes itself, and `failed` are calls that failed in the recording whatever a policy says, all by call. `rounds` is
-    how many audits it took; it is not `finished` where it took too many.
+    `unmended` are refusals of the policy's layers that no rule fixes, `of_program` those of the program's own layers,
+    and `failed` are calls that failed in the recording whatever a policy says, all by call. `rounds` is the number of
+    audits; if there were too many, the suggestion is not `finished`.
     """
 
     rules: Mapping[int, list[Rule]]
@@ -69,14 +69,14 @@ class Suggestion:
 
 @dataclass(frozen=True)
 class Making:
-    """How rules are made of what a layer lacks: exactly, or at most so many by `objects`; with groups or without."""
+    """How rules are made from what a layer lacks: exact, or at most a number, by `objects`; with or without groups."""
 
     most: int | None = None
     objects: Objects | None = None
     in_groups: bool = False
 
     def rules(self, layer: Layer, wanted: Wanted, trees: Sequence[Tree]) -> tuple[Mapping[str, int], list[Rule]]:
-        """The groups for a layer, each with how many calls need it, and the rules beside them."""
+        """The groups for a layer, each with how many calls need it, and the further rules."""
         groups: Mapping[str, int] = {}
         if self.in_groups:
             styled = styling.with_groups(wanted, layer.handled_access_fs.rights, trees)
@@ -93,10 +93,11 @@ def suggest(
     audit: Callable[[Policy], Iterable[tuple[int, Walk]]],
     making: Making = Making(),
 ) -> Suggestion:
-    """Rules until no layer of the policy refuses what a rule would fix.
+    """Adds rules until no layer of the policy refuses a call that a rule could fix.
 
-    `audit` answers each part of each recording under a policy, with the recording's index. Under the rules of one round
-    the next may show refusals that were behind those which they fix. A round that shows nothing new is the last.
+    `audit` audits each part of each recording under a policy, with the recording's index. With the rules of one round,
+    the next round may show further refusals, which came behind those that the rules fix. A round that shows nothing new
+    is the last.
     """
     found = Round()
     groups: dict[int, Mapping[str, int]] = {}
@@ -125,7 +126,7 @@ def suggest(
 
 
 def _number_of(lacked: Mapping[int, list[Wants]]) -> int:
-    """How many rights are lacking on places."""
+    """The number of rights that are lacking, over all places."""
     return sum(len(rights) for by_recording in lacked.values() for some in by_recording for rights in some.values())
 
 
@@ -175,7 +176,7 @@ def _port_rules(rules: list[Rule]) -> Iterator[PortRule]:
 
 
 class _Look:
-    """A look at what one audit shows, over the walks of all recordings."""
+    """Collects what one audit shows, over the walks of all recordings."""
 
     def __init__(self, recorded: Sequence[Recorded], policy: Policy, abi: int) -> None:
         self._recorded = recorded
@@ -199,10 +200,10 @@ class _Look:
         return self._seen
 
     def _refused(self, walk: Walk, told: Told, answer: Answer, call: Call) -> None:
-        """Takes up one refused call, for each layer that refuses it.
+        """Collects one refused call, for each layer that refuses it.
 
-        Where one of its objections can't be fixed, rules for the others would
-        not help. So it is with `refer` at ABI 1, which no rule can grant there.
+        If one objection can't be fixed, rules for the others would not help. An
+        example is `refer` at ABI 1, which no rule can grant there.
         """
         record, one = told.record, self._recorded[call[0]]
         if _fails_anyway(told):
@@ -233,13 +234,13 @@ class _Look:
 
 
 def _fails_anyway(told: Told) -> bool:
-    """Whether a call that a policy refuses fails without any too, as the recording shows."""
+    """Whether a call that a policy refuses also fails without a policy, as the recording shows."""
     kernel = told.record.get("kernel")
     return kernel in _BEFORE_LANDLOCK or kernel in _BY_ITSELF and not told.confined
 
 
 def _for_the_run_after(recorded: Recorded, record: Record, handled: Rights) -> list[tuple[str | int, Rights]]:
-    """What a call that makes a file and cuts it asks of the same file in the run after."""
+    """What a call that makes and truncates a file will ask on the same file in the next run."""
     path, real = record.get("path"), processes.shown(record, "path")
     if record["op"] != "open" or not record.get("create") or not record.get("trunc") or real not in recorded.cut:
         return []
@@ -247,10 +248,10 @@ def _for_the_run_after(recorded: Recorded, record: Record, handled: Rights) -> l
 
 
 def _grant(tree: Tree, objection: Objection) -> tuple[str | int, Rights]:
-    """On what a rule would have to grant which rights for an objection to go; no rights where no rule does it.
+    """The place and the rights that a rule must grant so that an objection goes away; no rights if no rule can.
 
-    A file that is not in the tree is one that was made by the call that opened
-    it, which the kernel judges by the directory.
+    A file that is not in the tree was made by the call that opened it, and the
+    kernel judges that call by the directory.
     """
     match objection:
         case Missing(rights=rights, path=path) | Gained(rights=rights, path=path):

@@ -1,4 +1,4 @@
-"""Suggested rules written out as TOML to paste, with what a person has to know of them in comments."""
+"""Writes suggested rules as TOML to paste; comments say what a person must know about them."""
 
 from __future__ import annotations
 
@@ -14,7 +14,7 @@ from .wording import counted, printable
 
 
 def lines(suggestion: Suggestion, policy: Policy) -> Iterator[str]:
-    """The lines, each without its line feed. All but rules is comment, so the whole may be pasted into a layer."""
+    """The lines, each without its line feed. Everything except rules is a comment, so all lines can be pasted."""
     for layer in policy.layers:
         rules, groups = suggestion.rules.get(layer.number, []), suggestion.groups.get(layer.number, {})
         if rules or groups:
@@ -24,8 +24,8 @@ def lines(suggestion: Suggestion, policy: Policy) -> Iterator[str]:
 
 def _of_layer(layer: Layer, rules: list[Rule], groups: Mapping[str, int], policy: Policy) -> Iterator[str]:
     only = "" if len(policy.layers) == 1 else f": paste them under the [[layer]] of that number in {policy.path}"
-    beside = f" beside {counted(len(groups), 'group')}" if groups else ""
-    yield f"# {counted(len(rules), 'rule')}{beside} for layer {layer.number}{only}"
+    with_groups = f" and {counted(len(groups), 'group')}" if groups else ""
+    yield f"# {counted(len(rules), 'rule')}{with_groups} for layer {layer.number}{only}"
     if needs_refer(layer, rules):
         handled = _list(FS.ordered(layer.handled_access_fs.rights | {"refer"}))
         yield "# rules may grant refer only where the layer handles it; first change its line to"
@@ -55,7 +55,7 @@ def _rule(rule: Rule) -> Iterator[str]:
 
 
 def _ending(suggestion: Suggestion) -> Iterator[str]:
-    """What stays refused under the rules, or that nothing does."""
+    """Lines that say which calls the rules leave refused, or that there are none."""
     if not suggestion.finished:
         yield f"# after {suggestion.rounds} audits there is still more to fix: add these rules and run this again"
     elif suggestion.rules or suggestion.groups:

@@ -1,4 +1,4 @@
-"""What an audit comes to: refusals grouped and counted, what was moot and why, and what to be warned of."""
+"""The result of an audit: refusals grouped and counted, what was moot and why, and warnings."""
 
 from __future__ import annotations
 
@@ -14,11 +14,11 @@ from .landaudit import Answer
 from .processes import of_policy, shown_path
 from .reading import ASKED_LANDLOCK, Place, Told, Walk, call_text, place_of, place_text
 
-#: The members of a record by which refused calls are alike, beside their explanation.
+#: The members of a record in which refused calls of one kind agree, besides their explanation.
 _TELLS = ("op", "path", "shown", "from", "to", "shown_to", "mode", "create", "trunc", "kind", "exchange", "port", "rs")
-#: What landaudit says of what a program leaves out at an ABI that lacks all rights of it.
+#: What landaudit says about a rule or a ruleset that a program leaves out at an ABI that lacks all its rights.
 LEFT_OUT = ((explanations.LEFT_OUT,), (explanations.UNENFORCED,))
-#: Why a call on a descriptor is moot whose opening would have been allowed otherwise.
+#: Why a call on a descriptor is moot if the descriptor's open was not allowed.
 MISSED = f"{explanations.NOT_OPEN}, its opening was refused or moot"
 NO_LAYER = ("no process confines itself, so nothing is refused: try a policy by --policy, or record a program that "
             "confines itself")
@@ -26,7 +26,7 @@ NO_LAYER = ("no process confines itself, so nothing is refused: try a policy by 
 
 @dataclass(frozen=True)
 class RefusingLayer:
-    """A layer by its number in the domain, with its number in the tried policy if it is of that; what it objects to."""
+    """A layer by its number in the domain, with its number in the tried policy if it belongs to it; its objections."""
 
     number: int
     policy: int | None
@@ -39,7 +39,7 @@ class RefusingLayer:
 
 @dataclass(frozen=True)
 class Refusal:
-    """Refused calls that are alike. Where no layer refuses them, they fail by themselves by a condition."""
+    """A kind of refused calls. If no layer refuses them, they fail by themselves by a condition."""
 
     call: str
     place: str
@@ -50,7 +50,7 @@ class Refusal:
 
 @dataclass(frozen=True)
 class Accepted:
-    """A kind of refused calls that is known and fine, and why; call and place are those of a refusal."""
+    """A kind of refused calls that is known and accepted, and why; call and place are those of a refusal."""
 
     call: str
     place: str
@@ -62,9 +62,9 @@ class Accepted:
 
 @dataclass(frozen=True)
 class Brief:
-    """A warning in few words: what is said, of which path, and by which rule of the policy.
+    """A warning in few words: its text, its path, and its rule of the policy.
 
-    None is said of a path that the run never touched.
+    The text is None for a path that the run never touched.
     """
 
     said: str | None
@@ -74,12 +74,12 @@ class Brief:
 
 @dataclass
 class Summary:
-    """All that is said of an audit; `missing` is what it can't say, with which it is no all clear.
+    """The result of an audit; `missing` is what it could not judge, so that it can't say that all is well.
 
-    Refusals that are accepted are apart, with how many calls there are of each. `untouched` are the warnings of rules
-    on what was never touched; `brief` has the shorter form that some warnings have; `recordings` says, where several
-    were audited, in which each refusal occurs; `not_allowed` counts by verdict the calls on each path or port, accepted
-    ones among them.
+    Accepted refusals are separate, with how many calls there are of each. `untouched` are the warnings about rules on
+    paths that the run never touched; `brief` has shorter forms of some warnings; `recordings` says, if several were
+    audited, in which each refusal occurs; `not_allowed` counts by verdict the calls on each path or port, including
+    accepted ones.
     """
 
     abi: int
@@ -114,9 +114,9 @@ class Summary:
 
 
 class Summaries:
-    """The summaries of an audit at some ABIs, each of which takes up one part of the recording after another.
+    """The summaries of an audit at some ABIs, which take one part of the recording after another.
 
-    What was moot and why is told of the newest ABI alone. `tried` says whether a policy was tried.
+    Only the newest ABI's summary says what was moot and why. `tried` says whether a policy was tried.
     """
 
     def __init__(self, abis: range, *, tried: bool = False) -> None:
@@ -125,7 +125,7 @@ class Summaries:
         self._confines = tried
 
     def take(self, walk: Walk, abis: range) -> None:
-        """Takes up the answers of some ABIs to a part of the recording."""
+        """Counts the answers of some ABIs to a part of the recording."""
         left_out: Counter[int] = Counter()
         refusals: dict[Hashable, Refusal] = {}
         for told in walk:
@@ -143,7 +143,7 @@ class Summaries:
         for abi in abis:
             summary = self._by_abi[abi]
             summary.path_calls += walk.path_calls
-            # What is neither refused nor moot was let through.
+            # What is neither refused nor moot was allowed.
             summary.seen += walk.records - left_out[abi]
 
     def _count_place(self, told: Told) -> None:
@@ -157,7 +157,7 @@ class Summaries:
     def _refused(
         self, walk: Walk, told: Told, answer: Answer, abis: Iterable[int], known: dict[Hashable, Refusal]
     ) -> None:
-        """Counts a refused record under the ABIs that refuse it alike."""
+        """Counts a refused record at the ABIs that refuse it in the same way."""
         record = told.record
         for abi in abis:
             self._by_abi[abi].verdicts["refused"] += 1
@@ -171,7 +171,7 @@ class Summaries:
             self._by_abi[abi].refusals.setdefault(refusal, Counter())[told.program or "-"] += 1
 
     def _warned(self, record: Record, answer: Answer, abis: Iterable[int]) -> bool:
-        """Warns of a ruleset that is not made or not filled; says whether that is all to be said of the record."""
+        """Warns of a ruleset that is not made or not filled; returns whether the record is not counted otherwise."""
         condition = explanations.condition(answer)
         origin = of_policy(record)
         for abi in abis:
@@ -184,7 +184,7 @@ class Summaries:
         return origin is not None
 
     def _moot(self, told: Told, answer: Answer, abis: Iterable[int]) -> None:
-        """Counts a moot record under the ABIs that find it moot alike."""
+        """Counts a moot record at the ABIs that find it moot for the same reason."""
         origin = of_policy(told.record)
         for abi in abis:
             summary = self._by_abi[abi]
@@ -195,13 +195,13 @@ class Summaries:
             why, at = _because(told.record, answer, abi in told.missed)
             summary.moot.setdefault(why, Counter())[at] += 1
             if origin is not None:
-                text = (f"{_rule_text(origin, told.record)} is moot: {at} {why}; was it never touched in the run, or "
-                        "is the name wrong?")
+                text = (f"{_rule_text(origin, told.record)} is moot: {at} {why}; either the run never touched it, or "
+                        "the name is wrong")
                 _warn(summary, text, _brief(told.record, None) if at.startswith("/") else None)
                 summary.untouched.add(text)
 
     def done(self, unsaid: Counter[str], missing: Sequence[str] = ()) -> list[Summary]:
-        """The summaries, the oldest ABI first; `missing` is what no audit of the recording can say."""
+        """The summaries, the oldest ABI first; `missing` is what no audit of the recording can judge."""
         for abi, summary in self._by_abi.items():
             summary.verdicts["allowed"] = summary.seen - summary.verdicts["refused"] - summary.verdicts["moot"]
             if not self._confines:
@@ -214,7 +214,7 @@ class Summaries:
 
 
 def _told_of_rule(summary: Summary, record: Record) -> None:
-    """Warns of a rule of the policy on what the run makes, or puts something else in the place of."""
+    """Warns of a rule of the policy on an object that the run makes, or in whose place it puts another object."""
     origin = of_policy(record) or {}
     if "made" in origin:
         _warn(summary, f"{_rule_text(origin, record)}: the run makes it itself, so no sandboxer can put a rule on it: "
@@ -227,13 +227,13 @@ def _told_of_rule(summary: Summary, record: Record) -> None:
 
 
 def _is_left_out(record: Record, answer: Answer) -> bool:
-    """Whether a record of the policy is left out: an ABI has no right of it, or the run makes its object."""
+    """Whether a record of the policy is left out: the ABI has none of its rights, or the run makes its object."""
     origin = of_policy(record)
     return origin is not None and ("made" in origin or answer.explanation in LEFT_OUT)
 
 
 def _refusal(walk: Walk, record: Record, answer: Answer) -> Refusal:
-    """What refused calls that are like this one are counted as."""
+    """The kind that a refused call is counted as."""
     layers = explanations.refusing(record, answer) if answer.layers else ()
     told = tuple(
         RefusingLayer(
@@ -250,7 +250,7 @@ def _refusal(walk: Walk, record: Record, answer: Answer) -> Refusal:
 
 
 def _without_ruleset(condition: Condition) -> str:
-    """Why a program makes no ruleset, and what comes of it."""
+    """Why a program makes no ruleset, and the consequence."""
     if condition.of_abi:
         return f"{condition.text}; a program must drop what the kernel does not have, or it runs without that layer"
     return f"{condition.text}; the program runs without that layer"
@@ -267,7 +267,7 @@ def _as_shown(objection: Objection, record: Record, walk: Walk) -> Objection:
 
 
 def _because(record: Record, answer: Answer, missed: bool) -> tuple[str, str]:
-    """Why a call is moot, and at which path or number that shows."""
+    """Why a call is moot, and the path or number that the reason is about."""
     kernel = record.get("kernel")
     if kernel not in ASKED_LANDLOCK and answer.explanation not in LEFT_OUT:
         return f"the call failed in the recording too: {kernel}", place_text(record)
@@ -278,7 +278,7 @@ def _because(record: Record, answer: Answer, missed: bool) -> tuple[str, str]:
 
 
 def _rule_text(origin: dict[str, Any], record: Record) -> str:
-    """A rule as the policy names it, or what else a record of the policy is."""
+    """A rule as the policy names it, or another record of the policy in words."""
     words = [f"layer {origin['layer']}"] if "layer" in origin else []
     words.append(origin.get("rule", record["op"]))
     words += [f"{key} {origin[key]}" for key in ("parent", "port") if key in origin]
@@ -287,12 +287,12 @@ def _rule_text(origin: dict[str, Any], record: Record) -> str:
 
 def _warn_of_many_moot(summary: Summary) -> None:
     some = f"{summary.moot_path_calls} of {summary.path_calls} calls on paths are"
-    _warn(summary, f"{some} moot, so the policy was not asked: does the tree list what the run touched?",
+    _warn(summary, f"{some} moot, so Landlock was not asked: does the tree list what the run touched?",
           Brief(f"{some} not asked: does the tree list them?"))
 
 
 def _brief(record: Record, said: str | None) -> Brief:
-    """A warning of a rule on a path of the policy in few words."""
+    """A warning about a rule on a path of the policy, in few words."""
     origin = record["policy"]
     where = [f"layer {origin['layer']}"] if "layer" in origin else []
     return Brief(said, origin["parent"], ", ".join([*where, origin["rule"]]))
@@ -327,7 +327,7 @@ def as_data(summary: Summary) -> dict[str, Any]:
 
 
 def _refusal_data(refusal: Refusal, programs: Counter[str], summary: Summary) -> dict[str, Any]:
-    """A kind of refused calls; where several recordings were audited, with those in which it occurs."""
+    """A kind of refused calls; if several recordings were audited, with those in which it occurs."""
     where = summary.recordings.get(refusal)
     return {
         "times": programs.total(),

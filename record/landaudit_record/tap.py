@@ -1,4 +1,4 @@
-"""TAP, the Test Anything Protocol, version 14: a line for each test, and what is known of it as YAML behind the line."""
+"""TAP, the Test Anything Protocol, version 14: a line for each test, and then what is known of it as YAML."""
 
 from __future__ import annotations
 
@@ -15,7 +15,7 @@ def plan(tests: int) -> str:
 
 
 def point(number: int, passed: bool, description: str, about: Mapping[str, str | Sequence[str]]) -> Iterator[str]:
-    """The lines of one test. What is about it are texts, or lists of them; JSON texts are texts of YAML too."""
+    """The lines of one test. `about` has texts, or lists of texts; JSON strings are also YAML strings."""
     yield f"{'ok' if passed else 'not ok'} {number} - {description.translate(_ESCAPED)}"
     if about:
         yield "  ---"

@@ -1,8 +1,8 @@
-"""A policy without what recordings don't need.
+"""Takes from a policy the rights that recordings don't need.
 
-What may be taken away is one right of one rule at a time, and from what is left none. Each policy that is tried has
-processes of its own in one trace, and they ask what the recordings asked (`distilling`): so an answer is that of the
-policy alone, and one audit tries many.
+Rights of rules are taken away one by one, until every further one is needed. Each policy that is tried has processes of
+its own in one trace, which ask what the recordings asked (`distilling`): so each answer depends only on its policy, and
+one audit tries many policies.
 """
 
 from __future__ import annotations
@@ -23,11 +23,11 @@ from .trees import upwards
 from .trying import Tried
 
 MOST_RECORDS = 900_000
-"""How many records a trace is given at most; landaudit reads some more."""
+"""The most records that a trace gets; landaudit reads some more."""
 
 MOST_PROCESSES = 60_000
 MOST_QUESTIONS = 200_000
-"""How many questions are asked together under a policy."""
+"""The most questions that are asked together under a policy."""
 
 Refused = frozenset[tuple[int, int]]
 """Questions that are refused: on which tree each was asked, and its number there."""
@@ -44,9 +44,9 @@ class Unit:
 
 @dataclass(frozen=True)
 class Tightened:
-    """A policy, how many calls need each right and each rule of it, and how many rights were taken away.
+    """A policy, how many calls need each of its rights and rules, and how many rights were taken away.
 
-    `audits` is how many there were so far, those for other policies too.
+    `audits` is the number of audits so far, including those for other policies.
     """
 
     policy: Policy
@@ -68,7 +68,7 @@ def units(policy: Policy, abi: int) -> Iterator[Unit]:
 
 
 def without(policy: Policy, taken: Iterable[Unit]) -> Policy:
-    """A policy without some rights; a rule that has none left is gone."""
+    """A policy without some rights; a rule that has no rights left is removed."""
     gone: dict[tuple[int, str], set[str]] = {}
     for unit in taken:
         gone.setdefault((unit.layer, unit.rule), set()).add(unit.right)
@@ -90,7 +90,7 @@ def _layer_without(layer: Layer, gone: dict[tuple[int, str], set[str]]) -> Layer
 
 
 def _wide_first(policy: Policy, some: Iterable[Unit]) -> list[Unit]:
-    """Rights by how near to the root their rules are: of two rules that grant what is needed the wider goes."""
+    """Rights by how near to the root their rules are: of two rules that grant what is needed, the wider is removed."""
     depths = {
         (layer.number, rule.place): min(len(PurePosixPath(parent).parts) for parent in rule.parents)
         for layer in policy.layers
@@ -103,8 +103,8 @@ def _wide_first(policy: Policy, some: Iterable[Unit]) -> list[Unit]:
 class Asked:
     """The questions that were asked on one tree by a recording, with how many calls asked each.
 
-    A question is known by its number; `bodies` are its records without a process, `over` says which questions are
-    about what is at or under a path, or about a port.
+    A question is known by its number. `bodies` has its records without a process; `over` has the questions that are
+    about paths at or under a path, or about a port.
     """
 
     tried: Tried
@@ -134,9 +134,9 @@ class Asked:
         return self.counted[self.questions[number]]
 
     def touched(self, inserted: Iterable[Record], gone: Collection[Unit]) -> list[int]:
-        """The questions whose answers may change where some rights are taken from a policy, by the policy's records.
+        """The questions whose answers may change if some rights are taken from a policy, by the policy's records.
 
-        An answer depends on a path by the rules that are on it and over it alone.
+        An answer depends on a path only by the rules that are on it and above it.
         """
         rules = {(unit.layer, unit.rule) for unit in gone}
         numbers: set[int] = set()
@@ -148,7 +148,7 @@ class Asked:
 
 
 def _with_what_is_over(place: str | int) -> Iterator[str | int]:
-    """A path and the directories over it, or a port."""
+    """A path and the directories above it, or a port."""
     if isinstance(place, str):
         yield from upwards(place)
     else:
@@ -157,7 +157,7 @@ def _with_what_is_over(place: str | int) -> Iterator[str | int]:
 
 @dataclass(frozen=True)
 class _Trial:
-    """A policy's records that some questions are asked under, and which choice of what is tried it is."""
+    """The records of a policy under which some questions are asked, and the number of the choice that it stands for."""
 
     choice: int
     inserted: list[Record]
@@ -165,7 +165,7 @@ class _Trial:
 
 
 class Tightening:
-    """Takes away what is not needed by what recordings asked."""
+    """Takes away rights that no question of the recordings needs."""
 
     def __init__(self, program: Path, abi: int, asked: Sequence[Asked], *, best_effort: bool) -> None:
         self._program = program
@@ -175,7 +175,7 @@ class Tightening:
         self._audits = 0
 
     def tightened(self, policy: Policy) -> Tightened:
-        """A policy's rights without those that can go, until none can: each that is left is needed by some call."""
+        """Takes rights away until no more can go: some call needs each right that is left."""
         taken: list[Unit] = []
         while True:
             left = list(units(policy, self._abi))
@@ -201,11 +201,11 @@ class Tightening:
         )
 
     def _calls(self, refused: Refused) -> int:
-        """How many calls asked what is refused."""
+        """The number of calls that asked refused questions."""
         return sum(self._asked[where].calls(number) for where, number in refused)
 
     def _away(self, policy: Policy, free: Sequence[Unit]) -> list[Unit]:
-        """As many of some rights as can go together: all of them, or else of one half and then of the other."""
+        """As many of some rights as can go together: all of them, or else those of one half and then of the other."""
         if not free or not self._refused(policy, [free])[0]:
             return list(free)
         if len(free) == 1:
@@ -227,14 +227,14 @@ class Tightening:
     def _trials(
         self, asked: Asked, policy: Policy, whole: Sequence[Record], choice: int, some: Sequence[Unit]
     ) -> Iterator[_Trial]:
-        """What is asked without some rights of a policy; `whole` are its records with them."""
+        """The questions to ask without some rights of a policy; `whole` has its records with them."""
         questions = asked.touched(whole, some)
         inserted = asked.tried.inserted(without(policy, some), self._abi) if questions else []
         for first in range(0, len(questions), MOST_QUESTIONS):
             yield _Trial(choice, inserted, questions[first : first + MOST_QUESTIONS])
 
     def _tried(self, asked: Asked, trials: Iterable[_Trial]) -> Iterator[tuple[int, int]]:
-        """The questions that are refused, each with the choice that it is refused under."""
+        """The refused questions, each with the choice under which it is refused."""
         trace = _Trace(asked)
         for trial in trials:
             if trace.lines and not trace.has_room(trial):
@@ -270,7 +270,7 @@ class _Trace:
         self._pid = 0
 
     def has_room(self, trial: _Trial) -> bool:
-        """Whether landaudit reads the trace with one trial more: a domain has no more lines than it is counted for."""
+        """Whether landaudit reads the trace with one more trial; a domain has at most as many lines as are counted."""
         domains = {self.asked.questions[number].domain for number in trial.questions}
         own = sum(1 + sum(len(trial.inserted) if isinstance(layer, int) else 3 + len(layer) for layer in domain)
                   for domain in domains)
@@ -298,7 +298,7 @@ class _Trace:
 
 
 def _calls_of(layer: Enforced, inserted: Iterable[Record]) -> Iterator[str]:
-    """The calls by which a process comes to a layer, the policy's or one of a program's own."""
+    """The calls by which a process gets a layer, one of the policy or one of the program."""
     if isinstance(layer, int):
         of_layer = [call_of(record) for record in inserted if record["policy"].get("layer") == layer]
     else:

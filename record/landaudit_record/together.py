@@ -1,4 +1,4 @@
-"""Several recordings under one policy: each is audited by itself, and what is said of all of them counts over each."""
+"""Several recordings under one policy: each is audited by itself, and the results are added up."""
 
 from __future__ import annotations
 
@@ -22,7 +22,7 @@ from .trying import Auditing, Tried
 
 @dataclass(frozen=True)
 class Member:
-    """One of the recordings, by the name that it was given, and the policy on it where one is tried."""
+    """One of the recordings, with the name that it was given, and the policy on it if one is tried."""
 
     name: str
     recording: Finished
@@ -35,7 +35,7 @@ class Member:
 
     @property
     def of_several(self) -> list[str]:
-        """What an audit of the recording can't say, with its name."""
+        """What an audit of the recording can't judge, with its name."""
         return [f"{self.name}: {text}" for text in self.recording.missing]
 
 
@@ -60,16 +60,16 @@ def tried_of(members: Sequence[Member]) -> Tried | None:
 
 
 def note_missing(members: Sequence[Member]) -> None:
-    """Prints what no audit of the recordings can say."""
+    """Prints what no audit of the recordings can judge."""
     alone = len(members) == 1
     note(f"NOT ALL IS JUDGED: {text}" for it in members for text in (it.recording.missing if alone else it.of_several))
 
 
 def policy_notes(members: Sequence[Member], abis: range, *, here: bool = False) -> list[str]:
-    """Notes on what of the policy is not judged, and what of it the ABIs do not have.
+    """Notes on parts of the policy that are not judged or that the ABIs do not have.
 
-    What is said of a path that a recording did not meet is told if none of them met it; `here` has it looked for on
-    this machine.
+    A path that does not occur in a recording is noted only if it occurs in none; with `here`, this machine is searched
+    for it.
     """
     notes = [list(trying.notes(member.tried, abis, here=here)) for member in members if member.tried is not None]
     return [text for text in (notes[0] if notes else ()) if all(text in others for others in notes)]
@@ -77,7 +77,7 @@ def policy_notes(members: Sequence[Member], abis: range, *, here: bool = False) 
 
 @contextmanager
 def audits(members: Sequence[Member], program: Path, name: str, *, best_effort: bool) -> Iterator[list[Auditing]]:
-    """How each recording is audited, in a folder that the subcommand of this name has for it."""
+    """The audit of each recording, in a folder that the subcommand of this name has for it."""
     with ExitStack() as stack:
         progress = stack.enter_context(Progress())
         made = [(it.recording, *stack.enter_context(trying.folder_for(it.recording, name))) for it in members]
@@ -96,7 +96,7 @@ def walks(
 def united(each: Sequence[tuple[Member, Summary]]) -> Summary:
     """The summary of several recordings at one ABI, which knows in which of them each kind of refused call occurs.
 
-    A rule that one of them did not touch is told of if none did.
+    A rule is reported as untouched only if no recording touched it.
     """
     if len(each) == 1:
         return each[0][1]

@@ -1,4 +1,4 @@
-"""The listed file tree: which objects are there, under which names, of which kind, and where symbolic links lead."""
+"""The listed file tree: its objects, their names and kinds, and the targets of symbolic links."""
 
 from __future__ import annotations
 
@@ -24,7 +24,7 @@ def directory_of(path: str) -> str:
 
 
 def upwards(path: str) -> Iterator[str]:
-    """A path, and each directory over it up to the root."""
+    """A path, and each directory above it up to the root."""
     while path != ROOT:
         yield path
         path = directory_of(path)
@@ -38,10 +38,10 @@ def joined(directory: str, name: str) -> str:
 
 @dataclass(frozen=True)
 class Tree:
-    """The kind of each listed path, and the target of each symbolic link that says it.
+    """The kind of each listed path, and the target of each symbolic link whose line has it.
 
-    `made` are the paths at which nothing was when the run began, `first` says of each further name of an object the
-    first one, `others` of a first one the further ones, and `shown` the real path of what is listed under another.
+    `made` has the paths at which nothing was when the run began; `first` maps each further name of an object to its
+    first name, `others` a first name to the further ones, and `shown` a listed name to the real path if that differs.
     """
 
     kinds: dict[str, str] = field(default_factory=lambda: {ROOT: "dir"})
@@ -52,15 +52,15 @@ class Tree:
     shown: dict[str, str] = field(default_factory=dict)
 
     def kind(self, path: str) -> str | None:
-        """The kind of what is there, None if nothing is."""
+        """The kind of the object at a path, None if there is none."""
         return self.kinds.get(path)
 
     def is_there_before(self, path: str) -> bool:
-        """Whether something is there when the run begins."""
+        """Whether an object is at a path when the run begins."""
         return path in self.kinds and not any(over in self.made for over in upwards(path))
 
     def is_dir(self, path: str) -> bool:
-        """Whether a directory is there."""
+        """Whether a directory is at a path."""
         return self.kinds.get(path) == "dir"
 
     def names(self, path: str) -> list[str]:
@@ -75,7 +75,7 @@ class Tree:
     def before(self, path: str) -> str:
         """The name by which a path could be opened before the run.
 
-        This is the first name of its object if that was there, else that of the directory over it.
+        This is the first name of its object if that existed, else that of the directory above it.
         """
         first = self.first.get(path, path)
         while first in self.made:
@@ -95,7 +95,7 @@ class Tree:
     def resolved(self, path: str, *, before_run: bool = False) -> str:
         """An absolute path without symbolic links, `.`, `..` and doubled slashes, as the kernel walks it.
 
-        Before the run there are no links that it makes. What comes after a component that is not listed is as it is
+        Links that the run makes do not exist before the run. What follows a component that is not listed stays as it is
         written.
         """
         todo = path.split("/")[::-1]
@@ -141,7 +141,7 @@ def read(*paths: Path) -> Tree:
 
 
 def united(trees: Iterable[Tree]) -> Tree:
-    """The objects of several recordings; what two of them say of one path is what the last one says."""
+    """The objects of several recordings; if two of them differ about a path, the last one counts."""
     found = Tree()
     for tree in trees:
         found.kinds.update(tree.kinds)
@@ -155,7 +155,7 @@ def united(trees: Iterable[Tree]) -> Tree:
 
 
 def _note_names(tree: Tree, listed: str, entry: jsonl.Record) -> None:
-    """Takes up what a line says of the object's names."""
+    """Adds what a line says about the object's names."""
     first, shown = entry.get("same"), entry.get("shown")
     if entry.get("made") is True:
         tree.made.add(listed)

@@ -1,7 +1,7 @@
-"""Names that are different in each run: temporary ones, and those with the number of a process.
+"""Names that differ in each run: those of temporary files, and those with the number of a process.
 
-A rule that names one is of no use to the next run, so it goes on the directory. That the run made a name itself is
-said by the recording; of a name that was there, only a second recording can say whether it stays.
+A rule on such a name does not help the next run, so the rule goes on the directory. A recording shows that its run made
+a name; only a second recording can show whether a name that existed before stays the same.
 """
 
 from __future__ import annotations
@@ -14,19 +14,19 @@ from itertools import combinations, pairwise
 
 from .trees import ROOT, Tree, directory_of, joined, upwards
 
-#: What a process has under its number, which is another one in each run.
+#: The paths that a process has under its number, which differs in each run.
 _OF_A_PROCESS = re.compile(r"/proc/[0-9]+")
-#: Names as programs make them up, with the part that is made up: by mkstemp(3), Python's tempfile and gcc.
+#: Forms of names that programs make up, with the part that is made up: of mkstemp(3), Python's tempfile and gcc.
 _MADE_UP = re.compile(r"(?:.*[._-])([A-Za-z0-9]{6})|tmp([a-z0-9_]{8})|cc([A-Za-z0-9]{6})\.[a-z]+")
-#: The same by mktemp(1) and Go's os.MkdirTemp, whose part is long enough to be known.
+#: Forms of mktemp(1) and Go's os.MkdirTemp, whose made-up part is long enough to be recognized.
 _LONG = re.compile(r"tmp\.[A-Za-z0-9]{10}|.*?[0-9]{9,}")
 _PART = re.compile(r"[A-Za-z0-9_]+")
 _DIGITS = re.compile(r"[0-9]+")
-#: How long a part of two names is at least by which they are told to be made up.
+#: The shortest differing part by which two names are recognized as made up.
 SHORTEST = 6
-#: From how many digits on a number is made up, if it is no process's.
+#: The fewest digits of a made-up number, if it is not the number of a process.
 MANY_DIGITS = 9
-#: So many names of one directory are compared with those of another recording.
+#: The most names of one directory that are compared with those of another recording.
 MOST_COMPARED = 500
 
 
@@ -44,13 +44,13 @@ def looks_made_up(name: str) -> bool:
 
 
 def _changes(text: str) -> int:
-    """How often small letters, capitals, digits and others take turns; a capital before small letters is no turn."""
+    """How often small letters, capitals, digits and others alternate; a capital before small letters does not count."""
     kinds = ["A" if one.isupper() else "a" if one.isalpha() else "0" if one.isdigit() else "_" for one in text]
     return sum(one != other for one, other in pairwise(kinds)) - (kinds[:2] == ["A", "a"])
 
 
 def alike(one: str, other: str, pids: Sequence[Set[int]]) -> bool:
-    """Whether two names differ by what is made up alone; `pids` are the processes of the recording of each."""
+    """Whether two names differ only in a made-up part; `pids` has the processes of the recording of each."""
     front = len(os.path.commonprefix([one, other]))
     behind = len(os.path.commonprefix([one[front:][::-1], other[front:][::-1]]))
     numbers = [_around(name, front, behind, str.isdigit) for name in (one, other)]
@@ -63,7 +63,7 @@ def alike(one: str, other: str, pids: Sequence[Set[int]]) -> bool:
 
 
 def _around(name: str, front: int, behind: int, belongs: Callable[[str], bool]) -> str:
-    """What is in a name between so many characters in front and behind, with those beside it that belong to it."""
+    """The part of a name between two numbers of characters at its ends, with adjacent characters that belong to it."""
     start, end = front, len(name) - behind
     while start > 0 and belongs(name[start - 1]):
         start -= 1
@@ -73,9 +73,9 @@ def _around(name: str, front: int, behind: int, belongs: Callable[[str], bool]) 
 
 
 def between(places: Sequence[Iterable[str]], trees: Sequence[Tree], pids: Sequence[Set[int]]) -> set[str]:
-    """The paths whose last names differ from recording to recording, of the places that each asks for.
+    """The paths whose last names differ from recording to recording, among the places that each asks for.
 
-    Two names that are both on this disk are two files, and stay.
+    Two names that are both on this disk are two files, and are kept.
     """
     named = [_names(some) for some in places]
     found: set[str] = set()
@@ -92,7 +92,7 @@ def between(places: Sequence[Iterable[str]], trees: Sequence[Tree], pids: Sequen
 
 
 def _names(places: Iterable[str]) -> dict[str, list[str]]:
-    """By directory the names in it that places have on their way."""
+    """The names in each directory that lie on the way to places."""
     names: dict[str, set[str]] = defaultdict(set)
     for place in places:
         for over in upwards(place):

@@ -16,7 +16,7 @@ from .trees import Tree, upwards
 Call = tuple[int, int]
 # Rights, each with the calls that ask for it.
 Lacking = dict[str, set[Call]]
-# What is lacking on each path, or on each path and port.
+# The rights that are lacking on each path, or on each path and port.
 OnPaths = dict[str, Lacking]
 Wants = dict[str | int, Lacking]
 
@@ -25,7 +25,7 @@ Place = TypeVar("Place", str, int, str | int)
 
 @dataclass(frozen=True)
 class Rule:
-    """A rule to be written, on a path or on ports, how many calls ask for it, and what is to be known of it."""
+    """A rule to write, on a path or on ports, how many calls ask for it, and remarks on it."""
 
     place: str | tuple[int, ...]
     rights: Rights
@@ -35,7 +35,7 @@ class Rule:
 
 @dataclass(frozen=True)
 class Wanted:
-    """What a layer lacks over all recordings: on paths, each where a rule can be, with what it is for; and on ports."""
+    """What a layer lacks over all recordings: on paths, each where a rule can be, with its purpose; and on ports."""
 
     paths: OnPaths
     spots: Sequence[Spot]
@@ -43,7 +43,7 @@ class Wanted:
 
 
 def unite(wants: dict[Place, Lacking], more: dict[Place, Lacking]) -> None:
-    """Adds to what is lacking what is lacking for more calls."""
+    """Adds the rights that further calls lack."""
     for place, rights in more.items():
         here = wants.setdefault(place, {})
         for right, calls in rights.items():
@@ -53,9 +53,9 @@ def unite(wants: dict[Place, Lacking], more: dict[Place, Lacking]) -> None:
 def placed(
     trees: Sequence[Tree], wants: Sequence[Wants], new: Sequence[Mapping[str, Set[str]]], pids: Sequence[Set[int]]
 ) -> Wanted:
-    """What is lacking in each recording, put where rules can be.
+    """What is lacking in each recording, at the places where rules can be.
 
-    `new` has of each by directory what calls were to make there, and `pids` are the processes of each.
+    `new` has, for each recording and directory, the objects that calls would make; `pids` has the processes of each.
     """
     paths = [{place: rights for place, rights in some.items() if isinstance(place, str)} for some in wants]
     where = Placing(trees, paths, pids)
@@ -73,9 +73,9 @@ def placed(
 
 
 def rules(wanted: Wanted) -> list[Rule]:
-    """The rules that grant what is lacking and nothing else that could be left out, in the order of how many calls ask.
+    """The rules that grant what is lacking and nothing that could be left out; those that most calls ask come first.
 
-    What a rule on a directory over a path grants is not granted again.
+    A right that a rule on a directory above a path grants is not granted again.
     """
     granted = narrowed(wanted.paths)
     of_paths = [Rule(place, frozenset(rights), asking(rights)) for place, rights in granted.items()]
@@ -88,7 +88,7 @@ def asking(rights: Lacking) -> int:
 
 
 def narrowed(wants: OnPaths) -> OnPaths:
-    """What is lacking, each right on the uppermost of its paths that are over one another."""
+    """What is lacking; of paths above one another, only the uppermost has a right."""
     granted: OnPaths = {}
     for path in sorted(wants):
         for right, calls in wants[path].items():
@@ -98,7 +98,7 @@ def narrowed(wants: OnPaths) -> OnPaths:
 
 
 def remarked(found: Iterable[Rule], spots: Iterable[Spot]) -> list[Rule]:
-    """Rules with what is to be known of each, those first for which most calls ask."""
+    """Rules with remarks; those that most calls ask for come first."""
     ordered = sorted(found, key=lambda rule: -rule.calls)
     places = {rule.place for rule in ordered}
     serving: dict[str, list[Spot]] = defaultdict(list)
@@ -109,7 +109,7 @@ def remarked(found: Iterable[Rule], spots: Iterable[Spot]) -> list[Rule]:
 
 
 def _remarks(rule: Rule, serving: dict[str, list[Spot]], doubted: set[str]) -> Iterator[str]:
-    """What is to be known of a rule; a name that looks made up is told of once, and is then among the doubted ones."""
+    """The remarks on a rule; a name that looks made up is remarked on once, and is then among the doubted names."""
     if isinstance(rule.place, str):
         yield from placing.remarks(rule.place, serving[rule.place])
         path, text = placing.doubtful(rule.place) or (None, "")

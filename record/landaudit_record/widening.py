@@ -1,6 +1,6 @@
-"""At most so many rules: those are put together on a directory that grant least beside what is needed.
+"""Reduces rules to a number: puts those together on a directory that grant least in addition to what is needed.
 
-What a rule grants is counted in objects, for each of its rights those that the right applies to.
+A rule's grants are counted in objects: for each of its rights, the objects to which the right applies.
 """
 
 from __future__ import annotations
@@ -17,13 +17,13 @@ from .trees import directory_of, upwards
 from .wants import OnPaths, Rule, Wanted
 from .wording import counted, some_of
 
-#: What kinds of objects are called that a rule grants something on, one of them.
+#: The names of the kinds of objects that a rule grants something on, in the singular.
 _CALLED = {"files": "file", "directories": "directory", "devices": "device"}
 
 
 @dataclass(frozen=True)
 class _Merger:
-    """Rights that go on a directory in place of rules under it: how many rules fewer, and what more is granted."""
+    """Rights on a directory instead of rules under it: how many rules fewer, and what more is granted."""
 
     directory: str
     rights: Rights
@@ -32,7 +32,7 @@ class _Merger:
 
 
 def rules(wanted: Wanted, objects: Objects, most: int) -> list[Rule]:
-    """At most so many rules that grant what is lacking, or as few as there can be."""
+    """At most a number of rules that grant what is lacking, or as few as there can be."""
     exact = wants.narrowed(wanted.paths)
     ports = _port_rules(wanted, most - len(exact))
     paths, room = exact, max(most - len(ports), 1)
@@ -44,7 +44,7 @@ def rules(wanted: Wanted, objects: Objects, most: int) -> list[Rule]:
 
 
 def _merged(paths: OnPaths, merger: _Merger) -> OnPaths:
-    """The rules with some of their rights on a directory in their place."""
+    """The rules, with some of their rights moved to a directory."""
     found: OnPaths = {}
     for place, rights in paths.items():
         beneath = merger.directory in upwards(place)
@@ -55,7 +55,7 @@ def _merged(paths: OnPaths, merger: _Merger) -> OnPaths:
 
 
 def _cheapest(paths: OnPaths, objects: Objects, excess: int) -> _Merger:
-    """The merger that grants least for each rule that it saves; what it saves beyond the excess doesn't count."""
+    """The merger that grants least for each rule that it saves; rules saved beyond the excess do not count."""
     under: dict[str, list[str]] = defaultdict(list)
     for place in paths:
         for over in upwards(place):
@@ -66,7 +66,7 @@ def _cheapest(paths: OnPaths, objects: Objects, excess: int) -> _Merger:
 
 
 def _mergers(directory: str, places: list[str], paths: OnPaths, objects: Objects) -> Iterator[_Merger]:
-    """The rights that can go on a directory: those that two of the rules under it have together."""
+    """The rights that can move to a directory: those that two of the rules under it have in common."""
     if directory not in paths and len({_branch(directory, place) for place in places}) == 1:
         return
     sets = Counter(frozenset(paths[place]) for place in places)
@@ -84,12 +84,12 @@ def _mergers(directory: str, places: list[str], paths: OnPaths, objects: Objects
 
 
 def _branch(directory: str, place: str) -> str:
-    """What is just beneath a directory on the way to a place."""
+    """The path directly beneath a directory on the way to a place."""
     return next(over for over in upwards(place) if directory_of(over) == directory)
 
 
 def _more(place: str, rights: Rights, exact: OnPaths, objects: Objects) -> tuple[str, ...]:
-    """What a rule grants beside what is needed, a text for each kind of objects."""
+    """What a rule grants in addition to what is needed, a text for each kind of objects."""
     all_under, needed = objects.under(place), Counter[str]()
     for path, asked in exact.items():
         for right in rights & asked.keys():
@@ -101,7 +101,7 @@ def _more(place: str, rights: Rights, exact: OnPaths, objects: Objects) -> tuple
         if more > 0:
             by_number[kind_of(right), more].append(right)
     if place in UNCOUNTED and by_number:
-        return (f"also all else under {place} ({', '.join(FS.ordered(rights))})",)
+        return (f"also everything else under {place} ({', '.join(FS.ordered(rights))})",)
     told = [(_number(number, kind), ", ".join(some)) for (kind, number), some in by_number.items()]
     return tuple(f"also {number} under {place} ({names})" for number, names in told)
 

@@ -95,7 +95,7 @@ class Written(unittest.TestCase):
     def test_warnings_that_the_summary_does_not_show(self) -> None:
         rows = table(summary(1, warnings=("a", "b")), summary(2, warnings=("a",)), summary(3))
         self.assertEqual([row.partition("     1  ")[2] for row in rows[1:]],
-                         ["2 warnings more: see --abi 1", "1 warning more: see --abi 2", ""])
+                         ["2 more warnings: see --abi 1", "1 more warning: see --abi 2", ""])
 
     def test_a_path_cannot_speak_to_the_terminal(self) -> None:
         rows = table(summary(1, Kind("open r", "/a/\x1b[2J\n", "EACCES")), summary(2))

@@ -125,7 +125,7 @@ class Checking(unittest.TestCase):
         self.assertEqual((status, lines), (3, []))
         self.assertEqual(
             errors,
-            "landaudit-policy: @/cases.toml: rmdir @/open/file: the policy is not asked: @/open/file is a regular file\n",
+            "landaudit-policy: @/cases.toml: rmdir @/open/file: Landlock is not asked: @/open/file is a regular file\n",
         )
 
     def test_a_rule_that_the_kernel_refuses(self) -> None:

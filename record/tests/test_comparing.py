@@ -220,7 +220,7 @@ class WrittenOut(unittest.TestCase):
                 "rec at ABI 5",
                 "        4  calls on rulesets or under a layer",
                 "        3  agree, 75.000 %",
-                "        0  of all, landaudit was not asked about",
+                "        0  of these, moot (Landlock is not asked)",
                 "",
                 "differences by class",
                 "        1  unnamed",

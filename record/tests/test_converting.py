@@ -274,7 +274,7 @@ class BadLogs(KeptLogs):
     def test_a_log_of_another_program_is_told(self) -> None:
         folder = self.folder("policy")
         (folder / "strace.txt").write_text("Mon 23: something happened\n" * 30, encoding="ascii")
-        with self.assertRaisesRegex(Problem, "no log that 'landaudit-record run' wrote"):
+        with self.assertRaisesRegex(Problem, "is not a log that 'landaudit-record run' wrote"):
             self.lines_of(folder)
 
     def test_a_folder_without_a_recording_is_told(self) -> None:

@@ -150,7 +150,7 @@ class Differing(unittest.TestCase):
         rule = f'[[layer.path_beneath]]\nallowed_access = ["read"]\nparent = "{self.folder}/link"\n'
         status, _, errors = self.said(OLD, OLD + rule)
         self.assertEqual(status, 1)
-        told = "landaudit-policy: note: new: layer 1, path_beneath 4: link leads to /usr on this machine, and is"
+        told = "landaudit-policy: note: new: layer 1, path_beneath 4: link leads to /usr on this machine, but is"
         self.assertTrue(errors.startswith(told), errors)
 
     def test_what_does_not_read(self) -> None:

@@ -192,7 +192,7 @@ class Suggested(unittest.TestCase):
         found = Suggestion({1: [rule]}, none, none, 2, True, none, {1: {"base": 3, "tmp": 1}})
         before = ALL + RULE + 'allowed_access = ["read_file"]\nparent = "/a"\n'
         written = "\n".join(suggestion_text.lines(found, read(before)))
-        self.assertIn("# 1 rule beside 2 groups for layer 1\n\n# base: 3 calls\n# tmp: 1 call\n[[layer.path_beneath]]\n"
+        self.assertIn("# 1 rule and 2 groups for layer 1\n\n# base: 3 calls\n# tmp: 1 call\n[[layer.path_beneath]]\n"
                       'include = ["base", "tmp"]\n', written)
         (layer,) = read(before + written).layers
         self.assertEqual([rule.parents for rule in layer.path_beneath if rule.group is None], [("/a",), ("/w",)])

@@ -344,8 +344,8 @@ class TreeOfPaths(unittest.TestCase):
             ["/", "4", "5", "0"],
             ["usr/lib/x/", "3", "5", "0"],
             ["two", "0", "5", "0"],
-            ["2 names more", "3", "0", "0"],
-            ["1 name more", "1", "0", "0"],
+            ["2 more names", "3", "0", "0"],
+            ["1 more name", "1", "0", "0"],
         ])
         self.assertEqual([row[2] for row in self.rows(found, 4)], ["0"] * 5)
 

@@ -319,7 +319,7 @@ class Text(unittest.TestCase):
         lines = text(summed([NNP, *LAYER, *many])).splitlines()
         self.assertIn("refused: 21 kinds in 1 group, the earliest first, then the most frequent", lines)
         self.assertIn("     21  bind_tcp  21 ports from 0 to 20  EACCES  policy's 1  -", lines)
-        self.assertIn("  each kind by itself: --all lists them", lines)
+        self.assertIn("  --all lists each kind by itself", lines)
         each = text(summed([NNP, *LAYER, *many]), beside=Beside(each=True))
         self.assertIn("refused, the most frequent first (21 kinds)", each)
         self.assertEqual(each.count("  bind  port "), 21)
@@ -332,7 +332,7 @@ class Text(unittest.TestCase):
                  for one, other in pairs]
         told = text(summed([NNP, *LAYER, *moves]))
         self.assertIn("refused: 25 kinds in 25 groups", told)
-        self.assertIn("  5 groups more, and each kind by itself: --all lists them", told)
+        self.assertIn("  --all lists 5 more groups and each kind by itself", told)
 
     def test_the_command_for_rules_is_one_command_on_lines_that_fit(self) -> None:
         command = ["landaudit-record", "suggest", "a recording", "--policy", "/" + "long/" * 30 + "p.toml"]
@@ -395,14 +395,14 @@ class ShortWarnings(unittest.TestCase):
         with tempfile.TemporaryDirectory() as here:
             self.assertEqual(self.told(self.unused(here), self.unused("/none")), [
                 "warning: /none: no such path here",
-                f"warning: {here}: exists here, this run never used it",
+                f"warning: {here}: exists here, but this run never used it",
             ])
 
     def test_some_of_many_and_each_with_its_rule_where_that_is_asked(self) -> None:
         calls = [self.unused(f"/none/{number}") for number in range(7)]
         self.assertEqual(self.told(*calls)[4:], [
             "warning: /none/4: no such path here",
-            "warning: 2 rules more that this run never used: --all lists them",
+            "warning: 2 more rules that this run never used: --all lists them",
         ])
         each = self.told(*calls, each=True)
         self.assertEqual((len(each), each[6]), (7, "warning: /none/6: no such path here (layer 1, path_beneath 1)"))

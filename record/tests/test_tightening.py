@@ -240,7 +240,7 @@ port = [80, 443]
         text = self.rules(('["execute"]', f'"{PROGRAM}"'), ('["make_reg", "refer"]', '"/"'), ('["read_file"]', '"/b"'))
         self.assertEqual(self.left(text, one), [("execute", PROGRAM), ("make_reg", "refer", "/")])
         self.policy.write_text(text)
-        self.assertIn("note: of these recordings 1 call would pass that the policy refuses", self.said(one)[2])
+        self.assertIn("note: 1 call of these recordings would pass that the policy refuses", self.said(one)[2])
         self.policy.write_text(text.replace('"/b"', '"/"'))
         self.assertEqual(self.said(one)[2], "")
 

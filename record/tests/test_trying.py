@@ -106,7 +106,7 @@ class Trying(StandIn):
         self.assertIn("8 records: 7 allowed, 1 refused (1 accepted), 0 not asked (moot)\n", out)
         self.assertRegex(out, r"refused and accepted \(1 kind\)\n.*\n +1  open w  /a +it is only tried\n")
         self.assertNotIn("most frequent first", out)
-        self.assertIn("note: accepted and refused no more: connect port 80 (no updates here)\n", out)
+        self.assertIn("note: accepted, but no longer refused: connect port 80 (no updates here)\n", out)
         self.assertEqual(errors, "")
         _, out, _ = self.audited("audit", self.recording, "--policy", self.policy, "--json")
         data = json.loads(out)
@@ -118,7 +118,7 @@ class Trying(StandIn):
         status, out, errors = self.audited("audit", self.recording, "--policy", self.policy)
         self.assertEqual(status, 1)
         self.assertIn("1 refused, 0 not asked (moot)", out)
-        self.assertIn("note: accepted and refused no more: open r /a (x)\n", out)
+        self.assertIn("note: accepted, but no longer refused: open r /a (x)\n", out)
         self.assertEqual(errors, "")
 
     def test_an_acceptance_with_a_fault(self) -> None:
@@ -291,10 +291,10 @@ parent = ["/none", "/a"]
         answers = {"10": ["allowed"] * 10}
         (self.folder / "answers.json").write_text(json.dumps(answers))
         notes = [
-            "layer 1: scoped is kept and not judged: signal",
+            "layer 1: scopes are not judged: signal",
             "layer 1, path_beneath 1, parent /tmp/*.txt: Landlock has no patterns: name the directory, or each file",
-            "layer 1, path_beneath 2, parent /none: not in the tree, so it is not known whether it is a directory: on "
-            "anything else the kernel refuses read_dir with EINVAL",
+            "layer 1, path_beneath 2, parent /none: not in the tree, so it may not be a directory: then the kernel "
+            "refuses read_dir with EINVAL",
         ]
         for command in (["audit", "--json"], ["suggest"]):
             with self.subTest(command):
@@ -312,8 +312,8 @@ parent = ["/none", "/a"]
                                f'allowed_access = ["read_dir"]\nparent = ["{file}", "{directory}"]\n')
         (self.folder / "answers.json").write_text(json.dumps({"9": ["allowed"] * 9}))
         _, out, _ = self.audited("audit", self.recording, "--policy", self.policy)
-        self.assertEqual(notes_in(out), [f"note: layer 1, path_beneath 1, parent {file}: no directory here, so the "
-                                         "kernel refuses read_dir with EINVAL"])
+        self.assertEqual(notes_in(out), [f"note: layer 1, path_beneath 1, parent {file}: not a directory on "
+                                         "this machine, so the kernel refuses read_dir with EINVAL"])
 
     def test_suggest_audits_until_nothing_is_refused(self) -> None:
         status, out, _ = self.audited("suggest", self.recording, "--policy", self.policy)

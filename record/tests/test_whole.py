@@ -135,7 +135,7 @@ class Whole(KeptLogs):
         with redirect_stderr(errors):
             self.assertEqual(cli.main(["apply", str(policy), str(self.recording), "--out", str(out)]), USAGE)
         first = self.recording / "trace-1.jsonl"
-        self.assertIn(f"parts: name one of its traces, as {first}\n", errors.getvalue())
+        self.assertIn(f"parts: name one of its traces, such as {first}\n", errors.getvalue())
         self.assertEqual(cli.main(["apply", str(policy), str(first), "--out", str(out)]), 0)
         self.assertGreater(out.stat().st_size, first.stat().st_size)
 
@@ -192,7 +192,7 @@ class Whole(KeptLogs):
             status, out, errors = self.audited()
         self.assertEqual((status, self.names()), (0, before))
         self.assertIn("records:", out)
-        self.assertIn("can't be written: report and tried trace are not kept\n", out)
+        self.assertIn("can't be written: the report and the tried trace are not kept\n", out)
         self.assertEqual(errors, "")
 
 

@@ -128,7 +128,7 @@ class Widening(Disk):
     def test_the_root_comes_last_and_is_warned_of(self) -> None:
         wanted = Wanted({"/usr/x": asked("read_file"), "/proc/x": asked("read_file", call=2)}, [], {})
         (rule,) = widening.rules(wanted, Objects([]), 1)
-        self.assertEqual(rule.remarks, ("also all else under / (read_file)",
+        self.assertEqual(rule.remarks, ("also everything else under / (read_file)",
                                         "warning: read_file on everything that there is"))
         wanted.paths["/usr/y"] = asked("read_file", call=3)
         self.assertEqual({rule.place for rule in widening.rules(wanted, Objects([]), 2)}, {"/usr", "/proc/x"})

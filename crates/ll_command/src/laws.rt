@@ -1,4 +1,4 @@
-//! What holds of command lines by the definitions alone.
+//! Laws on command lines, which follow from the definitions.
 
 ghost use Rattle.std.specs.Prelude.{◌≡◌, ◌++◌, ◌∷◌, ◌↔◌, List, [], Some, IsSome, codes, false, option_map, true};
 ghost use Rattle.clap.specs.declared.error.kind.ErrorKind.TheVariants as kind;
@@ -122,7 +122,7 @@ pub fn command_lines()
         ≡ kind.DisplayHelp ∷ [] }
 {}
 
-/// Words name a run just where they have no fault.
+/// A command line names a run exactly when it contains no fault.
 pub fn words_without_a_fault_name_a_run()
     ensures { (words : List Text) → IsSome (request_of words) ↔ (faults words ≡ []) }
 {}

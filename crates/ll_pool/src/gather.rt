@@ -1,4 +1,4 @@
-//! Collecting the answers of pieces in the order of the records.
+//! Collects the answers of pieces in the order of the records.
 
 ghost use Rattle.std.specs.Prelude.{◌≡◌, ℕ, ◌<◌, IfOk, IfErr, ◌+◌, ◌≤◌, min, length, slice_index, All, IfSome, IfNone, vec_len, ◌++◌, ◌∷◌, [], OnOk};
 ghost use Rattle.ll_semantics.specs.Worlds.{judged};
@@ -17,7 +17,7 @@ use std::alloc::{AllocError, Global};
 pub enum CollectFault {
     /// The least process that is in no piece.
     Missing(ProcessId),
-    /// The least process that is there more than once.
+    /// The least process that is in the pieces more than once.
     Double(ProcessId),
     /// Out of memory.
     Memory,
@@ -32,7 +32,7 @@ impl From<AllocError> for CollectFault {
 }
 
 /// The answers to all records, in their order. If a process is in the pieces more than once, the
-/// fault names the least such process; else, if one is missing, the least of these.
+/// fault names the least such process; else, if a process is missing, the least missing one.
 pub fn collect(
     alloc: Global,
     case: &Case,
@@ -56,7 +56,7 @@ pub fn collect(
     Ok(assemble(alloc, case, &pieces)?)
 }
 
-/// The answers to all records, in their order, where each process is in one piece.
+/// The answers to all records, in their order, if each process is in one piece.
 pub fn collect_whole(
     alloc: Global,
     case: &Case,
@@ -90,7 +90,7 @@ fn count(seen: &mut Vec<u8>, processes: &[ProcessId])
     }
 }
 
-/// How often each process of the case is in the pieces, counted up to 255.
+/// The number of times that each process of the case is in the pieces, counted up to 255.
 fn tally(alloc: Global, case: &Case, pieces: &[Piece<'_>]) -> Result<Vec<u8>, AllocError>
     requires { ArePiecesOf case.now pieces.now }
     ensures len { IfOk result (λ seen. length seen.items ≡ process_count case.now.records) }
@@ -104,7 +104,7 @@ fn tally(alloc: Global, case: &Case, pieces: &[Piece<'_>]) -> Result<Vec<u8>, Al
     Ok(seen)
 }
 
-/// The first process that is there more than once.
+/// The first process that is in the pieces more than once.
 fn first_double(seen: &[u8]) -> Option<u32>
     requires { length seen.now ≤ MOST_PROCESSES }
     ensures found { IfSome result (λ first. (first < length seen.now)
@@ -121,7 +121,7 @@ fn first_double(seen: &[u8]) -> Option<u32>
     None
 }
 
-/// The first process that isn't there.
+/// The first process that is in no piece.
 fn first_absent(seen: &[u8]) -> Option<u32>
     requires { length seen.now ≤ MOST_PROCESSES }
     ensures found { IfSome result (λ first. (first < length seen.now)
@@ -149,7 +149,7 @@ fn place(answers: &mut Vec<Answer>, parts: &[(u32, Answer)])
     }
 }
 
-/// The answers of pieces in the order of the records, where each process is in some piece.
+/// The answers of pieces in the order of the records, if each process is in some piece.
 fn assemble(alloc: Global, case: &Case, pieces: &[Piece<'_>]) -> Result<Vec<Answer>, AllocError>
     requires of_case { ArePiecesOf case.now pieces.now }
     requires each { (process : ℕ) → process < process_count case.now.records →
@@ -164,7 +164,7 @@ fn assemble(alloc: Global, case: &Case, pieces: &[Piece<'_>]) -> Result<Vec<Answ
     Ok(answers)
 }
 
-/// Adds a piece behind those that are there.
+/// Adds a piece at the end.
 pub(crate) fn keep<'c>(pieces: &mut Vec<Piece<'c>>, piece: Piece<'c>) -> Result<(), NoMemory>
     ensures { OnOk result (pieces.new.items ≡ pieces.old.items ++ piece.entry ∷ []) }
 {
@@ -174,7 +174,7 @@ pub(crate) fn keep<'c>(pieces: &mut Vec<Piece<'c>>, piece: Piece<'c>) -> Result<
     }
 }
 
-/// Adds pieces behind those that are there.
+/// Adds pieces at the end.
 pub(crate) fn keep_all<'c>(
     pieces: &mut Vec<Piece<'c>>,
     mut more: Vec<Piece<'c>>,

@@ -17,14 +17,14 @@ use std::sync::atomic::{AtomicUsize, Ordering};
 use std::thread;
 use std::thread::Promise;
 
-/// Whoever is told of each job before it is judged, on the thread that judges it. It may hold that
+/// Whoever is told of each job before it is judged, on the thread that judges it. It may block that
 /// thread.
 pub trait Gate {
     /// The job of this process is about to be judged.
     fn begun(&self, process: ProcessId);
 }
 
-/// How many jobs are queued or being judged, where the caller's handing out of roots counts as one.
+/// The number of jobs that are queued or being judged; the caller's handing out of roots counts as one.
 /// No claim rests on it.
 #[derive(Drop)]
 pub(crate) struct Busy {
@@ -39,12 +39,12 @@ impl Busy {
         }
     }
 
-    /// One job more is to be queued.
+    /// One more job will be queued.
     pub(crate) fn raise(&self) {
         self.jobs.fetch_add(1, Ordering::SeqCst);
     }
 
-    /// One job was judged, or is queued no more.
+    /// One job was judged, or is no longer queued.
     pub(crate) fn lower(&self) {
         self.jobs.fetch_sub(1, Ordering::SeqCst);
     }
@@ -92,7 +92,7 @@ impl<'c> Hand<'c> for EmptyHand {
     }
 }
 
-/// One who judges jobs: the caller, or a worker. As a hand it gives children's jobs to the queue.
+/// A judge of jobs: the caller, or a worker. As a hand it gives the jobs of children to the queue.
 pub(crate) struct QueueHand<'p, 's, 'c, N: Naming, R, G> {
     pub(crate) pool: &'p Pool<'s, 'c, N, R, G>,
     pub(crate) pass: QueuePass<'c>,
@@ -161,7 +161,7 @@ impl<'p, 's, 'c, N: Naming, R: Wait, G> QueueHand<'p, 's, 'c, N, R, G> {
 }
 
 impl<'p, 's, 'c, N: Naming, R: Wait, G: Gate> QueueHand<'p, 's, 'c, N, R, G> {
-    /// Judges a job: its piece goes behind those that are there.
+    /// Judges a job, and adds its piece at the end.
     fn see_to(&mut self, job: Job<'c>, pieces: &mut Vec<Piece<'c>>) -> Result<(), NoMemory>
         requires queue { IsPassOf self.old.pool.now.queue self.old.pass }
         requires parts { 0 < (view self.old.pass).parts }
@@ -180,7 +180,7 @@ impl<'p, 's, 'c, N: Naming, R: Wait, G: Gate> QueueHand<'p, 's, 'c, N, R, G> {
         Ok(())
     }
 
-    /// Gives a root to the queue, or judges it where the queue is full.
+    /// Gives a root to the queue, or judges it if the queue is full.
     fn hand_out(&mut self, root: Job<'c>, pieces: &mut Vec<Piece<'c>>) -> Result<(), NoMemory>
         requires queue { IsPassOf self.old.pool.now.queue self.old.pass }
         requires parts { 0 < (view self.old.pass).parts }
@@ -198,7 +198,7 @@ impl<'p, 's, 'c, N: Naming, R: Wait, G: Gate> QueueHand<'p, 's, 'c, N, R, G> {
         }
     }
 
-    /// Gives each root to the queue, or judges it where the queue is full.
+    /// Gives each root to the queue, or judges it if the queue is full.
     pub(crate) fn hand_out_all(
         &mut self,
         roots: Vec<Job<'c>>,
@@ -221,7 +221,7 @@ impl<'p, 's, 'c, N: Naming, R: Wait, G: Gate> QueueHand<'p, 's, 'c, N, R, G> {
     }
 }
 
-/// After this many looks in a row that find the queue empty a worker ends.
+/// A worker ends after it has found the queue empty this many times in a row.
 const LOOKS: u64 = 1_000_000_000;
 
 /// What a worker hands back: its pass, and the pieces that it made.
@@ -231,7 +231,7 @@ pub(crate) struct Worked<'c> {
     pub(crate) pieces: Vec<Piece<'c>>,
 }
 
-/// What a worker promises when it is started on this queue: it saw to each job that it took.
+/// What a worker promises when it is started on this queue: it judges each job that it takes.
 #[derive(Drop)]
 pub(crate) struct WorkerPromise<'p, 'c, N: Naming> {
     pub(crate) queue: &'p Queue<'c, N>,

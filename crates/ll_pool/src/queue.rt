@@ -25,7 +25,7 @@ pub struct Ledger {
     pub taken: LinkedList<u32>,
 }
 
-/// In how many parts the right to know the whole comes: the caller begins with all, and hands one to each
+/// The number of parts of the right to know the whole: the caller begins with all, and hands one to each
 /// worker.
 pub const PARTS: usize = 1024;
 
@@ -40,7 +40,7 @@ impl Naming for Brand {
     ghost case = { no_case };
 }
 
-/// What was given is what was taken and what is queued.
+/// What was given is what was taken together with what is queued.
 pub struct Fair<N> {
     naming: PhantomData<N>,
 }
@@ -109,7 +109,7 @@ impl<'c> Lesson<Job<'c>, Ledger> for Takes {
     ghost fact = { KnowsAll };
 }
 
-/// How many jobs the queue holds. That the right to know the whole has as many parts (`PARTS`) is chance.
+/// The most jobs that the queue holds. It equals the number of parts (`PARTS`) by chance.
 pub(crate) const ROOM: usize = 1024;
 
 /// The queue of one case's jobs.
@@ -126,7 +126,7 @@ pub(crate) fn open<'c, N: Naming>(alloc: Global) -> Result<(Queue<'c, N>, QueueP
     Ok(Queue::ruled(alloc, ROOM)?)
 }
 
-/// Another pass, which gets one part of this one.
+/// Another pass, which gets one part of this pass.
 pub(crate) fn split<'c, N: Naming>(queue: &Queue<'c, N>, pass: &mut QueuePass<'c>) -> QueuePass<'c>
     requires queue { IsPassOf queue.now pass.old }
     requires parts { 1 < (view pass.old).parts }
@@ -139,7 +139,7 @@ pub(crate) fn split<'c, N: Naming>(queue: &Queue<'c, N>, pass: &mut QueuePass<'c
     queue.another::<Splits<N>>(pass)
 }
 
-/// Joins two passes: the one knows what both knew.
+/// Joins two passes: the result knows what both knew.
 pub(crate) fn join<'c, N: Naming>(
     queue: &Queue<'c, N>,
     pass: &mut QueuePass<'c>,

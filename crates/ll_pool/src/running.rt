@@ -20,12 +20,12 @@ use std::sync::Wait;
 use std::thread::Threads;
 
 /// Judges all processes of a case, each in one piece: by this many workers, each on a thread of
-/// its own, who share a queue of 1,024 jobs. The roots go to the queue, and so does each child where
-/// `cut` is true at its number; a missing place is false. Other children are judged with their
-/// parent, and so is one that finds the queue full. No more workers start than there can be jobs.
+/// its own, who share a queue of 1,024 jobs. The roots go to the queue, and so does each child whose
+/// number has a true entry in `cut`; a missing entry is false. Other children are judged with their
+/// parent, and so is a child that finds the queue full. No more workers start than there can be jobs.
 ///
-/// The gate is told of each job before it is judged. Where a thread can't be started the answer is
-/// `NoThread`, else `Memory` where memory ran out. All workers have ended when it answers.
+/// The gate is told of each job before it is judged. If a thread can't be started, the answer is
+/// `NoThread`, else `Memory` if memory runs out. All workers have ended when it answers.
 pub fn run<'c, R: Threads + Wait + Sync, G: Gate + Sync>(
     rt: &R,
     alloc: Global,
@@ -43,14 +43,14 @@ pub fn run<'c, R: Threads + Wait + Sync, G: Gate + Sync>(
     run_named::<Brand, R, G>(rt, alloc, case, workers, cut, gate)
 }
 
-/// The most jobs that the queue can ever be given: the roots, and the children where `cut` is true.
+/// The most jobs that the queue can ever be given: the roots, and the children for which `cut` is true.
 fn most_jobs(roots: usize, cut: &[bool]) -> usize
     ensures { result ≡ min (roots + count_by (λ here. here) cut.now) (2 ^ 64 - 1) }
 {
     roots.saturating_add(cut.iter().filter(|&&here| here).count())
 }
 
-/// The jobs behind those for which the queue has room.
+/// The jobs after those for which the queue has room.
 fn beyond_room<'c>(jobs: &mut Vec<Job<'c>>) -> Result<Vec<Job<'c>>, NoMemory>
     ensures items { IfOk result
         (λ rest. jobs.new.items ≡ take (min (length jobs.old.items) ROOM) jobs.old.items) }
@@ -98,7 +98,7 @@ fn run_named<'s, 'c, N: Naming + Send + Sync, R: Threads + Wait + Sync, G: Gate 
 }
 
 /// Judges all jobs that are left in the queue, with a hand that keeps nothing. The pass has all
-/// parts, so at the end what it gave is what it took.
+/// parts, so at the end it has given exactly what it took.
 fn drain<'s, 'c, N: Naming, R: Wait, G: Gate>(
     pool: &Pool<'s, 'c, N, R, G>,
     pass: &mut QueuePass<'c>,

@@ -18,7 +18,7 @@ use std::thread;
 use std::thread::{PromisedHandle, Scope, Threads};
 use std::vec::IntoIter;
 
-/// Why not all was judged.
+/// Why not all processes were judged.
 #[derive(Clone, Copy, Debug, PartialEq, Eq)]
 pub enum PoolFault {
     /// Out of memory.
@@ -75,7 +75,7 @@ fn start<'t, 'p, 's, 'c, N: Naming + Send + Sync, R: Wait + Sync, G: Gate + Sync
     Ok(())
 }
 
-/// What a worker did goes to what the caller did.
+/// Adds what a worker did to what the caller did.
 fn take_in<'s, 'c, N: Naming, R, G>(
     pool: &Pool<'s, 'c, N, R, G>,
     worked: Worked<'c>,
@@ -117,14 +117,14 @@ fn join_one<'p, 's, 'c, N: Naming, R: Threads, G>(
     take_in(pool, worked, done)
 }
 
-/// Waits for workers whose work is of no use any more.
+/// Waits for workers whose work is no longer needed.
 fn wait_for<'p, 'c, N: Naming, R: Threads>(rt: &R, left: IntoIter<Handle<'p, 'c, N>>) {
     for handle in left {
         let _ = handle.join(rt);
     }
 }
 
-/// Joins all workers: what they did goes to what the caller did.
+/// Joins all workers, and adds what they did to what the caller did.
 fn join_all<'p, 's, 'c, N: Naming, R: Threads, G>(
     pool: &Pool<'s, 'c, N, R, G>,
     handles: Vec<Handle<'p, 'c, N>>,
@@ -160,7 +160,7 @@ pub(crate) struct Roots<'c> {
     pub(crate) rest: Vec<Job<'c>>,
 }
 
-/// What the caller begins with.
+/// The data with which the caller begins.
 struct Caller<'p, 's, 'c, N: Naming, R, G> {
     me: QueueHand<'p, 's, 'c, N, R, G>,
     roots: Roots<'c>,
@@ -254,7 +254,7 @@ impl<'p, 's, 'c, N: Naming + Send + Sync, R: Threads + Wait + Sync, G: Gate + Sy
     }
 }
 
-/// Judges all that the roots lead to, by workers on threads of their own. All of them have ended
+/// Judges the roots and all their descendants, by workers on threads of their own. All of them have ended
 /// when it answers.
 pub(crate) fn judge_by_workers<
     'p,

@@ -16,8 +16,8 @@ use ll_tree::{Place, Tree};
 use std::alloc::Global;
 use std::marker::Model;
 
-/// A tree, a trace and a version of the interface, with what follows from the rulesets of the trace
-/// as a whole: for each record what the rulebook says, and the layers that processes enforce.
+/// A tree, a trace and a version of the interface, with what follows from the rulesets of the whole
+/// trace: for each record what the rulebook says, and the layers that processes enforce.
 #[derive(Drop)]
 pub struct Case {
     tree: Tree,
@@ -71,7 +71,7 @@ impl Case {
         )
     }
 
-    /// Makes the rulebook as [`Case::new`] does, where the places of the records' first paths are known.
+    /// Makes the rulebook as [`Case::new`] does, if the places of the records' first paths are known.
     pub fn of_located(alloc: Global, located: Located, abi: Abi) -> Result<Case, NoMemory>
         ensures tree { IfOk result (λ case. case.tree ≡ located.tree) }
         ensures records { IfOk result (λ case. case.records ≡ located.trace) }
@@ -94,7 +94,7 @@ impl Case {
         })
     }
 
-    /// Gives back the tree and the trace that were handed in, with the places that are known.
+    /// Gives back the tree and the trace that were passed in, with the places that are known.
     pub fn into_located(self) -> Located
         ensures tree { result.tree ≡ self.tree }
         ensures records { result.trace ≡ self.records }
@@ -106,14 +106,14 @@ impl Case {
         }
     }
 
-    /// The tree that was handed in.
+    /// The tree that was passed in.
     pub fn tree(&self) -> &Tree
         ensures { result.now ≡ self.now.tree }
     {
         &self.tree
     }
 
-    /// The trace that was handed in. Its processes are numbered in order, and the rulebook says of
+    /// The trace that was passed in. Its processes are numbered in order, and the rulebook says about
     /// each of its records what the whole trace says.
     pub fn trace(&self) -> &Trace
         ensures records { result.now ≡ self.now.records }
@@ -122,7 +122,7 @@ impl Case {
         &self.trace
     }
 
-    /// The version of the interface that was handed in.
+    /// The version of the interface that was passed in.
     pub fn abi(&self) -> Abi
         ensures { result ≡ self.now.abi }
     {
@@ -153,7 +153,7 @@ impl Case {
         &self.outcomes[index]
     }
 
-    /// The place of the first path of the record at a place, where it is known.
+    /// The place of the first path of the record at a place, if it is known.
     pub fn known_place(&self, index: usize) -> Option<Place>
         ensures { IfSome result (λ one. (r : OneRecord) → slice_get self.now.records index ≡ Some r
             → one ≡ first_place self.now.tree r.op) }
@@ -170,7 +170,7 @@ impl Case {
         self.trace().records_of(process)
     }
 
-    /// The child that the record at a place forks, if it does.
+    /// The child that the record at a place forks, if it forks one.
     pub(crate) fn child_at(&self, index: u32) -> Option<ProcessId>
         requires { index < length self.now.records }
         ensures child { option_map (λ child. child.0) result ≡ forked_at self.now.records index }

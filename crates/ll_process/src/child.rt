@@ -1,4 +1,4 @@
-//! Children: what they begin with, and to whom their jobs go.
+//! Children: the state with which they begin, and who gets their jobs.
 
 ghost use Rattle.std.specs.Prelude.{◌≡◌, IfOk, IfSome, OnOk, option_to_list};
 ghost use Rattle.std.specs.Option.{option_map};
@@ -13,7 +13,7 @@ use ll_rules::NoMemory;
 use ll_state::OwnState;
 use ll_trace::ProcessId;
 
-/// The job of the child that a process's own record forks, if it does. The child begins with what
+/// The job of the child that a process's own record forks, if it forks one. The child begins with what
 /// its parent has after that record.
 pub(crate) fn child_job<'c>(
     case: &'c Case,

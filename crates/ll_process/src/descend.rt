@@ -1,4 +1,4 @@
-//! Judging one process, and its descendants as far as nobody else keeps them.
+//! Judges one process, and those of its descendants that no hand keeps.
 
 ghost use Rattle.std.specs.Prelude.{◌≡◌, ◌<◌, ◌+◌, ◌++◌, ◌∷◌, [], Some, OnOk, IfOk, slice_get};
 ghost use Rattle.ll_trace.specs.Processes.{process_count, numbers, children};
@@ -17,8 +17,8 @@ use ll_semantics::Answer;
 use ll_trace::ProcessId;
 use std::alloc::Global;
 
-/// Judges one process: its records, with their answers, go behind those that are there. Each child
-/// that it forks is offered to the hand; those that come back are still to do.
+/// Judges one process, and adds its records with their answers at the end. Each child that it forks
+/// is offered to the hand; those that come back are still to do.
 fn judge_own<'c, H: Hand<'c>>(
     case: &'c Case,
     job: Job<'c>,
@@ -58,8 +58,8 @@ fn judge_own<'c, H: Hand<'c>>(
     Ok(())
 }
 
-/// Judges the job's process, and each descendant whose job the hand gives back. The piece's first
-/// process is the job's. The jobs that the hand kept stay kept, also where memory runs out.
+/// Judges the job's process, and each descendant whose job the hand gives back. The first process of the
+/// piece is the job's. The jobs that the hand kept stay kept, even if memory runs out.
 pub fn judge<'c, H: Hand<'c>>(
     alloc: Global,
     job: Job<'c>,

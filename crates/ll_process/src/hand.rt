@@ -1,13 +1,13 @@
-//! Who may take over the children of a process that is being judged.
+//! Hands: they may take over the children of a process that is being judged.
 
 use crate::job::Job;
 
-/// Whoever is offered the job of each child. A hand keeps a job, to be judged elsewhere, or gives that
-/// very job back.
+/// Whoever is offered the job of each child. A hand keeps a job, to be judged elsewhere, or gives the
+/// same job back.
 ///
-/// `kept` is the list of the processes whose jobs it kept. `suits` is what it asks of the case whose
-/// jobs it is offered. `stays` says of two moments of a hand that all else which it tells contracts is
-/// the same in both.
+/// `kept` is the list of the processes whose jobs it kept. `suits` is what it requires of the case whose
+/// jobs it is offered. `stays` says for two moments of a hand that everything else that contracts know of
+/// it is the same in both.
 pub trait Hand<'c> {
     ghost use Rattle.std.specs.Prelude.{◌≡◌, List, ℕ, [], ◌∷◌, ◌++◌, IfSome, IfNone};
     ghost use Rattle.ll_process.specs.Cases.{CaseValue};

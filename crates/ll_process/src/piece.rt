@@ -11,7 +11,7 @@ use ll_semantics::Answer;
 use ll_trace::ProcessId;
 
 /// Some processes of a case, with the answers to their records: one process after another, each
-/// record by its place in the trace, with the answer that the whole trace gives it.
+/// record by its place in the trace, with the answer that it has in the whole trace.
 #[derive(Drop)]
 pub struct Piece<'c> {
     pub(crate) case: &'c Case,

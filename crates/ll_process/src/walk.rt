@@ -15,7 +15,7 @@ use ll_semantics::Answer;
 use ll_state::OwnState;
 use ll_trace::{Op, ProcessId};
 
-/// What the record at a place is answered where it meets this.
+/// The answer to the record at a place if it meets this.
 fn judge_met(
     case: &Case,
     process: ProcessId,
@@ -41,7 +41,7 @@ fn judge_met(
     own.answer_call(case.tree(), case.layers(), op, outcome, known)
 }
 
-/// What one of a process's own records is answered. A start was done when its process began.
+/// The answer to one of a process's own records. A start took effect when its process began.
 pub(crate) fn answer_own(
     case: &Case,
     process: ProcessId,

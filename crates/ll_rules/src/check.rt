@@ -1,4 +1,4 @@
-//! What a domain refuses.
+//! The checks: which layers of a domain refuse.
 
 ghost use Rattle.std.specs.Prelude.{◌≡◌, ◌+◌, ◌*◌, ◌<◌, ◌≤◌, length, All};
 ghost use Rattle.ll_tree.specs.Trees.{IsNode, path_at};
@@ -23,8 +23,8 @@ pub(crate) fn layer_of(layers: &[Layer], id: LayerId) -> &Layer
     &layers[id.0 as usize]
 }
 
-/// The layers of a domain that refuse something of what is wanted on an object: each that handles a
-/// right of it and grants it neither on the object nor on a directory above it (landlock(7),
+/// The layers of a domain that refuse a wanted right on an object: each layer that handles a wanted
+/// right and grants it neither on the object nor on a directory above it (landlock(7),
 /// "Landlock rules").
 pub fn check_path(
     tree: &Tree,
@@ -43,7 +43,7 @@ pub fn check_path(
 }
 
 /// What `check_path` answers, and the number of look-ups that it took: questions to one layer for its rule
-/// on one node. There are at most as many as there are layers, for each node from the object to the root.
+/// on one node. For each node from the object to the root, there are at most as many as there are layers.
 pub fn check_path_counted(
     tree: &Tree,
     layers: &[Layer],
@@ -69,8 +69,8 @@ pub fn check_path_counted(
     (filled(u32x16::from_array(lacking)), look_ups)
 }
 
-/// The layers of a domain that refuse something of what is wanted on a TCP port: each that handles a
-/// right of it and has no rule on just this port that grants it (the kernel's userspace document on
+/// The layers of a domain that refuse a wanted right on a TCP port: each layer that handles a wanted
+/// right and has no rule on exactly this port that grants it (the kernel's userspace document on
 /// Landlock, "Network flags").
 pub fn check_port(layers: &[Layer], domain: &Domain, port: u16, wanted: Net) -> LayerSet
     requires { IsDomainOf layers.now domain.now }
@@ -85,7 +85,7 @@ pub fn check_port(layers: &[Layer], domain: &Domain, port: u16, wanted: Net) -> 
     refusing
 }
 
-/// The layers of a domain that refuse a change of what is mounted: each that handles a right for files
+/// The layers of a domain that refuse a change of the mounts: each layer that handles a right for files
 /// (the kernel's userspace document on Landlock, "Current limitations").
 pub fn check_mount(layers: &[Layer], domain: &Domain) -> LayerSet
     requires { IsDomainOf layers.now domain.now }

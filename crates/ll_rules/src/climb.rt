@@ -20,14 +20,14 @@ use crate::stack::Stack;
 use ll_rights::Fs;
 use ll_tree::NodeId;
 
-/// What one layer handles, as the bits of a lane.
+/// The rights that one layer handles, as the bits of a lane.
 fn handled_bits(layer: &Layer) -> u32
     ensures { (right : FsRight) → has (set_of result) right ≡ handles layer.now right }
 {
     bits_of(layer.handled())
 }
 
-/// What one layer handles of some rights, as the bits of a lane.
+/// Those of some rights that one layer handles, as the bits of a lane.
 pub(crate) fn asked_of(layer: &Layer, wanted: Fs) -> u32
     ensures { (right : FsRight)
         → has (set_of result) right ≡ (handles layer.now right && has wanted right) }
@@ -35,7 +35,7 @@ pub(crate) fn asked_of(layer: &Layer, wanted: Fs) -> u32
     handled_bits(layer) & bits_of(wanted)
 }
 
-/// What is left in a lane once its layer was asked for its rule on a node. It isn't asked for nothing.
+/// What is left in a lane after its layer was asked for its rule on a node. A layer with an empty lane isn't asked.
 pub(crate) fn left_of(layer: &Layer, node: NodeId, lane: u32, look_ups: &mut u64) -> u32
     requires room { look_ups.old + 1 < 2 ^ 64 }
     ensures left { (right : FsRight) → has (set_of result) right
@@ -49,7 +49,7 @@ pub(crate) fn left_of(layer: &Layer, node: NodeId, lane: u32, look_ups: &mut u64
 }
 
 impl<'a> Stack<'a> {
-    /// What each layer handles, in its lane.
+    /// The rights that each layer handles, in its lane.
     pub(crate) fn handled_in(&self) -> [u32; MOST_LAYERS]
         ensures { (place : ℕ) (right : FsRight)
             → has (lane result place) right ≡ handles (stacked self.now place) right }
@@ -61,7 +61,7 @@ impl<'a> Stack<'a> {
         row
     }
 
-    /// What each layer handles of some rights, in its lane.
+    /// Those of some rights that each layer handles, in its lane.
     pub(crate) fn asked_in(&self, wanted: Fs) -> [u32; MOST_LAYERS]
         ensures { (place : ℕ) (right : FsRight) → has (lane result place) right
             ≡ (handles (stacked self.now place) right && has wanted right) }
@@ -73,8 +73,8 @@ impl<'a> Stack<'a> {
         row
     }
 
-    /// Asks each layer for its rule on a node, where its lane isn't empty, and takes from the lane what the rule
-    /// grants. Answers whether anything is left in the lanes of these layers, and how many look-ups that took.
+    /// Asks each layer whose lane isn't empty for its rule on a node, and takes from the lane what the rule
+    /// grants. Answers whether anything is left in the lanes of these layers, and the number of look-ups.
     pub(crate) fn ask_on(&self, node: NodeId, lanes: &mut [u32; MOST_LAYERS]) -> (bool, u64)
         ensures left { (place : ℕ) (right : FsRight)
             → has (lane lanes.new place) right
@@ -99,7 +99,7 @@ impl<'a> Stack<'a> {
         (all != 0, look_ups)
     }
 
-    /// On which of two nodes some layer may have a rule, by the filters of all of them. Each layer is taken once for
+    /// Which of two nodes some layer may have a rule on, by the filters of all layers. Each layer is looked at once for
     /// both nodes.
     fn marked_of(&self, lower: NodeId, upper: NodeId) -> (bool, bool)
         ensures lower { result.0 ≡ false → (place : ℕ) (right : FsRight)
@@ -119,9 +119,9 @@ impl<'a> Stack<'a> {
         (lower_is, upper_is)
     }
 
-    /// The first node from one up on which some layer may have a rule, if there is one. It goes up two nodes at a
-    /// time, and the root, where it is left alone, may have one. On each node before, where the filters say that
-    /// there is none, the layers whose lanes hold anything are counted.
+    /// The first node, from a given one up, on which some layer may have a rule, if there is one. It goes up two nodes
+    /// at a time; if only the root is left, the root may have one. On each node before, where the filters say that
+    /// there is none, the layers whose lanes hold a right are counted.
     fn next_marked(
         &self,
         from: Option<NodeId>,
@@ -159,7 +159,7 @@ impl<'a> Stack<'a> {
         None
     }
 
-    /// Whether the lane of some layer holds anything.
+    /// Whether the lane of some layer holds a right.
     fn is_any_filled(&self, lanes: &[u32; MOST_LAYERS]) -> bool
         ensures exact { result
             ≡ list_any (λ bits. not (bits == 0)) (take (length self.now.ids.now) lanes.now) }
@@ -174,7 +174,7 @@ impl<'a> Stack<'a> {
         false
     }
 
-    /// Of how many layers the lanes hold anything.
+    /// The number of layers whose lanes hold a right.
     fn count_filled(&self, lanes: &[u32; MOST_LAYERS]) -> u64
         ensures exact { result
             ≡ count_by (λ bits. not (bits == 0)) (take (length self.now.ids.now) lanes.now) }
@@ -187,8 +187,8 @@ impl<'a> Stack<'a> {
         filled
     }
 
-    /// Takes from each lane what its layer grants by its rules from a node up to the root, and answers how many
-    /// look-ups that took. A layer whose lane is empty isn't asked any more.
+    /// Takes from each lane what its layer grants by its rules from a node up to the root, and answers the number
+    /// of look-ups. A layer whose lane is empty isn't asked any more.
     pub(crate) fn climb(&self, node: NodeId, lanes: &mut [u32; MOST_LAYERS]) -> u64
         requires { IsNode self.now.tree.now node }
         ensures left { (place : ℕ) (right : FsRight)

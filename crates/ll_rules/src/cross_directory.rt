@@ -1,4 +1,4 @@
-//! What the layers of a domain lack on the two directories of a move, and why they keep an object from passing.
+//! What the layers of a domain lack on the two directories of a move, and why they refuse the move.
 
 ghost use Rattle.std.specs.Prelude.{◌≡◌, ℕ, ◌+◌, ◌*◌, ◌^◌, ◌≤◌, ◌&&◌, ◌||◌, not, length};
 ghost use Rattle.std.proofs.Props.{props};
@@ -29,7 +29,7 @@ pub(crate) struct Lacking {
 }
 
 impl Lacking {
-    /// What each layer denies of what a move asks of the two directories.
+    /// The rights that a move asks on the two directories and that each layer denies.
     pub(crate) fn denied(&self, from: Asked, to: Asked) -> u32x16
         ensures { (place : ℕ) (right : FsRight) → has (lane result place) right
             ≡ ((has (lane self.now.source place) right && has from.rights right)
@@ -41,7 +41,7 @@ impl Lacking {
     }
 }
 
-/// Of some lanes the rights that count for an object of a kind.
+/// The rights of some lanes that count for an object of a kind.
 fn counting_for(kind: Kind, lanes: u32x16) -> u32x16
     ensures { (place : ℕ) (right : FsRight) → has (lane result place) right
         ≡ (has (lane lanes place) right && (is_dir kind || is_file_right right)) }
@@ -54,7 +54,7 @@ fn counting_for(kind: Kind, lanes: u32x16) -> u32x16
 }
 
 impl<'a> Stack<'a> {
-    /// What the layers handle and don't grant on a directory, in lanes, and how many look-ups it took to tell.
+    /// The rights that the layers handle and don't grant on a directory, in lanes, and the number of look-ups.
     fn lacking_on(&self, directory: NodeId) -> ([u32; MOST_LAYERS], u64)
         requires { IsNode self.now.tree.now directory }
         ensures lacking { AreLacking self.now.tree.now (layers_of self.now)
@@ -68,8 +68,8 @@ impl<'a> Stack<'a> {
         (lacking, look_ups)
     }
 
-    /// What the layers lack on the directory that a move leaves and on the one that it goes to, and how many look-ups
-    /// it took to tell.
+    /// What the layers lack on the directory that a move leaves and on the one that it goes to, and the number of
+    /// look-ups.
     pub(crate) fn lacking_of(&self, source: NodeId, destination: NodeId) -> (Lacking, u64)
         requires source { IsNode self.now.tree.now source }
         requires destination { IsNode self.now.tree.now destination }
@@ -95,9 +95,9 @@ impl<'a> Stack<'a> {
         (lacking, first + second)
     }
 
-    /// What an object gains under each layer by going from its directory to another, where the layers lack `here` on
-    /// its directory and `there` on the other, and how many look-ups it took to tell. A layer is asked for its rule on
-    /// the object itself where there is something to gain.
+    /// What an object gains under each layer by going from its directory to another one, if the layers lack `here` on
+    /// its directory and `there` on the other, and the number of look-ups. A layer is asked for its rule on the object
+    /// itself if there is a right to gain.
     fn gained(&self, object: NodeId, here: u32x16, there: u32x16) -> (u32x16, u64)
         requires { IsNode self.now.tree.now object }
         ensures gained { (place : ℕ) (right : FsRight) → has (lane result.0 place) right
@@ -152,8 +152,8 @@ impl<'a> CrossDirectoryMove<'a> {
         }
     }
 
-    /// The layers that keep the move from leaving the directory: those under which the right to move files between
-    /// directories is missing, or an object would gain a right. And how many look-ups it took to tell.
+    /// The layers that refuse to let the object leave its directory: those that don't grant the right to move files
+    /// between directories, or under which an object would gain a right. And the number of look-ups.
     pub(crate) fn held_back(&self) -> (LayerSet, u64)
         ensures held { result.0
             ≡ numbers_where (holds_back self.now.stack.tree.now self.now.attempt)

@@ -7,10 +7,10 @@ use crate::Full;
 use arrayvec::ArrayVec;
 use std::marker::Model;
 
-/// The most layers that a domain stacks (landlock_restrict_self(2), "ERRORS").
+/// The most layers of a domain (landlock_restrict_self(2), "ERRORS").
 pub const MOST_LAYERS: usize = 16;
 
-/// A layer by its place in a slice of layers.
+/// A layer, by its index in a slice of layers.
 #[derive(Clone, Copy, Debug, Default, PartialEq, Eq)]
 pub struct LayerId(pub u32);
 

@@ -27,13 +27,13 @@ pub enum Errno {
 pub enum RuleFault {
     /// The system call's error.
     Errno(Errno),
-    /// The path names no object of the tree, so that there is nothing to answer.
+    /// The path names no object of the tree, so the call is moot.
     Moot,
     /// Out of memory for the rule.
     Memory,
 }
 
-/// Out of memory for what was asked.
+/// Out of memory.
 #[derive(Clone, Copy, Debug, PartialEq, Eq)]
 pub struct NoMemory;
 

@@ -1,4 +1,4 @@
-//! A small filter in front of the rules on nodes.
+//! A small filter before the rules on nodes.
 
 ghost use Rattle.std.specs.Prelude.{◌≡◌, ℕ, ◌%◌, ◌==◌, true, false, IfOk, OnOk};
 ghost use Rattle.std.specs.Int.{bit_at};
@@ -7,8 +7,8 @@ ghost use Rattle.ll_rules.specs.Filters.{is_marked, has_mark};
 use std::alloc::{AllocError, Global};
 use std::sync::Arc;
 
-/// Marks of numbers, 4,096 bits of them: a number that isn't marked has no rule. Numbers whose difference is
-/// a multiple of 4,096 share a mark.
+/// 4,096 bits that mark numbers: a number that isn't marked has no rule. Numbers whose difference is a multiple
+/// of 4,096 share a mark.
 #[derive(Clone, Copy)]
 pub(crate) struct Filter {
     words: [u64; 64],
@@ -32,7 +32,7 @@ impl Filter {
         word >> (number % 64) & 1 == 1
     }
 
-    /// The marks of 64 numbers together, a number's own at its rest by 64.
+    /// The 64-bit word that holds the mark of a number, at bit `number % 64`.
     #[tactic(auto, unfolding(crate::specs::Filters::is_marked))]
     fn beside(&self, number: u32) -> u64
         ensures { (bit_at result (number % 64) == 1) ≡ is_marked self.now.words number }
@@ -51,8 +51,8 @@ impl Filter {
     }
 }
 
-/// The marks of a ruleset. There is no filter before the first mark, and rulesets that are frozen share theirs until
-/// one of them gets a mark more.
+/// The marks of a ruleset. There is no filter before the first mark. A ruleset shares its filter with the layers that
+/// were frozen from it, until it gets a further mark.
 #[derive(Drop)]
 pub(crate) struct Marks {
     alloc: Global,
@@ -80,7 +80,7 @@ impl Marks {
         }
     }
 
-    /// The marks of 64 numbers together, a number's own at its rest by 64.
+    /// The 64-bit word that holds the mark of a number, at bit `number % 64`.
     pub(crate) fn beside(&self, number: u32) -> u64
         ensures { (bit_at result (number % 64) == 1) ≡ has_mark self.now number }
     {
@@ -90,7 +90,7 @@ impl Marks {
         }
     }
 
-    /// Marks a number. A filter that others share is copied first; without memory no mark is lost.
+    /// Marks a number. A filter that others share is copied first; if memory runs out, no mark is lost.
     pub(crate) fn mark(&mut self, number: u32) -> Result<(), AllocError>
         ensures marked { OnOk result (has_mark self.new number ≡ true) }
         ensures kept { (other : ℕ) → has_mark self.old other ≡ true
@@ -107,7 +107,7 @@ impl Marks {
         Ok(())
     }
 
-    /// The same marks once more; both share the filter.
+    /// The same marks again; both share the filter.
     pub(crate) fn again(&self) -> Result<Marks, AllocError>
         ensures { IfOk result (λ again. (number : ℕ)
             → has_mark again number ≡ has_mark self.now number) }

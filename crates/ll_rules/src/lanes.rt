@@ -19,7 +19,7 @@ fn named_bits() -> u32
     Fs::OTHER.bits() - 1
 }
 
-/// A set of rights as a lane, which keeps those that have a name.
+/// A set of rights as a lane, which keeps the rights that have a name.
 pub(crate) fn bits_of(rights: Fs) -> u32
     ensures { (right : FsRight) → bit_of right < bit_of other
         → has (set_of result) right ≡ has rights right }
@@ -49,7 +49,7 @@ pub(crate) fn without(lanes: u32x16, granted: u32x16) -> u32x16
     lanes & !granted
 }
 
-/// What is in either of two lanes.
+/// The rights that are in either of two lanes.
 pub(crate) fn either(first: u32x16, second: u32x16) -> u32x16
     ensures { (place : ℕ) (right : FsRight) → has (lane result place) right
         ≡ (has (lane first place) right || has (lane second place) right) }
@@ -57,7 +57,7 @@ pub(crate) fn either(first: u32x16, second: u32x16) -> u32x16
     first | second
 }
 
-/// What each lane has of one set.
+/// The rights of each lane that are in one set.
 pub(crate) fn within(lanes: u32x16, rights: Fs) -> u32x16
     ensures { (place : ℕ) (right : FsRight)
         → has (lane result place) right ≡ (has (lane lanes place) right && has rights right) }
@@ -65,7 +65,7 @@ pub(crate) fn within(lanes: u32x16, rights: Fs) -> u32x16
     lanes & u32x16::splat(bits_of(rights))
 }
 
-/// The places of the lanes that hold a right, as bits.
+/// The indices of the lanes that hold a right, as bits.
 fn places(lanes: u32x16) -> u16
     ensures { (place : ℕ) → place < MOST_LAYERS
         → (bit_at result place == 1) ≡ not (is_empty (lane lanes place)) }

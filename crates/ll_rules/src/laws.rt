@@ -1,4 +1,4 @@
-//! What the definitions say of small rulesets and layers over a small tree.
+//! What the definitions say about small rulesets and layers over a small tree.
 #![tactic(auto, unfolding(crate::specs::WorkedRules::checking))]
 
 ghost use Rattle.std.specs.Prelude.{◌≡◌, [], ◌∷◌, Some, None, replicate};
@@ -16,7 +16,7 @@ ghost use Rattle.ll_rules.specs.WorkedRules.{a, b, a_f, b_g, dev_tty, number, di
 use crate::{Errno, RuleFault, Verdict};
 use ll_tree::Place;
 
-/// What versions of the interface answer where a ruleset is created.
+/// The answers of versions of the interface to the creation of a ruleset.
 pub fn worked_creations()
     ensures refer_too_early { create_fault V1 (these (refer ∷ [])) (these_on_ports [])
         ≡ Some Errno.Inval }
@@ -102,7 +102,7 @@ pub fn worked_ports_and_mounts()
         (port_layer (bind_tcp ∷ connect_tcp ∷ []) [] ∷ layer (read_dir ∷ []) [] ∷ []) ≡ 2 ∷ [] }
 {}
 
-/// What layers without the right to move between directories answer.
+/// The answers of layers without the right to move between directories.
 pub fn worked_moves_without_refer()
     ensures renamed_within { answer (layer (read_file ∷ []) []) (renamed file_a_f dir_a)
         ≡ Verdict.Passed }
@@ -131,7 +131,7 @@ pub fn worked_moves_without_refer()
         (linked file_a_f dir_a) ≡ Verdict.Passed }
 {}
 
-/// What a layer answers that grants moving between two directories, where execution is granted in one of them.
+/// The answers of a layer that grants moving between two directories, and execution in one of them.
 pub fn worked_moves()
     ensures gains { answer (crossing []) (renamed file_a_f dir_b)
         ≡ Verdict.Refused Errno.XDev (1 ∷ []) }

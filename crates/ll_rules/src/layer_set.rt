@@ -58,7 +58,7 @@ impl LayerSet {
         places >> (number - 1) & 1 == 1
     }
 
-    /// The layers of either set.
+    /// The layers that are in either set.
     pub fn union(self, other: LayerSet) -> LayerSet
         ensures { result ≡ united_numbers self other }
     {
@@ -67,14 +67,14 @@ impl LayerSet {
         }
     }
 
-    /// The layers whose places are ones: bit 0 is the place of the oldest.
+    /// The layers whose bits are ones: bit 0 stands for the oldest.
     pub(crate) fn at_places(places: u16) -> LayerSet
         ensures { result ≡ numbers_passing (is_at_place places) }
     {
         LayerSet { places }
     }
 
-    /// The set with the layer of a number above all others, where that layer `refuses`.
+    /// The set with the layer of a number above all others added, if that layer `refuses`.
     pub(crate) fn noted(self, number: u32, refuses: bool) -> LayerSet
         requires within { number ≤ MOST_LAYERS }
         requires positive { 0 < number }

@@ -1,5 +1,5 @@
 //! Landlock's rulesets, the layers that they become, the domains that stack layers, and the checks of
-//! what a domain refuses.
+//! rights by a domain.
 #![tactic(auto)]
 
 mod check;

@@ -1,4 +1,4 @@
-//! Moves of objects, and what a domain answers to them.
+//! Moves of objects, and the answers of a domain to them.
 
 ghost use Rattle.std.specs.Prelude.{◌≡◌, ◌+◌, ◌*◌, ◌≤◌, length, All};
 ghost use Rattle.std.specs.List.{list_any};
@@ -18,16 +18,16 @@ use crate::{Domain, Errno, Layer, LayerSet};
 use ll_rights::{Fs, Kind};
 use ll_tree::{NodeId, Tree};
 
-/// What a move goes to.
+/// The target of a move.
 #[derive(Clone, Copy, Debug, PartialEq, Eq)]
 pub enum Target {
     /// A new name in this directory.
     New(NodeId),
-    /// This object, which is there already.
+    /// The name of this object, which exists already.
     Over(NodeId),
 }
 
-/// How an object is moved.
+/// The way in which an object is moved.
 #[derive(Clone, Copy, Debug, PartialEq, Eq)]
 pub enum How {
     /// rename(2): the object leaves its directory.
@@ -45,11 +45,11 @@ pub struct Move {
     pub moved: NodeId,
     /// Where it goes.
     pub target: Target,
-    /// In which way.
+    /// How it is moved.
     pub how: How,
 }
 
-/// What a domain answers to a move.
+/// The answer of a domain to a move.
 #[derive(Clone, Copy, Debug, PartialEq, Eq)]
 pub enum Verdict {
     /// No layer refuses it.
@@ -81,7 +81,7 @@ fn directory_of(tree: &Tree, object: NodeId) -> NodeId
     }
 }
 
-/// The kind of the object that is there already, if there is one.
+/// The kind of the object at the target, if there is one.
 fn kind_of_target(tree: &Tree, target: Target) -> Option<Kind>
     requires { IsTargetIn tree.now target }
     ensures { result ≡ kind_there tree.now target }
@@ -92,7 +92,7 @@ fn kind_of_target(tree: &Tree, target: Target) -> Option<Kind>
     }
 }
 
-/// What a move asks of the directory that the object is in.
+/// The rights that a move asks on the directory that the object is in.
 #[tactic(auto, using(crate::proofs::AskedRights::none_asked, crate::proofs::AskedRights::one_asked))]
 fn asked_of_source(how: How, moved: Kind, there: Option<Kind>) -> Fs
     ensures { (right : FsRight)
@@ -108,7 +108,7 @@ fn asked_of_source(how: How, moved: Kind, there: Option<Kind>) -> Fs
     }
 }
 
-/// What a move asks of the directory that it goes to.
+/// The rights that a move asks on the directory that it goes to.
 #[tactic(auto, using(crate::proofs::AskedRights::one_asked))]
 fn asked_of_destination(moved: Kind, there: Option<Kind>) -> Fs
     ensures { (right : FsRight)
@@ -120,7 +120,7 @@ fn asked_of_destination(moved: Kind, there: Option<Kind>) -> Fs
     }
 }
 
-/// What a move asks of the directory that the object is in, and of which.
+/// The directory that the object is in, and the rights that a move asks on it.
 pub fn leaving(tree: &Tree, attempt: &Move) -> Asked
     requires moved { IsNode tree.now attempt.now.moved }
     requires target { IsTargetIn tree.now attempt.now.target }
@@ -141,7 +141,7 @@ pub fn leaving(tree: &Tree, attempt: &Move) -> Asked
     }
 }
 
-/// What a move asks of the directory that it goes to, and of which.
+/// The directory that a move goes to, and the rights that the move asks on it.
 pub fn entering(tree: &Tree, attempt: &Move) -> Asked
     requires moved { IsNode tree.now attempt.now.moved }
     requires target { IsTargetIn tree.now attempt.now.target }
@@ -165,7 +165,7 @@ pub fn entering(tree: &Tree, attempt: &Move) -> Asked
     }
 }
 
-/// What is answered to a move that some layers deny and some hold back.
+/// The answer to a move that some layers deny and some hold back.
 fn verdict_of(denied: LayerSet, held_back: LayerSet) -> Verdict
     ensures { result ≡ refused_or Acces denied (refused_or XDev held_back Verdict.Passed) }
 {
@@ -178,10 +178,10 @@ fn verdict_of(denied: LayerSet, held_back: LayerSet) -> Verdict
     Verdict::Passed
 }
 
-/// What a domain answers to a rename or a link (landlock(7), "Filesystem actions"). `EACCES` with the layers
-/// that deny what it asks of the two directories, if there are any. Else it passes within one directory.
-/// Between two, `EXDEV` with the layers that don't grant moving files from or to one of them, or under which
-/// a moved object would gain a right.
+/// The answer of a domain to a rename or a link (landlock(7), "Filesystem actions"). It is `EACCES` with the
+/// layers that deny a right that it asks on the two directories, if there are any. Otherwise it passes within
+/// one directory. Between two, it is `EXDEV` with the layers that don't grant moving files from or to one of
+/// them, or under which a moved object would gain a right.
 pub fn check_move(tree: &Tree, layers: &[Layer], domain: &Domain, attempt: &Move) -> Verdict
     requires domain { IsDomainOf layers.now domain.now }
     requires rules { All (AreInTree tree.now) layers.now }
@@ -194,8 +194,8 @@ pub fn check_move(tree: &Tree, layers: &[Layer], domain: &Domain, attempt: &Move
 }
 
 /// What `check_move` answers, and the number of look-ups that it took: questions to one layer for its rule on
-/// one node. There are at most as many as there are layers, for each node from either directory to the root,
-/// and for the two objects.
+/// one node. For each node from either directory to the root, and for each of the two objects, there are at
+/// most as many as there are layers.
 pub fn check_move_counted(
     tree: &Tree,
     layers: &[Layer],

@@ -52,7 +52,7 @@ impl Model for Layer {
         × AreMarked a.marks a.on_nodes };
 }
 
-/// The rights that a process is about to give up, and the rules by which it keeps some of them
+/// The rights that a process is going to give up, and the rules by which it keeps some of them
 /// (landlock_create_ruleset(2)).
 #[derive(Drop)]
 pub struct Ruleset {
@@ -80,8 +80,8 @@ impl Layer {
     ghost use Rattle.ll_rules.specs.Checks.{lacks, lacks_on_port};
     ghost use Rattle.ll_rules.specs.Moves.{gains};
 
-    /// The rights that the rule on a node of this number grants, by the map of all rules. It is rarely asked,
-    /// and the loops that come here are quicker where it is apart from them.
+    /// The rights that the rule on a node of this number grants, by the map of all rules. It is rarely called,
+    /// and the loops that call it are faster if it is a function of its own.
     #[cold]
     #[inline(never)]
     fn rule_in_map(&self, number: u32) -> Fs
@@ -106,15 +106,15 @@ impl Layer {
         self.rule_in_map(number)
     }
 
-    /// Whether there may be a rule on a node: where the filter says no, there is none.
+    /// Whether there may be a rule on a node: if the filter says no, there is none.
     pub(crate) fn may_have_rule(&self, node: NodeId) -> bool
         ensures { result ≡ false → (right : FsRight) → granted_on_node self.now node right ≡ false }
     {
         self.marks.has(node.index())
     }
 
-    /// The filter's marks of 64 nodes together: where the bit at the rest of a node's number by 64 is no one, there
-    /// is no rule on the node.
+    /// The 64-bit word of the filter that holds the mark of a node: if bit `number % 64` is not one, there is no rule
+    /// on the node.
     pub(crate) fn marks_beside(&self, node: NodeId) -> u64
         ensures { (bit_at result (node.0 % 64) == 1) ≡ false → (right : FsRight)
             → granted_on_node self.now node right ≡ false }
@@ -152,7 +152,7 @@ impl Layer {
         self.on_ports.get(port as u64).copied().unwrap_or(Net::NONE)
     }
 
-    /// Whether the layer refuses something of what is wanted on a port.
+    /// Whether the layer refuses a wanted right on a port.
     pub(crate) fn refuses_on_port(&self, port: u16, wanted: Net) -> bool
         ensures { result ≡ lacks_on_port self.now port wanted }
     {
@@ -167,7 +167,7 @@ impl Layer {
         !self.files.is_empty()
     }
 
-    /// Whether the layer handles no right at all, as that of `Ruleset::empty`.
+    /// Whether the layer handles no right at all, like that of `Ruleset::empty`.
     pub fn handles_nothing(&self) -> bool
         ensures { result ≡ handles_nothing self.now }
     {
@@ -188,7 +188,7 @@ impl Layer {
         network.is_within(self.network)
     }
 
-    /// Grants rights on a node beside those that its rule grants already.
+    /// Grants rights on a node in addition to those that its rule grants already.
     fn grant_on(&mut self, node: NodeId, files: Fs) -> Result<(), AllocError>
         ensures ok { OnOk result (GrantsOn self.old self.new node files) }
         ensures err { OnErr result (self.new ≡ self.old) }
@@ -199,7 +199,7 @@ impl Layer {
         Ok(())
     }
 
-    /// Grants rights on a port beside those that its rule grants already.
+    /// Grants rights on a port in addition to those that its rule grants already.
     fn grant_on_port(&mut self, port: u16, network: Net) -> Result<(), AllocError>
         ensures ok { OnOk result (GrantsOnPort self.old self.new port network) }
         ensures err { OnErr result (self.new ≡ self.old) }
@@ -209,7 +209,7 @@ impl Layer {
         Ok(())
     }
 
-    /// The same layer once more; both share their rules.
+    /// The same layer again; both share their rules.
     fn copied(&self) -> Result<Layer, NoMemory>
         ensures { IfOk result (λ layer. layer ≡ self.now) }
     {
@@ -230,7 +230,7 @@ pub(crate) fn is_directory(kind: Kind) -> bool
     matches!(kind, Kind::Dir)
 }
 
-/// Whether each of some rights applies to what isn't a directory.
+/// Whether each of some rights applies to objects that aren't directories.
 fn are_for_files(files: Fs) -> bool
     ensures { result ≡ are_file_rights files }
 {
@@ -365,7 +365,7 @@ impl Ruleset {
     }
 
     /// The layer that a process would add now; rules that are added later don't change it. It is in the
-    /// ruleset's own kind of memory.
+    /// same kind of memory as the ruleset.
     pub fn freeze(&self, _alloc: Global) -> Result<Layer, NoMemory>
         ensures { IfOk result (λ layer. layer ≡ self.now) }
     {

@@ -13,7 +13,7 @@ ghost use Rattle.ll_rules.specs.InTree.{in_tree, all_in_tree};
 ghost use Rattle.ll_rules.specs.Checks.{refusing, refusing_port, refusing_mount};
 ghost use Rattle.ll_rules.specs.Moves.{move_verdict};
 
-/// To be the same is an equivalence, and rules that are the same stay so with one rule more.
+/// Being the same is an equivalence, and rules that are the same stay so with one more rule.
 #[tactic(auto, using(crate::proofs::SameLayers::rules_alike), unfolding(crate::specs::KeptLayers::granted_on, crate::specs::Layers::granted_on_port))]
 pub fn same_rules()
     ensures reflexive { (a : RulesOn Path) → SameRules a a }
@@ -28,7 +28,7 @@ pub fn same_rules()
         → SameRules (in_tree tree new) (with_port_rule (in_tree tree old) port set) }
 {}
 
-/// Domains whose layers are the same, one by one, refuse the same; and no path counts for ports and mounts.
+/// Domains whose layers are the same, one by one, refuse the same; paths do not count for ports and mounts.
 #[tactic(auto, using(crate::proofs::SameLayers::answers_alike))]
 pub fn same_answers()
     ensures path { (a b : List (RulesOn Path)) → AllZip SameRules a b

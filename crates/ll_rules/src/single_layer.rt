@@ -17,7 +17,7 @@ use crate::{Layer, LayerSet};
 use ll_rights::Fs;
 use ll_tree::{NodeId, Tree};
 
-/// What a climb for one layer goes by.
+/// The tree and the layer of a climb for one layer.
 #[derive(Clone, Copy)]
 pub(crate) struct SingleLayer<'a> {
     pub(crate) tree: &'a Tree,
@@ -50,8 +50,8 @@ impl<'a> SingleLayer<'a> {
         None
     }
 
-    /// What is left in the layer's lane once it was asked for its rules from a node up to the root, and how many
-    /// look-ups that took. It isn't asked for nothing.
+    /// What is left in the layer's lane after the layer was asked for its rules from a node up to the root, and the
+    /// number of look-ups. A layer with an empty lane isn't asked.
     fn climb(&self, node: NodeId, lane: u32) -> (u32, u64)
         requires { IsNode self.now.tree.now node }
         ensures left { (right : FsRight)

@@ -9,7 +9,7 @@ ghost use Rattle.ll_rules.specs.KeptLayers.{IsDomainOf};
 use crate::{Layer, LayerId};
 use ll_tree::Tree;
 
-/// What a climb goes by: the tree, all layers, and which of them are stacked, the oldest first.
+/// The data of a climb: the tree, all layers, and which of them are stacked, the oldest first.
 #[derive(Clone, Copy)]
 pub(crate) struct Stack<'a> {
     pub(crate) tree: &'a Tree,

@@ -1,4 +1,4 @@
-//! What holds of traces by their definitions.
+//! Laws on traces, which follow from the definitions.
 
 ghost use Rattle.std.specs.Prelude.{◌≡◌, ◌<◌, ◌≤◌, ℕ, All, List, [], map, Some, Ok};
 ghost use Rattle.std.specs.List.{list_any, slice_get};
@@ -25,8 +25,8 @@ ghost use Rattle.ll_trace.specs.Processes.{process_count, parent_of, forked_by, 
 ghost use Rattle.ll_trace.specs.BestEffort.{records_at_best_effort, IsSupported};
 ghost use Rattle.ll_trace.specs.SingleUse.{IsStrictTrace};
 
-/// A file reads as one trace and has no fault, or has one first fault, with its line and its cause, and reads
-/// as none.
+/// A file either reads as one trace and has no fault, or has one first fault, with its line and its cause, and
+/// reads as no trace.
 #[tactic(auto, using(crate::proofs::LawLemmas::in_one_way))]
 pub fn files_read_as_one_trace()
     ensures { ReadsInOneWay trace_file IsTrace }
@@ -40,7 +40,7 @@ pub fn traces_of_single_pids()
 {}
 
 /// The records of entries that have their places are numbered. Each number below the count is that of
-/// a process which just one record starts; this record tells its parent, whose number is below its own.
+/// a process that exactly one record starts; this record names its parent, whose number is below its own.
 pub fn processes_are_numbered()
     ensures numbered { (records : List Record) → ArePlaced [] (map entry_of records)
         → records ≡ records_after [] (map entry_of records) → IsNumbered records }
@@ -57,7 +57,7 @@ pub fn processes_are_numbered()
         → parent_of records process ≡ Some parent → parent.0 < process }
 {}
 
-/// A set of rights that is read from a list of names has just the rights that some name of the list
+/// A set of rights that is read from a list of names has exactly the rights that some name of the list
 /// stands for.
 #[tactic(auto, using(crate::proofs::SetLemmas::fs_by_names, crate::proofs::SetLemmas::net_by_names))]
 pub fn sets_are_their_names()
@@ -69,7 +69,7 @@ pub fn sets_are_their_names()
         ≡ list_any (λ name. network.is_right right (network.right_named name)) (texts_of names) }
 {}
 
-/// A line that reads as an entry says its operation by the operation's name, in its member `op`.
+/// A line that reads as an entry has the name of its operation in the member `op`.
 #[tactic(auto, using(crate::proofs::SaidByName::line_says))]
 pub fn lines_say_operations_by_name()
     ensures { (line : Line) (entry : Entry) → entry_at line ≡ Ok entry
@@ -77,7 +77,7 @@ pub fn lines_say_operations_by_name()
 {}
 
 /// Best effort changes no record at a version that supports all rights that the records name. At an older version it
-/// makes the same of what a newer one left as of the records themselves.
+/// makes the same from what a newer one left as from the records themselves.
 pub fn best_effort_by_version()
     ensures supported { (abi : Abi) (records : List Record)
         → All (λ r. IsSupported abi r.op) records

@@ -10,8 +10,8 @@ use ll_rights::Abi;
 use ll_tree::{Place, Tree};
 use std::alloc::{AllocError, Global};
 
-/// A tree and a trace, with the place of each record's first path in the tree, so that records which are judged
-/// several times are looked up once.
+/// A tree and a trace, with the place of each record's first path in the tree, so that the paths of records which
+/// are judged several times are looked up once.
 #[derive(Drop)]
 pub struct Located {
     pub tree: Tree,

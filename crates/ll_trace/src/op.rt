@@ -27,7 +27,7 @@ pub enum Sort {
     Regular,
     /// A character or block device.
     Device,
-    /// Anything else, as a pipe or a socket.
+    /// Anything else, such as a pipe or a socket.
     Other,
 }
 
@@ -40,11 +40,11 @@ pub enum RuleType {
     NetPort,
 }
 
-/// What a record says that its process did. Each variant has the members of its line; `rs` is a
-/// number that the process gives to a ruleset, and `fd` one that it gives to an open file.
+/// What the process of a record did. Each variant has the members of its line; `rs` is the
+/// number of a ruleset in the process, and `fd` the number of an open file.
 #[derive(Debug, Drop)]
 pub enum Op {
-    /// A process that the trace begins with.
+    /// A process that exists when the trace begins.
     Start {
         nnp: bool,
         admin: bool,
@@ -75,7 +75,7 @@ pub enum Op {
         port: u64,
         net: Net,
     },
-    /// The close of a ruleset.
+    /// close(2) of a ruleset.
     CloseRs {
         rs: u64,
     },
@@ -91,7 +91,7 @@ pub enum Op {
         create: bool,
         trunc: bool,
     },
-    /// A descriptor that was made without open(2).
+    /// A descriptor that open(2) did not make.
     Adopt {
         fd: u64,
         kind: Sort,
@@ -164,21 +164,21 @@ pub enum Op {
         fd: u64,
         driver: bool,
     },
-    /// A program makes do with a ruleset that handles nothing, as its kernel supports none of the
-    /// rights that it would have handled. No line of a file says this: best effort makes it of a
-    /// `create`.
+    /// A program does without a ruleset, as its kernel supports none of the rights that the ruleset
+    /// would have handled: the ruleset of this record handles nothing. No line of a file says this:
+    /// best effort makes it from a `create`.
     CreateEmpty {
         rs: u64,
     },
     /// A program leaves out a call of landlock_add_rule(2), as its kernel supports none of the
-    /// rights that the rule would have granted. No line of a file says this: best effort makes it of
+    /// rights that the rule would have granted. No line of a file says this: best effort makes it from
     /// an `add_path` or `add_port`.
     LeaveOut {
         rule: RuleType,
     },
 }
 
-/// The calls that want something at the place of one path and change nothing, as a pattern, which may bind the path.
+/// A pattern for the calls that want something at the place of one path and change nothing; it may bind the path.
 #[macro_export]
 macro_rules! wants_at_a_path {
     () => {
@@ -195,7 +195,7 @@ macro_rules! wants_at_a_path {
     };
 }
 
-/// The calls that name no path and change nothing, as a pattern.
+/// A pattern for the calls that name no path and change nothing.
 #[macro_export]
 macro_rules! still_without_a_path {
     () => {
@@ -209,8 +209,8 @@ macro_rules! still_without_a_path {
     };
 }
 
-/// The calls that change nothing, not even where they are allowed, as a pattern. Each `match` that takes
-/// operations together names the others one by one, so that a new operation has to be decided on.
+/// A pattern for the calls that change nothing, even if they are allowed. Each `match` with such a pattern
+/// names the other operations one by one, so that a new operation must be decided on.
 #[macro_export]
 macro_rules! changes_nothing {
     () => {
@@ -221,7 +221,7 @@ macro_rules! changes_nothing {
     };
 }
 
-/// The calls that change something, and name neither a path nor rights, as a pattern.
+/// A pattern for the calls that change something, and name neither a path nor rights.
 macro_rules! changes_without_names {
     () => {
         $crate::Op::CreateEmpty { .. }
@@ -263,7 +263,7 @@ impl Op {
         matches!(self, Op::Start { .. } | Op::Fork { .. })
     }
 
-    /// The pid of the process that this operation starts, where it is one of the process `pid`.
+    /// The pid of the process that this operation of the process `pid` starts, if it starts one.
     #[tactic(auto, unfolding(crate::specs::Entries::pid_started))]
     pub(crate) fn started_pid(&self, pid: u64) -> Option<u64>
         ensures { result ≡ pid_started self.now pid }
@@ -275,8 +275,8 @@ impl Op {
         }
     }
 
-    /// Where the path leads that the call names, or the first of its two; `Nowhere` for a call without one, and for
-    /// one that adds a rule, whose path is the ruleset's.
+    /// The place of the path that the call names, or of the first of its two; `Nowhere` for a call without a path,
+    /// and for one that adds a rule, whose path is the ruleset's.
     #[tactic(auto, unfolding(crate::specs::FirstPlaces::first_place, crate::specs::Operations::paths_of))]
     pub fn first_place(&self, tree: &Tree) -> Place
         ensures { result ≡ first_place tree.now self.now }
@@ -305,8 +305,8 @@ impl Op {
         }
     }
 
-    /// Makes of a call what a program calls in its place that goes by its kernel's version of Landlock:
-    /// rights that this version lacks are taken out.
+    /// Turns a call into the one that a program makes instead if it goes by its kernel's version of
+    /// Landlock: the rights that this version lacks are taken out.
     #[tactic(auto, unfolding(crate::specs::BestEffort::at_best_effort))]
     pub(crate) fn drop_unsupported(&mut self, abi: Abi)
         ensures { self.new ≡ at_best_effort abi self.old }
@@ -329,8 +329,8 @@ impl Op {
     }
 }
 
-/// What a program calls for a `create`: one of whose rights none is supported makes do with a
-/// ruleset that handles nothing.
+/// What a program calls for a `create`: if none of its rights is supported, the program does without a
+/// ruleset, and is judged with one that handles nothing.
 fn created(rs: u64, fs: Fs, net: Net, abi: Abi) -> Op
     ensures { result ≡ creates rs fs net (supported_fs abi fs) (supported_net abi net) }
 {
@@ -347,7 +347,7 @@ fn created(rs: u64, fs: Fs, net: Net, abi: Abi) -> Op
     }
 }
 
-/// What a program calls for an `add_port`: one of whose rights none is supported is left out.
+/// What a program calls for an `add_port`: it leaves out the call if none of its rights is supported.
 fn port_added(rs: u64, port: u64, net: Net, abi: Abi) -> Op
     ensures { result ≡ adds_port rs port net (supported_net abi net) }
 {

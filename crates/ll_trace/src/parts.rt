@@ -19,8 +19,8 @@ use rayon::prelude::*;
 use std::alloc::{AllocError, Global};
 use std::thread::Threads;
 
-/// What a part of the lines reads as: the entries of the lines in front of the first that has none,
-/// and the fault of that one.
+/// What a part of the lines reads as: the entries of the lines before the first line that has none,
+/// and the fault of that line.
 #[derive(Drop)]
 struct PartRead {
     entries: Vec<Entry>,
@@ -63,7 +63,7 @@ fn read_part(alloc: Global, lines: FilledLines) -> PartRead
     }
 }
 
-/// Takes the entries of a part in as records, up to the first fault.
+/// Admits the entries of a part as records, up to the first fault.
 fn admit_part(reader: &mut Reader, part: PartRead) -> Result<(), ReadFault>
     requires { IsKept reader.old }
     ensures admitted { OnOk result ((lines others : List Line) → IsReadOf lines part
@@ -87,7 +87,7 @@ fn admit_part(reader: &mut Reader, part: PartRead) -> Result<(), ReadFault>
     }
 }
 
-/// Takes the entries of all parts in, one part after another.
+/// Admits the entries of all parts, one part after another.
 fn admit_all(alloc: Global, parts: Vec<PartRead>) -> Result<Reader, ReadFault>
     ensures gives { (lines : List (List Line)) → AllZip IsReadOf lines parts.items
         → GivesReading entries result (read_lines trace_file [] (flat_map (λ part. part) lines)) }
@@ -125,7 +125,7 @@ fn read_parts<R: Threads + Sync>(
         .collect(rt, alloc)
 }
 
-/// Reads a file by parts, of which there are at most this many: its records, or the first fault of its first faulty line.
+/// Reads a file in at most this many parts: its records, or the first fault of its first faulty line.
 pub(crate) fn read_all_by<R: Threads + Sync>(
     rt: &R,
     alloc: Global,

@@ -10,7 +10,7 @@ use ll_tree::path_ok;
 use std::alloc::Global;
 use std::marker::Model;
 
-/// A path as a record gives it: `/`, or names that each follow one `/`. Contracts see its bytes.
+/// A path as a record has it: `/`, or names with one `/` before each. Contracts see its bytes.
 #[derive(Debug, Drop)]
 pub struct PathText {
     text: String,
@@ -30,7 +30,7 @@ impl Model for PathText {
 }
 
 impl PathText {
-    /// The path that a text is, or `BadPath` where it has not the shape of one.
+    /// The path of a text, or `BadPath` if the text does not have the shape of one.
     #[tactic(auto, unfolding(crate::specs::Members::path_in))]
     pub(crate) fn read(alloc: Global, text: &str) -> Result<PathText, Cause>
         ensures { Gives (λ path. path) result (path_in text.now) }
@@ -51,8 +51,8 @@ impl PathText {
     }
 }
 
-/// The second path of an operation that has two, in memory of its own, so that the records of all other
-/// operations take no more for it. Contracts see its bytes.
+/// The second path of an operation that has two, in memory of its own, so that it makes the records of other
+/// operations no larger. Contracts see its bytes.
 #[derive(Debug, Drop)]
 pub struct SecondPath {
     path: Box<PathText>,
@@ -67,7 +67,7 @@ impl Model for SecondPath {
 }
 
 impl SecondPath {
-    /// The path that a text is, or `BadPath` where it has not the shape of one.
+    /// The path of a text, or `BadPath` if the text does not have the shape of one.
     pub(crate) fn read(alloc: Global, text: &str) -> Result<SecondPath, Cause>
         ensures { Gives (λ second. second) result (path_in text.now) }
     {

@@ -78,7 +78,7 @@ fn is_running(owner: Option<Owner>) -> bool
     }
 }
 
-/// Whether an entry's pid, whose latest process this is, has to be live and is not.
+/// Whether an entry's pid must be live and is not; the latest process of the pid is given.
 fn is_unknown(entry: &Entry, owner: Option<Owner>) -> bool
     ensures { (past : List Seen) → owner ≡ owner_of past entry.now.pid
         → result ≡ is_unknown_in past (entry_view entry.now) }
@@ -137,7 +137,7 @@ impl Reader {
             || entry.op.started_pid(entry.pid).is_some() && self.processes >= MOST_PROCESSES
     }
 
-    /// The first cause by which an entry has no place after those that are read; its pid's latest
+    /// The first cause for which an entry has no place after those that are read; its pid's latest
     /// process is looked up already.
     fn misplacement(&self, entry: &Entry, owner: Option<Owner>) -> Option<Cause>
         requires kept { IsKept self.now }
@@ -167,7 +167,7 @@ impl Reader {
         process_or_first(owner)
     }
 
-    /// Takes an entry in as a record, if it has a place after those that are read.
+    /// Admits an entry as a record, if it has a place after those that are read.
     pub(crate) fn admit(&mut self, entry: Entry) -> Result<(), Cause>
         requires { IsKept self.old }
         ensures gives { Gives (λ _. entries self.new) result

@@ -1,4 +1,4 @@
-//! Worked traces, read by computation: what is here is proved by reading each file as the
+//! Worked traces: each law is proved by computation, which reads the file as the
 //! definitions do.
 
 ghost use Rattle.std.specs.Prelude.{codes, [], ◌∷◌, true, false};

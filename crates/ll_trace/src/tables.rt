@@ -51,7 +51,7 @@ impl Tables {
         Ok(())
     }
 
-    /// Takes in the record at a place.
+    /// Adds the record at a place.
     fn add(&mut self, alloc: Global, added: &Record, place: u32) -> Result<(), AllocError>
         requires { added.now.process.0 < length self.old.own.items
             + (if is_starting added.now.op then 1 else 0) }

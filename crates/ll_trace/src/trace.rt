@@ -42,7 +42,7 @@ impl Model for Trace {
 
 impl Trace {
     /// Reads a trace file: its records if no line has a fault, else the first fault of the first
-    /// faulty line. Where memory runs out, the fault is `Memory` at the line that was being read.
+    /// faulty line. If memory runs out, the fault is `Memory` at the line that was being read.
     #[tactic(auto, using(ll_lines::proofs::ReadingLemmas::good_from_reading, ll_lines::proofs::ReadingLemmas::bad_from_fault))]
     pub fn read(alloc: Global, bytes: &[u8]) -> Result<Trace, ReadFault>
         ensures good { IfOk result (λ trace. IsTrace bytes.now trace) }
@@ -52,9 +52,9 @@ impl Trace {
         Trace::of(alloc, read_all(alloc, bytes)?)
     }
 
-    /// Reads a trace file as [`Trace::read`] does, by at most this many threads, which read parts of its
-    /// lines side by side; 0 counts as one. One starts no thread. Where memory runs out, the fault is
-    /// `Memory` at a line that was being read, or at the first line.
+    /// Reads a trace file as [`Trace::read`] does, with at most this many threads, which read parts of
+    /// its lines at the same time; 0 counts as one, and one starts no thread. If memory runs out, the
+    /// fault is `Memory` at a line that was being read, or at the first line.
     #[tactic(auto, using(ll_lines::proofs::ReadingLemmas::good_from_reading, ll_lines::proofs::ReadingLemmas::bad_from_fault))]
     pub fn read_by<R: Threads + Sync>(
         rt: &R,
@@ -72,7 +72,7 @@ impl Trace {
         Trace::of(alloc, read_all_by(rt, alloc, bytes, workers)?)
     }
 
-    /// The trace that has the records that were read.
+    /// The trace with the records that were read.
     fn of(alloc: Global, reader: Reader) -> Result<Trace, ReadFault>
         requires { AreRecords reader.records.items }
         ensures ok { IfOk result (λ trace. trace ≡ reader.records.items) }
@@ -89,8 +89,8 @@ impl Trace {
     }
 
     /// The trace of a program that first asks its kernel for the version of Landlock's interface, and
-    /// then uses those of its rights that this version supports. Lines and processes stay, and so
-    /// does each record that names no right which the version lacks.
+    /// then uses only those of its rights that this version supports. Lines and processes do not
+    /// change, nor does a record that names no right which the version lacks.
     pub fn at_best_effort(self, abi: Abi) -> Trace
         ensures { result ≡ records_at_best_effort abi self }
     {
@@ -114,7 +114,7 @@ impl Trace {
         records.as_slice()
     }
 
-    /// How many processes the trace has.
+    /// The number of processes of the trace.
     pub fn processes(&self) -> u32
         ensures count { result ≡ process_count self.now }
         ensures few { result ≤ MOST_PROCESSES }
@@ -131,7 +131,7 @@ impl Trace {
         self.tables.parents[process.0 as usize]
     }
 
-    /// The places of a process's records among [`Trace::records`], rising.
+    /// The places of a process's records among [`Trace::records`], in ascending order.
     pub fn records_of(&self, process: ProcessId) -> &[u32]
         requires { process.0 < process_count self.now }
         ensures value { result.now ≡ own_records self.now process.0 }
@@ -141,8 +141,8 @@ impl Trace {
         own.as_slice()
     }
 
-    /// The process that the `start` or `fork` record at a place starts. No other record starts one,
-    /// and there is none at a place past the last.
+    /// The process that the `start` or `fork` record at a place starts. Other records start none,
+    /// and a place after the last record has none.
     pub fn starts(&self, place: u32) -> Option<ProcessId>
         ensures { option_map (λ process. process.0) result ≡ started_at self.now place }
     {
@@ -154,7 +154,7 @@ impl Trace {
     }
 }
 
-/// The line of the last record, or the first line where there is none.
+/// The line of the last record, or the first line if there is none.
 fn last_line(records: &[Record]) -> u64 {
     match records.last() {
         None => 1,

@@ -6,13 +6,13 @@ ghost use Rattle.ll_tree.specs.declared.chains.TheConstants.{CROWDED};
 
 use std::alloc::{AllocError, Global};
 
-/// How many slots there are: two for each node of the largest tree, so that few texts have one slot.
+/// The number of slots: two for each node of the largest tree, so that few texts share a slot.
 const SLOTS: usize = 131_072;
 
 /// An odd number whose bits are spread, by which a hash is multiplied for each word of a text.
 pub(crate) const SPREAD: u64 = 0x9e37_79b9_7f4a_7c15;
 
-/// The most nodes that a chain has. A slot with more is crowded, and its texts are asked of the map.
+/// The most nodes of a chain. A slot with more is crowded, and its texts are looked up in the map.
 pub(crate) const LONGEST_CHAIN: u8 = 16;
 
 /// The head of a slot that has too many nodes for a chain.
@@ -23,7 +23,7 @@ pub(crate) fn no_heads(alloc: Global) -> Result<Vec<u32>, AllocError> {
     vec![in alloc; 0; SLOTS]
 }
 
-/// A number that is over each node of a slot.
+/// A number that is above each node of a slot.
 pub(crate) fn head(heads: &[u32], slot: usize) -> u32
     ensures { result ≡ head_in heads.now slot }
 {
@@ -41,7 +41,7 @@ pub(crate) fn set_head(heads: &mut Vec<u32>, slot: usize, head: u32)
     }
 }
 
-/// The head of a slot whose last node is this one, where its chain has so many others.
+/// The head of a slot whose last node is this one, if its chain has so many others.
 pub(crate) fn head_over(number: u32, behind: u8) -> u32
     requires { number < CROWDED }
     ensures { number < result }
@@ -53,7 +53,7 @@ pub(crate) fn head_over(number: u32, behind: u8) -> u32
     }
 }
 
-/// What comes after a node in its chain, where its slot had this head before.
+/// What comes after a node in its chain, if its slot had this head before.
 pub(crate) fn next_of(number: u32, head: u32) -> u32
     ensures falls { result ≤ number }
     ensures ahead { (node : ℕ) → node < number → node < head → node < result }
@@ -77,7 +77,7 @@ pub(crate) fn mark_of(text: &str) -> u32
     (hash_of(text) >> 32) as u32
 }
 
-/// A hash of a text, by its words of eight bytes and the bytes that are left.
+/// A hash of a text, from its words of eight bytes and the remaining bytes.
 #[tactic(auto, unfolding(crate::specs::Chains::text_hash))]
 fn hash_of(text: &str) -> u64
     ensures { result ≡ text_hash text.now }
@@ -86,7 +86,7 @@ fn hash_of(text: &str) -> u64
     with_bytes(with_words(text.len() as u64, words), rest)
 }
 
-/// A hash with these words more.
+/// A hash with these further words.
 #[tactic(auto, unfolding(crate::specs::Chains::hash_words))]
 fn with_words(start: u64, words: &[[u8; 8]]) -> u64
     ensures { result ≡ hash_words start words.now }
@@ -98,7 +98,7 @@ fn with_words(start: u64, words: &[[u8; 8]]) -> u64
     hash
 }
 
-/// A hash with these bytes more.
+/// A hash with these further bytes.
 #[tactic(auto, unfolding(crate::specs::Chains::hash_bytes))]
 fn with_bytes(start: u64, bytes: &[u8]) -> u64
     ensures { result ≡ hash_bytes start bytes.now }
@@ -110,7 +110,7 @@ fn with_bytes(start: u64, bytes: &[u8]) -> u64
     hash
 }
 
-/// A hash with one word more.
+/// A hash with one further word.
 #[tactic(auto, unfolding(crate::specs::Chains::mixed))]
 fn with_word(hash: u64, word: u64) -> u64
     ensures { result ≡ mixed hash word }

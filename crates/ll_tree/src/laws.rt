@@ -1,4 +1,4 @@
-//! What holds of the definitions: of every tree file, and of a small one.
+//! Laws on the definitions: for every tree file, and for a small one.
 
 ghost use Rattle.std.specs.Prelude.{◌≡◌, [], ◌∷◌, ◌++◌, codes, Some, None};
 ghost use Rattle.ll_lines.specs.Paths.{path_of};
@@ -10,7 +10,7 @@ ghost use Rattle.ll_tree.specs.WorkedTree.{line, worked_file, worked_entries, wo
 use crate::place::Place;
 use ll_lines::Cause;
 
-/// A tree file is one tree, or has one first fault, and never both.
+/// A tree file either is one tree or has one first fault, and never both.
 #[tactic(auto, using(crate::proofs::TreeLines::in_one_way))]
 pub fn a_tree_file_reads_in_one_way()
     ensures { ReadsInOneWay tree_format IsTreeOf }

@@ -2,7 +2,7 @@
 
 ghost use Rattle.std.specs.Prelude.{◌≡◌, ◌==◌};
 
-/// A node of a tree. Its number is its place in the list of the tree's objects, and that of the root is 0.
+/// A node of a tree. Its number is its index in the list of the tree's objects; the root has the number 0.
 #[derive(Clone, Copy, PartialEq, Eq, PartialOrd, Ord, Debug)]
 pub struct NodeId(pub(crate) u32);
 
@@ -25,10 +25,10 @@ impl NodeId {
 /// What a text names in a tree.
 #[derive(Clone, Copy, PartialEq, Eq, Debug)]
 pub enum Place {
-    /// An object that is there.
+    /// An object of the tree.
     Node(NodeId),
     /// A name that is missing in this directory.
     Gap(NodeId),
-    /// Neither: no path, or a path whose last name is in no directory.
+    /// Neither: the text is not a path, or a path whose last name is in no directory.
     Nowhere,
 }

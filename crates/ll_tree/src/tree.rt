@@ -32,7 +32,7 @@ use std::alloc::{AllocError, Global};
 use std::collections::BTreeMap;
 use std::marker::Model;
 
-/// The most nodes that a tree has, the root counted.
+/// The most nodes of a tree, including the root.
 pub const MOST_NODES: u32 = 65_536;
 
 /// What is kept of an object.
@@ -44,9 +44,9 @@ struct Object {
     depth: u32,
     /// The mark of the text's hash.
     mark: u32,
-    /// A number over each earlier node of the text's slot, and not over this node's own.
+    /// A number above each earlier node of the text's slot, and not above this node's own.
     next: u32,
-    /// How many nodes are after this one in its chain.
+    /// The number of nodes after this one in its chain.
     behind: u8,
 }
 
@@ -61,7 +61,7 @@ impl Object {
 }
 
 /// A listed file tree: the root, and objects in the order of their lines, each in a directory that
-/// is before it.
+/// comes before it.
 #[derive(Drop)]
 pub struct Tree {
     objects: Vec<Object>,
@@ -86,7 +86,7 @@ impl Tree {
     /// Reads a tree file: one JSON object on each line, with the path and the kind of an object.
     ///
     /// A file that does not read is refused with the number of its first faulty line and the first
-    /// fault of that line. Where memory ran out the line is the one that was being read.
+    /// fault of that line. If memory runs out, the line is the one that was being read.
     #[tactic(auto, using(crate::proofs::TreeLines::is_tree_of, crate::proofs::TreeLines::is_bad))]
     pub fn read(alloc: Global, bytes: &[u8]) -> Result<Tree, ReadFault>
         ensures ok { IfOk result (IsTreeOf bytes.now) }
@@ -146,7 +146,7 @@ impl Tree {
         self.list(alloc, path, kind)
     }
 
-    /// Puts an object at the end, unless it is there already, has no directory, or is one too many.
+    /// Adds an object at the end, unless it is in the tree already, has no directory, or is one too many.
     fn list(&mut self, alloc: Global, path: &str, kind: Kind) -> Result<(), Cause>
         requires { IsTrue (is_some (path_of path.now)) }
         ensures entry { Gives (λ _. below_root self.new) result
@@ -164,7 +164,7 @@ impl Tree {
         }
     }
 
-    /// The tree that has the root alone.
+    /// The tree that has only the root.
     fn root_only(alloc: Global) -> Result<Tree, AllocError>
         ensures { IfOk result (λ tree. tree ≡ root ∷ []) }
     {
@@ -191,7 +191,7 @@ impl Tree {
         })
     }
 
-    /// Puts an object at the end, where its path names a gap in the directory `parent`.
+    /// Adds an object at the end, if its path names a gap in the directory `parent`.
     fn add(
         &mut self,
         alloc: Global,
@@ -248,7 +248,7 @@ impl Tree {
         &self.object(node).text
     }
 
-    /// How many nodes the tree has, the root among them: at most 65,536.
+    /// The number of nodes of the tree, including the root: at most 65,536.
     pub fn nodes(&self) -> u32
         ensures count { result ≡ length self.now }
         ensures tree { IsTree self.now }
@@ -257,7 +257,7 @@ impl Tree {
         self.objects.len() as u32
     }
 
-    /// What kind of object a node is.
+    /// The kind of a node's object.
     pub fn kind(&self, node: NodeId) -> Kind
         requires { IsNode self.now node }
         ensures { result ≡ kind_at self.now node }
@@ -273,7 +273,7 @@ impl Tree {
         self.kind(node) == Kind::Dir
     }
 
-    /// The directory that a node is in, and None for the root.
+    /// The directory that a node is in; None for the root.
     #[tactic(auto, using(crate::proofs::Positions::if_none, crate::proofs::Positions::if_some))]
     pub fn parent(&self, node: NodeId) -> Option<NodeId>
         requires { IsNode self.now node }
@@ -285,7 +285,7 @@ impl Tree {
         self.object(node).parent
     }
 
-    /// How many directories are above a node: 0 for the root.
+    /// The number of directories above a node: 0 for the root.
     pub fn depth(&self, node: NodeId) -> u32
         requires { IsNode self.now node }
         ensures { result ≡ depth_at self.now node }
@@ -293,7 +293,7 @@ impl Tree {
         self.object(node).depth
     }
 
-    /// Whether the first node is the second or a directory over it.
+    /// Whether the first node is the second or a directory above it.
     pub fn is_above(&self, upper: NodeId, lower: NodeId) -> bool
         requires upper_is_node { IsNode self.now upper }
         requires lower_is_node { IsNode self.now lower }
@@ -310,7 +310,7 @@ impl Tree {
         node == upper
     }
 
-    /// The place that a text names: a node, the gap in a directory that has no such name, or nowhere.
+    /// The place that a text names: a node, the gap in a directory without such a name, or nowhere.
     #[tactic(auto, using(crate::proofs::Positions::place_other))]
     pub fn resolve(&self, text: &str) -> Place
         ensures place { result ≡ place self.now text.now }
@@ -322,8 +322,8 @@ impl Tree {
         self.place_of(text)
     }
 
-    /// The place of a text that is known to be a path (`path_ok`): its node, the gap in a directory that has no
-    /// such name, or nowhere.
+    /// The place of a text that is known to be a path (`path_ok`): its node, the gap in a directory without such a
+    /// name, or nowhere.
     pub fn place_of(&self, path: &str) -> Place
         requires { IsTrue (is_some (path_of path.now)) }
         ensures place { result ≡ place self.now path.now }
@@ -336,7 +336,7 @@ impl Tree {
         }
     }
 
-    /// The node of a text that is known to be a path (`path_ok`), where the tree has one.
+    /// The node of a text that is known to be a path (`path_ok`), if the tree has one.
     pub fn node_of(&self, path: &str) -> Option<NodeId>
         requires { IsTrue (is_some (path_of path.now)) }
         ensures exact { (spelt : Path) → path_of path.now ≡ Some spelt
@@ -371,7 +371,7 @@ impl Tree {
         None
     }
 
-    /// How many nodes a chain with this head has: no fewer than the longest has, where the slot is crowded.
+    /// The number of nodes of a chain with this head: no fewer than the longest chain has if the slot is crowded.
     fn behind(&self, head: u32) -> u8 {
         if head == 0 {
             return 0;

@@ -14,22 +14,22 @@ NAME = "apply"
 HELP = "write a trace in which the recorded program starts under a policy"
 EXAMPLE = "landaudit-record apply policy.toml rec --out tried.jsonl"
 POLICIES = """
-A policy is TOML: each [[layer]] has handled_access_fs, handled_access_net, and
-rules, [[layer.path_beneath]] with allowed_access and parent (one or several)
+A policy is a TOML file: each [[layer]] has handled_access_fs, handled_access_net,
+and rules, [[layer.path_beneath]] with allowed_access and parent (one or several)
 and [[layer.net_port]] with allowed_access and port (one or several). In a layer
-or before all, include = ["base"] stands for a group of rules: of these there are
-base, nameservice, ssl, tmp, and some for languages.
+or before all layers, include = ["base"] stands for a group of rules. The groups
+are base, nameservice, ssl, tmp, and some for languages.
 
 A right has its name in Landlock, such as read_file. The groups all, read, write
-and execute stand for several rights. In a rule a group means those of its
+and execute stand for several rights. In a rule, a group stands for those of its
 rights that the layer handles and, on a parent that is a file, that apply to
 files. The layer must handle each right that one of its rules names. Rights that
 the ABI does not know are dropped, as the kernel's document advises, with a note
-if they were named."""
+if the policy named them."""
 
 
 def add_arguments(parser: argparse.ArgumentParser) -> None:
-    """Names the words of the subcommand."""
+    """Adds the arguments of the subcommand."""
     parser.description = f"{HELP}\n{POLICIES}"
     parser.add_argument("policy", metavar="POLICY.toml", help="the policy: layers, what they handle, and their rules")
     parser.add_argument("trace", metavar="TRACE", help="a recording's folder, or its trace.jsonl")
@@ -40,15 +40,15 @@ def add_arguments(parser: argparse.ArgumentParser) -> None:
 
 
 def _only_trace(folder: Path) -> Path:
-    """The trace of a recording that is in one part; of one in several, each is named by itself."""
+    """The trace of a recording of one part; if there are several parts, the user must name one."""
     parts = finished.opened(str(folder)).parts
     if len(parts) > 1:
-        raise Problem(f"{folder} is kept in {len(parts)} parts: name one of its traces, as {parts[0].trace}", USAGE)
+        raise Problem(f"{folder} has {len(parts)} parts: name one of its traces, such as {parts[0].trace}", USAGE)
     return parts[0].trace
 
 
 def _tree_beside(trace: Path) -> Path:
-    """The tree of a part, which is beside its trace and named alike."""
+    """The tree of a part, which is beside its trace and has a similar name."""
     name = trace.name.replace("trace", "tree", 1)
     return trace.with_name(name if name.startswith("tree") else "tree.jsonl")
 

@@ -25,13 +25,13 @@ EXAMPLE = """landaudit-record run rec --policy policy.toml -- sort /etc/passwd
 
 
 def add_arguments(parser: argparse.ArgumentParser) -> None:
-    """Names the words of the subcommand."""
+    """Adds the arguments of the subcommand."""
     parser.add_argument("recording", metavar="OUT", help="the folder of a recording that was made under a policy")
     add_abi(
-        parser, "if the recording names a newer right, its 'create' is EINVAL, and no layer is made"
+        parser, "if the recording names a newer right, its 'create' fails with EINVAL and makes no layer"
     )
     parser.add_argument("--json", action="store_true", help="print the result as JSON")
-    parser.add_argument("--differences", metavar="FILE", type=Path, help="write each difference, as JSON Lines")
+    parser.add_argument("--differences", metavar="FILE", type=Path, help="write each difference to FILE, as JSON Lines")
     add_landaudit(parser)
 
 
@@ -56,7 +56,7 @@ def run(arguments: argparse.Namespace) -> int:
 def _differences(
     program: Path, recording: Finished, folder: Path, abi: int, tally: Tally
 ) -> Iterator[Difference]:
-    """The calls that differ, as they are counted, part by part."""
+    """The calls that differ, part by part, while all calls are counted."""
     classes = Classes(trees.read(*(part.tree for part in recording.parts)), abi, _stat_of)
     report = folder / "report.txt"
     for part in recording.parts:

@@ -22,13 +22,13 @@ def add_arguments(parser: argparse.ArgumentParser) -> None:
 
 
 def add_port_rules(parser: argparse.ArgumentParser) -> None:
-    """The option that says what a strace before 6.7 can't read."""
+    """Adds the option for what a strace before 6.7 can't read."""
     parser.add_argument(
         "--port-rules",
         metavar="POLICY.toml",
         type=Path,
-        help="the policy that the command puts on itself: what it says of ports, which strace before 6.7 does not"
-        " decode, is taken from here in its order (if it is left out, from the policy that 'run --policy' put in force)",
+        help="the policy that the command puts on itself: strace before 6.7 does not decode what it says of ports, so"
+        " that is taken from this file, in its order (default: the policy that 'run --policy' put in force)",
     )
 
 
@@ -39,14 +39,15 @@ def run(arguments: argparse.Namespace) -> int:
 
 
 def converted(folder: Path, port_rules: Path | None) -> None:
-    """Converts a recording, and says what came of it and what to do next."""
+    """Converts a recording, and says what the result is and what to do next."""
     in_force = recordings.policy_of(folder)
     named = port_rules if port_rules is not None else in_force
     ports = Ports(policies.read(named) if named is not None else None)
     done = converting.convert(folder, ports)
-    say(f"{done.records:,} records of {done.processes:,} processes on {done.objects:,} objects, in {folder}")
+    processes = "1 process" if done.processes == 1 else f"{done.processes:,} processes"
+    say(f"{done.records:,} records of {processes} on {done.objects:,} objects, in {folder}")
     if done.unsaid:
-        say(f"not said, in {folder / 'unsaid.jsonl'}:")
+        say(f"not recorded, in {folder / 'unsaid.jsonl'}:")
         for reason, count in done.unsaid.most_common():
             say(f"  {count:>9,}  {reason}")
     if in_force is None:
@@ -56,6 +57,6 @@ def converted(folder: Path, port_rules: Path | None) -> None:
 
 
 def say(text: str) -> None:
-    """A line for the user, apart from what the command wrote to standard output; a terminal that is gone gets none."""
+    """Prints a line for the user to standard error, if the terminal is still there."""
     with contextlib.suppress(OSError):
         print(f"landaudit-record: {text}", file=sys.stderr, flush=True)

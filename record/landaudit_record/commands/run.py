@@ -38,7 +38,7 @@ def add_arguments(parser: argparse.ArgumentParser) -> None:
         action="append",
         default=[],
         help="list DIR before the run, to know what the command overwrites, moves and removes there"
-        " (the working directory is listed in any case; may be given several times)",
+        " (the working directory is always listed; the option may be given several times)",
     )
     parser.add_argument(
         "--policy",
@@ -47,7 +47,7 @@ def add_arguments(parser: argparse.ArgumentParser) -> None:
         help="run the command under this policy (landaudit-policy confine), keep the policy in OUT/policy.toml, and say"
         " at the end what it refused",
     )
-    add_abi(parser, "with --policy, rights that it or the kernel does not have are dropped")
+    add_abi(parser, "with --policy, rights that this ABI or the kernel does not have are dropped")
     convert.add_port_rules(parser)
 
 
@@ -71,7 +71,7 @@ def run(arguments: argparse.Namespace) -> int:
     if outcome.ended:
         replace(about, ended=True).write(folder)
     else:
-        convert.say("strace was ended, and what it traced with it: the recording is not whole")
+        convert.say("strace was ended, and so was what it traced: the recording is not whole")
     _converted(folder, arguments)
     if policy is not None:
         policy.tell_refused(folder)
@@ -80,14 +80,14 @@ def run(arguments: argparse.Namespace) -> int:
 
 @dataclass(frozen=True)
 class _InForce:
-    """A policy that a command is recorded under, and the ABI that it is in force at."""
+    """A policy under which a command is recorded, and the ABI at which it is in force."""
 
     policy: Path
     abi: int
 
     @classmethod
     def of(cls, policy: Path, abi: int) -> _InForce:
-        """The policy, where all is there that it needs: it reads, the kernel has Landlock, and landaudit is built."""
+        """The policy, after checks that it reads, that the kernel has Landlock, and that landaudit is built."""
         policies.read(policy)
         landaudit.find(None)
         return cls(policy, confining.known_abi(abi))
@@ -97,25 +97,25 @@ class _InForce:
         return Path(shutil.copyfile(self.policy, folder / recordings.POLICY))
 
     def tell_refused(self, folder: Path) -> None:
-        """Says what the policy refused of a recording, apart from what the command wrote to standard output."""
+        """Prints to standard error what the policy refused in a recording."""
         words = [sys.executable, str(PROGRAMS / RECORDER), audit.NAME, str(folder), "--abi", str(self.abi)]
         subprocess.run(words, stdout=sys.stderr, check=False)
 
 
 def _converted(folder: Path, arguments: argparse.Namespace) -> None:
-    """Converts the log, which stays where that does not come to its end."""
+    """Converts the log, which is kept if the conversion does not finish."""
     try:
         convert.converted(folder, arguments.port_rules)
     except (KeyboardInterrupt, OSError):
         ports = ["--port-rules", str(arguments.port_rules)] if arguments.port_rules is not None else []
         words = ["landaudit-record", "convert", str(arguments.out), *ports]
-        convert.say(f"the log is kept and not converted; next: {shlex.join(words)}")
+        convert.say(f"the log is kept but not converted; next: {shlex.join(words)}")
         raise
 
 
 @contextmanager
 def _made(folder: Path) -> Iterator[Path]:
-    """A new folder; if what is to be in it before the run fails, it is removed."""
+    """A new folder, which is removed if it can't be filled before the run."""
     try:
         folder.mkdir(parents=True)
     except FileExistsError:
@@ -128,7 +128,7 @@ def _made(folder: Path) -> Iterator[Path]:
 
 
 def _watched(folder: Path, directories: list[str]) -> list[str]:
-    """Lists directories before the run, says of which parts that failed, and gives those that were listed."""
+    """Lists directories before the run, says for which parts that failed, and returns those that were listed."""
     seen = recordings.watch(folder, directories)
     for directory in seen.too_large:
         convert.say(f"{directory} holds more than {recordings.MOST_WATCHED:,} objects and is not watched")

@@ -24,22 +24,22 @@ EXAMPLE = """landaudit-record suggest rec --policy policy.toml >> policy.toml
 
 
 def add_arguments(parser: argparse.ArgumentParser) -> None:
-    """Names the words of the subcommand."""
+    """Adds the arguments of the subcommand."""
     add_recordings(parser)
     parser.add_argument("--policy", metavar="POLICY.toml", required=True, help="the policy that the rules are for")
     parser.add_argument(
         "--rules",
         metavar="N",
         type=_number,
-        help="at most N rules for a layer (if it is left out, as many as it takes to grant nothing else): they are put "
-        "on directories where that grants least, and each says what it grants more",
+        help="at most N rules for a layer (default: as many as it takes to grant nothing else): rules are put together "
+        "on directories where that grants least, and each says what more it grants",
     )
     parser.add_argument(
         "--style",
         choices=(EXACT, BASE),
         default=EXACT,
-        help="exact grants what is needed alone (so it is if the option is left out); base names groups of rules that "
-        "several of the paths are in, as a person does, by 'include': base, nameservice, ssl, tmp, languages",
+        help="exact (the default) grants only what is needed; base includes the groups of rules that contain several "
+        "of the paths, as a person does: base, nameservice, ssl, tmp, languages",
     )
     add_program(parser)
     add_abi(parser)
@@ -48,7 +48,7 @@ def add_arguments(parser: argparse.ArgumentParser) -> None:
 
 
 def run(arguments: argparse.Namespace) -> int:
-    """Prints the rules; the status is 1 if calls stay refused that no rule of the policy fixes."""
+    """Prints the rules; the status is 1 if calls stay refused that no rule of the policy can fix."""
     program = landaudit.find(arguments.landaudit)
     policy = policies.read(Path(arguments.policy))
     members = together.opened(arguments.recordings, policy, arguments.program)
@@ -70,7 +70,7 @@ def run(arguments: argparse.Namespace) -> int:
 def _number(text: str) -> int:
     """A number of rules."""
     if not text.isdecimal() or not int(text):
-        raise argparse.ArgumentTypeError(f"{text!r} is no number of rules: give one from 1 on")
+        raise argparse.ArgumentTypeError(f"{text!r} is not a number of rules: give a number from 1 on")
     return int(text)
 
 
@@ -81,6 +81,6 @@ def _making(recorded: Sequence[Recorded], arguments: argparse.Namespace) -> Maki
 
 
 def _recorded(member: Member) -> Recorded:
-    """What rules need to know of a recording."""
+    """The facts about a recording that rules depend on."""
     parts = member.recording.parts
     return Recorded(member.tree, leaving.cut_files(part.trace for part in parts))

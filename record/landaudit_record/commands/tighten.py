@@ -8,7 +8,7 @@ from collections.abc import Iterator, Sequence
 from dataclasses import replace
 from pathlib import Path
 
-from .. import comments, landaudit, policies, policy_text, together, trees
+from .. import RECORDER, comments, landaudit, policies, policy_text, together, trees
 from ..distilling import Distilling, Question
 from ..options import add_abi, add_as_recorded, add_landaudit, add_program, add_recordings, note
 from ..policies import Policy
@@ -24,15 +24,15 @@ HELP = "print the policy without the rights that no recording needs"
 EXAMPLE = "landaudit-record tighten --policy policy.toml rec > tight.toml"
 
 _Asked = dict[Path, Counter[Question]]
-"""What a recording asks a policy and is let pass, for each tree by itself."""
+"""The questions of a recording that a policy lets pass, for each tree by itself."""
 
 
 def add_arguments(parser: argparse.ArgumentParser) -> None:
-    """Names the words of the subcommand."""
+    """Adds the arguments of the subcommand."""
     add_recordings(parser)
     parser.add_argument("--policy", metavar="POLICY.toml", type=Path, required=True, help="the policy")
     parser.add_argument(
-        "--list", action="store_true", help="print a table in its place: rule, right, how many calls need it, 0 first"
+        "--list", action="store_true", help="print a table instead: how many calls need each right, 0 first"
     )
     add_program(parser)
     add_abi(parser)
@@ -55,11 +55,11 @@ def run(arguments: argparse.Namespace) -> int:
                           None if arguments.list else trees.united(one.tree for one in tried))
         after = [_questions(audit, one, done.policy, arguments.abi) for audit, one in zip(audits, tried)]
         if _more(before, after):
-            raise Problem("of the recordings something more is refused without what no call needs: report this fault",
-                          WANTING)
+            raise Problem("without the rights that no call needs, more calls of the recordings are refused: this is a "
+                          f"fault of {RECORDER}, please report it", WANTING)
     if passing := _more(after, before):
-        note([f"of these recordings {counted(passing, 'call')} would pass that the policy refuses: a move or link is "
-              "refused by which an object would gain rights, and such rights are taken away"])
+        note([f"{counted(passing, 'call')} of these recordings would pass that the policy refuses: Landlock refuses a "
+              "move or link by which an object would gain rights, and such rights are taken away"])
     together.note_missing(members)
     for line in _table(policy, done, arguments.abi) if arguments.list else _toml(policy, done):
         print(line)
@@ -67,7 +67,7 @@ def run(arguments: argparse.Namespace) -> int:
 
 
 def _tightened(tightening: Tightening, policy: Policy, tree: Tree | None) -> Tightened:
-    """A policy without what isn't needed; for its text by a tree, of rules that can be written, none can be less."""
+    """A policy without the rights that are not needed; with a tree, one whose rules can be written."""
     done = tightening.tightened(policy)
     while tree is not None and (written := policy_text.in_words(done.policy, tree)) != done.policy:
         less = tightening.tightened(written)
@@ -76,7 +76,7 @@ def _tightened(tightening: Tightening, policy: Policy, tree: Tree | None) -> Tig
 
 
 def _questions(audit: Auditing, tried: Tried, policy: Policy, abi: int) -> _Asked:
-    """What a recording asks a policy, for each tree by itself."""
+    """The questions of a recording to a policy, for each tree by itself."""
     by_tree: dict[Path, Distilling] = {}
     for files in audit.judged(alone(abi), tried, policy, explain=False):
         audit.progress.say("reading what is asked")

@@ -1,8 +1,8 @@
-"""An audit as one page of HTML, which opens from the disk and takes nothing from elsewhere.
+"""An audit as one page of HTML, which opens from the disk and loads nothing from elsewhere.
 
-It has the data of `audit --json`, of every ABI. All that it says is in tables and lists that read without a script; the
-buttons that choose an ABI work by style alone, and a script adds a filter and sorting. Names from a recording are only
-ever text (`markup`), and the page's own policy lets no style and no script work but the page's own.
+It has the data of `audit --json` for every ABI. All data are in tables and lists that need no script. The buttons that
+choose an ABI need only style, and a script adds a filter and sorting. Names from a recording are always text
+(`markup`), and the page's own policy allows only the page's own style and script.
 """
 
 from __future__ import annotations
@@ -42,7 +42,7 @@ class About:
 
 
 def write(file: Path, about: About, summaries: Sequence[Summary], parts: Iterable[Part], tried: Tried | None) -> None:
-    """Writes the page of an audit, all of it or nothing."""
+    """Writes the page of an audit, either whole or not at all."""
     paths = Paths(asked(part.trace for part in parts), summaries)
     _put(file, made(about, summaries, paths, tried).encode())
 
@@ -77,7 +77,7 @@ def _link(part: Section) -> Markup:
 
 
 def _head(about: About, newest: int) -> Markup:
-    """What is not seen: among it the policy of the page itself, by which nothing works but its own style and script."""
+    """The invisible parts, among them the page's own policy, which allows only the page's own style and script."""
     style = together((own("page.css"), by_version.rules(newest)))
     script = own("page.js")
     own_alone = f"style-src {_hash(style)}; script-src {_hash(script)}"
@@ -105,14 +105,15 @@ def _hash(text: str) -> str:
 
 
 def _judged(about: About) -> str:
-    """What was judged, and how."""
+    """The sentences that say what was judged, and how."""
     what = "What the policy would refuse of the recording" if about.policy else "What the program's own layers refuse"
-    how = "as they were recorded" if about.as_recorded else "as a program makes them that drops rights the ABI has not"
+    how = ("as they were recorded" if about.as_recorded
+           else "as those of a program that drops the rights which the ABI does not have")
     return f"{what}. Rulesets that the program makes itself are judged {how}."
 
 
 def _put(file: Path, text: bytes) -> None:
-    """Writes a file so that nobody ever sees half of it; a link, or what is no regular file, is written into."""
+    """Writes a file so that no reader sees half of it; a link, or a file that is not regular, is written into."""
     in_place = file.is_symlink() or (file.exists() and not file.is_file())
     written = file if in_place else file.with_name(f".page-{os.getpid()}.new")
     try:

@@ -1,4 +1,4 @@
-"""How many calls there are at or below each path, and on each port: all of them, refused ones and moot ones."""
+"""Counts the calls at or below each path, and on each port: all, refused and moot ones."""
 
 from __future__ import annotations
 
@@ -13,12 +13,12 @@ from .. import jsonl
 from ..reading import Place, place_of
 from ..summary import Summary
 
-#: A path with more names is kept as if its last ones were one: nobody opens so many directories by hand.
+#: The last names of a path with more names are kept as one: nobody opens so many directories by hand.
 MOST_NAMES = 64
 
 
 def asked(traces: Iterable[Path]) -> Counter[Place]:
-    """How many calls of a recording are about each path or port; those that its parts only write again count once."""
+    """The number of calls of a recording about each path or port; calls that its parts write again count once."""
     found: Counter[Place] = Counter()
     for trace in traces:
         for _, record in jsonl.numbered(trace):
@@ -37,7 +37,7 @@ class Counts:
     moot: list[int]
 
     def add(self, other: Counts, sign: int = 1) -> None:
-        """Counts others too, or with the sign -1 no longer."""
+        """Adds the counts of others or, with the sign -1, subtracts them."""
         self.all += sign * other.all
         for mine, more in ((self.refused, other.refused), (self.moot, other.moot)):
             mine[:] = [old + sign * new for old, new in zip(mine, more)]
@@ -48,7 +48,7 @@ class Counts:
 
     @property
     def weight(self) -> tuple[int, int]:
-        """By which a reader looks at it first: what the newest ABI refuses, then all."""
+        """The key by which readers look first: the calls that the newest ABI refuses, then all calls."""
         return self.refused[-1], self.all
 
     @property
@@ -59,14 +59,14 @@ class Counts:
 
 @dataclass(eq=False)
 class Node:
-    """A name of a directory, with what is at it or below it. A call on two paths counts once where both are below."""
+    """A name in a directory, with the calls at or below it. A call on two paths counts once if both are below."""
 
     name: str
     counts: Counts
     children: dict[str, Node] = field(default_factory=dict)
 
     def by_weight(self) -> list[Node]:
-        """What is in the directory, and what is refused most first."""
+        """The names in the directory; those with the most refused calls come first."""
         return sorted(self.children.values(), key=lambda node: node.counts.weight, reverse=True)
 
 
@@ -112,14 +112,14 @@ class Paths:
             yield node
 
     def below(self, path: str) -> Counts:
-        """What is at a path or below it."""
+        """The calls at a path or below it."""
         node: Node | None = self.root
         for name in _names(path):
             node = None if node is None else node.children.get(name)
         return self.none() if node is None else node.counts
 
     def on(self, port: int) -> Counts:
-        """What is about a port."""
+        """The calls on a port."""
         return self._ports.get(port) or self.none()
 
 

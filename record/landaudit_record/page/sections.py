@@ -1,4 +1,4 @@
-"""The parts of the page: what an audit found, as tables that read without a script."""
+"""The parts of the page: the results of an audit, as tables that need no script."""
 
 from __future__ import annotations
 
@@ -19,17 +19,17 @@ from .counting import Counts, Paths
 from .markup import Markup, element, text, together
 from .tree import bar, bars, columns, tree
 
-#: A longer text has a box of its own to scroll in.
+#: A longer text is in a box that scrolls.
 LONGEST = 300
-#: So many kinds are named of those that change from ABI to ABI.
+#: The most kinds that are named of those that change from ABI to ABI.
 MOST_KINDS = 20
 
-MOOT = "A call is moot where the policy was not asked: the file is not there, say, or the call fails before."
+MOOT = "A call is moot if Landlock is not asked: for example, the file does not exist, or the call fails before."
 
 
 @dataclass(frozen=True)
 class Section:
-    """A part of the page, to which a link at its top leads. One with nothing inside is left out."""
+    """A part of the page, to which a link at the top leads. An empty part is left out."""
 
     name: str
     title: str
@@ -54,7 +54,7 @@ def row(*cells: str, kind: str = "") -> Markup:
 
 
 def named(plain: str) -> Markup:
-    """A name from a recording; a long one is in a box that scrolls, by keys too."""
+    """A name from a recording; a long one is in a box that scrolls, also by keys."""
     return text(plain) if len(plain) <= LONGEST else element("span", plain, kind="long", attributes={"tabindex": "0"})
 
 
@@ -64,7 +64,7 @@ def paragraph(*inside: str, kind: str = "") -> Markup:
 
 
 def switch(summaries: Sequence[Summary]) -> Markup:
-    """The buttons of which one chooses the ABI that the page shows."""
+    """The buttons that choose the ABI that the page shows."""
     buttons = (_button(summary.abi, summary is summaries[-1]) for summary in summaries)
     return element("fieldset", element("legend", "ABI"), *buttons, kind="abis")
 
@@ -76,7 +76,7 @@ def _button(abi: int, newest: bool) -> Markup:
 
 
 def in_short(summaries: Sequence[Summary]) -> Markup:
-    """What the chosen ABI answers, in one line and a bar."""
+    """The counts at the chosen ABI, in one line and a bar."""
     return together(element("div", _figures(summary), kind=f"figures {kinds([summary.abi])}") for summary in summaries)
 
 
@@ -96,7 +96,7 @@ def _figures(summary: Summary) -> Markup:
 
 
 def not_judged(summary: Summary) -> Markup:
-    """What could not be judged, so that the page looks like no more than it is."""
+    """What could not be judged, so that the page does not look complete if it is not."""
     title = element("b", "Not all is judged. ")
     return together(paragraph(title, named(told), kind="alarm") for told in summary.missing)
 
@@ -119,7 +119,7 @@ def _times(times: Sequence[int], abis: Sequence[int]) -> Markup:
 
 
 def totals(steps: Sequence[Step]) -> Markup:
-    """What each ABI answers, and what changes from one to the next."""
+    """The counts at each ABI, and the changes from one to the next."""
     heads = ("ABI", "allowed", "refused", "moot", "", "what changes")
     return table("totals", heads, map(_step, steps))
 
@@ -133,25 +133,25 @@ def _step(step: Step) -> Markup:
 
 
 def _changes(step: Step) -> Markup:
-    """What an ABI changes, against the one before it."""
+    """What an ABI changes, compared with the one before it."""
     changes = (("refused here and not before", step.breaks), ("refused no more", step.no_more))
     told = [_some(f"{counted(len(some), 'kind')} {what}", some) for what, some in changes if some]
     if step.warnings:
-        told.append(element("div", f"{counted(len(step.warnings), 'warning')} more"))
+        told.append(element("div", counted(len(step.warnings), "more warning")))
     return together(told)
 
 
 def _some(title: str, some: Sequence[Kind]) -> Markup:
-    """The first of some kinds, which open behind their number."""
+    """The first of some kinds, which a click on their number opens."""
     words = ((kind.call, kind.place, kind.error) for kind in some[:MOST_KINDS])
     items = [element("li", element("code", " ".join(word for word in each if word != "-"))) for each in words]
     if len(some) > MOST_KINDS:
-        items.append(element("li", f"and {counted(len(some) - MOST_KINDS, 'kind')} more"))
+        items.append(element("li", f"and {counted(len(some) - MOST_KINDS, 'more kind')}"))
     return element("details", element("summary", title), element("ul", *items))
 
 
 def refused(summaries: Sequence[Summary]) -> Markup:
-    """The table of refusals: those of all ABIs, of which the page shows what the chosen one refuses."""
+    """The table of the refusals of all ABIs; the page shows those of the chosen ABI."""
     found = _by_refusal(summaries)
     heads = ("times", "call", "place", "error", "why", "layers", "program")
     told = [paragraph(_how_many(summary), kind=kinds([summary.abi])) for summary in summaries]
@@ -160,7 +160,7 @@ def refused(summaries: Sequence[Summary]) -> Markup:
 
 
 def _by_refusal(summaries: Sequence[Summary]) -> list[tuple[Refusal, dict[int, Counter[str]]]]:
-    """The refusals of all ABIs, those first that the newest has most often."""
+    """The refusals of all ABIs; those that are most frequent at the newest ABI come first."""
     found: dict[Refusal, dict[int, Counter[str]]] = {}
     for summary in reversed(summaries):
         for refusal, programs in summary.by_frequency():
@@ -177,7 +177,7 @@ def _how_many(summary: Summary) -> str:
 
 
 def _filter() -> Markup:
-    """Where words are asked for that a row must have; without a script it is not there."""
+    """The field for words that a row must have; without a script it is hidden."""
     field = element("input", attributes={"type": "search", "id": "find", "autocomplete": "off", "spellcheck": "false"})
     label = element("label", "Show rows with ", field)
     left = element("span", attributes={"id": "left", "role": "status"})
@@ -185,7 +185,7 @@ def _filter() -> Markup:
 
 
 def _refusal(refusal: Refusal, by_abi: dict[int, Counter[str]]) -> Markup:
-    """A row of refused calls that are alike, with how many there are at each ABI that refuses them."""
+    """A row for one kind of refused calls, with their number at each ABI that refuses them."""
     abis = sorted(by_abi)
     times = varied(abis, [f"{by_abi[abi].total():,}" for abi in abis])
     layers = ", ".join(layer.name for layer in refusal.layers) or "-"
@@ -195,7 +195,7 @@ def _refusal(refusal: Refusal, by_abi: dict[int, Counter[str]]) -> Markup:
 
 
 def accepted(summaries: Sequence[Summary]) -> Markup:
-    """What is refused, known and fine."""
+    """The accepted refusals."""
     found: dict[Accepted, dict[int, int]] = {}
     for summary in reversed(summaries):
         for one, times in summary.accepted.most_common():
@@ -222,10 +222,10 @@ def moot(summary: Summary) -> Markup:
 
 def paths(abis: Sequence[int], found: Paths) -> Markup:
     """The tree of paths."""
-    told = paragraph("Calls on paths about which a policy is asked, at or below each directory. A call on two paths is "
-                     "counted once where both are below.")
+    told = paragraph("Calls on paths about which Landlock is asked, at or below each directory. A call on two paths is "
+                     "counted once if both are below.")
     buttons = (element("button", title, attributes={"type": "button", "id": name})
-               for title, name in (("Open where something is refused", "open"), ("Close all", "close")))
+               for title, name in (("Open directories with refusals", "open"), ("Close all", "close")))
     return together((told, element("div", *buttons, kind="tools", attributes={"id": "doors", "hidden": ""}),
                      tree(abis, found.root)))
 
@@ -233,9 +233,9 @@ def paths(abis: Sequence[int], found: Paths) -> Markup:
 def rules(abis: Sequence[int], tried: Tried, found: Paths) -> Markup:
     """The rules of the policy, with how many calls are at or below the place of each."""
     rows = (_rule(abis, *one) for one in _rules(tried.policy, tried.tree, found))
-    told = paragraph("How many calls are at a rule's place or below it, whichever rules and layers they pass or fail "
-                     "by; those on what is there under another name are not among them. Which rights no call needs, "
-                     "landaudit-record tighten says.")
+    told = paragraph("How many calls are at or below the path or port of a rule, whichever rules and layers allow or "
+                     "refuse them. Calls on an object there by another name are not counted. landaudit-record tighten "
+                     "says which rights no call needs.")
     heads = ("layer", "rule", "place", "rights", "allowed", "refused", "moot", "")
     return together((told, table("rules", heads, rows)))
 
@@ -261,9 +261,9 @@ def _rule(abis: Sequence[int], layer: str, rule: str, place: str, rights: str, c
 
 
 def unsaid(summary: Summary) -> Markup:
-    """What was not recorded, and so is in none of the numbers."""
+    """The calls that were not recorded, which no number counts."""
     if not summary.unsaid:
-        return paragraph("The recording left nothing out that it knows of.")
+        return paragraph("The recording left out nothing that it knows of.")
     rows = (row(f"{times:,}", named(name)) for name, times in summary.unsaid.most_common())
-    told = paragraph("Calls that the recording has no words for, by class; they are in none of the numbers above.")
+    told = paragraph("Calls that the recording can't show, by class. None of the numbers above counts them.")
     return together((told, table("unsaid", ("times", "class"), rows)))

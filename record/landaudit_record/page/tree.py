@@ -1,4 +1,4 @@
-"""The tree of paths in the page: for each directory how much is allowed, refused and moot at it or below it."""
+"""The tree of paths in the page: the number of allowed, refused and moot calls at or below each directory."""
 
 from __future__ import annotations
 
@@ -12,16 +12,16 @@ from .by_version import varied
 from .counting import Counts, Node
 from .markup import Markup, element, together
 
-#: How many rows the tree has at most, and how many of them are seen before a reader opens or closes any.
+#: The most rows of the tree, and how many of them are seen before a reader opens or closes any.
 MOST_ROWS = 1_500
 SEEN_ROWS = 24
-#: The least of a bar's hundred parts that what is there at all has.
+#: The fewest of a bar's hundred parts for a number that is not zero.
 LEAST = 2
 
 
 @dataclass
 class Shape:
-    """Which directories have rows for what is in them, and of which of these the rows are seen at first."""
+    """The directories with rows for their contents, and those of them whose rows are seen at first."""
 
     listed: set[Node] = field(default_factory=set)
     opened: set[Node] = field(default_factory=set)
@@ -35,7 +35,7 @@ def tree(abis: Sequence[int], root: Node) -> Markup:
 
 
 def _shape(root: Node) -> Shape:
-    """Lists what is in directories, where most is refused first, until there are as many rows as there may be."""
+    """Lists the contents of directories, those with most refusals first, until there are as many rows as allowed."""
     found, rows, seen, turn = Shape(), 1, 0, count()
     waiting = [((0, 0), next(turn), root)]
     while waiting:
@@ -56,12 +56,12 @@ def _shape(root: Node) -> Shape:
 
 
 def _named(node: Node) -> list[Node]:
-    """What in a directory has a row of its own: directories, and names at which an ABI refuses something."""
+    """The contents of a directory with rows of their own: directories, and names at which an ABI refuses a call."""
     return [child for child in node.by_weight() if child.children or child.counts.ever_refused]
 
 
 def _joined(node: Node) -> tuple[Node, str]:
-    """The end of a way on which there is but one directory in another, and the name of the way."""
+    """The end of a chain of directories with only one directory in each, and the name of the chain."""
     name = node.name
     while len(node.children) == 1:
         (child,) = node.children.values()
@@ -72,7 +72,7 @@ def _joined(node: Node) -> tuple[Node, str]:
 
 
 def _row(abis: Sequence[int], node: Node, name: str, shape: Shape) -> Markup:
-    """The row of a node, and in it those of what is in it."""
+    """The row of a node, which contains the rows of its contents."""
     if not node.children:
         return element("li", element("div", *_cells(abis, name, node.counts), kind="row"))
     cells = _cells(abis, name if name.endswith("/") else f"{name}/", node.counts)
@@ -82,7 +82,7 @@ def _row(abis: Sequence[int], node: Node, name: str, shape: Shape) -> Markup:
 
 
 def _inside(abis: Sequence[int], node: Node, shape: Shape) -> Iterator[Markup]:
-    """The rows of what is in a directory; what has none is one row together."""
+    """The rows of a directory's contents; names without a row of their own share one."""
     named = _named(node) if node in shape.listed else []
     rest = Counts(0, [0] * len(abis), [0] * len(abis))
     for child in node.children.values():
@@ -93,7 +93,7 @@ def _inside(abis: Sequence[int], node: Node, shape: Shape) -> Iterator[Markup]:
         yield _row(abis, end, name, shape)
     left = len(node.children) - len(named)
     if left:
-        said = f"{counted(left, 'name')} more" if named else counted(left, "name")
+        said = counted(left, "more name" if named else "name")
         yield element("li", element("div", *_cells(abis, said, rest, "rest"), kind="row"))
 
 
@@ -107,7 +107,7 @@ def _cells(abis: Sequence[int], name: str, counts: Counts, kind: str = "path") -
 
 
 def columns(abis: Sequence[int], counts: Counts) -> Iterator[tuple[str, list[int]]]:
-    """What is allowed, refused and moot at each ABI."""
+    """The numbers of allowed, refused and moot calls at each ABI."""
     yield "allowed", [counts.allowed(at) for at in range(len(abis))]
     yield "refused", counts.refused
     yield "moot", counts.moot
@@ -120,7 +120,7 @@ def bars(abis: Sequence[int], counts: Counts) -> Markup:
 
 
 def bar(allowed: int, refused: int, moot: int) -> Markup:
-    """What is allowed, refused and moot as parts of one bar; the numbers beside it say the same."""
+    """Allowed, refused and moot calls as parts of one bar; the numbers beside it say the same."""
     parts = _parts((allowed, refused, moot))
     left, drawn = 0.0, list[Markup]()
     for part, kind in zip(parts, ("allowed", "refused", "moot")):
@@ -133,7 +133,7 @@ def bar(allowed: int, refused: int, moot: int) -> Markup:
 
 
 def _parts(numbers: Sequence[int]) -> list[float]:
-    """Numbers as parts of a hundred, of which what is no zero has at least the least that is seen."""
+    """Numbers as parts of a hundred; a number that is not zero has at least the least part that is seen."""
     whole = sum(numbers)
     if not whole:
         return [0.0] * len(numbers)

@@ -22,14 +22,15 @@ NAME = "check"
 HELP = "check that a policy allows what it must allow, and refuses what it must refuse"
 EXAMPLE = "landaudit-policy check policy.toml cases.toml"
 CASES = """
-Cases are TOML: each [[refused]] or [[allowed]] has a call in the words of a
-trace (open r, open w create, exec, mknod fifo, rename, connect, ..) with path,
-from and to, or port; abi (one or a range) unless it is about all of them; and
-kind for a path that is not on this machine. The output is TAP, version 14."""
+A file of cases is TOML: each [[refused]] or [[allowed]] has a call in the words
+of a trace (open r, open w create, exec, mknod fifo, rename, connect, ..) with
+path, from and to, or port. It has abi (one or a range) unless it is about all
+ABIs, and kind for a path that does not exist on this machine. The output is TAP,
+version 14."""
 
 
 def add_arguments(parser: argparse.ArgumentParser) -> None:
-    """Names the words of the subcommand."""
+    """Adds the arguments of the subcommand."""
     parser.description = f"{HELP}\n{CASES}"
     add_policy(parser)
     parser.add_argument("cases", metavar="CASES.toml", type=Path, help="what the policy must allow and refuse")
@@ -54,7 +55,7 @@ def run(arguments: argparse.Namespace) -> int:
 
 
 def _followed(policy: Policy) -> Policy:
-    """The policy with what its parents lead to on this machine: a rule is on an object, and not on a link to it."""
+    """The policy with the targets of its parents on this machine: a rule is on an object, and not on a link to it."""
     return replace(
         policy,
         layers=tuple(
@@ -72,7 +73,7 @@ def _followed(policy: Policy) -> Policy:
 
 @dataclass(frozen=True)
 class _Outcome:
-    """A case with what landaudit answers at each of its ABIs, and the rules that grant something of the call."""
+    """A case with landaudit's answer at each of its ABIs, and the rules that grant something of the call."""
 
     case: Case
     answers: dict[int, Found]
@@ -84,7 +85,7 @@ class _Outcome:
         return all(found.passes != self.case.refused for found in self.answers.values())
 
     def about(self) -> dict[str, str | Sequence[str]]:
-        """What is answered at which ABI, and by which layers and rules, or which rights are missing."""
+        """The answer at each ABI, with the rules that grant the call, or the layers that refuse it and why."""
         about: dict[str, str | Sequence[str]] = {}
         for abis, found in _together(self.answers):
             about[f"abi {span(abis)}"] = list(_refusing(found)) if found.answer.refused else "allowed"
@@ -103,12 +104,12 @@ def _outcomes(program: Path, policy: Policy, given: cases.Cases) -> Iterator[_Ou
         answers = {abi: by_abi[abi][number] for abi in case.abis}
         for found in answers.values():
             if found.answer.verdict == "moot":
-                raise Problem(f"{given.path}: {case.text}: the policy is not asked: {found.reason}")
+                raise Problem(f"{given.path}: {case.text}: Landlock is not asked: {found.reason}")
         yield _Outcome(case, answers, grants[number])
 
 
 def _together(answers: dict[int, Found]) -> Iterator[tuple[range, Found]]:
-    """Neighbouring ABIs that say the same, together."""
+    """Groups neighbouring ABIs with the same answer."""
     first: int | None = None
     for abi, found in answers.items():
         if first is None:

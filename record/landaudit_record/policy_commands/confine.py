@@ -16,14 +16,14 @@ BEHIND_DASHES = "give a command after '--', as in 'landaudit-policy confine poli
 
 
 def add_arguments(parser: argparse.ArgumentParser) -> None:
-    """Names the words of the subcommand."""
+    """Adds the arguments of the subcommand."""
     parser.usage = "landaudit-policy confine [-h] POLICY.toml [--abi N] -- COMMAND.."
     add_policy(parser)
-    add_abi(parser, "rights that it or the kernel does not have are dropped")
+    add_abi(parser, "rights that this ABI or the kernel does not have are dropped")
 
 
 def run(arguments: argparse.Namespace) -> int:
-    """Restricts this process by the policy and becomes the command, whose status is then the program's."""
+    """Restricts this process by the policy and becomes the command, whose status is then that of this program."""
     command = arguments.behind
     if not command:
         raise Problem(BEHIND_DASHES, USAGE)

@@ -13,12 +13,12 @@ from ..policies import Policy
 from ..regions import as_named
 
 NAME = "diff"
-HELP = "say what a new policy lets pass that an old one refuses, and the reverse, for every call on every tree"
+HELP = "show what a new policy lets pass that an old one refuses, and the reverse, for every call on every tree"
 EXAMPLE = "landaudit-policy diff old.toml new.toml"
 
 
 def add_arguments(parser: argparse.ArgumentParser) -> None:
-    """Names the words of the subcommand."""
+    """Adds the arguments of the subcommand."""
     parser.add_argument("old", metavar="OLD.toml", type=Path, help="the old policy")
     parser.add_argument("new", metavar="NEW.toml", type=Path, help="the new policy, which replaces it")
     add_abis(parser, "Landlock's ABI, or a range (default: {all})")
@@ -49,4 +49,4 @@ def _links(policy: Policy) -> Iterator[str]:
                 real = os.path.realpath(path)
                 if real != path:
                     yield (f"{policy.path}: layer {layer.number}, {rule.place}: {parent} leads to {real} on this "
-                           f"machine, and is compared by its name: write {real} if you mean that")
+                           f"machine, but is compared by its name: write {real} if you mean that")

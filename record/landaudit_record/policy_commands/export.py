@@ -13,7 +13,7 @@ EXAMPLE = "landaudit-policy export policy.toml --c > confine_by_policy.c"
 
 
 def add_arguments(parser: argparse.ArgumentParser) -> None:
-    """Names the words of the subcommand."""
+    """Adds the arguments of the subcommand."""
     add_policy(parser)
     parser.add_argument(
         "--c",

@@ -20,12 +20,12 @@ from .writing import LIMITS, Limits, Recording, Tree
 
 CORE_FILE = "a core file that the kernel was to write"
 NOT_SEEN_TO_START = "a process whose start was not seen"
-#: After how many lines it is looked whether progress is to be shown.
+#: The number of lines after which progress may be shown again.
 LINES_APART = 64
 
 
 def convert(folder: Path, ports: Ports, limits: Limits = LIMITS) -> Converted:
-    """Writes the trees and traces of a recording from its log; nothing is in place until all of it is."""
+    """Writes the trees and traces of a recording from its log; the files are put in place when all are written."""
     about = read_about(folder)
     log = strace_log.find_log(folder)
     kept = disk.kept(folder / OBJECTS, about.started)
@@ -42,7 +42,7 @@ def convert(folder: Path, ports: Ports, limits: Limits = LIMITS) -> Converted:
             if event.line % LINES_APART == 0:
                 progress.show(recording.records)
         if recording.unsaid[NOT_UNDERSTOOD] > recording.records:
-            raise Problem(f"{log} is no log that 'landaudit-record run' wrote: record the program by it")
+            raise Problem(f"{log} is not a log that 'landaudit-record run' wrote: record the program with it")
         if recording.records == 0:
             raise Problem(f"{log} has no call of a program: record it again")
         kept.keep(folder / OBJECTS)
@@ -50,7 +50,7 @@ def convert(folder: Path, ports: Ports, limits: Limits = LIMITS) -> Converted:
 
 
 def _take(scene: Scene, event: Ended | Superseded | Unread) -> None:
-    """What is no call."""
+    """Takes an event that is not a call."""
     match event:
         case Ended():
             _take_end(scene, event)
@@ -61,7 +61,7 @@ def _take(scene: Scene, event: Ended | Superseded | Unread) -> None:
 
 
 def _take_call(scene: Scene, about: About, call: Call) -> None:
-    """A call, whose records are written whole or not at all; most are of a thread that is met already."""
+    """Takes a call, whose records are all written or none; most calls are of a thread that is known already."""
     handler = HANDLERS.get(call.name)
     try:
         thread = scene.threads.get(call.tid)
@@ -76,7 +76,7 @@ def _take_call(scene: Scene, about: About, call: Call) -> None:
 
 
 def _started(scene: Scene, about: About, call: Call) -> Thread:
-    """A thread that no fork made: of the process that the recording starts with, or of one whose start was not seen."""
+    """A thread that no fork made: that of the first process, or of a process whose start was not seen."""
     process = Process(call.tid)
     thread = Thread(call.tid, process, Place("/", about.directory))
     if scene.recording.records:
@@ -91,7 +91,7 @@ def _started(scene: Scene, about: About, call: Call) -> Thread:
 
 
 def _take_end(scene: Scene, ended: Ended) -> None:
-    """A thread's end, which may be all that the log tells of it before its fork has ended."""
+    """Takes a thread's end, which may be all that the log says of it before its fork has ended."""
     try:
         thread = scene.known(ended.tid, ended.line, "exit")
         if thread is not None and (ended.killed or thread.process.threaded):
@@ -104,7 +104,7 @@ def _take_end(scene: Scene, ended: Ended) -> None:
 
 
 def _take_over(scene: Scene, event: Superseded) -> None:
-    """The thread that runs a program goes on under its leader's number; the leader was killed."""
+    """Takes an exec by a thread beside the leader: it continues under the number of the leader, which was killed."""
     if (leader := scene.threads.get(event.tid)) is not None:
         scene.doubt(leader)
     thread = scene.threads.pop(event.by, None)

@@ -1,4 +1,4 @@
-"""What the disk holds after the run, kept with the recording so that it converts anywhere and later."""
+"""What is on the disk after the run, kept with the recording so that it can be converted anywhere and later."""
 
 from __future__ import annotations
 
@@ -29,7 +29,7 @@ _STATX_BTIME = 0x800
 _STATX_SIZE = 256
 _STATX_BTIME_AT = 80
 _SCRIPT_LINE = 256
-#: A character device 0:0: which kind it is for Landlock the kernel says (docs/SEMANTICS.md, "Whiteouts").
+#: A character device 0:0; the kernel says which kind Landlock takes it for (docs/SEMANTICS.md, "Whiteouts").
 WHITEOUT = "whiteout"
 
 
@@ -37,7 +37,7 @@ WHITEOUT = "whiteout"
 class Seen:
     """An object: its kind, a link's target, whether it was made after the run began, and whether a file may be run.
 
-    `inode` is there where the object has several names (hard links) and had them when the run began: those with one
+    `inode` is set if the object has several names (hard links) and had them when the run began: names with the same
     `inode` are one object.
     """
 
@@ -79,7 +79,7 @@ def mode(path: str) -> Mode | None:
 
 
 def _born(path: str) -> float | None:
-    """When an object was made, where its file system says so (statx(2))."""
+    """When an object was made, if its file system says so (statx(2))."""
     buffer = ctypes.create_string_buffer(_STATX_SIZE)
     name = os.fsencode(path)
     if _libc().statx(_AT_FDCWD, name, _AT_SYMLINK_NOFOLLOW, _STATX_BTIME, buffer) != 0:
@@ -97,7 +97,7 @@ def _libc() -> ctypes.CDLL:
 
 
 def interpreter(path: str) -> str | None:
-    """What the kernel runs a file by: the program after `#!`, or the loader that an ELF file names (PT_INTERP)."""
+    """The interpreter of a file: the program after `#!`, or the loader that an ELF file names (PT_INTERP)."""
     try:
         with open(path, "rb") as program:
             head = program.read(_SCRIPT_LINE)
@@ -117,10 +117,10 @@ def _text(written: bytes) -> str | None:
 
 @dataclass(frozen=True)
 class _Layout:
-    """How ELF files of a width and an order of bytes are laid out (elf(5)): where what is asked for is.
+    """The layout of ELF files of a width and a byte order (elf(5)).
 
-    `table` is in the file's header where its table of program headers begins and `counts` the size and number of
-    these; a program header says what it is, `at` which place of the file, and how long that is.
+    In the file's header, `table` is the offset of the table of program headers, and `counts` their size and number. A
+    program header has a type, an offset in the file, and a length.
     """
 
     table: Struct
@@ -143,7 +143,7 @@ _LAYOUTS = {
 
 
 def _loader(program: BinaryIO, head: bytes, layout: _Layout) -> str | None:
-    """The loader of an ELF file, by its program headers; a file that is none the kernel does not run."""
+    """The loader of an ELF file, by its program headers, if it names one; the kernel does not run a malformed file."""
     if len(head) < layout.counts_at + layout.counts.size:
         return None
     (table,) = layout.table.unpack_from(head, layout.table_at)
@@ -158,7 +158,7 @@ def _loader(program: BinaryIO, head: bytes, layout: _Layout) -> str | None:
 
 
 def _read(program: BinaryIO, place: int, length: int) -> bytes:
-    """What is at a place of a file; nothing where no file has such a place."""
+    """The bytes at an offset of a file; nothing for an offset that no file can have."""
     if place > maxsize:
         return b""
     program.seek(place)
@@ -166,7 +166,7 @@ def _read(program: BinaryIO, place: int, length: int) -> bytes:
 
 
 class Disk:
-    """The disk as a recording sees it: each answer is kept, and a kept answer is never asked again."""
+    """The disk as a recording sees it: each answer is kept and used again."""
 
     def __init__(
         self,
@@ -188,7 +188,7 @@ class Disk:
         return self._seen[path]
 
     def interpreter(self, path: str) -> str | None:
-        """What a file is run by, if it is still there and names something."""
+        """The interpreter of a file, if the file still exists and names one."""
         seen = self.look(path)
         if path not in self._interpreters:
             runs = self._live and seen is not None and seen.kind == "reg"
@@ -196,14 +196,14 @@ class Disk:
         return self._interpreters[path]
 
     def mode(self, path: str) -> Mode | None:
-        """The mode of what a path leads to, if that is still there."""
+        """The mode of the object that a path leads to, if it still exists."""
         self.look(path)
         if path not in self._modes:
             self._modes[path] = mode(path) if self._live else None
         return self._modes[path]
 
     def keep(self, file: Path) -> None:
-        """Writes what was asked, for a later conversion."""
+        """Writes the kept answers, for a later conversion."""
         jsonl.write(file, (self._line(path, seen) for path, seen in self._seen.items() if seen is not None))
 
     def _line(self, path: str, seen: Seen) -> jsonl.Record:
@@ -224,7 +224,7 @@ class Disk:
 
 
 def kept(file: Path, since: float) -> Disk:
-    """The disk as an earlier conversion kept it, or the disk of this machine where there was none."""
+    """The disk as an earlier conversion kept it, or the disk of this machine if there was none."""
     if not file.is_file():
         return Disk(since)
     seen: dict[str, Seen] = {}
@@ -241,7 +241,7 @@ def kept(file: Path, since: float) -> Disk:
 
 
 def list_below(top: str, limit: int, unread: list[str]) -> list[tuple[str, Seen]] | None:
-    """Everything in a directory and below it, or None where it is more than the limit.
+    """Everything in a directory and below it, or None if there is more than the limit.
 
     Directories that can't be read are added to `unread`.
     """

@@ -1,4 +1,4 @@
-"""What the kernel refuses by file modes, whatever a policy says (inode(7), path_resolution(7), credentials(7))."""
+"""Calls that the kernel refuses by file modes, whatever the policy (inode(7), path_resolution(7), credentials(7))."""
 
 from __future__ import annotations
 
@@ -14,7 +14,7 @@ _OF_MODE = {"r": READ, "w": WRITE, "rw": READ | WRITE}
 
 @dataclass(frozen=True, slots=True)
 class Mode:
-    """The mode of an object, and whose it is."""
+    """The mode of an object, and its owner and group."""
 
     bits: int
     uid: int
@@ -23,13 +23,13 @@ class Mode:
 
 @dataclass(frozen=True, slots=True)
 class Asker:
-    """As whom a process without privileges asks for files."""
+    """The user and groups of a process without privileges."""
 
     uid: int
     groups: frozenset[int]
 
     def may(self, mode: Mode | None, wanted: int) -> bool:
-        """Whether a mode lets it do what it wants; where nothing is known of an object, it may."""
+        """Whether a mode allows what it wants; if nothing is known of an object, it may."""
         if mode is None:
             return True
         shift = 6 if mode.uid == self.uid else 3 if mode.gid in self.groups else 0
@@ -49,7 +49,7 @@ def refuse(
 
 
 def _wanted(op: str, members: Mapping[str, Any], runs: bool) -> Iterator[tuple[str, int]]:
-    """The objects that a call looks at, each with what its mode must let be done."""
+    """The objects that a call looks at, each with the access that its mode must allow."""
     path: str | None = members.get("shown") or members.get("path") or members.get("from")
     target: str | None = members.get("shown_to") or members.get("to")
     match op:

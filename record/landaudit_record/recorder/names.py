@@ -1,7 +1,7 @@
-"""Names of objects in the making: the file system as the program met it, call after call.
+"""The names of objects while a log is converted: the file system as the program met it, call after call.
 
-Every object is a node for its whole life, under whatever names it goes. What the run makes, removes and moves
-changes the nodes, and what it does not touch is as the listing before the run says, else as the disk says after it.
+Every object is one node for its whole life, whatever its names are. Calls that make, remove and move objects change
+the nodes. An object that the run does not touch is as the listing before the run says, else as the disk says after it.
 """
 
 from __future__ import annotations
@@ -15,10 +15,10 @@ from . import values
 from .disk import WHITEOUT, Disk, Seen
 
 MOST_LINKS = 40
-#: Under this directory links lead elsewhere than their targets say (proc(5)).
+#: Under this directory, links do not lead where their targets say (proc(5)).
 PROC = ["proc"]
 _IN_PROC = "/proc"
-#: What may be behind the last slash of a path and is no name in a directory.
+#: Last components of a path that are not names in a directory.
 _NO_NAMES = ("", ".")
 #: The kinds of objects through which a path may lead.
 _ON_WAYS = ("dir", "sym")
@@ -26,11 +26,11 @@ _ON_WAYS = ("dir", "sym")
 
 @dataclass(slots=True, eq=False)
 class Node:
-    """An object: its kind, a link's target, the path where its further children are looked up, and those known.
+    """An object: its kind, a link's target, the path at which further children are looked up, and the known children.
 
-    `start` is its path when the run begins ("" for the root), None if it is not there then; `first` the name under
-    which the tree lists it first; `ruled` says that the program puts a rule on it; `over` and `name` are the
-    directory that it is in, or was in last, and its name there.
+    `start` is its path when the run begins ("" for the root), None if it does not exist then; `first` is the name under
+    which the tree lists it first; `ruled` says that the program puts a rule on it; `over` and `name` are the directory
+    that it is in, or was in last, and its name there.
     """
 
     kind: str
@@ -45,12 +45,12 @@ class Node:
 
     @property
     def shares(self) -> bool:
-        """Whether it is made by the run and no rule is on it: to Landlock it is like all others of its kind there."""
+        """Whether the run makes it and no rule is on it: then Landlock treats all such objects of its kind alike."""
         return self.start is None and not self.ruled
 
     @property
     def path(self) -> str:
-        """Where it is, or was last; of an object with several names, by the one that was given last."""
+        """Its path, or its last path; for an object with several names, by the latest name."""
         names: list[str] = []
         node: Node | None = self
         while node is not None and node.name:
@@ -63,8 +63,8 @@ class Node:
 class Found:
     """Where a path leads: the real path, the node there if there is one, and where the path breaks off.
 
-    `broken` is the number of names of `names` behind which nothing is: an object that is missing in a
-    directory has all names but the last; None where the object is there.
+    `broken` is the number of names of `names` after which nothing exists: for an object that is missing in a directory,
+    all names but the last; None if the object exists.
     """
 
     names: list[str]
@@ -77,7 +77,7 @@ class Found:
 
     @property
     def in_directory(self) -> bool:
-        """Whether only the last name is missing, in a directory that is there."""
+        """Whether only the last name is missing, in a directory that exists."""
         return self.broken == len(self.names) - 1
 
 
@@ -87,7 +87,7 @@ def join(names: Sequence[str]) -> str:
 
 
 def _beneath(directory: Node, name: str) -> str | None:
-    """Where the children of a directory are looked up that is in another one."""
+    """The path at which the children of a directory in another one are looked up."""
     return None if directory.origin is None else f"{directory.origin}/{name}"
 
 
@@ -98,7 +98,7 @@ def split(path: str) -> tuple[str, ...]:
 
 
 class Links(Protocol):
-    """What a walk asks and tells of links."""
+    """What a walk asks about links, and reports about them."""
 
     def magic(self, path: str) -> "tuple[str, Node | None] | None":
         """Where a link of /proc leads for the caller, and to what object if that is known; None for any other path."""
@@ -110,12 +110,12 @@ class Links(Protocol):
 class Names:
     """All objects that the run met, by their names at this moment.
 
-    `turns` counts how often a directory of its own got or lost a name: what is beneath is listed otherwise since.
-    `whiteouts` is the kind of object as which the kernel guards whiteouts (docs/SEMANTICS.md).
+    `turns` counts how often a directory got or lost a name, which changes the names of what is beneath it. `whiteouts`
+    is the kind of object as which the kernel guards whiteouts (docs/SEMANTICS.md).
 
-    Programs name the same directories over and over. So it is kept where paths of directories led, `_walked` by root,
-    starting point and text, `_reached` by real path, until a directory or a link on the way may be another, or one of
-    the names `_breaks` at which ways broke off.
+    Programs name the same directories over and over. So the results of walks to directories are kept, `_walked` by
+    root, starting point and text, and `_reached` by real path, until a directory or a link on the way may have changed,
+    or one of the names in `_breaks` at which walks broke off.
     """
 
     def __init__(self, disk: Disk, before: dict[str, Seen], watched: list[str], whiteouts: str = "char") -> None:
@@ -140,7 +140,7 @@ class Names:
         return found
 
     def _initial(self, node: Node, name: str) -> Node | None:
-        """What a name is that the run did not touch yet."""
+        """The object of a name that the run has not touched yet."""
         start = None if node.start is None else f"{node.start}/{name}"
         seen = self._seen(node, name, start)
         found = None
@@ -157,7 +157,7 @@ class Names:
         return found
 
     def _seen(self, node: Node, name: str, start: str | None) -> Seen | None:
-        """What the listing before the run, else the disk after it, says of a name."""
+        """What the listing before the run, else the disk after it, says about a name."""
         if start is not None and self._is_watched(start):
             return self._before.get(start)
         if node.origin is None:
@@ -170,7 +170,7 @@ class Names:
         return self.whiteouts if seen == WHITEOUT else seen
 
     def knows(self, path: str) -> bool:
-        """Whether it is known what a name is, by a listing before the run or by a call since."""
+        """Whether the object of a name is known, by the listing before the run or by a call since."""
         over, _, name = path.rpartition("/")
         directory = self.at(over or "/")
         if directory is None or directory.start is None:
@@ -218,13 +218,13 @@ class Names:
         return node
 
     def _forget_ways(self) -> None:
-        """Forgets where paths led."""
+        """Forgets the results of walks."""
         self._walked.clear()
         self._breaks.clear()
         self._reached = {"": self.root}
 
     def ensure(self, path: str, kind: str) -> Node:
-        """The object at a real path, which is known to be there: a name that says otherwise is put right."""
+        """The object at a real path, which is known to exist: a name that says otherwise is corrected."""
         node = self.root
         names = split(path)
         for count, name in enumerate(names, start=1):
@@ -236,9 +236,9 @@ class Names:
         return node
 
     def _met(self, directory: Node, name: str, node: Node) -> Node:
-        """An object of which a call tells that it is there, though no listing does.
+        """An object whose existence a call shows, though no listing does.
 
-        It was there when the run began, unless it is known that nothing was, or something else.
+        It existed when the run began, unless it is known that nothing or another object was there.
         """
         start = None if directory.start is None else f"{directory.start}/{name}"
         if start is not None and not self._is_watched(start):
@@ -253,7 +253,7 @@ class Names:
         return node
 
     def _unmake(self, path: str, node: Node) -> None:
-        """An object that was taken to be at a path when the run began was not."""
+        """Corrects that an object was not at a path when the run began."""
         self._starts[path] = None
         if node.start == path:
             node.start = None
@@ -261,7 +261,7 @@ class Names:
     def _name(self, directory: Node, name: str, node: Node | None) -> None:
         """Gives a name in a directory to an object, or to nothing.
 
-        Directories of /proc, which come and go with the processes, are on no way that is kept.
+        Directories of /proc, which come and go with the processes, are on no walk that is kept.
         """
         before = directory.children.get(name)
         is_on_way = before is not None and before.kind in _ON_WAYS and not self._is_proc(directory)
@@ -288,13 +288,13 @@ class Names:
         self._name(directory, names[-1], node)
 
     def never(self, path: str) -> None:
-        """Notes that nothing is at a path, of which nothing was known: it was not there when the run began either."""
+        """Notes that nothing is at a path of which nothing was known: nothing was there when the run began either."""
         self._starts.setdefault(path, None)
 
     def gone(self, path: str) -> None:
-        """Takes a name away of which a call tells that nothing is there.
+        """Removes a name at which, as a call shows, nothing is.
 
-        What no call has met yet was not there when the run began either.
+        If no call has met the name yet, nothing was there when the run began either.
         """
         node = self.at(path)
         if node is not None and self._starts.get(path) is node and (node.first is None or node.start != path):
@@ -302,7 +302,7 @@ class Names:
         self.put(path, None)
 
     def move(self, start: str, end: str) -> None:
-        """Renames an object; what is in a directory is from then on looked up where it went."""
+        """Renames an object; the contents of a directory are then looked up at its new path."""
         node = self.at(start)
         if node is not None and node.origin is not None:
             node.origin = end
@@ -337,7 +337,7 @@ class Names:
         return Found([*led.names, name], child)
 
     def keep_way(self, way: "_Way", led: Found) -> None:
-        """Keeps where the path of a directory led; where it broke off, until anything changes at that place."""
+        """Keeps where the path of a directory led; if it broke off, until anything changes at that place."""
         if len(self._walked) == values.KEPT:
             self._forget_ways()
         self._walked[way] = led
@@ -350,7 +350,7 @@ _Way = tuple[str, str, str]
 
 
 class _Walk:
-    """The resolution of one path; `way` is its directory's, if where that leads is to be kept."""
+    """The resolution of one path; `way` is the key of its directory, if the result is to be kept."""
 
     def __init__(
         self, names: Names, root: str, directory: str, path: str, follow: bool, links: Links, way: _Way | None = None
@@ -388,14 +388,14 @@ class _Walk:
     def _keep_way(self, names: list[str], broken: int | None = None) -> None:
         """Keeps where the directory's path led or broke off.
 
-        A way through /proc, whose links are others for others, is not kept.
+        A walk through /proc, whose links differ between processes, is not kept.
         """
         self._keeps = False
         if self._way is not None and names[:1] != PROC and (broken is not None or self._is_in_directory()):
             self._names.keep_way(self._way, Found(names, None if broken is not None else self._node, broken))
 
     def _step(self, directory: Node, name: str) -> bool:
-        """Goes to a name in the directory, or where it leads as a link; false where there is nothing to go to."""
+        """Goes to a name in the directory, or where it leads as a link; false if there is nothing to go to."""
         follows = bool(self._left) or self._follows_last
         if follows and self._here[:1] == PROC:
             self._keeps = False
@@ -422,7 +422,7 @@ class _Walk:
         return True
 
     def _follow(self, link: Node, name: str) -> bool:
-        """Follows a link; false where it leads nowhere, or where the links have no end."""
+        """Follows a link; false if it leads nowhere, or if there are too many links."""
         if link.target is None or self._followed == MOST_LINKS:
             return False
         self._links.passed(join([*self._here, name]), link)

@@ -1,4 +1,4 @@
-"""What a policy says of ports, for a strace that can't read it from the calls (before 6.7)."""
+"""What a policy says about ports, for a strace that can't read it from the calls (before 6.7)."""
 
 from __future__ import annotations
 
@@ -10,7 +10,7 @@ from ..rights import NET
 
 
 class Ports:
-    """The rights for ports that each layer handles, and the rules on ports, in the policy's order, over and over."""
+    """The rights for ports that each layer handles, and the rules on ports, in the policy's order, repeated."""
 
     def __init__(self, policy: Policy | None = None) -> None:
         layers = policy.layers if policy is not None else ()
@@ -25,7 +25,7 @@ class Ports:
         )
 
     def handled(self) -> list[str] | None:
-        """What the next ruleset handles; None without a policy."""
+        """The rights for ports that the next ruleset handles; None without a policy."""
         return next(self._handled, None)
 
     def rule(self) -> tuple[list[str], int] | None:

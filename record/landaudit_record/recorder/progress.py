@@ -1,4 +1,4 @@
-"""How far a long work is, shown on a terminal and nowhere else."""
+"""Shows the progress of a long task, only on a terminal."""
 
 from __future__ import annotations
 
@@ -11,7 +11,7 @@ EVERY = 0.5
 
 
 class Progress:
-    """A line that is written over itself on standard error: a count, or a work that gives none."""
+    """A line on standard error that is overwritten: a count, or the name of a task without one."""
 
     def __init__(self, what: str = "") -> None:
         self._what = what
@@ -23,13 +23,13 @@ class Progress:
         return self
 
     def show(self, count: int, what: str = "") -> None:
-        """Shows the count, if it is a while since it was shown."""
+        """Shows the count, if it was not shown for a while."""
         if self._shows and time.monotonic() >= self._next:
             self._next = time.monotonic() + EVERY
             self._write(f"{count:,} {what or self._what}")
 
     def say(self, text: str) -> None:
-        """Shows what is done now, for as long as nothing else is shown."""
+        """Shows the current task, until something else is shown."""
         if self._shows:
             self._write(text)
 

@@ -29,12 +29,12 @@ _LANDLOCK_CREATE_RULESET_ERRATA = 2
 class About:
     """How a recording was made.
 
-    `started` is the time at which the run began (seconds since 1970), `watched` the directories that
-    were listed before it, `descriptors` those that the command was given, with the kind as which a
-    trace adopts each and its path, `admin` and `nnp` what the first process had, `errata` the faults of
-    Landlock that the kernel says it has mended, the first as bit 0. `uid` and `groups` say as whom the command runs,
-    `uid` only if it has no privilege by which file modes would not count. `ended` says that the tracer ended by itself,
-    so that the log is whole; it is said after the run.
+    `started` is the time at which the run began (seconds since 1970). `watched` has the directories that were listed
+    before it. `descriptors` has those that the command was given, each with its path and the kind with which a trace
+    adopts it. `admin` and `nnp` are those of the first process. `errata` has the faults of Landlock that the kernel
+    says it has fixed, the first as bit 0. `uid` and `groups` are those of the command; `uid` is set only if it has no
+    privilege that bypasses file modes. `ended`, which is written after the run, says that the tracer ended by itself,
+    so that the log is whole.
     """
 
     command: list[str]
@@ -53,12 +53,12 @@ class About:
 
     @property
     def whiteouts(self) -> str:
-        """The kind of object as which the kernel guards whiteouts: erratum 4 is that they are character devices."""
+        """The kind of object as which the kernel guards whiteouts; by erratum 4, they are character devices."""
         return "reg" if self.errata & 8 else "char"
 
     @property
     def asker(self) -> Asker | None:
-        """As whom all processes ask for files: without privileges none can become another user (credentials(7))."""
+        """The user of all processes: without privileges, none can become another user (credentials(7))."""
         return None if self.uid is None else Asker(self.uid, frozenset(self.groups))
 
     def write(self, folder: Path) -> None:
@@ -77,13 +77,13 @@ def read_about(folder: Path) -> About:
 
 
 def policy_of(folder: Path) -> Path | None:
-    """The policy that a recording was made under, if it was by `run --policy`."""
+    """The policy under which a recording was made, if it was made with `run --policy`."""
     file = folder / POLICY
     return file if file.is_file() else None
 
 
 def standard_descriptors() -> dict[str, dict[str, str | None]]:
-    """What standard input, output and error of this process are."""
+    """The kinds and paths of standard input, output and error of this process."""
     found: dict[str, dict[str, str | None]] = {}
     for number in range(3):
         try:
@@ -98,7 +98,7 @@ def standard_descriptors() -> dict[str, dict[str, str | None]]:
 
 
 def errata() -> int:
-    """The errata of Landlock that this kernel has mended, as bits; 0 where it does not say."""
+    """The errata of Landlock that this kernel has fixed, as bits; 0 if it does not say."""
     libc = ctypes.CDLL(None, use_errno=True)
     mended: int = libc.syscall(_SYS_LANDLOCK_CREATE_RULESET, None, 0, _LANDLOCK_CREATE_RULESET_ERRATA)
     return max(0, mended)
@@ -110,7 +110,7 @@ def is_admin() -> bool:
 
 
 def user() -> int | None:
-    """The number of this process's user, if the process has no capability: with some file modes would not count."""
+    """The number of this process's user, if the process has no capability; with some, file modes would not count."""
     return None if _capabilities() else os.geteuid()
 
 
@@ -123,7 +123,7 @@ def _capabilities() -> int:
 
 @dataclass
 class Watched:
-    """Directories before a run: those that were listed, those that hold too much, and what of them can't be read."""
+    """Directories before a run: those that were listed, those with too many objects, and those that can't be read."""
 
     watched: list[str] = field(default_factory=list)
     too_large: list[str] = field(default_factory=list)

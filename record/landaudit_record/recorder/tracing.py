@@ -22,8 +22,8 @@ OLDEST = (6, 1)
 #: With its filter (--seccomp-bpf, which makes recording quicker) strace sets no_new_privs on the command.
 SETS_NO_NEW_PRIVS = True
 
-#: Signals that end no process by themselves (signal(7)); all others are kept, since strace tells of a process that
-#: a signal ends only where it keeps the signal.
+#: Signals that end no process by themselves (signal(7)); all others are kept, since strace reports that a signal ended
+#: a process only if it keeps the signal.
 HARMLESS_SIGNALS = ("SIGCHLD", "SIGCONT", "SIGURG", "SIGWINCH")
 
 #: The calls that a conversion reads; `?` before a name that a strace may not know.
@@ -39,12 +39,12 @@ ptrace process_vm_readv process_vm_writev kcmp ?move_pages ?migrate_pages ?get_r
 ?process_madvise ?pidfd_getfd
 """.split()
 
-#: Calls of which nothing but flags is read: their data stay out of the log.
+#: Calls of which only the flags are read: their data stay out of the log.
 UNDECODED = ("sendto", "sendmsg", "sendmmsg")
 
-#: How long a command that is to end may take before it is killed, in seconds.
+#: The time that a command has to end before it is killed, in seconds.
 PATIENCE = 5.0
-#: How often those that are left are killed from then on.
+#: The time between further attempts to kill what is left.
 _AGAIN = 0.2
 _PR_SET_CHILD_SUBREAPER = 36
 
@@ -61,7 +61,7 @@ def version() -> str:
 
 
 def may_trace() -> None:
-    """Sees that this user may trace a program."""
+    """Checks that this user may trace a program."""
     run = subprocess.run(["strace", "-o", "/dev/null", "true"], capture_output=True, text=True, check=False)
     if run.returncode != 0:
         said = (run.stderr.strip().splitlines() or ["it gives no reason"])[-1]
@@ -91,7 +91,7 @@ def command_line(log: Path, command: list[str]) -> list[str]:
 
 @dataclass(frozen=True)
 class Outcome:
-    """What came of a run: the command's status as a shell gives it, and whether the tracer ended by itself."""
+    """The result of a run: the command's status as a shell gives it, and whether the tracer ended by itself."""
 
     status: int
     ended: bool
@@ -100,9 +100,9 @@ class Outcome:
 def run(log: Path, command: list[str]) -> Outcome:
     """Runs a command under strace.
 
-    An interrupt from the terminal goes to the command, which ends as it likes; other signals that ask for the end are
-    passed to all that strace traces, and what has not ended after a while is killed. Nothing is left running: what a
-    tracer leaves behind that was killed itself is killed, since most of its calls would fail.
+    An interrupt from the terminal goes to the command, which decides how it ends. Other signals that ask for the end
+    are passed to everything that strace traces, and what has not ended after a while is killed. Nothing is left
+    running: if the tracer was killed, what it traced is killed too, since most of its calls would fail.
     """
     _adopt_orphans()
     passing = _Passing()
@@ -115,12 +115,12 @@ def run(log: Path, command: list[str]) -> Outcome:
 
 
 def _adopt_orphans() -> None:
-    """Makes processes whose parent ends children of this one (prctl(2), PR_SET_CHILD_SUBREAPER)."""
+    """Makes this process the parent of orphans (prctl(2), PR_SET_CHILD_SUBREAPER)."""
     ctypes.CDLL(None).prctl(_PR_SET_CHILD_SUBREAPER, ctypes.c_ulong(1), *[ctypes.c_ulong(0)] * 3)
 
 
 def _wait(tracer: int) -> int:
-    """Waits for the end of the tracer, and takes up orphans that end; gives the tracer's status."""
+    """Waits for the end of the tracer, and reaps orphans that end; returns the tracer's status."""
     while True:
         pid, status = os.waitpid(-1, 0)
         if pid == tracer:
@@ -128,7 +128,7 @@ def _wait(tracer: int) -> int:
 
 
 class _Passing:
-    """Passes signals that ask for the end to what the tracer traces; after a while, or at the second one, kills it."""
+    """Passes signals that ask for the end to what the tracer traces; kills it after a while, or at a second one."""
 
     def __init__(self) -> None:
         self.tracer: int | None = None
@@ -136,7 +136,7 @@ class _Passing:
 
     @contextmanager
     def installed(self) -> Iterator[None]:
-        """Takes the signals: by functions, since what is ignored here the command would ignore too (execve(2))."""
+        """Handles the signals with functions, since the command would also ignore what is ignored here (execve(2))."""
         handlers: dict[int, Callable[[int, FrameType | None], None]] = {
             signal.SIGINT: lambda *_: None,
             signal.SIGALRM: self._kill,
@@ -177,7 +177,7 @@ def _traced_by(tracer: int) -> list[int]:
 
 
 def _processes(field: str, value: int) -> list[int]:
-    """The processes of which the status says that a field is a number (proc(5))."""
+    """The processes whose status has a number in a field (proc(5))."""
     found = []
     for entry in os.scandir("/proc"):
         try:
@@ -190,7 +190,7 @@ def _processes(field: str, value: int) -> list[int]:
 
 
 def _kill_children() -> int:
-    """Kills all processes that came from this one, and says how many there were that had not ended."""
+    """Kills all descendants of this process, and returns how many of them had not ended."""
     killed = 0
     while children := _processes("PPid", os.getpid()):
         for child in children:

@@ -1,4 +1,4 @@
-"""Why a call could not be said: the faults by which a handler leaves its call out, each with the class that is counted."""
+"""Why a call can't be written: the exceptions by which a handler leaves out its call, each with the class to count."""
 
 from __future__ import annotations
 
@@ -6,22 +6,22 @@ NOT_UNDERSTOOD = "a line that is not understood"
 
 
 class CannotSay(Exception):
-    """A call that trace and tree have no words for; its text is the class that is counted.
+    """A call that trace and tree can't express; its text is the class that is counted.
 
-    `asks` says whether the kernel may refuse such a call by Landlock: an audit can't foresee that it does.
+    `asks` says whether Landlock may refuse such a call: an audit can't foresee that.
     """
 
     asks = True
 
 
 class NotAsked(CannotSay):
-    """A call that Landlock does not refuse: it ended before Landlock was asked, or Landlock is never asked about it."""
+    """A call that Landlock does not refuse: it failed before Landlock was asked, or Landlock is never asked."""
 
     asks = False
 
 
 class NotUnderstood(CannotSay):
-    """A text that is none of strace's, or not the whole of one."""
+    """A text that strace did not write, or only a part of one."""
 
     def __init__(self) -> None:
         super().__init__(NOT_UNDERSTOOD)

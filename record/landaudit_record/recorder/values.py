@@ -1,4 +1,4 @@
-"""What an argument of a call says, as strace writes it with numbers beside their names."""
+"""Reads the arguments of a call, which strace writes with numbers beside their names."""
 
 from __future__ import annotations
 
@@ -11,7 +11,7 @@ from .unsaid import CannotSay, NotUnderstood
 _ESCAPE = re.compile(rb"\\(x[0-9a-f]{2}|[0-7]{1,3}|.)", re.DOTALL)
 _LETTERS = {b"n": b"\n", b"t": b"\t", b"r": b"\r", b"v": b"\v", b"f": b"\f"}
 _COMMENT = re.compile(r"\s*/\*.*?\*/")
-#: Programs repeat themselves: this many different arguments are kept with what they say.
+#: Programs repeat themselves: the values of this many different arguments are kept.
 KEPT = 16_384
 
 _OUR_PID = re.compile(r"/\* (\d+) in strace's PID NS \*/")
@@ -22,7 +22,7 @@ _DEVICE = re.compile(r"<(char|block) \d+:\d+>$")
 
 @dataclass(frozen=True, slots=True)
 class Descriptor:
-    """A descriptor's number, and what strace says of it: a path, or a name as `pipe:[1]`, and the kind of a device.
+    """A descriptor's number, and what strace says about it: a path, or a name such as `pipe:[1]`, and a device's kind.
 
     `path` is the path behind it, if it has one; `in_memory` says that strace shows a path for a file that has none
     (memfd_create(2)).
@@ -42,7 +42,7 @@ class Descriptor:
 
 
 def is_in_memory(path: str) -> bool:
-    """Whether strace shows a path for a file that has none, and that the kernel lets be opened whatever the policy."""
+    """Whether strace shows a path for a file that has none; the kernel allows opening it whatever the policy is."""
     return path.startswith("/memfd:")
 
 
@@ -70,21 +70,21 @@ def _bytes(text: str) -> bytes:
 
 
 def raw(argument: str) -> bytes | None:
-    """The bytes of a text in quotes; None where there is none."""
+    """The bytes of a text in quotes; None if there is none."""
     quoted = len(argument) >= 2 and argument[0] == '"' and argument.endswith('"')
     return _bytes(argument[1:-1]) if quoted else None
 
 
 @lru_cache(KEPT)
 def text(argument: str) -> str | None:
-    """A text in quotes; None where the call was given no text that could be read."""
+    """A text in quotes; None if the call was given no text that could be read."""
     if len(argument) < 2 or argument[0] != '"' or not argument.endswith('"'):
         return None
     return unescaped(argument[1:-1])
 
 
 def written(digits: str) -> int:
-    """A number as C writes it: octal where it begins with 0."""
+    """A number as C writes it: octal if it begins with 0."""
     try:
         return int(digits, 8) if digits.startswith("0") and digits.isdigit() else int(digits, 0)
     except ValueError:
@@ -106,14 +106,14 @@ def number(argument: str) -> int:
 
 
 def pid(argument: str) -> int:
-    """The number of a process by which the log names it, where the process that names it may know another."""
+    """The number by which the log names a process; the process that names it may know another number."""
     ours = _OUR_PID.search(argument)
     return int(ours[1]) if ours else number(argument)
 
 
 @lru_cache(KEPT)
 def descriptor(argument: str) -> Descriptor:
-    """A descriptor with what is behind it."""
+    """A descriptor with what it is open on."""
     match = _DESCRIPTOR.match(argument)
     if match is None:
         raise CannotSay("a descriptor that is not understood")

@@ -13,7 +13,7 @@ Handler = Callable[[Scene, Thread, Call], None]
 
 
 def _opening(name: str, base: int | None, path: int) -> Handler:
-    """The handler of a call that opens files, some of which a trace has no words for."""
+    """The handler of a call that opens files, some of which a trace can't express."""
     return mounts.from_a_place(others.opening(opening.HANDLERS[name], base, path), base)
 
 

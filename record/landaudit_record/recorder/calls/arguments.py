@@ -13,10 +13,10 @@ AT_EMPTY_PATH = 0x1000
 AT_SYMLINK_FOLLOW = 0x400
 AT_SYMLINK_NOFOLLOW = 0x100
 
-#: Errors by which a call ends before the kernel has looked at its paths.
+#: Errors with which a call fails before the kernel has looked at its paths.
 BEFORE_PATHS = frozenset({"EBADF", "EFAULT", "EINVAL", "EMFILE", "ENAMETOOLONG", "ENFILE", "ENOSYS"})
 
-#: Errors by which a path may have led nowhere.
+#: Errors that may mean that a path led nowhere.
 NOT_REACHED = frozenset({"ENOENT", "ENOTDIR", "ELOOP", "ENXIO"})
 
 
@@ -42,9 +42,9 @@ def spot_at(scene: Scene, thread: Thread, call: Call, base: int | None, path: in
 
 
 def name_at(scene: Scene, thread: Thread, call: Call, base: int | None, path: int) -> Spot:
-    """What a path argument names of a call that makes, moves or removes a name: a link there is not followed.
+    """What a path argument of a call that makes, moves or removes a name stands for: a link there is not followed.
 
-    A path that ends in no name, as `x/..`, ends such a call before Landlock is asked (`LAST_NORM` in the kernel's
+    If the path ends in no name, as `x/..`, such a call fails before Landlock is asked (`LAST_NORM` in the kernel's
     fs/namei.c).
     """
     spot = spot_at(scene, thread, call, base, path, False)
@@ -54,10 +54,10 @@ def name_at(scene: Scene, thread: Thread, call: Call, base: int | None, path: in
 
 
 def object_at(scene: Scene, call: Call, spot: Spot, kind: str) -> Spot:
-    """What a call needs that works on an object, where the kernel has the last word on whether it is there.
+    """The object that a call needs; the kernel's answer decides whether it exists.
 
-    The kernel looks for the object before it asks Landlock: so where it says anything else than that
-    nothing is there, something is.
+    The kernel looks for the object before it asks Landlock: so if it answers anything but that
+    nothing is there, the object exists.
     """
     if values.is_in_memory(spot.real):
         raise NotAsked(NO_PATH)
@@ -74,5 +74,5 @@ def descriptor_at(call: Call, index: int | None) -> Descriptor | None:
 
 
 def shown(spot: Spot, to: Spot | None = None) -> dict[str, str | None]:
-    """The members that say the real paths of a record."""
+    """The members with the real paths of a record."""
     return {"shown": spot.shown} if to is None else {"shown": spot.shown, "shown_to": to.shown}

@@ -1,7 +1,7 @@
-"""Calls by which the kernel asks Landlock in ways that a trace has no words for, or few.
+"""Calls for which the kernel asks Landlock in ways that a trace can't express, or only in part.
 
-What can be said of them is said: the file that the kernel opens for swapon(2) or acct(2), and a file that is opened by
-a handle whose path was seen. What can't be said is counted.
+Some can be written: the file that the kernel opens for swapon(2) or acct(2), and a file that is opened by a handle
+whose path was seen. The others are counted.
 """
 
 from __future__ import annotations
@@ -28,12 +28,12 @@ QUEUE = "a message queue that mq_open opens"
 PINNED = "an object that bpf gives a name"
 LIBRARY = "a library that uselib loads"
 
-#: Errors by which open_by_handle_at(2) ends before it opens something.
+#: Errors with which open_by_handle_at(2) fails before it opens something.
 BEFORE_OPENING = frozenset({"EBADF", "EFAULT", "EINVAL", "ELOOP", "EOPNOTSUPP", "EOVERFLOW", "EPERM", "ESTALE"})
 
 
 def _io_uring_setup(scene: Scene, thread: Thread, call: Call) -> None:
-    """With a thread of its own the kernel takes calls without being told of them."""
+    """With a thread of its own, the kernel takes entries without a system call."""
     flags = values.member(call.arguments[1], "flags")
     if call.ok and flags is not None and values.number(flags) & IORING_SETUP_SQPOLL:
         raise CannotSay(BY_IO_URING)
@@ -45,7 +45,7 @@ def _io_uring_enter(scene: Scene, thread: Thread, call: Call) -> None:
 
 
 def _name_to_handle_at(scene: Scene, thread: Thread, call: Call) -> None:
-    """Keeps which path a handle is of."""
+    """Keeps the path of a handle."""
     handle = values.member(call.arguments[2], "f_handle")
     if call.ok and handle is not None:
         follow = bool(arguments.number_at(call, 4) & arguments.AT_SYMLINK_FOLLOW)
@@ -74,7 +74,7 @@ def _open_by_handle_at(scene: Scene, thread: Thread, call: Call) -> None:
 
 
 def _opened_and_closed(scene: Scene, thread: Thread, call: Call, spot: Spot, mode: str) -> None:
-    """A file that is opened by a number that the process never has."""
+    """A file that is opened under a number that the process never has."""
     number = thread.process.made_up()
     scene.say(thread, call, "open", path=spot.path, fd=number, mode=mode, **arguments.shown(spot))
     if spot.node is not None:
@@ -82,14 +82,14 @@ def _opened_and_closed(scene: Scene, thread: Thread, call: Call, spot: Spot, mod
 
 
 def _swapon(scene: Scene, thread: Thread, call: Call) -> None:
-    """The kernel opens what it swaps to, for reading and writing."""
+    """The kernel opens the file or device that it swaps to, for reading and writing."""
     if call.error == "EPERM" or (call.error == "EINVAL" and arguments.number_at(call, 1) & ~SWAP_FLAGS):
         raise NotAsked(f"{call.error} before Landlock is asked")
     _opened_inside(scene, thread, call, "rw")
 
 
 def _acct(scene: Scene, thread: Thread, call: Call) -> None:
-    """The kernel opens the file that it is to write to; without one it stops writing."""
+    """The kernel opens the file that it will write to; without one it stops writing."""
     if call.arguments[0] == "NULL":
         return
     if call.error == "EPERM":
@@ -109,7 +109,7 @@ def _fanotify_init(scene: Scene, thread: Thread, call: Call) -> None:
 
 
 def _mq_open(scene: Scene, thread: Thread, call: Call) -> None:
-    """Queues are in a file system of their own, which rules on the directories of others do not reach."""
+    """Queues are in a file system of their own, which rules on directories of other file systems do not reach."""
     if call.ok or call.error == "EACCES":
         raise CannotSay(QUEUE)
 

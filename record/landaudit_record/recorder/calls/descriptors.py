@@ -1,10 +1,10 @@
-"""Descriptors: duplicates, closing, what open(2) did not make, and calls on open files.
+"""Descriptors: duplicates, closing, descriptors that open(2) did not make, and calls on open files.
 
-When each takes effect, while other threads act: closing where the call begins, since its number is free from then
-on; what installs a number (dup(2), F_DUPFD, socket(2), open(2), accept(2), pipe(2)) where it ends, since nobody
-knows the number before; what looks up a number (ftruncate(2), ioctl(2)) where it begins. dup2(2) and dup3(2)
-replace what a number stands for in one step, which leaves the number taken: where they end. An exec closes numbers
-when no other thread is left: where it ends.
+Each takes effect at one moment, while other threads act. Closing takes effect at the beginning of the call, since the
+number is free from then on. A call that installs a number (dup(2), F_DUPFD, socket(2), open(2), accept(2), pipe(2))
+takes effect at its end, since nobody knows the number before. A call that looks up a number (ftruncate(2), ioctl(2))
+takes effect at its beginning. dup2(2) and dup3(2) replace what a number stands for in one step, and the number is
+never free: they take effect at their end. So does an exec, which closes numbers when no other thread is left.
 """
 
 from __future__ import annotations
@@ -29,7 +29,7 @@ SOCK_STREAM, SOCK_TYPE = 1, 0xF
 IPPROTO_TCP = 6
 TIOCGPTPEER = 0x5441
 
-#: Commands that the kernel lets through on a device whatever the policy (docs/FORMATS.md).
+#: Commands that the kernel allows on a device whatever the policy is (docs/FORMATS.md).
 LET_THROUGH = frozenset(
     {
         0x5451,  # FIOCLEX
@@ -153,10 +153,11 @@ def _on_port(scene: Scene, thread: Thread, call: Call, op: str) -> None:
 
 
 def _port(call: Call, family: int, op: str) -> int | None:
-    """The port that Landlock is asked for; None where it is not asked (bind(2), connect(2), ip(7)).
+    """The port that Landlock is asked about; None if it is not asked (bind(2), connect(2), ip(7)).
 
-    An address of another family than the socket's is EINVAL or EAFNOSUPPORT first. An address of no family dissolves
-    a connection, which is always allowed; bind(2) takes it for one of IPv4 if it is that of all interfaces.
+    An address of another family than the socket's fails with EINVAL or EAFNOSUPPORT before. An address of no family
+    dissolves a connection, which is always allowed; bind(2) takes it for an IPv4 address if it is that of all
+    interfaces.
     """
     named = _family(call)
     if named == AF_UNSPEC and op == "bind" and family == AF_INET:
@@ -168,7 +169,7 @@ def _port(call: Call, family: int, op: str) -> int | None:
 
 
 def _port_without_family(address: str) -> int:
-    """The port of an address of all interfaces whose family is not said: port and address are the first six bytes."""
+    """The port of an address of all interfaces without a family: port and address are the first six bytes."""
     data = values.member(address, "sa_data")
     text = values.raw(data) if data is not None else None
     if text is None or len(text) < _PORT_AND_ADDRESS or any(text[2:_PORT_AND_ADDRESS]):

@@ -1,4 +1,4 @@
-"""Making, removing and cutting objects by their paths, and working directories."""
+"""Making, removing and truncating objects by their paths, and working directories."""
 
 from __future__ import annotations
 
@@ -18,7 +18,7 @@ AF_UNIX = 1
 
 
 def _made(scene: Scene, thread: Thread, call: Call, op: str, spot: Spot, node: Node, **members: str) -> None:
-    """A call that makes an object of a name."""
+    """A call that makes an object under a name."""
     if call.ok and spot.node is not None:
         spot = scene.absent(spot.real)
     elif call.error == "EEXIST" and spot.node is None and spot.in_directory:

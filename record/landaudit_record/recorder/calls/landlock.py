@@ -30,7 +30,7 @@ def named(bits: int, family: Family) -> list[str] | None:
 def _handled(scene: Scene, thread: Thread, call: Call) -> tuple[list[str] | None, list[str] | None, bool]:
     """Handled rights for files and for ports, and whether there are scopes.
 
-    strace before 6.7 prints nothing but an ellipsis of what is behind the rights for files.
+    strace before 6.7 prints only an ellipsis for everything after the rights for files.
     """
     argument = call.arguments[0]
     files, ports, scoped = (_member(argument, name) for name in ("handled_access_fs", "handled_access_net", "scoped"))
@@ -65,12 +65,12 @@ def _create_ruleset(scene: Scene, thread: Thread, call: Call) -> None:
 
 
 def _unsaid(call: Call, reason: str) -> CannotSay:
-    """The fault of a call that can't be said: one that failed changes nothing that Landlock is asked about."""
+    """The exception for a call that can't be written: if it failed, it changes nothing that Landlock is asked about."""
     return CannotSay(reason) if call.ok else NotAsked(reason)
 
 
 def _ruleset(scene: Scene, thread: Thread, call: Call, flags: int) -> int:
-    """The number of the ruleset that a call is about, of a call without flags; one that names none has its own."""
+    """The number of the ruleset of a call without flags; a number that names no ruleset gets one of its own."""
     if arguments.number_at(call, flags):
         raise _unsaid(call, "a call of Landlock's with flags")
     number = values.descriptor(call.arguments[0]).number

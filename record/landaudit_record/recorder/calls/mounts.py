@@ -1,6 +1,7 @@
 """Mounts: mount(2), umount2(2), pivot_root(2), move_mount(2), and a file system that fsconfig(2) sets up anew.
 
-Landlock refuses all of them alike, once the kernel has looked at what a call names. What it looks at before is here.
+Landlock refuses all of them in the same way, after the kernel has looked up what a call names. This module has what the
+kernel looks at before.
 """
 
 from __future__ import annotations
@@ -27,14 +28,14 @@ WITHOUT_PLACE = "a mount that has no place in the tree"
 OTHER_NAMESPACE = "a process that goes to another mount namespace"
 Handler = Callable[[Scene, Thread, Call], None]
 
-#: Errors by which a call ends while it looks for the objects that it names.
+#: Errors with which a call fails while the kernel looks for the objects that it names.
 LOOKING = frozenset({"EBADF", "EFAULT", "ENAMETOOLONG", "ENOENT", "ENOTDIR"})
-#: A context of fsopen(2) or fspick(2), as strace names what is behind a descriptor.
+#: A context of fsopen(2) or fspick(2), as strace names the target of a descriptor.
 CONTEXT = "anon_inode:[fscontext]"
 
 
 def _mount(scene: Scene, thread: Thread, call: Call) -> None:
-    """The target is looked up before, the source after."""
+    """The kernel looks up the target before it asks Landlock, and the source after."""
     before = call.error == "EFAULT" or (call.error in LOOKING and not _is_target_there(scene, thread, call))
     _said(scene, thread, call, asked=not before and not (call.error == "EINVAL" and _has(call, 3, MS_NOUSER)))
 
@@ -58,7 +59,7 @@ def _move_mount(scene: Scene, thread: Thread, call: Call) -> None:
 
 
 def _fsconfig(scene: Scene, thread: Thread, call: Call) -> None:
-    """Of its commands the kernel asks Landlock about one alone, if the descriptor is a context."""
+    """The kernel asks Landlock about only one of its commands, if the descriptor is a context."""
     if arguments.number_at(call, 1) != FSCONFIG_CMD_RECONFIGURE:
         return
     is_context = values.descriptor(call.arguments[0]).behind == CONTEXT
@@ -78,7 +79,7 @@ def _said(scene: Scene, thread: Thread, call: Call, *, asked: bool) -> None:
 
 
 def _open_tree(scene: Scene, thread: Thread, call: Call) -> None:
-    """A copy of a mount, in which no rule counts that is on a directory over it."""
+    """A copy of a mount, for which rules on directories above it do not count."""
     if call.ok and _has(call, 2, OPEN_TREE_CLONE):
         _is_placeless(scene, thread, call, close_on_exec=_has(call, 2, O_CLOEXEC))
 
@@ -89,7 +90,7 @@ def _fsmount(scene: Scene, thread: Thread, call: Call) -> None:
 
 
 def _is_placeless(scene: Scene, thread: Thread, call: Call, *, close_on_exec: bool) -> None:
-    """What a call opened is in a mount without a place, and so is what is opened from there."""
+    """The call opened an object in a mount without a place, and so does every call that starts from there."""
     if call.ok and call.value is not None:
         scene.put(thread, call, call.value, Handle("/", close_on_exec=close_on_exec, placeless=True))
         scene.placeless = True
@@ -97,7 +98,7 @@ def _is_placeless(scene: Scene, thread: Thread, call: Call, *, close_on_exec: bo
 
 
 def from_a_place(handler: Handler, base: int | None) -> Handler:
-    """The handler of a call that opens files, which leaves out those that it opens in a mount without a place."""
+    """The handler of a call that opens files; it leaves out files in a mount without a place."""
 
     def opened(scene: Scene, thread: Thread, call: Call) -> None:
         if scene.placeless and base is not None:
@@ -110,7 +111,7 @@ def from_a_place(handler: Handler, base: int | None) -> Handler:
 
 
 def _setns(scene: Scene, thread: Thread, call: Call) -> None:
-    """Another mount namespace has other objects under the same names; other kinds of namespaces change no path."""
+    """Another mount namespace has other objects under the same names; other namespaces change no path."""
     behind = values.descriptor(call.arguments[0]).behind or ""
     others.by_pidfd(scene, thread, call)
     if call.ok and (behind.startswith("mnt:") or _has(call, 1, CLONE_NEWNS)):

@@ -52,13 +52,13 @@ def _renamed(scene: Scene, thread: Thread, call: Call, start: Argument, end: Arg
 
 
 def _say_whiteout(scene: Scene, thread: Thread, call: Call, moved: Spot) -> None:
-    """The whiteout that a rename leaves: a kernel that guards whiteouts as files asks to make one where it was."""
+    """The whiteout that a rename leaves: a kernel that guards whiteouts as files asks `make_reg` at the old name."""
     gap = scene.missing(moved.real)
     scene.say(thread, call, "mknod", path=gap.path, kind="reg", **arguments.shown(gap))
 
 
 def _take_place(scene: Scene, moved: Spot, target: Spot, exchange: bool) -> None:
-    """What has another name now; what is open in a directory, and who works in it, goes with it."""
+    """Gives objects their new names; open descriptors in a directory, and processes that work in it, move along."""
     ways = {moved.real: target.real}
     if exchange:
         scene.names.exchange(moved.real, target.real)
@@ -70,7 +70,7 @@ def _take_place(scene: Scene, moved: Spot, target: Spot, exchange: bool) -> None
 
 
 def _source(scene: Scene, call: Call, source: Spot, target: Spot, exchange: bool) -> Spot:
-    """What is moved or linked. ENOENT is about it where what else the call needs is there."""
+    """The object that is moved or linked. ENOENT is about it if everything else that the call needs exists."""
     if call.error == "ENOENT" and target.node is None and (exchange or not target.in_directory):
         return source
     return arguments.object_at(scene, call, source, "reg")

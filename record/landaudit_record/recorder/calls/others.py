@@ -1,7 +1,7 @@
 """Landlock's rule on ptrace: a process under a layer reaches no process that is not under the same one.
 
-The kernel asks it wherever a process looks into another, whatever the rules for files say: by calls (ptrace(2),
-process_vm_readv(2), pidfd_getfd(2), ...) and by files of /proc (proc(5)). A trace has no words for it.
+The kernel applies it whenever a process looks into another one, whatever the rules for files say: by calls (ptrace(2),
+process_vm_readv(2), pidfd_getfd(2), ...) and by files of /proc (proc(5)). A trace can't express it.
 """
 
 from __future__ import annotations
@@ -21,7 +21,7 @@ PTRACE_ATTACH, PTRACE_SEIZE = 0x10, 0x4206
 PROC = "/proc/"
 INTO_ANOTHER = "a look into another process, which Landlock's rule on ptrace may refuse"
 
-#: The files of a process that only those may use who may trace it; and its links, which only they may follow.
+#: The files of a process that only processes that may trace it may use; and its links, which only they may follow.
 _GUARDED = re.compile(
     r"/proc/(\d+)/(?:task/\d+/)?"
     r"(?:(?:cwd|exe|fdinfo|root)(?:/|$)|(?:fd|map_files|ns)/.|"
@@ -64,9 +64,9 @@ def _is_guarded(scene: Scene, thread: Thread, path: str) -> bool:
 
 
 def may_refuse(scene: Scene, thread: Thread, pid: int) -> bool:
-    """Whether a process may be under other layers than one that looks into it.
+    """Whether a process may be under other layers than the process that looks into it.
 
-    It is under the same ones if it is the process itself, or a child that has all layers of its own.
+    It is under the same layers if it is that process itself, or a child of it that has its layers.
     """
     other = scene.threads.get(pid)
     mine = thread.process
@@ -77,7 +77,7 @@ def may_refuse(scene: Scene, thread: Thread, pid: int) -> bool:
 
 
 def _comes_from(process: Process, maker: Process) -> bool:
-    """Whether a process is another, or was forked from it."""
+    """Whether a process is another one, or was forked from it."""
     at: Process | None = process
     while at is not None and at is not maker:
         at = at.maker
