@@ -123,6 +123,12 @@ def answered(text: bytes, explanation: Sequence[bytes], abis: range) -> tuple[An
     return tuple((tuple(some), answer) for answer, some in found.items())
 
 
+def not_allowed(text: bytes, abis: range) -> frozenset[int]:
+    """The ABIs that do not allow a record which a report explains, by the words of its answer alone."""
+    allowed = [found for found in _ANSWERED.finditer(text.decode()) if found[3] == "allowed"]
+    return frozenset(abi for abi in abis if not any(_is_among(abi, found) for found in allowed))
+
+
 def _differs(line: str, why: Sequence[str]) -> bool:
     """Whether the ABIs of a range answer differently, or for different reasons."""
     return line.split(" ", 4)[3][0].isdigit() or _HEADING.fullmatch(why[0]) is not None
