@@ -109,7 +109,8 @@ def _ended(status: int) -> str:
     """How a run of landaudit ended that said nothing."""
     if status == -signal.SIGKILL:
         return "landaudit was killed: is there enough memory?"
-    return f"landaudit was ended by {signal.Signals(-status).name}" if status < 0 else f"landaudit ended with {status}"
+    by_signal = f"was ended by {signal.Signals(-status).name}" if status < 0 else f"ended with status {status}"
+    return f"landaudit {by_signal}"
 
 
 def start(

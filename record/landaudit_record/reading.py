@@ -8,6 +8,7 @@ from __future__ import annotations
 
 import re
 from array import array
+from collections import Counter
 from collections.abc import Iterator
 from dataclasses import dataclass
 from functools import lru_cache
@@ -40,19 +41,19 @@ PORT_CALLS = frozenset({"bind", "connect"})
 _STATES = ASKS_FOR_LAYERS | {"start", "fork", "exit", "exec"}
 _RULES = frozenset({"add_path", "add_port"})
 _OPENS = frozenset({"open", "adopt", "dup"})
-_OTHERS = frozenset({"nnp", "close_rs", "close", "ftruncate", "mount", "bind", "connect", "ioctl"})
+_OTHERS = PORT_CALLS | {"nnp", "close_rs", "close", "ftruncate", "mount", "ioctl"}
 #: Progress is shown each time that so many records were read.
 EVERY = 10_000
 #: So many kinds of records are counted before they are told.
 MOST_KINDS = 16_384
 
 #: What there is to do with a line, by its operation: what _READ has is known only when the line is taken apart.
-_ON_PATH, _OPENS_NUMBER, _RULE, _STATE, _READ = 1, 2, 4, 8, 16
+_ON_PATH, _OPENS_NUMBER, _ON_PORT, _RULE, _STATE, _READ = 1, 2, 4, 8, 16, 32
 
 
 def _to_do(op: str) -> int:
-    return (_ON_PATH * (op in PATH_CALLS) | _OPENS_NUMBER * (op in _OPENS) | _RULE * (op in _RULES)
-            | _STATE * (op in _STATES))
+    families = {_ON_PATH: PATH_CALLS, _OPENS_NUMBER: _OPENS, _ON_PORT: PORT_CALLS, _RULE: _RULES, _STATE: _STATES}
+    return sum(to_do for to_do, ops in families.items() if op in ops)
 
 
 #: How records begin as landaudit-record writes them: enough of a line to know what there is to do.
@@ -194,7 +195,7 @@ class Walk:
             yield self._told(said, self._record(said), standing), times
 
     def _lines(self) -> Iterator[_Said]:
-        """Goes over both files, and gives what is told or changes what is kept: a long recording waits for this loop."""
+        """Goes over both files, and gives what is told or changes what is kept. A long recording waits for this."""
         again, at, offset, processes, progress = True, 0, self._offsets.append, self._processes, self._progress
         begins = _BEGINS.get
         with open(self.files[0], "rb") as lines, open(self.files[1], "rb") as report:
@@ -339,6 +340,38 @@ def place_of(record: Record) -> Place | None:
     if record["op"] in PATH_CALLS and record.get("kernel") in ASKED_LANDLOCK:
         return tuple(str(shown(record, member)) for member in ("path", "from", "to") if member in record)
     return int(record["port"]) if record["op"] in PORT_CALLS else None
+
+
+def places(trace: Path) -> Counter[Place]:
+    """How many calls of a trace are about each path or port, in the order of the first ones.
+
+    Those that a part of a recording only writes again do not count.
+    """
+    found: Counter[Place] = Counter()
+    first: dict[bytes, tuple[int, bytes]] = {}
+    times: Counter[bytes] = Counter()
+
+    def count() -> None:
+        for kind, (number, line) in first.items():
+            record = jsonl.read(trace, number, line)
+            place = None if record.get("again") is True else place_of(record)
+            if place is not None:
+                found[place] += times[kind]
+
+    with open(trace, "rb") as lines:
+        for number, line in enumerate(lines, start=1):
+            if not _BEGINS.get(line[:_KNOWN], _READ) & (_ON_PATH | _ON_PORT | _READ) or not line.strip(_BLANKS):
+                continue
+            kind = _OWN_OF_OPENING.sub(b"", line)
+            if kind not in first:
+                if len(first) == MOST_KINDS:
+                    count()
+                    first.clear()
+                    times.clear()
+                first[kind] = number, line
+            times[kind] += 1
+    count()
+    return found
 
 
 def place_text(record: Record, opened: str | None = None) -> str:

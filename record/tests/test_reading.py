@@ -3,10 +3,12 @@
 from __future__ import annotations
 
 import random
+import re
 import tempfile
 import unittest
 from collections import Counter
 from collections.abc import Iterator, Sequence
+from itertools import product
 from pathlib import Path
 from typing import Any
 from unittest import mock
@@ -21,6 +23,9 @@ from .recorded import failed, moot, over_range, refused, write_lines, write_repo
 
 ABIS = range(1, 6)
 Call = tuple[Record, str]
+#: How a trace is written: as landaudit-record does, with blanks everywhere, and with blanks before numbers alone.
+FORMS = COMPACT, BLANKS, HALF = ("compact", "blanks", "half")
+_NUMBER = re.compile(r'":([0-9])')
 READ = {"path": "/a/f", "fd": 3, "mode": "r", "kernel": "ok"}
 NOT_OPEN = moot("descriptor 3 is not open")
 
@@ -31,34 +36,36 @@ def op(name: str, pid: int = 1, **members: Any) -> Record:
 
 
 class Written(unittest.TestCase):
-    """Traces and reports in a folder, written as landaudit-record writes them, or with blanks between their words."""
+    """Traces and reports in a folder, written in one form or another."""
 
     def setUp(self) -> None:
         made = tempfile.TemporaryDirectory()
         self.addCleanup(made.cleanup)
         self.folder = Path(made.name)
 
-    def walk(self, calls: Sequence[Call], *, blanks: bool = False, number: int = 0) -> Walk:
+    def walk(self, calls: Sequence[Call], form: str = COMPACT, number: int = 0) -> Walk:
         """A walk over some calls with their answers."""
         trace, report = (self.folder / f"{name}-{number}" for name in ("trace", "report"))
         records = [record for record, _ in calls]
-        if blanks:
+        if form == BLANKS:
             write_lines(trace, records)
         else:
             jsonl.write(trace, records)
+        if form == HALF:
+            trace.write_text(_NUMBER.sub(r'": \1', trace.read_text()))
         write_report(report, records, [answer for _, answer in calls])
         return Walk(trace, report, ABIS)
 
     def told(self, *calls: Call) -> list[tuple[int, str, int, bool]]:
         """What is told of each kind, whichever way the trace is written: line, program, times, and whether an ABI
         misses the opening of its number."""
-        compact, apart = ([(told.line, told.program or "-", times, bool(told.missed))
-                           for told, times in self.walk(calls, blanks=blanks).kinds()
-                           if told.answered] for blanks in (False, True))
-        each = [(told.program or "-", bool(told.missed)) for told in self.walk(calls) if told.answered]
-        self.assertEqual(Counter(each), _counted(compact))
-        self.assertEqual(Counter(each), _counted(apart))
-        return compact
+        each = Counter((told.program or "-", bool(told.missed)) for told in self.walk(calls) if told.answered)
+        for form in FORMS:
+            kinds = [(told.line, told.program or "-", times, bool(told.missed))
+                     for told, times in self.walk(calls, form).kinds() if told.answered]
+            self.assertEqual(each, _counted(kinds), form)
+        return [(told.line, told.program or "-", times, bool(told.missed))
+                for told, times in self.walk(calls).kinds() if told.answered]
 
 
 def _counted(kinds: list[tuple[int, str, int, bool]]) -> Counter[tuple[str, bool]]:
@@ -106,9 +113,9 @@ class Kinds(Written):
     def test_what_the_policy_does_is_told_and_what_the_program_is_allowed_is_not(self) -> None:
         rule = op("add_path", rs=3, path="/a", fs=["read_file"])
         own, of_policy = (rule, "allowed"), ({**rule, "policy": {"layer": 1, "rule": "path_beneath 1"}}, "allowed")
-        for blanks in (False, True):
-            found = [(told.line, times) for told, times in self.walk([START, own, of_policy, own], blanks=blanks).kinds()]
-            self.assertEqual(found, [(3, 1)])
+        for form in FORMS:
+            found = [(told.line, times) for told, times in self.walk([START, own, of_policy, own], form).kinds()]
+            self.assertEqual(found, [(3, 1)], form)
 
 
 class Programs(Written):
@@ -170,9 +177,31 @@ class Numbers(Written):
     def test_by_abi(self) -> None:
         answer = over_range({abi: OPEN[1] if abi > 3 else "allowed" for abi in ABIS})
         later = over_range({abi: NOT_OPEN if abi > 3 else "allowed" for abi in ABIS})
-        for blanks in (False, True):
-            walk = self.walk([START, (OPEN[0], answer), (CLOSE[0], later)], blanks=blanks)
-            self.assertEqual([told.missed for told, _ in walk.kinds()], [frozenset(), {4, 5}])
+        for form in FORMS:
+            walk = self.walk([START, (OPEN[0], answer), (CLOSE[0], later)], form)
+            self.assertEqual([told.missed for told, _ in walk.kinds()], [frozenset(), {4, 5}], form)
+
+
+class Places(Written):
+    def test_calls_on_paths_and_ports(self) -> None:
+        """Each counts at its path as a person knows it, if the kernel asked Landlock about it."""
+        calls = [
+            op("start"),
+            op("open", path="/again", fd=3, mode="r", again=True),
+            *(op("open", path="/a/f", fd=fd, mode="r", call=fd, kernel="ok") for fd in (3, 4)),
+            op("open", path="/a/g~new~", shown="/a/g", fd=5, mode="r", call=5, kernel="EACCES"),
+            op("open", path="/a/f", fd=6, mode="r", call=6, kernel="ENOENT"),
+            op("connect", port=443, call=7, kernel="ok"),
+            {"op": "rename", "from": "/a/f", "to": "/b/f", "pid": 1},
+            op("close", fd=3, call=8),
+            op("open", path="/a/f", fd=3, mode="w", call=9, kernel="ok"),
+        ]
+        for form, most in product(FORMS, (1, 1000)):
+            trace = self.walk([(record, "allowed") for record in calls], form).files[0]
+            trace.write_bytes(trace.read_bytes() + b"  \n")
+            with mock.patch.object(reading, "MOST_KINDS", most):
+                self.assertEqual(list(reading.places(trace).items()),
+                                 [(("/a/f",), 3), (("/a/g",), 1), (443, 1), (("/a/f", "/b/f"), 1)], form)
 
 
 class Faults(Written):
@@ -196,17 +225,17 @@ class AnyTrace(Written):
 
     def test_a_summary_is_the_same_by_kinds_and_singly(self) -> None:
         chance = random.Random(42)
-        for _ in range(60):
+        for _ in range(25):
             calls = list(_random_calls(chance))
-            ways = [self.summed(calls, blanks=blanks, most=most) for blanks in (False, True) for most in (1, 3, 1000)]
+            ways = [self.summed(calls, form, most) for form in FORMS for most in (1, 3, 1000)]
             ways.append(self.summed(calls, singly=True))
             for way in ways[1:]:
                 self.assertEqual(way, ways[0])
             self.assertGreater(len(ways[0]), 0)
 
-    def summed(self, calls: list[Call], *, blanks: bool = False, most: int = 1, singly: bool = False) -> str:
+    def summed(self, calls: list[Call], form: str = COMPACT, most: int = 1, *, singly: bool = False) -> str:
         """All that a summary says, with the order of what it says."""
-        walk, found = self.walk(calls, blanks=blanks), Summaries(ABIS)
+        walk, found = self.walk(calls, form), Summaries(ABIS)
         each: Iterator[tuple[Told, int]] = ((told, 1) for told in walk)
         kinds = mock.patch.object(Walk, "kinds", lambda _: each) if singly else mock.MagicMock()
         with mock.patch.object(reading, "MOST_KINDS", most), kinds:
@@ -221,7 +250,7 @@ def _random_calls(chance: random.Random) -> Iterator[Call]:
     yield START
     yield op("create", rs=3, fs=["read_file"], policy={"layer": 1}), "allowed"
     yield op("restrict", rs=3, policy={"layer": 1}), "allowed"
-    for number in range(chance.randrange(5, 120)):
+    for number in range(chance.randrange(5, 80)):
         pid = chance.choice(list(living))
         path, fd = chance.choice(("/a/f", "/a/g~new~", "/b")), chance.choice((3, 4))
         made_up = chance.choice((fd, 1_000_001 + number))
