@@ -7,13 +7,14 @@ import signal
 import subprocess
 import sys
 import time
-from contextlib import redirect_stderr
+from contextlib import redirect_stderr, redirect_stdout
 from io import StringIO
 from pathlib import Path
+from unittest import mock
 
-from landaudit_record import cli, together
+from landaudit_record import cli, reading, together
 from landaudit_record.problems import WANTING
-from landaudit_record.recorder import converting
+from landaudit_record.recorder import converting, progress
 from landaudit_record.recorder.ports import Ports
 from landaudit_record.recorder.writing import Limits
 from landaudit_record.rights import alone
@@ -39,6 +40,13 @@ print("total", len(lines))
 """
 #: Longer than any of these tests may take.
 LONG = 60
+
+
+class Terminal(StringIO):
+    """What is written to a terminal."""
+
+    def isatty(self) -> bool:
+        return True
 
 
 class Judging(KeptLogs):
@@ -85,6 +93,18 @@ class Judging(KeptLogs):
             self.go.touch()
             self.assertEqual([files.trace.name for files in judged], ["trace-2.jsonl"])
         self.assert_nothing_is_left()
+
+    def test_a_terminal_shows_how_far_it_is(self) -> None:
+        """And nothing of it stays: the last that is written clears the line. The first part has the first call alone: 13
+        records for a script with an interpreter and a loader, and three descriptors."""
+        program, terminal = self.landaudit(), Terminal()
+        always = mock.patch.object(reading, "EVERY", 1), mock.patch.object(progress, "EVERY", 0)
+        with always[0], always[1], redirect_stderr(terminal), redirect_stdout(StringIO()):
+            cli.main(["audit", str(self.recording), "--landaudit", program])
+        *shown, last = terminal.getvalue().split("\r\033[K")
+        self.assertEqual(shown[:2], ["", "judging at ABI 1-5, part 1 of 2"])
+        self.assertLess(shown.index("13 answers read"), shown.index("judging at ABI 1-5, part 2 of 2"))
+        self.assertEqual(last, "")
 
     def test_a_fault_while_a_part_is_read_ends_what_is_judged(self) -> None:
         program = self.landaudit(f"if trace.name == 'trace-2.jsonl': wait_for({str(self.go)!r})")
