@@ -1,7 +1,9 @@
 """Reads a trace together with its report: each record with its answer, or only those that an audit tells of.
 
 Most records are allowed and change nothing that a summary needs. `Walk` goes over a trace and its report once, for all
-ABIs of the report, and takes apart only the lines of the other records.
+ABIs of the report, and takes apart only the lines of the other records; of those that a summary counts as one it takes
+apart the first (`Walk.kinds`). It knows what to do with a line by its first bytes, and the members of the commonest
+records by theirs, where they are written as landaudit-record writes them.
 """
 
 from __future__ import annotations
@@ -256,7 +258,7 @@ class Walk:
     def _kind(self, said: _Said) -> _Kind | None:
         """Takes up what a record changes, and says of which kind it is if a summary counts it."""
         number, line, to_do, answer, why = said
-        words = answer.split(b" ", 3)
+        words = self._words(answer)
         counts = bool(why) or _POLICY in line
         if not counts and to_do < _STATE:
             self._follow_opening(said)
@@ -273,11 +275,18 @@ class Walk:
     def _follow_opening(self, said: _Said) -> None:
         """Takes up that a number is opened that may have been missed."""
         number, line, _, answer, _ = said
-        words = answer.split(b" ", 3)
+        words = self._words(answer)
         if self._processes.misses(int(words[1])) and self._standing(number, line, words, False) is None:
             self._taken_apart(said)
 
-    def _standing(self, number: int, line: bytes, words: list[bytes], why: bool) -> _Standing | None:
+    def _words(self, answer: bytes) -> list[bytes]:
+        """The line's number, the process, the operation, and what is answered."""
+        words = answer.split(b" ", 3)
+        if len(words) < 4:
+            raise _other(*self.files)
+        return words
+
+    def _standing(self, number: int, line: bytes, words: list[bytes], explained: bool) -> _Standing | None:
         """How a record's process stands before it, and takes up what the record does to numbers. It is not taken apart
         for that; None if it is not written as landaudit-record does.
         """
@@ -291,7 +300,7 @@ class Walk:
                 return None
             missed = processes.missed(pid, int(found[1]))
             if op == b"open":
-                processes.miss(pid, int(found[1]), self._not_allowed(words[3]) if why else NOWHERE)
+                processes.miss(pid, int(found[1]), self._not_allowed(words[3]) if explained else NOWHERE)
             elif op == b"dup":
                 processes.miss(pid, int(found[2]), missed)
             elif op == b"close" or op == b"adopt":

@@ -206,16 +206,18 @@ class Places(Written):
 
 class Faults(Written):
     def test_a_report_on_another_trace(self) -> None:
-        trace = self.walk([START, OPEN]).files[0]
+        other = (op("open", path="/b", fd=4, mode="r"), "allowed")
+        calls = [START, OPEN, other, other, CLOSE]
         others = {
-            "another process": [(op("start", 2), "allowed"), (op("open", 2, **READ), OPEN[1])],
-            "another line": [START, START, OPEN],
-            "less": [START],
-            "more": [START, OPEN, OPEN],
+            "another process": [(op("start", 2), "allowed"), (op("open", 2, **READ), OPEN[1]), *calls[2:]],
+            "another process later": [*calls[:4], (op("close", 2, fd=3), NOT_OPEN)],
+            "one more before": [START, *calls],
+            "one more behind": [*calls, CLOSE],
+            **{f"{number} less": calls[:-number] for number in range(1, 5)},
         }
-        for why, calls in others.items():
-            report = self.walk(calls, number=1).files[1]
-            with self.subTest(why), self.assertRaisesRegex(Problem, "is not a report on"):
+        for (why, said), form in product(others.items(), FORMS):
+            trace, report = self.walk(calls, form).files[0], self.walk(said, number=1).files[1]
+            with self.subTest(why, form=form), self.assertRaisesRegex(Problem, "is not a report on"):
                 for _ in Walk(trace, report, ABIS).kinds():
                     pass
 
