@@ -9,9 +9,11 @@ from __future__ import annotations
 
 import difflib
 import json
+import shutil
 from collections import deque
 from collections.abc import Iterable, Iterator, Sequence
 from dataclasses import dataclass, field
+from itertools import islice
 from pathlib import Path
 from typing import Any, BinaryIO
 
@@ -268,16 +270,20 @@ def write(trace: Path, places: Plan, inserted: list[Record], out: BinaryIO) -> N
     """Writes a trace with records inserted by a plan; the trace's own lines do not change."""
     total = places.records(inserted)
     if total > MOST_RECORDS:
-        raise Problem(f"{trace} has {total:,} records with the policy in it {places.times} times, but landaudit reads "
-                      f"at most {MOST_RECORDS:,}: name another program with --program, or record less")
+        raise Problem(f"with the policy put in {places.times} times {trace} has {total:,} records, and landaudit "
+                      f"reads {MOST_RECORDS:,}: name another program by --program, or record less")
+    at = 0
     with open(trace, "rb") as lines:
-        for number, line in enumerate(lines, start=1):
+        for number in sorted({*places.before, *places.behind}):
+            out.writelines(islice(lines, number - 1 - at))
             pid = places.before.get(number)
             if pid is not None:
                 out.writelines(_line({**record, "pid": pid}) for record in inserted)
-            out.write(line)
+            out.writelines(islice(lines, 1))
             for again in places.behind.get(number, ()):
                 out.writelines(_line({**record, "pid": again, "again": True}) for record in inserted)
+            at = number
+        shutil.copyfileobj(lines, out)
 
 
 def _line(record: Record) -> bytes:

@@ -5,6 +5,7 @@ from __future__ import annotations
 import os
 import re
 import shutil
+import signal
 import subprocess
 import sys
 from collections.abc import Iterable, Iterator, Sequence
@@ -22,6 +23,9 @@ _ANSWERED = re.compile(rf"{_ABIS} (allowed|moot|refused \S+ \S+)")
 #: The heading of lines that explain the answer of some ABIs of a range, if not all of them have the same lines.
 _HEADING = re.compile(rf"abi {_ABIS}:")
 MOST_WORKERS = 64
+#: landaudit's large texts are given back to the system at once: glibc keeps what is below a threshold, which it raises
+#: by itself unless it is set (mallopt(3)). An audit of a million records then takes 50 MB less.
+_MEMORY = {"MALLOC_MMAP_THRESHOLD_": str(128 * 1024)}
 BUILT = Path(__file__).resolve().parents[2] / "crates" / "landaudit" / "out" / "landaudit"
 
 
@@ -69,6 +73,68 @@ def workers() -> int:
     return min(len(os.sched_getaffinity(0)), MOST_WORKERS)
 
 
+class Run:
+    """A run of landaudit, which writes its report to a file while other work is done."""
+
+    def __init__(self, command: Sequence[str], report: Path, about: str) -> None:
+        self._about = about
+        with open(report, "wb") as out:
+            try:
+                self._process = subprocess.Popen(
+                    command, stdout=out, stderr=subprocess.PIPE, env={**_MEMORY, **os.environ}
+                )
+            except OSError as error:
+                raise Problem(f"cannot run {command[0]}: {error.strerror}", WANTING) from error
+
+    def status(self) -> int:
+        """Waits for the end: 0, or 1 if some ABI refuses something. A fault of the run is a Problem."""
+        try:
+            _, said = self._process.communicate()
+        except BaseException:
+            self.stop()
+            raise
+        status = self._process.returncode
+        if status in (0, 1):
+            return status
+        lines = said.decode(errors="replace").strip().splitlines() or [_ended(status)]
+        raise Problem(f"{lines[0]} ({self._about})", status if status in (UNREADABLE, WANTING) else WANTING)
+
+    def stop(self) -> None:
+        """Ends it, if it has not ended."""
+        with self._process:
+            self._process.kill()
+
+
+def _ended(status: int) -> str:
+    """How a run of landaudit ended that said nothing."""
+    if status == -signal.SIGKILL:
+        return "landaudit was killed: is there enough memory?"
+    by_signal = f"was ended by {signal.Signals(-status).name}" if status < 0 else f"ended with status {status}"
+    return f"landaudit {by_signal}"
+
+
+def start(
+    program: Path,
+    abis: range,
+    tree: Path,
+    trace: Path,
+    report: Path,
+    *,
+    best_effort: bool,
+    explain: bool = True,
+    only_refused: bool = False,
+) -> Run:
+    """Starts landaudit once for all ABIs of a range; its report is with explanations or without, and of all records or
+    of those alone that some ABI refuses.
+
+    At best effort rulesets lose the rights that an ABI does not have; else they are judged as they were recorded.
+    """
+    command = [str(program), "--abi", span(abis), *(["--best-effort"] if best_effort else [])]
+    command += [*(["--explain"] if explain else []), *(["--refused"] if only_refused else [])]
+    command += ["--workers", str(workers()), str(tree), str(trace)]
+    return Run(command, report, f"tree {tree}, trace {trace}")
+
+
 def audit(
     program: Path,
     abis: range,
@@ -80,25 +146,10 @@ def audit(
     explain: bool = True,
     only_refused: bool = False,
 ) -> int:
-    """Runs landaudit once for all ABIs of a range, and writes its report to a file: with or without explanations, and
-    with all records or only those that some ABI refuses.
-
-    The status is 0, or 1 if some ABI refuses a record. At best effort, rulesets lose the rights that an ABI does not
-    have; otherwise they are judged as they were recorded. A failure of the run is a Problem.
-    """
-    command = [str(program), "--abi", span(abis), *(["--best-effort"] if best_effort else [])]
-    command += [*(["--explain"] if explain else []), *(["--refused"] if only_refused else [])]
-    command += ["--workers", str(workers()), str(tree), str(trace)]
-    with open(report, "wb") as out:
-        try:
-            run = subprocess.run(command, stdout=out, stderr=subprocess.PIPE, check=False)
-        except OSError as error:
-            raise Problem(f"cannot run {program}: {error.strerror}", WANTING) from error
-    if run.returncode in (0, 1):
-        return run.returncode
-    said = run.stderr.decode(errors="replace").strip().splitlines() or [f"landaudit ended with status {run.returncode}"]
-    status = run.returncode if run.returncode in (UNREADABLE, WANTING) else WANTING
-    raise Problem(f"{said[0]} (tree {tree}, trace {trace})", status)
+    """Runs landaudit as `start` says, to its end."""
+    return start(
+        program, abis, tree, trace, report, best_effort=best_effort, explain=explain, only_refused=only_refused
+    ).status()
 
 
 def answers(report: Path, abi: int | None = None) -> Iterator[Answer]:
@@ -121,6 +172,12 @@ def answered(text: bytes, explanation: Sequence[bytes], abis: range) -> tuple[An
         if answer.verdict != "allowed":
             found.setdefault(answer, []).append(abi)
     return tuple((tuple(some), answer) for answer, some in found.items())
+
+
+def not_allowed(text: bytes, abis: range) -> frozenset[int]:
+    """The ABIs that do not allow a record which a report explains, by the words of its answer alone."""
+    allowed = [found for found in _ANSWERED.finditer(text.decode()) if found[3] == "allowed"]
+    return frozenset(abi for abi in abis if not any(_is_among(abi, found) for found in allowed))
 
 
 def _differs(line: str, why: Sequence[str]) -> bool:

@@ -1,24 +1,28 @@
 """Reads a trace together with its report: each record with its answer, or only those that an audit shows.
 
 Most records are allowed and change nothing that a summary needs. `Walk` goes over a trace and its report once, for all
-ABIs of the report, and parses only the lines of the other records.
+ABIs of the report, and takes apart only the lines of the other records; of those that a summary counts as one it takes
+apart the first (`Walk.kinds`). It knows what to do with a line by its first bytes, and the members of the commonest
+records by theirs, where they are written as landaudit-record writes them.
 """
 
 from __future__ import annotations
 
+import re
 from array import array
+from collections import Counter
 from collections.abc import Iterator
 from dataclasses import dataclass
+from functools import lru_cache
 from itertools import zip_longest
 from pathlib import Path
-from typing import IO
 
 from . import jsonl
+from .following import NOWHERE, Followed
 from .jsonl import Record
-from .landaudit import EXPLAINS, Answer, Answered, answered, answers
+from .landaudit import EXPLAINS, Answer, Answered, answered, answers, not_allowed
 from .problems import Problem
-from .processes import Process, Processes, of_policy, program_run, shown
-from .recorder.processes import FIRST_MADE_UP
+from .processes import Process, Processes, shown
 from .recorder.progress import Progress
 
 Judged = tuple[Record, Answer, Process]
@@ -36,21 +40,45 @@ ASKS_FOR_LAYERS = frozenset({"create", "restrict"})
 #: Calls on TCP ports.
 PORT_CALLS = frozenset({"bind", "connect"})
 
-#: Operations whose records are parsed whatever their answers are.
-_TELLING = ASKS_FOR_LAYERS | {"start", "fork", "exit", "exec", "add_path", "add_port"}
-_BOOKS = {"nnp", "close_rs", "adopt", "dup", "close", "ftruncate", "mount", "bind", "connect", "ioctl"}
-_OPS = _TELLING | PATH_CALLS | _BOOKS
-#: The number of records after which progress is shown again.
+_STATES = ASKS_FOR_LAYERS | {"start", "fork", "exit", "exec"}
+_RULES = frozenset({"add_path", "add_port"})
+_OPENS = frozenset({"open", "adopt", "dup"})
+_OTHERS = PORT_CALLS | {"nnp", "close_rs", "close", "ftruncate", "mount", "ioctl"}
+#: Progress is shown each time that so many records were read.
 EVERY = 10_000
-_OPENS = ("open", "adopt", "dup")
-#: The beginnings of records as landaudit-record writes them: enough of a line to know the operation.
+#: So many kinds of records are counted before they are told.
+MOST_KINDS = 16_384
+
+#: What there is to do with a line, by its operation: what _READ has is known only when the line is taken apart.
+_ON_PATH, _OPENS_NUMBER, _ON_PORT, _RULE, _STATE, _READ = 1, 2, 4, 8, 16, 32
+
+
+def _to_do(op: str) -> int:
+    families = {_ON_PATH: PATH_CALLS, _OPENS_NUMBER: _OPENS, _ON_PORT: PORT_CALLS, _RULE: _RULES, _STATE: _STATES}
+    return sum(to_do for to_do, ops in families.items() if op in ops)
+
+
+#: How records begin as landaudit-record writes them: enough of a line to know what there is to do.
 _KNOWN = len('{"op":"nnp"')
-_BEGINS = {f'{{"op":"{op}"'[:_KNOWN].encode(): op for op in _OPS}
+_BEGINS = {f'{{"op":"{op}"'[:_KNOWN].encode(): _to_do(op) for op in _STATES | _RULES | _OPENS | _OTHERS | PATH_CALLS}
 _KERNEL = b'"kernel":"'
+_LET_THROUGH = b'"kernel":"ok"}\n'
 _ASKED = tuple(f'{answer}"'.encode() for answer in ASKED_LANDLOCK if answer)
 _AGAIN = b'"again":true'
+_POLICY = b'"policy":'
 _EXPLAINS = EXPLAINS.encode()
 _BLANKS = b" \t\r\n"
+#: The commonest records that change what is kept, as landaudit-record writes them.
+_CHANGES = re.compile(
+    rb'\{"op":"(exit|fork|exec)","pid":[0-9]+(?:,"child":([0-9]+)|,"path":"([^"\\]*)")?(,"role":"[a-z]+")?'
+    rb',"call":[0-9]+(?:,"kernel":"ok")?\}\n'
+)
+#: Members by which records differ that a summary counts as one: of an opening its number too.
+_OWN = re.compile(rb'"(?:pid|call)":[0-9]+,?')
+_OWN_OF_OPENING = re.compile(rb'"(?:pid|call|fd)":[0-9]+,?')
+_FD = re.compile(rb'"fd":([0-9]+)')
+_COPIES = re.compile(rb'"fd":([0-9]+),"to":([0-9]+)')
+_ON_NUMBERS = frozenset({b"open", b"close", b"adopt", b"dup", b"ftruncate", b"ioctl"})
 
 
 def judged(trace: Path, report: Path, abi: int | None = None) -> Iterator[Judged]:
@@ -91,12 +119,20 @@ class Told:
     confined: bool
 
 
+#: A line of a trace: its number, the line, what there is to do with it, its answer, and the lines that explain that.
+_Said = tuple[int, bytes, int, bytes, tuple[bytes, ...]]
+#: How the process of a record stands before it: see Told.program, Told.missed and Told.confined.
+_Standing = tuple[str | None, frozenset[int], bool]
+#: What records have in common that a summary counts as one: standing, members, answer and explanation.
+_Kind = tuple[_Standing, bytes, bytes, tuple[bytes, ...]]
+
+
 class Walk:
     """One walk over a trace and its report over some ABIs.
 
-    The records at the beginning that only restore processes are followed but not yielded. `records` and `path_calls`
-    count the other records so far, the latter those about which Landlock was asked; `files` are both files; `confines`
-    says whether a process asked for a layer.
+    The records at the beginning that only give processes once more what they had are walked over and not told.
+    `records` and `path_calls` count what was walked over without them, the latter where Landlock was asked; `files` are
+    both.
     """
 
     def __init__(self, trace: Path, report: Path, abis: range, progress: Progress | None = None) -> None:
@@ -104,18 +140,19 @@ class Walk:
         self._progress = progress
         self._abis = abis
         self._offsets = array("Q", [0])
-        self._programs: dict[int, str | None] = {}
-        self._missed: dict[int, dict[int, frozenset[int]]] = {}
-        self._watched = 0
-        self._policies: dict[int, int | None] = {}
-        self._confined: set[int] = set()
+        self._processes = Followed()
         self.records = 0
         self.path_calls = 0
-        self.confines = False
+        self._not_allowed = lru_cache(1_024)(lambda answer: not_allowed(answer, abis))
+
+    @property
+    def confines(self) -> bool:
+        """Whether a process asked for a layer."""
+        return self._processes.confines
 
     def policy_of(self, line: int) -> int | None:
-        """The policy's number for the layer that the `restrict` on a line made; None if it is not the policy's."""
-        return self._policies.get(line)
+        """The number in the tried policy of the layer that the `restrict` on a line made; None if it is no policy's."""
+        return self._processes.policy_of(line)
 
     def opened(self, line: int) -> str | None:
         """The path to show for what the record on a line opened."""
@@ -124,106 +161,166 @@ class Walk:
             return shown(jsonl.read(self.files[0], line, trace.readline()), "path")
 
     def __iter__(self) -> Iterator[Told]:
-        trace, report = self.files
-        with open(trace, "rb") as lines, open(report, "rb") as said:
-            yield from self._walk(lines, said)
-
-    def _walk(self, lines: IO[bytes], said: IO[bytes]) -> Iterator[Told]:
-        """Goes over both files. This is the loop that a long recording waits for."""
-        again, at, after, offsets, readline = True, 0, said.readline(), self._offsets, said.readline
-        for number, line in enumerate(lines, start=1):
-            at += len(line)
-            offsets.append(at)
-            op = _BEGINS.get(line[:_KNOWN])
-            if op is None and not line.strip(_BLANKS):
-                continue
-            answer, after = after, readline()
-            why: list[bytes] = []
-            while after.startswith(_EXPLAINS):
-                why.append(after)
-                after = readline()
-            if again:
-                again = _AGAIN in line
-                if again:
-                    self._told(number, line, answer, why)
-                    continue
-            self.records += 1
-            if self._progress is not None and not number % EVERY:
-                self._progress.show(number, "answers read")
-            asked = op in PATH_CALLS and _asked(line)
-            self.path_calls += asked
-            opens = self._watched and op in _OPENS
-            if why or op is None or op in _TELLING or opens:
-                told = self._told(number, line, answer, why)
-                if op is None:
-                    asked = told.asked
-                    self.path_calls += asked
+        """Each record that is told."""
+        for said in self._lines():
+            _, _, to_do, _, why = said
+            if why or to_do >= _RULE:
+                told = self._taken_apart(said)
+                self.path_calls += told.asked and to_do == _READ
                 yield told
+            else:
+                self._follow_opening(said)
+
+    def kinds(self) -> Iterator[tuple[Told, int]]:
+        """Records that are not allowed under all ABIs and those of the tried policy: of those that a summary counts as
+        one, the first, and how many they are. They are in the order of these first ones.
+
+        A kind is told again if many others came after it.
+        """
+        kinds: dict[_Kind, tuple[_Said, list[int]]] = {}
+        for said in self._lines():
+            kind = self._kind(said)
+            if kind is None:
+                continue
+            known = kinds.get(kind)
+            if known is not None:
+                known[1][0] += 1
+                continue
+            if len(kinds) == MOST_KINDS:
+                yield from self._counted(kinds)
+                kinds.clear()
+            kinds[kind] = said, [1]
+        yield from self._counted(kinds)
+
+    def _counted(self, kinds: dict[_Kind, tuple[_Said, list[int]]]) -> Iterator[tuple[Told, int]]:
+        for (standing, *_), (said, (times,)) in kinds.items():
+            yield self._told(said, self._record(said), standing), times
+
+    def _lines(self) -> Iterator[_Said]:
+        """Goes over both files, and gives what is told or changes what is kept. A long recording waits for this."""
+        again, at, offset, processes, progress = True, 0, self._offsets.append, self._processes, self._progress
+        begins = _BEGINS.get
+        with open(self.files[0], "rb") as lines, open(self.files[1], "rb") as report:
+            readline = report.readline
+            after = readline()
+            for number, line in enumerate(lines, start=1):
+                at += len(line)
+                offset(at)
+                to_do = begins(line[:_KNOWN])
+                if to_do is None:
+                    if not line.strip(_BLANKS):
+                        continue
+                    to_do = _READ
+                answer, after = after, readline()
+                why: tuple[bytes, ...] = ()
+                while after.startswith(_EXPLAINS):
+                    why = (*why, after)
+                    after = readline()
+                if again:
+                    again = _AGAIN in line
+                    if again:
+                        self._taken_apart((number, line, to_do, answer, why))
+                        continue
+                self.records += 1
+                if to_do & _ON_PATH and (line.endswith(_LET_THROUGH) or _asked(line)):
+                    self.path_calls += 1
+                if not number % EVERY and progress is not None:
+                    progress.show(number, "answers read")
+                if why or to_do >= _RULE or (to_do & _OPENS_NUMBER and processes.watched):
+                    yield number, line, to_do, answer, why
         if not after.startswith(b"total "):
             raise _other(*self.files)
 
-    def _told(self, number: int, line: bytes, answer: bytes, why: list[bytes]) -> Told:
-        """Parses a record and its answer, and keeps what they change."""
+    def _record(self, said: _Said) -> Record:
+        number, line, _, answer, _ = said
         record = jsonl.read(self.files[0], number, line)
         pid = record.get("pid")
         if type(pid) is not int or not answer.startswith(b"%d %d " % (number, pid)):
             raise _other(*self.files)
+        return record
+
+    def _told(self, said: _Said, record: Record, standing: _Standing) -> Told:
+        number, _, _, answer, why = said
         found = answered(answer, why, self._abis) if why else ()
-        op = record["op"]
-        asked = op in PATH_CALLS and record.get("kernel") in ASKED_LANDLOCK
-        fd = record.get("fd")
-        missed = self._missed.get(pid, {}).get(fd, frozenset()) if isinstance(fd, int) else frozenset()
-        told = Told(number, record, found, self._programs.get(pid), asked, missed, pid in self._confined)
-        self._follow(told, op, pid)
+        asked = record["op"] in PATH_CALLS and record.get("kernel") in ASKED_LANDLOCK
+        program, missed, confined = standing
+        return Told(number, record, found, program, asked, missed, confined)
+
+    def _taken_apart(self, said: _Said) -> Told:
+        """Takes a record and its answer apart, and takes up what they change."""
+        record, processes = self._record(said), self._processes
+        pid, fd = record["pid"], record.get("fd")
+        missed = processes.missed(pid, fd) if isinstance(fd, int) else NOWHERE
+        told = self._told(said, record, (processes.program(pid), missed, processes.confined(pid)))
+        processes.follow(told.line, record, frozenset(abi for abis, _ in told.answered for abi in abis))
         return told
 
-    def _follow(self, told: Told, op: str, pid: int) -> None:
-        record = told.record
+    def _kind(self, said: _Said) -> _Kind | None:
+        """Takes up what a record changes, and says of which kind it is if a summary counts it."""
+        number, line, to_do, answer, why = said
+        words = self._words(answer)
+        counts = bool(why) or _POLICY in line
+        if not counts and to_do < _STATE:
+            self._follow_opening(said)
+            return None
+        standing = None if to_do == _READ else self._standing(number, line, words, bool(why))
+        if standing is None or (to_do >= _STATE and not self._changes(line, int(words[1]))):
+            told = self._taken_apart(said)
+            self.path_calls += told.asked and to_do == _READ
+            counts = counts or "policy" in told.record
+            standing = told.program, told.missed, told.confined
+        own = _OWN_OF_OPENING if words[2] == b"open" else _OWN
+        return (standing, own.sub(b"", line), words[3], why) if counts else None
+
+    def _follow_opening(self, said: _Said) -> None:
+        """Takes up that a number is opened that may have been missed."""
+        number, line, _, answer, _ = said
+        words = self._words(answer)
+        if self._processes.misses(int(words[1])) and self._standing(number, line, words, False) is None:
+            self._taken_apart(said)
+
+    def _words(self, answer: bytes) -> list[bytes]:
+        """The line's number, the process, the operation, and what is answered."""
+        words = answer.split(b" ", 3)
+        if len(words) < 4:
+            raise _other(*self.files)
+        return words
+
+    def _standing(self, number: int, line: bytes, words: list[bytes], explained: bool) -> _Standing | None:
+        """How a record's process stands before it, and takes up what the record does to numbers. It is not taken apart
+        for that; None if it is not written as landaudit-record does.
+        """
+        processes, op, member = self._processes, words[2], b'"pid":%b' % words[1]
+        if words[0] != b"%d" % number or (member + b"," not in line and member + b"}" not in line):
+            return None
+        pid, missed = int(words[1]), NOWHERE
+        if op in _ON_NUMBERS:
+            found = (_COPIES if op == b"dup" else _FD).search(line)
+            if found is None:
+                return None
+            missed = processes.missed(pid, int(found[1]))
+            if op == b"open":
+                processes.miss(pid, int(found[1]), self._not_allowed(words[3]) if explained else NOWHERE)
+            elif op == b"dup":
+                processes.miss(pid, int(found[2]), missed)
+            elif op == b"close" or op == b"adopt":
+                processes.miss(pid, int(found[1]), NOWHERE)
+        return processes.program(pid), missed, processes.confined(pid)
+
+    def _changes(self, line: bytes, pid: int) -> bool:
+        """Takes up what a record changes, if it is one of the commonest and written as landaudit-record does."""
+        found = _CHANGES.fullmatch(line)
+        if found is None:
+            return False
+        op, child, path, role = found.groups()
         match op:
-            case "start":
-                self._programs[pid] = None
-                self._confined.discard(pid)
-            case "fork":
-                child = record["child"]
-                self._programs[child] = self._programs.get(pid)
-                self._confined.discard(child)
-                self._confined.update({child} if pid in self._confined else ())
-                for fd, abis in self._missed.get(pid, {}).items():
-                    if _may_be_opened(fd):
-                        self._miss(child, fd, abis)
-            case "exit":
-                self._programs.pop(pid, None)
-                self._watched -= sum(map(_may_be_opened, self._missed.pop(pid, {})))
-            case "exec":
-                self._programs[pid] = program_run(record) or self._programs.get(pid)
-            case "create":
-                self.confines = True
-            case "restrict":
-                self.confines = True
-                self._policies[told.line] = (of_policy(record) or {}).get("layer")
-                self._confined.update({pid} if of_policy(record) is None else ())
-            case "open":
-                self._miss(pid, record["fd"], _not_given(told))
-            case "dup":
-                self._miss(pid, record["to"], told.missed)
-            case "close" | "adopt":
-                self._miss(pid, record["fd"], frozenset())
-        if "ran" in record:
-            self._programs[record.get("child", pid)] = record["ran"][-1]["path"]
-
-    def _miss(self, pid: int, fd: int, abis: frozenset[int]) -> None:
-        """Keeps the ABIs at which a number is not open because its open was not allowed."""
-        missed = self._missed.setdefault(pid, {}) if abis else self._missed.get(pid, {})
-        self._watched += (bool(abis) - (fd in missed)) * _may_be_opened(fd)
-        if abis:
-            missed[fd] = abis
-        else:
-            missed.pop(fd, None)
-
-
-def _may_be_opened(fd: int) -> bool:
-    """Whether a number may be opened again: numbers that a recorder makes up for one call never are."""
-    return fd < FIRST_MADE_UP
+            case b"exit":
+                self._processes.end(pid)
+            case b"fork":
+                self._processes.fork(pid, int(child))
+            case b"exec" if role is None:
+                self._processes.run(pid, path.decode())
+        return True
 
 
 def _asked(line: bytes) -> bool:
@@ -252,6 +349,38 @@ def place_of(record: Record) -> Place | None:
     if record["op"] in PATH_CALLS and record.get("kernel") in ASKED_LANDLOCK:
         return tuple(str(shown(record, member)) for member in ("path", "from", "to") if member in record)
     return int(record["port"]) if record["op"] in PORT_CALLS else None
+
+
+def places(trace: Path) -> Counter[Place]:
+    """How many calls of a trace are about each path or port, in the order of the first ones.
+
+    Those that a part of a recording only writes again do not count.
+    """
+    found: Counter[Place] = Counter()
+    first: dict[bytes, tuple[int, bytes]] = {}
+    times: Counter[bytes] = Counter()
+
+    def count() -> None:
+        for kind, (number, line) in first.items():
+            record = jsonl.read(trace, number, line)
+            place = None if record.get("again") is True else place_of(record)
+            if place is not None:
+                found[place] += times[kind]
+
+    with open(trace, "rb") as lines:
+        for number, line in enumerate(lines, start=1):
+            if not _BEGINS.get(line[:_KNOWN], _READ) & (_ON_PATH | _ON_PORT | _READ) or not line.strip(_BLANKS):
+                continue
+            kind = _OWN_OF_OPENING.sub(b"", line)
+            if kind not in first:
+                if len(first) == MOST_KINDS:
+                    count()
+                    first.clear()
+                    times.clear()
+                first[kind] = number, line
+            times[kind] += 1
+    count()
+    return found
 
 
 def place_text(record: Record, opened: str | None = None) -> str:

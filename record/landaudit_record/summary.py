@@ -128,17 +128,17 @@ class Summaries:
         """Counts the answers of some ABIs to a part of the recording."""
         left_out: Counter[int] = Counter()
         refusals: dict[Hashable, Refusal] = {}
-        for told in walk:
+        for told, times in walk.kinds():
             for abi in abis if "policy" in told.record else ():
-                _told_of_rule(self._by_abi[abi], told.record)
-            self._count_place(told)
+                _told_of_rule(self._by_abi[abi], told.record, times)
+            self._count_place(told, times)
             for some, answer in told.answered:
                 if _is_left_out(told.record, answer):
-                    left_out.update(some)
+                    left_out.update(dict.fromkeys(some, times))
                 elif answer.refused:
-                    self._refused(walk, told, answer, some, refusals)
+                    self._refused(walk, told, answer, some, times, refusals)
                 else:
-                    self._moot(told, answer, some)
+                    self._moot(told, answer, some, times)
         self._confines |= walk.confines
         for abi in abis:
             summary = self._by_abi[abi]
@@ -146,58 +146,65 @@ class Summaries:
             # What is neither refused nor moot was allowed.
             summary.seen += walk.records - left_out[abi]
 
-    def _count_place(self, told: Told) -> None:
-        """Counts what is not allowed at the path or port that a record is about."""
+    def _count_place(self, told: Told, times: int) -> None:
+        """Counts what is not allowed at the path or port that records are about."""
         place = place_of(told.record) if told.answered else None
         if place is not None:
             for some, answer in told.answered:
                 for abi in some:
-                    self._by_abi[abi].not_allowed[answer.verdict][place] += 1
+                    self._by_abi[abi].not_allowed[answer.verdict][place] += times
 
     def _refused(
-        self, walk: Walk, told: Told, answer: Answer, abis: Iterable[int], known: dict[Hashable, Refusal]
+        self,
+        walk: Walk,
+        told: Told,
+        answer: Answer,
+        abis: Iterable[int],
+        times: int,
+        known: dict[Hashable, Refusal],
     ) -> None:
-        """Counts a refused record at the ABIs that refuse it in the same way."""
+        """Counts refused records under the ABIs that refuse them alike."""
         record = told.record
         for abi in abis:
-            self._by_abi[abi].verdicts["refused"] += 1
-        if not answer.layers and self._warned(record, answer, abis):
+            self._by_abi[abi].verdicts["refused"] += times
+        if not answer.layers and self._warned(record, answer, abis, times):
             return
         about = (*map(record.get, _TELLS), answer.error, answer.explanation)
         refusal = known.get(about)
         if refusal is None:
             known[about] = refusal = _refusal(walk, record, answer)
         for abi in abis:
-            self._by_abi[abi].refusals.setdefault(refusal, Counter())[told.program or "-"] += 1
+            self._by_abi[abi].refusals.setdefault(refusal, Counter())[told.program or "-"] += times
 
-    def _warned(self, record: Record, answer: Answer, abis: Iterable[int]) -> bool:
-        """Warns of a ruleset that is not made or not filled; returns whether the record is not counted otherwise."""
+    def _warned(self, record: Record, answer: Answer, abis: Iterable[int], times: int) -> bool:
+        """Warns of a ruleset that is not made or not filled; says whether that is all to be said of the record."""
         condition = explanations.condition(answer)
         origin = of_policy(record)
         for abi in abis:
             if origin is not None:
                 text = f"{_rule_text(origin, record)} is refused with {answer.error}: {condition.text}"
-                _warn(self._by_abi[abi], text)
+                _warn(self._by_abi[abi], text, times)
             elif record["op"] == "create":
-                _warn(self._by_abi[abi], f"a ruleset of the program is refused at ABI {abi} with {answer.error}: "
-                                         f"{_without_ruleset(condition)}")
+                text = (f"a ruleset of the program is refused at ABI {abi} with {answer.error}: "
+                        f"{_without_ruleset(condition)}")
+                _warn(self._by_abi[abi], text, times)
         return origin is not None
 
-    def _moot(self, told: Told, answer: Answer, abis: Iterable[int]) -> None:
-        """Counts a moot record at the ABIs that find it moot for the same reason."""
+    def _moot(self, told: Told, answer: Answer, abis: Iterable[int], times: int) -> None:
+        """Counts moot records under the ABIs that find them moot alike."""
         origin = of_policy(told.record)
         for abi in abis:
             summary = self._by_abi[abi]
-            summary.verdicts["moot"] += 1
-            summary.moot_path_calls += told.asked
+            summary.verdicts["moot"] += times
+            summary.moot_path_calls += told.asked * times
             if origin is None and abi != self._newest:
                 continue
             why, at = _because(told.record, answer, abi in told.missed)
-            summary.moot.setdefault(why, Counter())[at] += 1
+            summary.moot.setdefault(why, Counter())[at] += times
             if origin is not None:
-                text = (f"{_rule_text(origin, told.record)} is moot: {at} {why}; either the run never touched it, or "
-                        "the name is wrong")
-                _warn(summary, text, _brief(told.record, None) if at.startswith("/") else None)
+                text = (f"{_rule_text(origin, told.record)} is moot: {at} {why}; was it never touched in the run, or "
+                        "is the name wrong?")
+                _warn(summary, text, times, _brief(told.record, None) if at.startswith("/") else None)
                 summary.untouched.add(text)
 
     def done(self, unsaid: Counter[str], missing: Sequence[str] = ()) -> list[Summary]:
@@ -205,7 +212,7 @@ class Summaries:
         for abi, summary in self._by_abi.items():
             summary.verdicts["allowed"] = summary.seen - summary.verdicts["refused"] - summary.verdicts["moot"]
             if not self._confines:
-                _warn(summary, NO_LAYER, Brief("no process confines itself: try a policy by --policy"))
+                _warn(summary, NO_LAYER, 1, Brief("no process confines itself: try a policy by --policy"))
             if 10 * summary.moot_path_calls > summary.path_calls:
                 _warn_of_many_moot(summary)
             summary.unsaid = unsaid
@@ -213,16 +220,16 @@ class Summaries:
         return list(self._by_abi.values())
 
 
-def _told_of_rule(summary: Summary, record: Record) -> None:
-    """Warns of a rule of the policy on an object that the run makes, or in whose place it puts another object."""
+def _told_of_rule(summary: Summary, record: Record, times: int) -> None:
+    """Warns of a rule of the policy on what the run makes, or puts something else in the place of."""
     origin = of_policy(record) or {}
     if "made" in origin:
         _warn(summary, f"{_rule_text(origin, record)}: the run makes it itself, so no sandboxer can put a rule on it: "
-                       f"grant it on {origin['made']}",
+                       f"grant it on {origin['made']}", times,
               _brief(record, f"the run makes it: grant it on {origin['made']}"))
     if "replaced" in origin:
         _warn(summary, f"{_rule_text(origin, record)}: the run puts another object there, and the rule stays with the "
-                       f"first one: grant it on {origin['replaced']}",
+                       f"first one: grant it on {origin['replaced']}", times,
               _brief(record, f"the run puts another there: grant it on {origin['replaced']}"))
 
 
@@ -287,7 +294,7 @@ def _rule_text(origin: dict[str, Any], record: Record) -> str:
 
 def _warn_of_many_moot(summary: Summary) -> None:
     some = f"{summary.moot_path_calls} of {summary.path_calls} calls on paths are"
-    _warn(summary, f"{some} moot, so Landlock was not asked: does the tree list what the run touched?",
+    _warn(summary, f"{some} moot, so the policy was not asked: does the tree list what the run touched?", 1,
           Brief(f"{some} not asked: does the tree list them?"))
 
 
@@ -298,8 +305,8 @@ def _brief(record: Record, said: str | None) -> Brief:
     return Brief(said, origin["parent"], ", ".join([*where, origin["rule"]]))
 
 
-def _warn(summary: Summary, text: str, brief: Brief | None = None) -> None:
-    summary.warnings[text] = summary.warnings.get(text, 0) + 1
+def _warn(summary: Summary, text: str, times: int, brief: Brief | None = None) -> None:
+    summary.warnings[text] = summary.warnings.get(text, 0) + times
     if brief is not None:
         summary.brief[text] = brief
 

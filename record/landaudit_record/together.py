@@ -81,7 +81,10 @@ def audits(members: Sequence[Member], program: Path, name: str, *, best_effort: 
     with ExitStack() as stack:
         progress = stack.enter_context(Progress())
         made = [(it.recording, *stack.enter_context(trying.folder_for(it.recording, name))) for it in members]
-        yield [Auditing(program, recording, folder, best_effort, progress, stays) for recording, folder, stays in made]
+        found = [Auditing(program, recording, folder, best_effort, progress, stays) for recording, folder, stays in made]
+        for auditing in found:
+            stack.callback(auditing.stop)
+        yield found
 
 
 def walks(

@@ -7,7 +7,7 @@ import os
 import tempfile
 from collections.abc import Iterable, Iterator
 from contextlib import contextmanager
-from dataclasses import dataclass
+from dataclasses import dataclass, field
 from pathlib import Path
 from typing import NamedTuple
 
@@ -145,6 +145,7 @@ class Auditing:
     progress: Progress
     stays: bool = True
     status: int = 0
+    _run: landaudit.Run | None = field(default=None, init=False)
 
     def walks(self, abis: range, tried: Tried | None, policy: Policy | None = None) -> Iterator[Walk]:
         """Judges each part at some ABIs, and yields a walk over its answers, as `judged` does."""
@@ -154,22 +155,44 @@ class Auditing:
     def judged(
         self, abis: range, tried: Tried | None, policy: Policy | None = None, *, explain: bool = True
     ) -> Iterator[Files]:
-        """Judges each part at some ABIs, and yields its files, which those of the next part may replace.
+        """Judges each part at some ABIs, and gives its files. landaudit judges the next part meanwhile.
 
         If a policy is tried, `policy` is one with other rules to try instead.
         """
+        before: Files | None = None
+        try:
+            for own, files in self._files(abis, tried, policy):
+                ready = self._ready(before)
+                self._run = landaudit.start(self.program, abis, *files, best_effort=self.best_effort, explain=explain)
+                yield from ready
+                self.progress.say(f"judging at ABI {span(abis)}{self._of_all(own)}")
+                before = files
+            yield from self._ready(before)
+        finally:
+            self.stop()
+
+    def _files(self, abis: range, tried: Tried | None, policy: Policy | None) -> Iterator[tuple[Part, Files]]:
+        """What is to be judged of each part."""
         for number, own in enumerate(self.recording.parts):
             part = Part(self.folder, own.number)
             if tried is None:
-                judged: Iterable[Files] = [Files(own.tree, own.trace, part.report)]
+                yield own, Files(own.tree, own.trace, part.report)
             else:
-                judged = tried.write(policy or tried.policy, abis[-1], number, part)
-            for files in judged:
-                self.progress.say(f"judging at ABI {span(abis)}{self._of_all(own)}")
-                self.status |= landaudit.audit(
-                    self.program, abis, *files, best_effort=self.best_effort, explain=explain
-                )
-                yield files
+                for files in tried.write(policy or tried.policy, abis[-1], number, part):
+                    yield own, files
+
+    def _ready(self, files: Files | None) -> list[Files]:
+        """Files that were judged, once landaudit is done with them."""
+        if self._run is not None:
+            self.status |= self._run.status()
+            self._run = None
+        return [] if files is None else [files]
+
+    def stop(self) -> None:
+        """Ends what landaudit still does."""
+        if self._run is not None:
+            self._run.stop()
+            self._run = None
 
     def _of_all(self, part: Part) -> str:
         return "" if part.number is None else f", part {part.number} of {len(self.recording.parts)}"

@@ -9,8 +9,7 @@ from itertools import takewhile
 from operator import eq
 from pathlib import Path
 
-from .. import jsonl
-from ..reading import Place, place_of
+from ..reading import Place, places
 from ..summary import Summary
 
 #: The last names of a path with more names are kept as one: nobody opens so many directories by hand.
@@ -21,10 +20,7 @@ def asked(traces: Iterable[Path]) -> Counter[Place]:
     """The number of calls of a recording about each path or port; calls that its parts write again count once."""
     found: Counter[Place] = Counter()
     for trace in traces:
-        for _, record in jsonl.numbered(trace):
-            place = None if record.get("again") is True else place_of(record)
-            if place is not None:
-                found[place] += 1
+        found.update(places(trace))
     return found
 
 

@@ -203,12 +203,16 @@ class Tree:
 
 @dataclass(frozen=True)
 class Limits:
-    """How large a part may be, with room for a policy; `own` is the number of records that are not written again."""
+    """How much a part holds before the next one begins, with room for a policy; `own` are records not written again.
+
+    Of `own` there are less than landaudit reads: it takes its memory for one part, and judges a part while the one
+    before is read.
+    """
 
     records: int = MOST_RECORDS - POLICY_RECORDS
     processes: int = MOST_PROCESSES - 1
     objects: int = MOST_OBJECTS - POLICY_OBJECTS
-    own: int = MOST_RECORDS
+    own: int = 500_000
 
 
 LIMITS = Limits()
