@@ -62,7 +62,7 @@ class Running(unittest.TestCase):
             with self.subTest(ended=ended):
                 out = self.folder / str(ended)
 
-                def traced(log: Path, command: list[str]) -> Outcome:
+                def traced(log: Path, command: list[str], *, readlink: bool) -> Outcome:
                     self.assertIs(recordings.read_about(log.parent).ended, False)
                     log.write_bytes((LOGS / "forks" / "strace.txt").read_bytes())
                     return Outcome(7, ended)

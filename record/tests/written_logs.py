@@ -31,7 +31,13 @@ DISK: list[jsonl.Record] = [
 
 
 class WrittenLogs(unittest.TestCase):
-    """A test on lines; a line without a thread's number is of the first process, 10."""
+    """A test on lines; a line without a thread's number is of the first process, 10.
+
+    `readlink` says whether the recording was made with readlink(2).
+    """
+
+    readlink = True
+    disk = DISK
 
     def setUp(self) -> None:
         folder = tempfile.TemporaryDirectory()
@@ -49,8 +55,9 @@ class WrittenLogs(unittest.TestCase):
 
     def conversion(self, *lines: str) -> Converted:
         """What the conversion of lines says of itself."""
-        recordings.About(["p"], "/w", 0.0, False, True, {}).write(self.out)
-        jsonl.write(self.out / recordings.OBJECTS, DISK)
+        about = recordings.About(["p"], "/w", 0.0, False, True, {}, looks=True, readlink=self.readlink)
+        about.write(self.out)
+        jsonl.write(self.out / recordings.OBJECTS, self.disk)
         whole = [FIRST, *(line if line[:1].isdigit() else f"10  {line}" for line in lines)]
         (self.out / "strace.txt").write_text("".join(line + "\n" for line in whole), encoding="ascii")
         return converting.convert(self.out, Ports())

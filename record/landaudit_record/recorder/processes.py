@@ -63,7 +63,8 @@ class Process:
     """A process as a trace has it: what shares one table of descriptors and one domain.
 
     `confined` says whether it has a layer, or may have one; `restricted` are the rulesets of its restrictions; `maker`
-    is the process that forked it; `threaded` says whether it has or had several threads.
+    is the process that forked it; `threaded` says whether it has or had several threads, `looks` whether it is counted as
+    one that looks at others in /proc.
     """
 
     pid: int
@@ -75,6 +76,7 @@ class Process:
     next_made_up: int = FIRST_MADE_UP
     maker: Process | None = None
     threaded: bool = False
+    looks: bool = False
 
     def made_up(self) -> int:
         """A number that no descriptor of the process ever has."""

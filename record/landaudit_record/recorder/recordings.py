@@ -34,7 +34,8 @@ class About:
     trace adopts each and its path, `admin` and `nnp` what the first process had, `errata` the faults of
     Landlock that the kernel says it has mended, the first as bit 0. `uid` and `groups` say as whom the command runs,
     `uid` only if it has no privilege by which file modes would not count. `ended` says that the tracer ended by itself,
-    so that the log is whole; it is said after the run.
+    so that the log is whole; it is said after the run. `looks` says that calls were traced which only look at what a path
+    leads to, `readlink` that those were which read links.
     """
 
     command: list[str]
@@ -50,6 +51,8 @@ class About:
     errata: int = 0
     uid: int | None = None
     groups: list[int] = field(default_factory=list)
+    looks: bool = False
+    readlink: bool = False
 
     @property
     def whiteouts(self) -> str:

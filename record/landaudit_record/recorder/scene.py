@@ -11,6 +11,7 @@ from typing import Any
 from ..living import Members
 from . import modes
 from .disk import Disk
+from .looks import Near
 from .names import Found, Names, Node, join, split
 from .ports import Ports
 from .processes import Handle, Process, Thread
@@ -23,13 +24,15 @@ AT_FDCWD = -100
 CLONE_FS = 0x200
 CLONE_FILES = 0x400
 CLONE_THREAD = 0x10000
+#: The directory of processes.
+PROC = "proc"
 #: What /proc has of each process is what it has of the one that looks (proc(5)).
 OWN_FILES = "/proc/self"
 NO_PATH = "a file without a path"
 SHARED_TABLE = "a descriptor table that two processes share"
 #: So it is where a process has no layer, and where the mode of what is asked for says so.
 BY_MODES = "EACCES by file modes, whatever a policy says"
-_OF_PROCESS = re.compile(r"/proc/(\d+)(?:/task/\d+)?/(fd/(\d+)|exe|cwd|root)")
+_OF_PROCESS = re.compile(r"/proc/(\d+)(?:/task/\d+)?/(fd/(\d+)|exe|cwd|root|(?:map_files|ns)/[^/]+)")
 
 
 @dataclass(slots=True)
@@ -76,7 +79,8 @@ class Scene:
     `asker` is as whom all processes ask for files, if file modes are known to count for them. `ruled` has each name on
     which a record of the program puts a rule, with the object. `unmet` are the threads of which the log has nothing yet
     but the fork that made them, each with whether that fork's result is to be doubted. `placeless` says whether there
-    was a descriptor that is in a mount without a place.
+    was a descriptor that is in a mount without a place. `through` are the processes whose links in /proc a path of this
+    call goes through, `near` says which paths may, and `reads_links` whether readlink(2) was traced.
     """
 
     def __init__(
@@ -87,6 +91,8 @@ class Scene:
         births: Births,
         ports: Ports,
         asker: modes.Asker | None = None,
+        *,
+        reads_links: bool = False,
     ) -> None:
         self.names = names
         self.disk = disk
@@ -100,6 +106,9 @@ class Scene:
         self.begun: set[int] = set()
         self.unmet: dict[int, bool] = {}
         self.placeless = False
+        self.near = Near()
+        self.through: set[int] = set()
+        self.reads_links = reads_links
         self.ruled: list[tuple[str, Node]] = []
         self.handles: dict[str, str] = {}
         self._walked: set[tuple[str, str, str]] = set()
@@ -162,16 +171,25 @@ class Scene:
         links = self._links
         if links is None or links.thread is not thread:
             links = self._links = ThreadLinks(self, thread)
-        return self.names.find(thread.place.root, directory, path, follow, links)
+        found = self.names.find(thread.place.root, directory, path, follow, links)
+        if found.broken is not None and found.names[:1] == [PROC] and (link := _OF_PROCESS.match(found.path)):
+            self.through.add(int(link[1]))
+        return found
 
     def list_links(self, thread: Thread, base: Descriptor | None, path: str) -> None:
         """Lists the symbolic links by which a path leads on, once for each directory and path."""
         directory = base.path if base is not None and base.path is not None else thread.place.directory
         walk = (thread.place.root, "" if path.startswith("/") else directory, path)
         if walk not in self._walked:
-            self._walked.add(walk)
             with suppress(CannotSay):
                 self.find(thread, base, path, True)
+            if not self.through:
+                self._walked.add(walk)
+
+    def go_to(self, thread: Thread, directory: str) -> None:
+        """A thread works in a directory from now on."""
+        thread.place.directory = directory
+        self.near.relative = self.near.relative or split(directory)[:1] == (PROC,)
 
     def written(self, found: Found) -> Spot:
         """What a resolved path names, as the trace writes it."""
@@ -380,8 +398,11 @@ class ThreadLinks:
         if path == "/proc/thread-self":
             return f"{own}/task/{self.thread.tid}", None
         link = _OF_PROCESS.fullmatch(path)
-        process = self.scene.processes.get(int(link[1])) if link else None
-        return self._of_process(process, link[2], link[3]) if link and process else None
+        if link is None:
+            return None
+        self.scene.through.add(int(link[1]))
+        process = self.scene.processes.get(int(link[1]))
+        return self._of_process(process, link[2], link[3]) if process else None
 
     def _of_process(self, process: Process, name: str, number: str | None) -> tuple[str, Node | None] | None:
         match name:
@@ -391,7 +412,9 @@ class ThreadLinks:
                 return self.thread.place.directory, None
             case "root":
                 return self.thread.place.root, None
-        handle = process.table.get(int(number or 0))
+        if number is None:
+            return None
+        handle = process.table.get(int(number))
         if handle is None:
             raise CannotSay("a file by a descriptor of which nothing is known")
         if handle.path is None:

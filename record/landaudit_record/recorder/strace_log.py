@@ -20,6 +20,7 @@ from pathlib import Path
 from typing import TextIO
 
 from . import values
+from .looks import DROPPED, Near
 from .unsaid import NotUnderstood
 from ..problems import Problem
 
@@ -238,9 +239,12 @@ def _clone_flags(line: str) -> int:
     return values.number(flags[1]) if flags else 0
 
 
-def events(path: Path, ends: Mapping[int, str] | None = None) -> Iterator[Event]:
-    """What a log says, in the order in which the calls took effect; `ends` is what `births` found."""
-    reader = _Reader(ends or {})
+def events(path: Path, ends: Mapping[int, str] | None = None, near: Near | None = None) -> Iterator[Event]:
+    """What a log says, in the order in which the calls took effect; `ends` is what `births` found.
+
+    Calls that only look are left out, but for those of which `near` says that they may look into another process.
+    """
+    reader = _Reader(ends or {}, near or Near())
     read = reader.read
     with open_log(path) as lines:
         for number, line in enumerate(lines, start=1):
@@ -256,14 +260,17 @@ def events(path: Path, ends: Mapping[int, str] | None = None) -> Iterator[Event]
 class _Reader:
     """Reads line after line: of each thread it keeps the first half of the call that has not ended."""
 
-    def __init__(self, ends: Mapping[int, str]) -> None:
+    def __init__(self, ends: Mapping[int, str], near: Near) -> None:
         self._ends = ends
+        self._drops = near.drops
         self._begun: dict[int, tuple[int, str]] = {}
         self._told: set[int] = set()
         self._superseding: set[int] = set()
 
     def read(self, number: int, tid: int, text: str) -> Event | None:
         """What a line tells, if it tells something by itself."""
+        if self._drops(text):
+            return None
         if text[-4:] == "...>":
             first = text.removesuffix(UNFINISHED)
             if first is text:
@@ -297,7 +304,7 @@ class _Reader:
             return None
         begun = self._begun.pop(tid, None)
         if begun is None:
-            return Unread(number, tid, text)
+            return None if resumed[1] in DROPPED else Unread(number, tid, text)
         end = _DONE if tid in self._superseding else text[resumed.end() :]
         self._superseding.discard(tid)
         return _call(begun[0], tid, begun[1] + end)

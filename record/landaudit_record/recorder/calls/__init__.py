@@ -12,11 +12,6 @@ from . import beyond, descriptors, files, landlock, mounts, moves, opening, othe
 Handler = Callable[[Scene, Thread, Call], None]
 
 
-def _opening(name: str, base: int | None, path: int) -> Handler:
-    """The handler of a call that opens files, some of which a trace has no words for."""
-    return mounts.from_a_place(others.opening(opening.HANDLERS[name], base, path), base)
-
-
 HANDLERS: Mapping[str, Handler] = {
     **beyond.HANDLERS,
     **descriptors.HANDLERS,
@@ -27,5 +22,5 @@ HANDLERS: Mapping[str, Handler] = {
     **opening.HANDLERS,
     **others.HANDLERS,
     **programs.HANDLERS,
-    **{name: _opening(name, *given) for name, given in opening.GIVEN.items()},
+    **{name: mounts.from_a_place(opening.HANDLERS[name], base) for name, (base, _) in opening.GIVEN.items()},
 }

@@ -39,14 +39,25 @@ def _openat(scene: Scene, thread: Thread, call: Call) -> None:
 
 
 def _openat2(scene: Scene, thread: Thread, call: Call) -> None:
-    flags, resolve = (values.member(call.arguments[2], name) for name in ("flags", "resolve"))
+    resolve = values.member(call.arguments[2], "resolve")
     if call.error in RESOLVE_ERRORS and resolve is not None and values.number(resolve):
         raise NotAsked("a path that openat2 may not resolve so")
-    _opened(scene, thread, call, 0, 1, values.number(flags) if flags else 0)
+    _opened(scene, thread, call, 0, 1, flags_of(call))
+
+
+def flags_of(call: Call) -> int:
+    """The flags of a call that opens files."""
+    match call.name:
+        case "creat":
+            return O_CREAT | O_TRUNC | 1
+        case "openat2":
+            flags = values.member(call.arguments[2], "flags")
+            return values.number(flags) if flags else 0
+    return arguments.number_at(call, 1 if call.name == "open" else 2)
 
 
 def _creat(scene: Scene, thread: Thread, call: Call) -> None:
-    _opened(scene, thread, call, None, 0, O_CREAT | O_TRUNC | 1)
+    _opened(scene, thread, call, None, 0, flags_of(call))
 
 
 def _opened(scene: Scene, thread: Thread, call: Call, base: int | None, path: int, flags: int) -> None:
@@ -54,11 +65,10 @@ def _opened(scene: Scene, thread: Thread, call: Call, base: int | None, path: in
         result = values.descriptor(f"{call.value}{call.note}")
         scene.put(thread, call, result.number, Handle(result.path, close_on_exec=bool(flags & O_CLOEXEC)))
         gone = None
-        if result.path is not None and not result.in_memory:
-            if result.deleted and flags & O_TMPFILE != O_TMPFILE:
-                gone = _gone(scene, thread, call, base, path)
-            elif not flags & O_PATH:
-                _list_links(scene, thread, call, base, path, result.path)
+        if result.deleted and not result.in_memory and flags & O_TMPFILE != O_TMPFILE:
+            gone = _gone(scene, thread, call, base, path)
+        elif not flags & O_PATH:
+            _list_links(scene, thread, call, base, path, result.path)
         succeeded(scene, thread, call, result, flags, gone)
     elif not flags & O_PATH:
         _failed(scene, thread, call, base, path, flags)
@@ -128,7 +138,7 @@ def _kind_after(scene: Scene, path: str) -> str:
     return scene.names.kind(seen.kind) if seen is not None and seen.kind != "sym" else "reg"
 
 
-def _list_links(scene: Scene, thread: Thread, call: Call, base: int | None, path: int, opened: str) -> None:
+def _list_links(scene: Scene, thread: Thread, call: Call, base: int | None, path: int, opened: str | None) -> None:
     """Lists the symbolic links by which a path led to the file that was opened, if it led there by any."""
     text = values.text(call.arguments[path])
     if text is not None and text != opened:
