@@ -17,7 +17,7 @@ from pathlib import Path
 from .. import PROGRAMS, RECORDER, confining, landaudit, policies
 from ..options import add_abi
 from ..problems import USAGE, WANTING, Problem
-from ..recorder import recordings, tracing
+from ..recorder import formats, recordings, tracing
 from . import audit, convert
 
 NAME = "run"
@@ -174,4 +174,5 @@ def _about(command: list[str], watched: list[str], strace: str, *, readlink: boo
         ended=False,
         looks=True,
         readlink=readlink,
+        formats=formats.registered(),
     )

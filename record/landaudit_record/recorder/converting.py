@@ -28,7 +28,7 @@ def convert(folder: Path, ports: Ports, limits: Limits = LIMITS) -> Converted:
     """Writes the trees and traces of a recording from its log; nothing is in place until all of it is."""
     about = read_about(folder)
     log = strace_log.find_log(folder)
-    kept = disk.kept(folder / OBJECTS, about.started)
+    kept = disk.kept(folder / OBJECTS, about.started, about.registered)
     names = Names(kept, read_before(folder), about.watched, about.whiteouts)
     with Recording(folder, Tree(names), limits) as recording, Progress("records") as progress:
         births = strace_log.births(log)

@@ -5,13 +5,16 @@ from __future__ import annotations
 import ctypes
 import os
 import stat
+from collections.abc import Sequence
 from dataclasses import dataclass
+from functools import cache
 from pathlib import Path
 from struct import Struct
 from sys import maxsize
 from typing import BinaryIO
 
 from .. import jsonl
+from .formats import HEAD, Format, first_of
 from .modes import Mode
 
 _KINDS = {
@@ -28,7 +31,6 @@ _AT_SYMLINK_NOFOLLOW = 0x100
 _STATX_BTIME = 0x800
 _STATX_SIZE = 256
 _STATX_BTIME_AT = 80
-_SCRIPT_LINE = 256
 #: A character device 0:0: which kind it is for Landlock the kernel says (docs/SEMANTICS.md, "Whiteouts").
 WHITEOUT = "whiteout"
 
@@ -100,7 +102,7 @@ def interpreter(path: str) -> str | None:
     """What the kernel runs a file by: the program after `#!`, or the loader that an ELF file names (PT_INTERP)."""
     try:
         with open(path, "rb") as program:
-            head = program.read(_SCRIPT_LINE)
+            head = program.read(HEAD)
             if head.startswith(b"#!"):
                 words = head[2:].split(b"\n", 1)[0].split(None, 1)
                 return _text(words[0]) if words else None
@@ -108,6 +110,41 @@ def interpreter(path: str) -> str | None:
             return _loader(program, head, layout) if layout is not None else None
     except (OSError, ValueError):
         return None
+
+
+def head(path: str) -> bytes:
+    """How a file begins; nothing of one that can't be read."""
+    try:
+        with open(path, "rb") as program:
+            return program.read(HEAD)
+    except (OSError, ValueError):
+        return b""
+
+
+#: What runs beside programs of a machine's own: the older ones of a family (elf.h has the numbers).
+_COMPATIBLE = {62: {3, 6}, 183: {40}, 21: {20}, 43: {2, 18}}
+_MACHINE_AT = 18
+
+
+def is_foreign(head: bytes) -> bool:
+    """Whether a file is neither a script nor a program of this machine: the kernel runs it by a format, or not at all."""
+    if head.startswith(b"#!"):
+        return False
+    machine = _machine(head)
+    return machine is None or machine not in _own_machines()
+
+
+def _machine(head: bytes) -> int | None:
+    """The machine that an ELF file is for."""
+    if head[:6] not in _LAYOUTS or len(head) < _MACHINE_AT + 2:
+        return None
+    return int.from_bytes(head[_MACHINE_AT : _MACHINE_AT + 2], "little" if head[5] == 1 else "big")
+
+
+@cache
+def _own_machines() -> set[int | None]:
+    own = _machine(head("/proc/self/exe"))
+    return {own} | _COMPATIBLE.get(own or 0, set())
 
 
 def _text(written: bytes) -> str | None:
@@ -174,12 +211,17 @@ class Disk:
         kept: dict[str, Seen] | None = None,
         by: dict[str, str] | None = None,
         modes: dict[str, Mode] | None = None,
+        *,
+        formats: Sequence[Format] = (),
+        heads: dict[str, bytes] | None = None,
     ) -> None:
         self._since = since
         self._live = kept is None
         self._seen: dict[str, Seen | None] = dict(kept or {})
         self._interpreters: dict[str, str | None] = dict(by or {})
         self._modes: dict[str, Mode | None] = dict(modes or {})
+        self.formats = formats
+        self._heads: dict[str, bytes] = dict(heads or {})
 
     def look(self, path: str) -> Seen | None:
         """The object at a path after the run."""
@@ -194,6 +236,15 @@ class Disk:
             runs = self._live and seen is not None and seen.kind == "reg"
             self._interpreters[path] = interpreter(path) if runs else None
         return self._interpreters[path]
+
+    def head(self, path: str) -> bytes:
+        """How a file begins that is run by a format, be it one that is not known; nothing of all others."""
+        seen = self.look(path)
+        if path not in self._heads:
+            begins = head(path) if self._live and seen is not None and seen.kind == "reg" else b""
+            by_format = begins and (is_foreign(begins) or first_of(self.formats, "", begins) is not None)
+            self._heads[path] = begins if by_format else b""
+        return self._heads[path]
 
     def mode(self, path: str) -> Mode | None:
         """The mode of what a path leads to, if that is still there."""
@@ -220,16 +271,19 @@ class Disk:
             line["mode"] = [of.bits, of.uid, of.gid]
         if self._interpreters.get(path) is not None:
             line["interpreter"] = self._interpreters[path]
+        if self._heads.get(path):
+            line["head"] = self._heads[path].hex()
         return line
 
 
-def kept(file: Path, since: float) -> Disk:
+def kept(file: Path, since: float, formats: Sequence[Format] = ()) -> Disk:
     """The disk as an earlier conversion kept it, or the disk of this machine where there was none."""
     if not file.is_file():
-        return Disk(since)
+        return Disk(since, formats=formats)
     seen: dict[str, Seen] = {}
     loaders: dict[str, str] = {}
     modes: dict[str, Mode] = {}
+    heads: dict[str, bytes] = {}
     for _, line in jsonl.numbered(file):
         new, runs = line.get("new", False), line.get("runs", False)
         seen[line["path"]] = Seen(line["kind"], line.get("target"), new, runs, line.get("inode"))
@@ -237,7 +291,9 @@ def kept(file: Path, since: float) -> Disk:
             loaders[line["path"]] = line["interpreter"]
         if "mode" in line:
             modes[line["path"]] = Mode(*line["mode"])
-    return Disk(since, seen, loaders, modes)
+        if "head" in line:
+            heads[line["path"]] = bytes.fromhex(line["head"])
+    return Disk(since, seen, loaders, modes, formats=formats, heads=heads)
 
 
 def list_below(top: str, limit: int, unread: list[str]) -> list[tuple[str, Seen]] | None:

@@ -8,10 +8,12 @@ import os
 import stat
 from dataclasses import asdict, dataclass, field
 from pathlib import Path
+from typing import Any
 
 from .. import jsonl
 from . import disk
 from .disk import Seen
+from .formats import Format
 from .modes import Asker
 from ..problems import Problem
 
@@ -35,7 +37,8 @@ class About:
     Landlock that the kernel says it has mended, the first as bit 0. `uid` and `groups` say as whom the command runs,
     `uid` only if it has no privilege by which file modes would not count. `ended` says that the tracer ended by itself,
     so that the log is whole; it is said after the run. `looks` says that calls were traced which only look at what a path
-    leads to, `readlink` that those were which read links.
+    leads to, `readlink` that those were which read links. `formats` are those that binfmt_misc had, None if that was not
+    known.
     """
 
     command: list[str]
@@ -53,6 +56,12 @@ class About:
     groups: list[int] = field(default_factory=list)
     looks: bool = False
     readlink: bool = False
+    formats: list[dict[str, Any]] | None = None
+
+    @property
+    def registered(self) -> list[Format]:
+        """The formats of files that are run by an interpreter, as far as they are known."""
+        return [Format(**told) for told in self.formats or ()]
 
     @property
     def whiteouts(self) -> str:

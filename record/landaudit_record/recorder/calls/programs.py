@@ -4,7 +4,7 @@ from __future__ import annotations
 
 from dataclasses import replace
 
-from .. import values
+from .. import formats, values
 from ..processes import Thread
 from ..scene import CLONE_FILES, CLONE_FS, Scene, Spot
 from ..strace_log import Call
@@ -15,6 +15,7 @@ from .descriptors import OWN_TABLE
 #: The kernel follows this many interpreters of interpreters (execve(2)).
 MOST_INTERPRETERS = 5
 USUAL_PROGRAM = "/bin/sh"
+UNKNOWN_FORMAT = "a program that the kernel runs by a format which is not known (binfmt_misc)"
 
 
 def _execve(scene: Scene, thread: Thread, call: Call) -> None:
@@ -63,21 +64,41 @@ def _run_one(scene: Scene, thread: Thread, call: Call, spot: Spot, role: str | N
 
 
 def _interpreters(scene: Scene, thread: Thread, call: Call, program: Spot) -> list[Spot]:
-    """What a program is run by: the program after `#!` and its like, then the loader."""
+    """What a program is run by: the interpreter of its format, or the program after `#!` and its like; then the loader.
+
+    An interpreter that was opened when its format was registered is not asked about, but its loader is.
+    """
     found: list[Spot] = []
-    spot = program
-    while len(found) < MOST_INTERPRETERS:
-        text = scene.disk.interpreter(spot.real)
-        if text is None and spot is program and scene.disk.look(spot.real) is None:
-            scene.leave_out(thread, call, "a program that is gone: its loader is taken to be the usual one")
-            text = scene.disk.interpreter(scene.spot(thread, None, USUAL_PROGRAM, True).real)
-        if text is None:
+    spot, called = program, _called(call)
+    for _ in range(MOST_INTERPRETERS):
+        of = formats.first_of(scene.disk.formats, called, scene.disk.head(spot.real))
+        called = of.interpreter if of is not None else _named(scene, thread, call, spot, is_first=spot is program)
+        if not called:
             return found
-        spot = scene.spot(thread, None, text, True)
-        found.append(spot)
+        spot = scene.spot(thread, None, called, True)
+        if of is None or not of.opened:
+            found.append(spot)
         if spot.node is None:
             return found
     return found
+
+
+def _called(call: Call) -> str:
+    """The path by which a program is run, as the call has it."""
+    return values.text(call.arguments[1 if call.name == "execveat" else 0]) or ""
+
+
+def _named(scene: Scene, thread: Thread, call: Call, spot: Spot, *, is_first: bool) -> str:
+    """The interpreter or loader that a file names, if it names one."""
+    if scene.disk.head(spot.real):
+        if call.ok:
+            scene.leave_out(thread, call, UNKNOWN_FORMAT, asks=True)
+        return ""
+    text = scene.disk.interpreter(spot.real)
+    if text is None and is_first and scene.disk.look(spot.real) is None:
+        scene.leave_out(thread, call, "a program that is gone: its loader is taken to be the usual one")
+        text = scene.disk.interpreter(scene.spot(thread, None, USUAL_PROGRAM, True).real)
+    return text or ""
 
 
 def _became(scene: Scene, thread: Thread, call: Call, spot: Spot) -> None:
