@@ -22,6 +22,14 @@ CONVERTED = "converted.json"
 FORMAT = 1
 #: The files of which each part has one, with their endings; the last two are those of the last audit.
 OF_A_PART = {"tree": "jsonl", "trace": "jsonl", "tried": "jsonl", "report": "txt"}
+#: Kinds of calls that not every recording has: those that only look at an object, that read links, that send signals.
+LOOKING, READING_LINKS, SIGNALS = "looks", "readlink", "signals"
+_OLDER = (LOOKING, READING_LINKS, SIGNALS)
+#: What of a policy's scopes may be refused (landlock(7)), and by which calls.
+_SCOPED = {
+    "abstract_unix_socket": "a connection to an abstract UNIX socket of another process",
+    "signal": "a signal to another process",
+}
 #: What is in a folder by `landaudit-record run` and can be converted (again).
 RECORDED = ("recording.json", "strace.txt", "strace.txt.gz")
 
@@ -41,7 +49,8 @@ class Converted:
     """What a conversion that came to its end says of itself.
 
     `unsaid` counts by class what could not be said, `holes` those of these calls that the kernel may refuse by a policy
-    and an audit can't foresee; `ended` says that the tracer ended by itself.
+    and an audit can't foresee, `scopes` those that it may refuse if the policy has the scope; `ended` says that the
+    tracer ended by itself, `untraced` which kinds of calls the log does not have.
     """
 
     parts: tuple[Size, ...]
@@ -49,7 +58,9 @@ class Converted:
     objects: int
     unsaid: Counter[str] = field(default_factory=Counter)
     holes: Counter[str] = field(default_factory=Counter)
+    scopes: Counter[str] = field(default_factory=Counter)
     ended: bool = True
+    untraced: tuple[str, ...] = ()
 
     @property
     def records(self) -> int:
@@ -58,7 +69,8 @@ class Converted:
 
     def write(self, folder: Path) -> None:
         """Says in a folder that the conversion is whole; nobody ever sees half of it."""
-        said = {name: getattr(self, name) for name in ("processes", "objects", "unsaid", "holes", "ended")}
+        names = ("processes", "objects", "unsaid", "holes", "scopes", "ended", "untraced")
+        said = {name: getattr(self, name) for name in names}
         parts = [asdict(part) for part in self.parts]
         beside = folder / f"{CONVERTED}.new"
         with open(beside, "w", encoding="utf-8") as out:
@@ -116,13 +128,16 @@ def numbered(folder: Path, parts: int) -> list[Part]:
 
 @dataclass(frozen=True)
 class Finished:
-    """The folder of a recording that has all its parts."""
+    """The folder of a recording that has all its parts; `scoped` are the scopes of the policy that is tried on it."""
 
     folder: Path
     parts: tuple[Part, ...]
     unsaid: Counter[str]
     holes: Counter[str]
     ended: bool
+    scopes: Counter[str] = field(default_factory=Counter)
+    untraced: tuple[str, ...] = ()
+    scoped: tuple[str, ...] = ()
 
     @property
     def missing(self) -> list[str]:
@@ -132,9 +147,27 @@ class Finished:
             calls = ", ".join(f"{name} ({times})" for name, times in self.holes.most_common())
             number = counted(self.holes.total(), "call")
             told.append(f"{number} that a policy may refuse could not be recorded: {calls}")
+        told.extend(self._of_scopes())
         if not self.ended:
             told.append("the recording is cut: the log stops before the command's end, so record it again")
         return told
+
+    def _of_scopes(self) -> Iterator[str]:
+        """What the policy's scopes may refuse: no record has such calls, they are only counted."""
+        for scope in self.scoped:
+            if SIGNALS in self.untraced:
+                yield f"scoped = {scope}: the recording has no calls that it may refuse, so record it again"
+            elif self.scopes[scope]:
+                calls = counted(self.scopes[scope], "call")
+                yield f"{calls} that scoped = {scope} may refuse can't be judged: {_SCOPED[scope]}"
+
+    @property
+    def notes(self) -> Iterator[str]:
+        """What stands beside each audit: the kinds of calls that were not traced and that a layer may refuse."""
+        if LOOKING in self.untraced:
+            yield "calls that only look (stat, readlink) into other processes are not recorded: record it again"
+        elif READING_LINKS in self.untraced:
+            yield "readlink(2) into other processes is not recorded (run --readlink)"
 
 
 def opened(folder: str) -> Finished:
@@ -148,7 +181,8 @@ def opened(folder: str) -> Finished:
     for part, size in zip(parts, converted.parts):
         if not part.tree.is_file() or not part.trace.is_file() or part.trace.stat().st_size != size.bytes:
             raise Problem(f"{part.trace} is missing or has changed since the conversion: {_mending(path)}")
-    return Finished(path, tuple(parts), converted.unsaid, converted.holes, converted.ended)
+    said = (converted.unsaid, converted.holes, converted.ended, converted.scopes, converted.untraced)
+    return Finished(path, tuple(parts), *said)
 
 
 def _mending(path: Path) -> str:
@@ -163,8 +197,9 @@ def _converted(folder: Path) -> Converted | None:
         if said.pop("format") != FORMAT:
             raise Problem(f"{file} is of another version of landaudit-record: {_mending(folder)}")
         parts = tuple(Size(**size) for size in said["parts"])
-        unsaid, holes = Counter(said["unsaid"]), Counter(said["holes"])
-        return Converted(parts, said["processes"], said["objects"], unsaid, holes, said["ended"])
+        counts = (Counter(said["unsaid"]), Counter(said["holes"]), Counter(said.get("scopes", {})))
+        untraced = tuple(said.get("untraced", _OLDER))
+        return Converted(parts, said["processes"], said["objects"], *counts, said["ended"], untraced)
     except (FileNotFoundError, NotADirectoryError):
         return None
     except (ValueError, TypeError, KeyError, AttributeError) as error:
@@ -190,6 +225,8 @@ def _unsaid(path: Path) -> tuple[Counter[str], Counter[str]]:
     unsaid: Counter[str] = Counter()
     holes: Counter[str] = Counter()
     for _, entry in jsonl.numbered(path) if path.exists() else ():
+        if "scope" in entry:
+            continue
         unsaid[str(entry.get("class"))] += 1
         holes[str(entry.get("class"))] += entry.get("asks") is True
     return unsaid, +holes

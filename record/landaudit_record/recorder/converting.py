@@ -46,7 +46,8 @@ def convert(folder: Path, ports: Ports, limits: Limits = LIMITS) -> Converted:
         if recording.records == 0:
             raise Problem(f"{log} has no call of a program: record it again")
         kept.keep(folder / OBJECTS)
-        return recording.finish(about.ended and scene.have_ended(scene.threads), scene.further_names())
+        ended = about.ended and scene.have_ended(scene.threads)
+        return recording.finish(ended, scene.further_names(), about.untraced)
 
 
 def _take(scene: Scene, event: Ended | Superseded | Unread) -> None:

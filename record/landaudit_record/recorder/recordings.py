@@ -15,6 +15,7 @@ from . import disk
 from .disk import Seen
 from .formats import Format
 from .modes import Asker
+from ..finished import LOOKING, READING_LINKS, SIGNALS
 from ..problems import Problem
 
 ABOUT = "recording.json"
@@ -37,7 +38,7 @@ class About:
     Landlock that the kernel says it has mended, the first as bit 0. `uid` and `groups` say as whom the command runs,
     `uid` only if it has no privilege by which file modes would not count. `ended` says that the tracer ended by itself,
     so that the log is whole; it is said after the run. `looks` says that calls were traced which only look at what a path
-    leads to, `readlink` that those were which read links. `formats` are those that binfmt_misc had, None if that was not
+    leads to and such as send signals, `readlink` that those were which read links. `formats` are those that binfmt_misc had, None if that was not
     known.
     """
 
@@ -57,6 +58,12 @@ class About:
     looks: bool = False
     readlink: bool = False
     formats: list[dict[str, Any]] | None = None
+
+    @property
+    def untraced(self) -> tuple[str, ...]:
+        """The kinds of calls that were not traced, of those that not every recording has."""
+        named = ((LOOKING, self.looks), (READING_LINKS, self.readlink), (SIGNALS, self.looks))
+        return tuple(name for name, traced in named if not traced)
 
     @property
     def registered(self) -> list[Format]:

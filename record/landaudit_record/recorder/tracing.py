@@ -38,6 +38,7 @@ mount umount2 pivot_root ?move_mount ?fsconfig ?fsmount ?open_tree ?open_tree_at
 sendto sendmsg sendmmsg
 ptrace process_vm_readv process_vm_writev kcmp ?move_pages ?migrate_pages ?get_robust_list perf_event_open
 ?process_madvise ?pidfd_getfd
+kill tkill tgkill rt_sigqueueinfo ?rt_tgsigqueueinfo ?pidfd_send_signal
 """.split()
 
 #: Calls of which nothing but flags is read: their data stay out of the log.

@@ -240,6 +240,7 @@ class Recording:
         self.processes = 0
         self.unsaid: Counter[str] = Counter()
         self._holes: Counter[str] = Counter()
+        self._scopes: Counter[str] = Counter()
         self._living = Living()
         self._call: list[_Waiting] = []
         self._parts: list[_PartInMaking] = []
@@ -323,10 +324,18 @@ class Recording:
             entry["asks"] = True
         self._unsaid.write(jsonl.line(entry))
 
-    def finish(self, ended: bool, further: Mapping[str, Sequence[str]] | None = None) -> Converted:
+    def leave_to_scope(self, scope: str, line: int, pid: int, call: str) -> None:
+        """Counts a call that only a policy may refuse which has a scope."""
+        self._scopes[scope] += 1
+        self._unsaid.write(jsonl.line({"line": line, "pid": pid, "scope": scope, "call": call[:LONGEST_CALL]}))
+
+    def finish(
+        self, ended: bool, further: Mapping[str, Sequence[str]] | None = None, untraced: Sequence[str] = ()
+    ) -> Converted:
         """Puts all files in place, and says last that the recording is whole.
 
         `further` are the further names that objects have on which the program puts a rule: it is put on these too.
+        `untraced` are the kinds of calls that were not traced.
         """
         self.commit()
         self._end_part()
@@ -334,7 +343,8 @@ class Recording:
         for part in self._parts:
             part.spread(further or {})
         sizes = tuple(part.finish(self.tree) for part in self._parts)
-        done = Converted(sizes, self.processes, len(self.tree), self.unsaid, self._holes, ended)
+        counts = (self.unsaid, self._holes, self._scopes)
+        done = Converted(sizes, self.processes, len(self.tree), *counts, ended, tuple(untraced))
         (self._folder / CONVERTED).unlink(missing_ok=True)
         for old in files_of_parts(self._folder):
             old.unlink()

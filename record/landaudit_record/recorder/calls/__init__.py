@@ -7,7 +7,7 @@ from collections.abc import Callable, Mapping
 from ..processes import Thread
 from ..scene import Scene
 from ..strace_log import Call
-from . import beyond, descriptors, files, landlock, mounts, moves, opening, others, programs
+from . import beyond, descriptors, files, landlock, mounts, moves, opening, others, programs, scopes
 
 Handler = Callable[[Scene, Thread, Call], None]
 
@@ -22,5 +22,6 @@ HANDLERS: Mapping[str, Handler] = {
     **opening.HANDLERS,
     **others.HANDLERS,
     **programs.HANDLERS,
+    **scopes.HANDLERS,
     **{name: mounts.from_a_place(opening.HANDLERS[name], base) for name, (base, _) in opening.GIVEN.items()},
 }

@@ -165,9 +165,15 @@ def _by_pid(*indexes: int) -> Handler:
 
 def by_pidfd(scene: Scene, thread: Thread, call: Call) -> None:
     """A call that names a process by a descriptor (pidfd_open(2))."""
+    pid = pid_behind(call)
+    if pid is not None:
+        _look(scene, thread, call, [pid])
+
+
+def pid_behind(call: Call) -> int | None:
+    """The process that the first argument of a call is a descriptor of."""
     named = _PIDFD.match(values.descriptor(call.arguments[0]).behind or "")
-    if named is not None:
-        _look(scene, thread, call, [int(named[1])])
+    return int(named[1]) if named is not None else None
 
 
 def _look(scene: Scene, thread: Thread, call: Call, pids: list[int]) -> None:
