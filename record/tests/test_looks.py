@@ -7,6 +7,7 @@ from __future__ import annotations
 
 import unittest
 
+from landaudit_record.recorder import recordings
 from landaudit_record.recorder.calls import others
 from landaudit_record.recorder.calls.ways import WAYS
 from landaudit_record.recorder.looks import LOOKS, READLINKS
@@ -172,6 +173,38 @@ class OtherCalls(WrittenLogs):
             with self.subTest(call):
                 self.convert(call, call)
                 self.assertEqual(self.unsaid(), [LOOK] * 2)
+
+
+class Hidden(WrittenLogs):
+    """A /proc that is mounted with hidepid: all of another process is only for those who may trace it."""
+
+    hidepid = True
+
+    def test_anything_of_another_process(self) -> None:
+        for call in (
+            'stat("/proc/1", 0x7ffd) = 0',
+            'lstat("/proc/1/status", 0x7ffd) = 0',
+            f'openat({CWD}, "/proc/1/status", 0 /* O_RDONLY */) = 3</proc/1/status>',
+        ):
+            with self.subTest(call):
+                self.convert(call)
+                self.assertEqual(self.unsaid(), [LOOK])
+
+    def test_what_is_refused(self) -> None:
+        self.assertEqual(self.confined('stat("/proc/1/status", 0x7ffd) = -1 EPERM (Operation not permitted)'), [])
+        self.assertEqual(self.unsaid(), [LOOK])
+
+    def test_what_is_of_no_process_or_of_its_own(self) -> None:
+        self.convert('stat("/proc/cpuinfo", 0x7ffd) = 0', 'stat("/proc/self/status", 0x7ffd) = 0')
+        self.assertEqual(self.unsaid(), [])
+
+    def test_what_the_mounts_say(self) -> None:
+        mounts = self.out / "mountinfo"
+        begin = "22 1 0:21 / /proc rw,relatime - proc proc rw"
+        for options, hides in (("", False), (",hidepid=off", False), (",hidepid=invisible", True), (",hidepid=2", True)):
+            with self.subTest(options):
+                mounts.write_text(f"21 1 254:0 / / rw - ext4 /dev/vda rw,hidepid=2\n{begin}{options}\n")
+                self.assertIs(recordings.hides_processes(mounts), hides)
 
 
 class WithoutReadlink(WrittenLogs):

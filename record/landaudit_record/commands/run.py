@@ -175,4 +175,5 @@ def _about(command: list[str], watched: list[str], strace: str, *, readlink: boo
         looks=True,
         readlink=readlink,
         formats=formats.registered(),
+        hidepid=recordings.hides_processes(),
     )

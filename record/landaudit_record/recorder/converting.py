@@ -32,7 +32,9 @@ def convert(folder: Path, ports: Ports, limits: Limits = LIMITS) -> Converted:
     names = Names(kept, read_before(folder), about.watched, about.whiteouts)
     with Recording(folder, Tree(names), limits) as recording, Progress("records") as progress:
         births = strace_log.births(log)
-        scene = Scene(names, kept, recording, births, ports, about.asker, reads_links=about.readlink)
+        scene = Scene(
+            names, kept, recording, births, ports, about.asker, reads_links=about.readlink, hides=about.hidepid
+        )
         for event in strace_log.events(log, births.ends, scene.near):
             if isinstance(event, Call):
                 _take_call(scene, about, event)

@@ -39,7 +39,7 @@ class About:
     `uid` only if it has no privilege by which file modes would not count. `ended` says that the tracer ended by itself,
     so that the log is whole; it is said after the run. `looks` says that calls were traced which only look at what a path
     leads to and such as send signals, `readlink` that those were which read links. `formats` are those that binfmt_misc had, None if that was not
-    known.
+    known; `hidepid` says that /proc is mounted with this option (proc(5)).
     """
 
     command: list[str]
@@ -58,6 +58,7 @@ class About:
     looks: bool = False
     readlink: bool = False
     formats: list[dict[str, Any]] | None = None
+    hidepid: bool = False
 
     @property
     def untraced(self) -> tuple[str, ...]:
@@ -121,6 +122,15 @@ def errata() -> int:
     libc = ctypes.CDLL(None, use_errno=True)
     mended: int = libc.syscall(_SYS_LANDLOCK_CREATE_RULESET, None, 0, _LANDLOCK_CREATE_RULESET_ERRATA)
     return max(0, mended)
+
+
+def hides_processes(mounts: Path = Path("/proc/self/mountinfo")) -> bool:
+    """Whether /proc is mounted so that what is in it of a process is not for all (proc(5), `hidepid`)."""
+    with open(mounts, encoding="utf-8", errors="surrogateescape") as lines:
+        fields = [line.split() for line in lines]
+    options = [field[-1].split(",") for field in fields if field[4:5] == ["/proc"]]
+    hidepid = [option for option in (options[-1] if options else ()) if option.startswith("hidepid=")]
+    return bool(hidepid) and hidepid[-1] not in ("hidepid=0", "hidepid=off")
 
 
 def is_admin() -> bool:

@@ -80,8 +80,9 @@ class Scene:
     which a record of the program puts a rule, with the object. `unmet` are the threads of which the log has nothing yet
     but the fork that made them, each with whether that fork's result is to be doubted. `placeless` says whether there
     was a descriptor that is in a mount without a place. `through` are the processes whose links in /proc a path of this
-    call goes through, `near` says which paths may, and `reads_links` whether readlink(2) was traced. `abstract` has the
-    process that bound an abstract name of UNIX sockets.
+    call goes through, `near` says which paths may, `reads_links` whether readlink(2) was traced, and `hides` whether all of a
+    process in /proc is only for those who may trace it. `abstract` has the process that bound an abstract name of UNIX
+    sockets.
     """
 
     def __init__(
@@ -94,6 +95,7 @@ class Scene:
         asker: modes.Asker | None = None,
         *,
         reads_links: bool = False,
+        hides: bool = False,
     ) -> None:
         self.names = names
         self.disk = disk
@@ -110,6 +112,7 @@ class Scene:
         self.near = Near()
         self.through: set[int] = set()
         self.reads_links = reads_links
+        self.hides = hides
         self.abstract: dict[str, int] = {}
         self.ruled: list[tuple[str, Node]] = []
         self.handles: dict[str, str] = {}

@@ -56,12 +56,14 @@ def look(scene: Scene, thread: Thread, call: Call) -> bool:
 
     One that failed under a layer is not said: the kernel may have refused it by the rule on ptrace.
     """
-    if not _may_be_refused(call):
+    if not _may_be_refused(scene, call):
         return False
     led = [(way, _led(scene, thread, call, way, path)) for way, path in _paths(call)]
     opened = _opened(call)
     pids = {pid for way, path in led for pid in _kept(call, path, follows=way.follows_last(call))}
     pids |= scene.through | _numbers([_OPENED.fullmatch(opened)])
+    if scene.hides:
+        pids |= _numbers(_OF_PROCESS.match(path) for path in [opened, *(path for _, path in led)])
     if any(may_refuse(scene, thread, pid) for pid in pids):
         passed(scene, thread, call)
         return True
@@ -83,12 +85,13 @@ def passed(scene: Scene, thread: Thread, call: Call) -> None:
 
 def passed_by_links(scene: Scene, thread: Thread, call: Call) -> None:
     """Counts a call whose path has nothing of /proc in it, and leads there by links."""
-    if _may_be_refused(call) and any(may_refuse(scene, thread, pid) for pid in scene.through):
+    if _may_be_refused(scene, call) and any(may_refuse(scene, thread, pid) for pid in scene.through):
         passed(scene, thread, call)
 
 
-def _may_be_refused(call: Call) -> bool:
-    return call.ok or call.error == "EACCES"
+def _may_be_refused(scene: Scene, call: Call) -> bool:
+    """Whether the rule on ptrace let a call pass, or may have refused it."""
+    return call.ok or call.error == "EACCES" or (scene.hides and call.error == "EPERM")
 
 
 def _paths(call: Call) -> Iterable[tuple[Way, str]]:
