@@ -1,4 +1,4 @@
-"""Scopes on a running kernel: what a policy with them refuses is counted, and its audit does not look like an all clear."""
+"""Scopes on a running kernel: what they refuse is counted, and an audit of a policy with them is no all clear."""
 
 from __future__ import annotations
 

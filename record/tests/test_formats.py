@@ -1,7 +1,7 @@
 """Formats of binfmt_misc: what the kernel runs a file by because of how it begins, or of its name.
 
-How a registered format is told, and whether Landlock is asked about its interpreter, was seen on a running kernel (6.18);
-tests/live_formats.py repeats it.
+How a registered format is told, and whether Landlock is asked about its interpreter, was seen on a running kernel
+(6.18); tests/live_formats.py repeats it.
 """
 
 from __future__ import annotations

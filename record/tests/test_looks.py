@@ -59,7 +59,8 @@ class Looks(WrittenLogs):
         return self.unsaid()
 
     def test_links_that_a_call_follows(self) -> None:
-        for link in ("exe", "cwd", "root", "fd/0", "ns/mnt", "map_files/400000-401000", "task/1/exe", "root/etc/passwd"):
+        links = ("exe", "cwd", "root", "fd/0", "ns/mnt", "map_files/400000-401000", "task/1/exe", "root/etc/passwd")
+        for link in links:
             for call in FOLLOWING:
                 with self.subTest(call, link=link):
                     self.assertEqual(self.counted(call.replace("PATH", f"/proc/1/{link}")), [LOOK])
@@ -201,7 +202,8 @@ class Hidden(WrittenLogs):
     def test_what_the_mounts_say(self) -> None:
         mounts = self.out / "mountinfo"
         begin = "22 1 0:21 / /proc rw,relatime - proc proc rw"
-        for options, hides in (("", False), (",hidepid=off", False), (",hidepid=invisible", True), (",hidepid=2", True)):
+        said = {"": False, ",hidepid=off": False, ",hidepid=invisible": True, ",hidepid=2": True}
+        for options, hides in said.items():
             with self.subTest(options):
                 mounts.write_text(f"21 1 254:0 / / rw - ext4 /dev/vda rw,hidepid=2\n{begin}{options}\n")
                 self.assertIs(recordings.hides_processes(mounts), hides)

@@ -77,7 +77,7 @@ class Running(unittest.TestCase):
 
 
 class Signals(unittest.TestCase):
-    """Whoever starts the tests may have them ignore signals, as nohup(1) does: here each does what it does by default."""
+    """Signals, which whoever starts the tests may have them ignore (nohup(1)): here each does what it does by default."""
 
     def setUp(self) -> None:
         for number in stopping.SIGNALS:

@@ -48,6 +48,11 @@ class Counted(WrittenLogs):
             with self.subTest(call):
                 self.assertEqual(self.counted("fork() = 11", call), {})
 
+    def test_a_signal_to_a_child_that_has_ended(self) -> None:
+        self.assertEqual(self.counted("fork() = 11", "11  +++ exited with 0 +++", "kill(11, 15 /* SIGTERM */) = 0"), {})
+        sibling = ("fork() = 11", "fork() = 12", "11  +++ exited with 0 +++", "12  kill(11, 0) = 0")
+        self.assertEqual(self.counted(*sibling), SIGNALLED)
+
     def test_a_signal_to_a_parent(self) -> None:
         self.assertEqual(self.counted("fork() = 11", "11  kill(10, 10 /* SIGUSR1 */) = 0"), SIGNALLED)
 

@@ -20,10 +20,10 @@ HEAD = 256
 
 @dataclass(frozen=True)
 class Format:
-    """A format: its interpreter, and the extension or the bytes at a place of a file, under a mask, by which it is known.
+    """A format: its interpreter, and the extension or the bytes at a place of a file by which it is known.
 
-    `opened` says that the interpreter was opened when the format was registered (flag F): then Landlock is not asked
-    about it when a file is run.
+    Of the bytes only the bits of the mask count. `opened` says that the interpreter was opened when the format was
+    registered (flag F): then Landlock is not asked about it when a file is run.
     """
 
     name: str
@@ -55,10 +55,11 @@ def registered(folder: Path = REGISTERED) -> list[dict[str, Any]] | None:
     try:
         if (folder / "status").read_text(encoding="ascii").strip() != "enabled":
             return []
-        found = [(file.name, file.read_text(encoding="utf-8")) for file in folder.iterdir() if file.name not in _CONTROLS]
+        files = [file for file in folder.iterdir() if file.name not in _CONTROLS]
+        found = [_told(file.name, file.read_text(encoding="utf-8")) for file in files]
     except (OSError, UnicodeDecodeError):
         return None
-    return [told for name, text in found if (told := _told(name, text)) is not None]
+    return [told for told in found if told is not None]
 
 
 def _told(name: str, text: str) -> dict[str, Any] | None:

@@ -63,8 +63,8 @@ class Process:
     """A process as a trace has it: what shares one table of descriptors and one domain.
 
     `confined` says whether it has a layer, or may have one; `restricted` are the rulesets of its restrictions; `maker`
-    is the process that forked it; `threaded` says whether it has or had several threads, `looks` whether it is counted as
-    one that looks at others in /proc.
+    is the process that forked it; `threaded` says whether it has or had several threads, `looks` whether it is
+    counted as one that looks at others in /proc.
     """
 
     pid: int

@@ -37,9 +37,9 @@ class About:
     trace adopts each and its path, `admin` and `nnp` what the first process had, `errata` the faults of
     Landlock that the kernel says it has mended, the first as bit 0. `uid` and `groups` say as whom the command runs,
     `uid` only if it has no privilege by which file modes would not count. `ended` says that the tracer ended by itself,
-    so that the log is whole; it is said after the run. `looks` says that calls were traced which only look at what a path
-    leads to and such as send signals, `readlink` that those were which read links. `formats` are those that binfmt_misc had, None if that was not
-    known; `hidepid` says that /proc is mounted with this option (proc(5)).
+    so that the log is whole; it is said after the run. `looks` says that calls were traced which only look at what a
+    path leads to and such as send signals, `readlink` that those were which read links. `formats` are those that
+    binfmt_misc had, None if that was not known; `hidepid` says that /proc is mounted with this option (proc(5)).
     """
 
     command: list[str]

@@ -24,6 +24,8 @@ AT_FDCWD = -100
 CLONE_FS = 0x200
 CLONE_FILES = 0x400
 CLONE_THREAD = 0x10000
+#: Of so many processes that ended it is known whose children they are.
+MOST_ENDED = 1_024
 #: The directory of processes.
 PROC = "proc"
 #: What /proc has of each process is what it has of the one that looks (proc(5)).
@@ -77,12 +79,12 @@ class Scene:
     """The state of a conversion.
 
     `asker` is as whom all processes ask for files, if file modes are known to count for them. `ruled` has each name on
-    which a record of the program puts a rule, with the object. `unmet` are the threads of which the log has nothing yet
-    but the fork that made them, each with whether that fork's result is to be doubted. `placeless` says whether there
-    was a descriptor that is in a mount without a place. `through` are the processes whose links in /proc a path of this
-    call goes through, `near` says which paths may, `reads_links` whether readlink(2) was traced, and `hides` whether all of a
-    process in /proc is only for those who may trace it. `abstract` has the process that bound an abstract name of UNIX
-    sockets.
+    which a record of the program puts a rule, with the object. `unmet` are the threads of which the log has nothing
+    yet but the fork that made them, each with whether that fork's result is to be doubted. `placeless` says whether
+    there was a descriptor that is in a mount without a place. `through` are the processes whose links in /proc a path
+    of this call goes through, `near` says which paths may, `reads_links` whether readlink(2) was traced, and `hides`
+    whether all of a process in /proc is only for those who may trace it. `abstract` has the process that bound an
+    abstract name of UNIX sockets, `ended` the processes that ended last.
     """
 
     def __init__(
@@ -114,6 +116,7 @@ class Scene:
         self.reads_links = reads_links
         self.hides = hides
         self.abstract: dict[str, int] = {}
+        self.ended: dict[int, Process] = {}
         self.ruled: list[tuple[str, Node]] = []
         self.handles: dict[str, str] = {}
         self._walked: set[tuple[str, str, str]] = set()
@@ -368,8 +371,17 @@ class Scene:
         process.threads.discard(tid)
         if self.have_ended(process.threads) and self.processes.get(process.pid) is process:
             del self.processes[process.pid]
+            self._keep_ended(process)
             self.names.put(f"/proc/{process.pid}", None)
             self.recording.write("exit", process.pid, line)
+
+
+    def _keep_ended(self, process: Process) -> None:
+        """Keeps a process that ended: its number is its own until its parent has waited for it."""
+        self.ended.pop(process.pid, None)
+        self.ended[process.pid] = process
+        if len(self.ended) > MOST_ENDED:
+            del self.ended[next(iter(self.ended))]
 
 
 def _is_foreign(of: Descriptor) -> bool:

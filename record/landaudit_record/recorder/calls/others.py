@@ -1,8 +1,8 @@
 """Landlock's rule on ptrace: a process under a layer reaches no process that is not under the same one.
 
 The kernel asks it wherever a process looks into another, whatever the rules for files say: by calls (ptrace(2),
-process_vm_readv(2), pidfd_getfd(2), ...), by files of /proc that are opened, and by links of /proc that any call follows
-(proc(5)). A trace has no words for it.
+process_vm_readv(2), pidfd_getfd(2), ...), by files of /proc that are opened, and by links of /proc that any call
+follows (proc(5)). A trace has no words for it.
 """
 
 from __future__ import annotations
@@ -25,8 +25,8 @@ PTRACE_ATTACH, PTRACE_SEIZE = 0x10, 0x4206
 INTO_ANOTHER = "a look into another process, which Landlock's rule on ptrace may refuse"
 NOT_TRACED = "a process that looks at others in /proc: which links it reads there is not recorded (run --readlink)"
 
-#: The links of a process, which only those may follow who may trace it, as a path or a text in quotes has them; and what
-#: only they may reach.
+#: The links of a process, which only those may follow who may trace it, as a path or a text in quotes has them; and
+#: what only they may reach.
 _LINK = re.compile(r"/proc/(\d+)/(?:task/\d+/)?(?:cwd|exe|root|(?:fd|map_files|ns)/[^/\"]+)(?=[/\"]|$)")
 _REACHED = re.compile(r"/proc/(\d+)/(?:task/\d+/)?fdinfo/.")
 #: The directory of a process, and its files and the directory that only those may open who may trace it.
@@ -140,12 +140,12 @@ def may_refuse(scene: Scene, thread: Thread, pid: int) -> bool:
 
     It is under the same ones if it is the process itself, or a child that has all layers of its own.
     """
-    other = scene.threads.get(pid)
-    mine = thread.process
+    mine, there = thread.process, scene.threads.get(pid)
+    other = scene.ended.get(pid) if there is None else there.process
     if other is None:
         return True
     layers = len(mine.restricted)
-    return not _comes_from(other.process, mine) or other.process.restricted[:layers] != mine.restricted
+    return not _comes_from(other, mine) or other.restricted[:layers] != mine.restricted
 
 
 def _comes_from(process: Process, maker: Process) -> bool:
