@@ -127,7 +127,7 @@ _MACHINE_AT = 18
 
 
 def is_foreign(head: bytes) -> bool:
-    """Whether a file is neither a script nor a program of this machine, which the kernel runs by a format or not at all."""
+    """Whether a file is neither a script nor a program of this machine: only a format lets the kernel run it."""
     if head.startswith(b"#!"):
         return False
     machine = _machine(head)
