@@ -104,6 +104,9 @@ class Looks(WrittenLogs):
             with self.subTest(lines):
                 self.assertEqual(self.counted(*lines), [LOOK])
 
+    def test_a_root_with_a_proc_of_its_own(self) -> None:
+        self.assertEqual(self.counted('chroot("/w/d") = 0', 'stat("/proc/1/exe", 0x7ffd) = 0'), [LOOK])
+
     def test_what_failed(self) -> None:
         call = 'stat("/proc/1/root/nothere", 0x7ffd)'
         self.assertEqual(self.counted(f"{call} = {ENOENT}"), [])

@@ -103,12 +103,15 @@ def _paths(call: Call) -> Iterable[tuple[Way, str]]:
 
 
 def _led(scene: Scene, thread: Thread, call: Call, way: Way, path: str) -> str:
-    """Where a path leads, as far as it does; the processes through whose links it goes are kept in `through`."""
+    """Where a path leads below the thread's root, as far as it does.
+
+    The processes through whose links it goes are kept in `through`.
+    """
     base = arguments.descriptor_at(call, way.base)
-    directory = (base.path if base is not None else None) or thread.place.directory
+    root, directory = thread.place.root, (base.path if base is not None else None) or thread.place.directory
     try:
-        links = _Passing(scene, thread)
-        return scene.names.find(thread.place.root, directory, path, way.follows_last(call), links).path
+        found = scene.names.find(root, directory, path, way.follows_last(call), _Passing(scene, thread))
+        return found.path if root == "/" else found.path.removeprefix(root)
     except CannotSay:
         return ""
 
