@@ -226,6 +226,8 @@ class WithoutReadlink(WrittenLogs):
             'stat("/proc/1", 0x7ffd) = 0',
             'lstat("/proc/1/exe", 0x7ffd) = 0',
             'execve("/w/p", ["readlink", "/proc/1/exe"], 0x1 /* 2 vars */) = 0',
+            'execve("/w/p", ["ls", "/proc/1/fd/3"], 0x1 /* 2 vars */) = 0',
+            r'execve("/w/p", ["sh", "-c", "readlink \"/proc/1/ns/mnt\""], 0x1 /* 2 vars */) = 0',
         ):
             with self.subTest(call):
                 self.convert(call, call)

@@ -27,7 +27,7 @@ NOT_TRACED = "a process that looks at others in /proc: which links it reads ther
 
 #: The links of a process, which only those may follow who may trace it, as a path or a text in quotes has them; and
 #: what only they may reach.
-_LINK = re.compile(r"/proc/(\d+)/(?:task/\d+/)?(?:cwd|exe|root|(?:fd|map_files|ns)/[^/\"]+)(?=[/\"]|$)")
+_LINK = re.compile(r"/proc/(\d+)/(?:task/\d+/)?(?:cwd|exe|root|(?:fd|map_files|ns)/[^/\"\\]+)(?!\w)")
 _REACHED = re.compile(r"/proc/(\d+)/(?:task/\d+/)?fdinfo/.")
 #: The directory of a process, and its files and the directory that only those may open who may trace it.
 _OF_PROCESS = re.compile(r"/proc/(\d+)(?=/|$)")
