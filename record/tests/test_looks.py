@@ -6,12 +6,13 @@ Which calls a running kernel (6.18) refuses, and on which files of /proc, was se
 from __future__ import annotations
 
 import unittest
+from pathlib import Path
 
 from landaudit_record.recorder import recordings
 from landaudit_record.recorder.calls import others
 from landaudit_record.recorder.calls.ways import WAYS
 from landaudit_record.recorder.looks import LOOKS, READLINKS
-from landaudit_record.recorder.tracing import CALLS
+from landaudit_record.recorder.tracing import command_line
 
 from .written_logs import CWD, DISK, WrittenLogs, told
 
@@ -110,6 +111,7 @@ class Looks(WrittenLogs):
     def test_what_failed(self) -> None:
         call = 'stat("/proc/1/root/nothere", 0x7ffd)'
         self.assertEqual(self.counted(f"{call} = {ENOENT}"), [])
+        self.assertEqual(self.counted(f"{call} = {EACCES}"), [])
         self.confined(f"{call} = {EACCES}")
         self.assertEqual(self.unsaid(), [LOOK])
 
@@ -133,9 +135,17 @@ class Looks(WrittenLogs):
         )
         self.assertEqual(self.counted(*lines), [LOOK])
 
-    def test_all_of_them_are_traced_and_have_their_paths_known(self) -> None:
-        self.assertEqual(LOOKS & set(CALLS), set())
+    def test_all_of_them_have_their_paths_known(self) -> None:
         self.assertLessEqual(LOOKS | READLINKS, set(WAYS))
+
+    def test_readlink_is_traced_where_it_is_asked_for(self) -> None:
+        for readlink, traced in ((False, LOOKS), (True, LOOKS | READLINKS)):
+            with self.subTest(readlink=readlink):
+                words = command_line(Path("strace.txt"), ["ls"], readlink=readlink)
+                (trace,) = (word.removeprefix("--trace=") for word in words if word.startswith("--trace="))
+                names = [name.removeprefix("?") for name in trace.split(",")]
+                self.assertEqual(len(names), len(set(names)))
+                self.assertEqual(set(names) & (LOOKS | READLINKS), traced)
 
 
 class OtherCalls(WrittenLogs):

@@ -11,7 +11,7 @@ from landaudit_record import finished
 from landaudit_record.finished import LOOKING, READING_LINKS, SIGNALS, Finished
 from landaudit_record.recorder.calls import scopes
 
-from .written_logs import WrittenLogs
+from .written_logs import CONFINED, WrittenLogs
 
 EPERM = "-1 EPERM (Operation not permitted)"
 ESRCH = "-1 ESRCH (No such process)"
@@ -30,7 +30,6 @@ class Counted(WrittenLogs):
     def test_signals_to_others(self) -> None:
         for call in (
             "kill(1, 0) = 0",
-            f"kill(1, 15 /* SIGTERM */) = {EPERM}",
             "kill(-7, 15 /* SIGTERM */) = 0",
             "kill(0, 15 /* SIGTERM */) = 0",
             "kill(-1, 15 /* SIGTERM */) = 0",
@@ -42,6 +41,12 @@ class Counted(WrittenLogs):
         ):
             with self.subTest(call):
                 self.assertEqual(self.counted(call), SIGNALLED)
+
+    def test_what_a_layer_may_have_refused(self) -> None:
+        for call, scope in ((f"kill(1, 0) = {EPERM}", SIGNALLED), (f"connect(3<socket:[7]>, {TO}) = {EPERM}", CONNECTED)):
+            with self.subTest(call):
+                self.assertEqual(self.counted(*CONFINED, UNIX, call), scope)
+                self.assertEqual(self.counted(UNIX, call), {})
 
     def test_signals_to_itself_and_to_children(self) -> None:
         for call in ("kill(10, 0) = 0", "kill(11, 9 /* SIGKILL */) = 0", "kill(-10, 0) = 0", f"kill(1, 0) = {ESRCH}"):
@@ -58,7 +63,6 @@ class Counted(WrittenLogs):
 
     def test_connections_to_abstract_names(self) -> None:
         self.assertEqual(self.counted(UNIX, f"connect(3<socket:[7]>, {TO}) = 0"), CONNECTED)
-        self.assertEqual(self.counted(UNIX, f"connect(3<socket:[7]>, {TO}) = {EPERM}"), CONNECTED)
         bound = f"bind(4<socket:[8]>, {TO}) = 0"
         self.assertEqual(self.counted(UNIX, bound, f"connect(3<socket:[7]>, {TO}) = 0"), {})
         of_parent = (UNIX, bound, "fork() = 11", f"11  connect(3<socket:[7]>, {TO}) = 0")

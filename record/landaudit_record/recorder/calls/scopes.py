@@ -39,8 +39,11 @@ def _by_pidfd(scene: Scene, thread: Thread, call: Call) -> None:
 
 
 def _count(scene: Scene, thread: Thread, call: Call, scope: str, *, pid: int, to_all: bool = False) -> None:
-    """Counts a call that reaches another process: a group of processes, if `to_all`, has others than one's own."""
-    reached = call.ok or call.error == _REFUSED
+    """Counts a call that reaches another process, or that a layer may have kept from it.
+
+    A group of processes, if `to_all`, has others than one's own.
+    """
+    reached = call.ok or (thread.process.confined and call.error == _REFUSED)
     if reached and (to_all or others.may_refuse(scene, thread, pid)):
         scene.recording.leave_to_scope(scope, call.line, thread.process.pid, call.text)
 
