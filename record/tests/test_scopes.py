@@ -43,7 +43,8 @@ class Counted(WrittenLogs):
                 self.assertEqual(self.counted(call), SIGNALLED)
 
     def test_what_a_layer_may_have_refused(self) -> None:
-        for call, scope in ((f"kill(1, 0) = {EPERM}", SIGNALLED), (f"connect(3<socket:[7]>, {TO}) = {EPERM}", CONNECTED)):
+        calls = {f"kill(1, 0) = {EPERM}": SIGNALLED, f"connect(3<socket:[7]>, {TO}) = {EPERM}": CONNECTED}
+        for call, scope in calls.items():
             with self.subTest(call):
                 self.assertEqual(self.counted(*CONFINED, UNIX, call), scope)
                 self.assertEqual(self.counted(UNIX, call), {})
