@@ -148,6 +148,28 @@ class Looks(WrittenLogs):
                 self.assertEqual(set(names) & (LOOKS | READLINKS), traced)
 
 
+class AtLivingProcesses(Looks):
+    """The same, where the other process is still there at the conversion, and its links lead where they lead."""
+
+    disk = [
+        *DISK,
+        {"path": "/proc", "kind": "dir"},
+        {"path": "/proc/1", "kind": "dir"},
+        {"path": "/proc/1/exe", "kind": "sym", "target": "/w/p"},
+        {"path": "/proc/1/cwd", "kind": "sym", "target": "/"},
+        {"path": "/proc/1/root", "kind": "sym", "target": "/"},
+        {"path": "/proc/1/fd", "kind": "dir"},
+        {"path": "/proc/1/fd/0", "kind": "sym", "target": "/w/f"},
+        {"path": "/proc/1/fdinfo", "kind": "dir"},
+        {"path": "/proc/1/ns", "kind": "dir"},
+        {"path": "/proc/1/ns/mnt", "kind": "sym", "target": "mnt:[4026531841]"},
+        {"path": "/proc/1/task", "kind": "dir"},
+        {"path": "/proc/1/task/1", "kind": "dir"},
+        {"path": "/proc/1/task/1/exe", "kind": "sym", "target": "/w/p"},
+        {"path": "/proc/1/status", "kind": "reg"},
+    ]
+
+
 class OtherCalls(WrittenLogs):
     """Calls that are said and lead into another process on the way."""
 

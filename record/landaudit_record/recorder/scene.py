@@ -375,7 +375,6 @@ class Scene:
             self.names.put(f"/proc/{process.pid}", None)
             self.recording.write("exit", process.pid, line)
 
-
     def _keep_ended(self, process: Process) -> None:
         """Keeps a process that ended: its number is its own until its parent has waited for it."""
         self.ended.pop(process.pid, None)
