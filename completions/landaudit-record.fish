@@ -30,6 +30,7 @@ complete -c landaudit-record -n __fish_is_first_arg -a tighten -d 'Print the pol
 complete -c landaudit-record -n '__landaudit_record_has run convert audit compare suggest tighten' -a '(__fish_complete_directories)'
 complete -c landaudit-record -n '__landaudit_record_has apply' -F
 complete -c landaudit-record -n '__landaudit_record_has run' -l watch -x -a '(__fish_complete_directories)' -d 'Directory to list before the run'
+complete -c landaudit-record -n '__landaudit_record_has run' -l readlink -d 'Trace readlink too, by which a program may look into other processes'
 complete -c landaudit-record -n '__landaudit_record_has run convert' -l port-rules -r -F -d 'Policy that the command puts on itself'
 complete -c landaudit-record -n '__landaudit_record_has run audit suggest tighten' -l policy -r -F -d 'Policy to try'
 complete -c landaudit-record -n '__landaudit_record_has apply audit suggest tighten' -l program -x -a '(__fish_complete_command)' -d 'Put the policy before each run of this program'

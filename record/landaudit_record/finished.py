@@ -1,7 +1,7 @@
-"""A finished recording: the files of its folder, and what its conversion says about itself.
+"""A finished recording: the files of its folder by what they hold, and what its conversion says of itself.
 
-A recording is kept in parts, each with a tree and a trace that landaudit reads without the others. A recording of one
-part has `tree.jsonl` and `trace.jsonl`; others have `tree-1.jsonl`, `trace-1.jsonl`, `tree-2.jsonl` and so on.
+A recording is kept in parts, each with a tree and a trace that landaudit reads by themselves. One that is all in one
+part has `tree.jsonl` and `trace.jsonl`; else they are `tree-1.jsonl`, `trace-1.jsonl`, `tree-2.jsonl` and so on.
 """
 
 from __future__ import annotations
@@ -20,15 +20,23 @@ from .wording import counted
 
 CONVERTED = "converted.json"
 FORMAT = 1
-#: The files that each part has, with their endings; the last two are those of the last audit.
+#: The files of which each part has one, with their endings; the last two are those of the last audit.
 OF_A_PART = {"tree": "jsonl", "trace": "jsonl", "tried": "jsonl", "report": "txt"}
-#: Files that `landaudit-record run` leaves in a folder, and that can be converted (again).
+#: Kinds of calls that not every recording has: those that only look at an object, that read links, that send signals.
+LOOKING, READING_LINKS, SIGNALS = "looks", "readlink", "signals"
+_OLDER = (LOOKING, READING_LINKS, SIGNALS)
+#: What of a policy's scopes may be refused (landlock(7)), and by which calls.
+_SCOPED = {
+    "abstract_unix_socket": "a connection to an abstract UNIX socket of another process",
+    "signal": "a signal to another process",
+}
+#: What is in a folder by `landaudit-record run` and can be converted (again).
 RECORDED = ("recording.json", "strace.txt", "strace.txt.gz")
 
 
 @dataclass(frozen=True)
 class Size:
-    """The size of a part: its records, those of them that only repeat what there was, its objects, its bytes."""
+    """How much a part holds: records, those of them that only give once more what there was, objects, bytes."""
 
     records: int
     again: int
@@ -38,10 +46,11 @@ class Size:
 
 @dataclass(frozen=True)
 class Converted:
-    """What a conversion that finished says about itself.
+    """What a conversion that came to its end says of itself.
 
-    `unsaid` counts by class the calls that could not be written, `holes` those of them that a policy may refuse and no
-    audit can foresee; `ended` says that the tracer ended by itself.
+    `unsaid` counts by class what could not be said, `holes` those of these calls that the kernel may refuse by a policy
+    and an audit can't foresee, `scopes` those that it may refuse if the policy has the scope; `ended` says that the
+    tracer ended by itself, `untraced` which kinds of calls the log does not have.
     """
 
     parts: tuple[Size, ...]
@@ -49,16 +58,19 @@ class Converted:
     objects: int
     unsaid: Counter[str] = field(default_factory=Counter)
     holes: Counter[str] = field(default_factory=Counter)
+    scopes: Counter[str] = field(default_factory=Counter)
     ended: bool = True
+    untraced: tuple[str, ...] = ()
 
     @property
     def records(self) -> int:
-        """The number of records in all parts, except those that are written again."""
+        """How many records there are in all parts, but for those that are written again."""
         return sum(part.records - part.again for part in self.parts)
 
     def write(self, folder: Path) -> None:
-        """Writes into a folder that the conversion is whole; no reader ever sees half of the file."""
-        said = {name: getattr(self, name) for name in ("processes", "objects", "unsaid", "holes", "ended")}
+        """Says in a folder that the conversion is whole; nobody ever sees half of it."""
+        names = ("processes", "objects", "unsaid", "holes", "scopes", "ended", "untraced")
+        said = {name: getattr(self, name) for name in names}
         parts = [asdict(part) for part in self.parts]
         beside = folder / f"{CONVERTED}.new"
         with open(beside, "w", encoding="utf-8") as out:
@@ -89,7 +101,7 @@ class Part:
 
     @property
     def tried(self) -> Path:
-        """The trace with a policy's records in it, if a policy was tried."""
+        """The trace with a policy's records in it, where a policy was tried."""
         return self._file("tried")
 
     @property
@@ -116,29 +128,50 @@ def numbered(folder: Path, parts: int) -> list[Part]:
 
 @dataclass(frozen=True)
 class Finished:
-    """The folder of a recording that has all its parts."""
+    """The folder of a recording that has all its parts; `scoped` are the scopes of the policy that is tried on it."""
 
     folder: Path
     parts: tuple[Part, ...]
     unsaid: Counter[str]
     holes: Counter[str]
     ended: bool
+    scopes: Counter[str] = field(default_factory=Counter)
+    untraced: tuple[str, ...] = ()
+    scoped: tuple[str, ...] = ()
 
     @property
     def missing(self) -> list[str]:
-        """What an audit of the recording can't judge, a text for each cause; with any, no audit says all is well."""
+        """What an audit of the recording can't say, a text for each cause; with any of them none is an all clear."""
         told: list[str] = []
         if self.holes:
             calls = ", ".join(f"{name} ({times})" for name, times in self.holes.most_common())
             number = counted(self.holes.total(), "call")
             told.append(f"{number} that a policy may refuse could not be recorded: {calls}")
+        told.extend(self._of_scopes())
         if not self.ended:
             told.append("the recording is cut: the log stops before the command's end, so record it again")
         return told
 
+    def _of_scopes(self) -> Iterator[str]:
+        """What the policy's scopes may refuse: no record has such calls, they are only counted."""
+        for scope in self.scoped:
+            if SIGNALS in self.untraced:
+                yield f"scoped = {scope}: the recording has no calls that it may refuse, so record it again"
+            elif self.scopes[scope]:
+                calls = counted(self.scopes[scope], "call")
+                yield f"{calls} that scoped = {scope} may refuse can't be judged: {_SCOPED[scope]}"
+
+    @property
+    def notes(self) -> Iterator[str]:
+        """What stands beside each audit: the kinds of calls that were not traced and that a layer may refuse."""
+        if LOOKING in self.untraced:
+            yield "calls that only look (stat, readlink) into other processes are not recorded: record it again"
+        elif READING_LINKS in self.untraced:
+            yield "readlink(2) into other processes is not recorded (run --readlink)"
+
 
 def opened(folder: str) -> Finished:
-    """The recording in a folder; if the folder has none, or one that is not whole, that is a Problem."""
+    """The recording in a folder; a folder without one, or with one that is not whole, is a Problem."""
     path = Path(folder)
     converted = _converted(path)
     if converted is None:
@@ -148,7 +181,8 @@ def opened(folder: str) -> Finished:
     for part, size in zip(parts, converted.parts):
         if not part.tree.is_file() or not part.trace.is_file() or part.trace.stat().st_size != size.bytes:
             raise Problem(f"{part.trace} is missing or has changed since the conversion: {_mending(path)}")
-    return Finished(path, tuple(parts), converted.unsaid, converted.holes, converted.ended)
+    said = (converted.unsaid, converted.holes, converted.ended, converted.scopes, converted.untraced)
+    return Finished(path, tuple(parts), *said)
 
 
 def _mending(path: Path) -> str:
@@ -156,15 +190,16 @@ def _mending(path: Path) -> str:
 
 
 def _converted(folder: Path) -> Converted | None:
-    """What a conversion says about itself in a folder, None if it says nothing."""
+    """What a conversion says of itself in a folder, None if there is no word of one."""
     file = folder / CONVERTED
     try:
         said: dict[str, Any] = json.loads(file.read_text(encoding="utf-8"))
         if said.pop("format") != FORMAT:
             raise Problem(f"{file} is of another version of landaudit-record: {_mending(folder)}")
         parts = tuple(Size(**size) for size in said["parts"])
-        unsaid, holes = Counter(said["unsaid"]), Counter(said["holes"])
-        return Converted(parts, said["processes"], said["objects"], unsaid, holes, said["ended"])
+        counts = (Counter(said["unsaid"]), Counter(said["holes"]), Counter(said.get("scopes", {})))
+        untraced = tuple(said.get("untraced", _OLDER))
+        return Converted(parts, said["processes"], said["objects"], *counts, said["ended"], untraced)
     except (FileNotFoundError, NotADirectoryError):
         return None
     except (ValueError, TypeError, KeyError, AttributeError) as error:
@@ -172,7 +207,7 @@ def _converted(folder: Path) -> Converted | None:
 
 
 def _by_hand(path: Path) -> Finished:
-    """A tree and a trace that no conversion wrote; if there is a log beside them, a conversion did not finish."""
+    """A tree and a trace that no conversion wrote; beside a log that is a conversion which did not come to its end."""
     part = Part(path)
     if any((path / name).is_file() for name in RECORDED):
         raise Problem(f"{path} was not converted to the end: {_mending(path)}")
@@ -186,10 +221,12 @@ def _by_hand(path: Path) -> Finished:
 
 
 def _unsaid(path: Path) -> tuple[Counter[str], Counter[str]]:
-    """The calls that could not be written, by class, and which of them are holes; nothing if there is no list."""
+    """What the recording could not say, by class, and which of it are holes; nothing where it left no list."""
     unsaid: Counter[str] = Counter()
     holes: Counter[str] = Counter()
     for _, entry in jsonl.numbered(path) if path.exists() else ():
+        if "scope" in entry:
+            continue
         unsaid[str(entry.get("class"))] += 1
         holes[str(entry.get("class"))] += entry.get("asks") is True
     return unsaid, +holes

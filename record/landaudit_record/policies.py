@@ -103,6 +103,11 @@ class Policy:
     path: Path
     layers: tuple[Layer, ...]
 
+    @property
+    def scoped(self) -> tuple[str, ...]:
+        """The scopes that some layer has."""
+        return tuple(scope for scope in SCOPES if any(scope in layer.scoped for layer in self.layers))
+
 
 def read(path: Path) -> Policy:
     """The policy in a file; any error in it is a Problem that names its position and says what would be right."""

@@ -48,7 +48,7 @@ def opened(names: Sequence[str], policy: Policy | None = None, program: str | No
             raise Problem(f"{name} is named twice: name each recording once", USAGE)
     members = []
     for name in names:
-        recording = finished.opened(name)
+        recording = replace(finished.opened(name), scoped=() if policy is None else policy.scoped)
         members.append(Member(name, recording, None if policy is None else trying.tried(recording, policy, program)))
     return members
 
@@ -63,6 +63,11 @@ def note_missing(members: Sequence[Member]) -> None:
     """Prints what no audit of the recordings can judge."""
     alone = len(members) == 1
     note(f"NOT ALL IS JUDGED: {text}" for it in members for text in (it.recording.missing if alone else it.of_several))
+
+
+def recording_notes(members: Sequence[Member]) -> list[str]:
+    """What stands beside an audit of the recordings, each text once."""
+    return list(dict.fromkeys(text for member in members for text in member.recording.notes))
 
 
 def policy_notes(members: Sequence[Member], abis: range, *, here: bool = False) -> list[str]:

@@ -29,17 +29,26 @@ REFUSALS = frozenset({"EACCES", "EPERM", "EXDEV"})
 @dataclass(frozen=True)
 class Expected:
     """What a probe meets: the steps that the policy refuses, how the bare recording's audit foretells them (by the
-    kinds of its refused calls), and the classes in which it counts calls that may be refused.
+    kinds of its refused calls), and the classes in which it counts calls that may be refused. It is recorded with some
+    options of `run`.
     """
 
     met: frozenset[str] = frozenset()
     foretold: frozenset[str] = frozenset()
     holes: frozenset[str] = frozenset()
+    options: tuple[str, ...] = ()
 
 
-def _of(met: str = "", foretold: str = "", holes: tuple[str, ...] = ()) -> Expected:
+def _of(met: str = "", foretold: str = "", holes: tuple[str, ...] = (), options: tuple[str, ...] = ()) -> Expected:
     split = (frozenset(filter(None, text.split(", "))) for text in (met, foretold))
-    return Expected(*split, frozenset(holes))
+    return Expected(*split, frozenset(holes), options)
+
+
+#: What the rule on ptrace refuses of the process that started a probe.
+LOOKS = (
+    "readlink exe, readlink ns, stat root, stat task, statfs cwd, listxattr exe, chdir root, access exe, stat relative, "
+    "stat from a directory"
+)
 
 
 EXPECTED = {
@@ -50,7 +59,8 @@ EXPECTED = {
     "detached": _of("open in a new mount", holes=(mounts.WITHOUT_PLACE,)),
     "namespaces": _of("open given", "open"),
     "received": _of(holes=(descriptors.FOREIGN,)),
-    "others": _of("open mem, open ns, open through root, kcmp", holes=(others.INTO_ANOTHER,)),
+    "others": _of("open mem, open ns, open through root, kcmp", holes=(others.INTO_ANOTHER, others.NOT_TRACED)),
+    "looks": _of(LOOKS, holes=(others.INTO_ANOTHER,), options=("--readlink",)),
     "queue": _of("mq_open", holes=(beyond.QUEUE,)),
     "events": _of("read an event", holes=(beyond.BY_FANOTIFY,)),
     "families": _of(
@@ -85,15 +95,16 @@ class LiveProbes(unittest.TestCase):
             (self.work / name).write_text(f"{name}\n")
         shutil.copy(HERE / "probes.py", self.work)
 
-    def run_recorded(self, out: str, *command: str) -> subprocess.CompletedProcess[str]:
+    def run_recorded(self, out: str, *command: str, options: tuple[str, ...] = ()) -> subprocess.CompletedProcess[str]:
         """Records a command."""
-        words = [str(RECORDER), "run", str(self.folder / out), "--port-rules", str(self.policy), "--", *command]
+        ports = ["--port-rules", str(self.policy)]
+        words = [str(RECORDER), "run", str(self.folder / out), *ports, *options, "--", *command]
         return subprocess.run(words, cwd=self.work, capture_output=True, text=True, check=False)
 
     def record(self, name: str, out: str, *by: str) -> dict[str, list[str]]:
         """Records a probe, and gives what it said of its steps."""
         self.fill()
-        run = self.run_recorded(out, *by, PYTHON, "-S", "probes.py", name)
+        run = self.run_recorded(out, *by, PYTHON, "-S", "probes.py", name, options=EXPECTED[name].options)
         if run.returncode == 4:
             self.skipTest(f"this kernel does not let {name} begin: {run.stdout}{run.stderr}")
         self.assertEqual(run.returncode, 0, run.stdout + run.stderr)

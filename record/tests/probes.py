@@ -218,6 +218,30 @@ def others() -> None:
     call("process_vm_readv", outside, None, 0, None, 0, 0)
 
 
+def looks() -> None:
+    """Calls that only look, through the links of the process that started this one, of this one, and of a child."""
+    if (child := os.fork()) == 0:
+        signal.pause()
+    for whose, pid in (("", os.getppid()), ("own ", os.getpid()), ("child's ", child)):
+        base = f"/proc/{pid}"
+        attempt(f"readlink {whose}exe", lambda: os.readlink(f"{base}/exe"))
+        attempt(f"readlink {whose}ns", lambda: os.readlink(f"{base}/ns/mnt"))
+        attempt(f"stat {whose}root", lambda: os.stat(f"{base}/root/etc"))
+        attempt(f"stat {whose}task", lambda: os.stat(f"{base}/task/{pid}/cwd"))
+        attempt(f"statfs {whose}cwd", lambda: os.statvfs(f"{base}/cwd"))
+        attempt(f"listxattr {whose}exe", lambda: os.listxattr(f"{base}/exe"))
+        attempt(f"chdir {whose}root", lambda: os.chdir(f"{base}/root"))
+        attempt(f"lstat {whose}exe", lambda: os.lstat(f"{base}/exe"))
+        attempt(f"stat {whose}status", lambda: os.stat(f"{base}/status"))
+        tell(f"access {whose}exe", "ok" if os.access(f"{base}/exe", os.R_OK) else "EACCES")
+    os.chdir(f"/proc/{os.getppid()}")
+    attempt("stat relative", lambda: os.stat("cwd"))
+    here = os.open(".", os.O_PATH)
+    attempt("stat from a directory", lambda: os.stat("exe", dir_fd=here))
+    os.kill(child, signal.SIGKILL)
+    os.waitpid(child, 0)
+
+
 def queue() -> None:
     """A message queue."""
     if call("mq_open", b"landaudit-probe", os.O_RDWR | os.O_CREAT, 0o600, None) >= 0:
@@ -346,6 +370,7 @@ PROBES: dict[str, Callable[[], None]] = {
         namespaces,
         received,
         others,
+        looks,
         queue,
         events,
         families,

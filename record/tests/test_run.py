@@ -62,7 +62,7 @@ class Running(unittest.TestCase):
             with self.subTest(ended=ended):
                 out = self.folder / str(ended)
 
-                def traced(log: Path, command: list[str]) -> Outcome:
+                def traced(log: Path, command: list[str], *, readlink: bool) -> Outcome:
                     self.assertIs(recordings.read_about(log.parent).ended, False)
                     log.write_bytes((LOGS / "forks" / "strace.txt").read_bytes())
                     return Outcome(7, ended)
@@ -77,6 +77,12 @@ class Running(unittest.TestCase):
 
 
 class Signals(unittest.TestCase):
+    """Signals, which whoever starts the tests may have them ignore (nohup(1)): here each does what it does by default."""
+
+    def setUp(self) -> None:
+        for number in stopping.SIGNALS:
+            self.addCleanup(signal.signal, number, signal.signal(number, signal.SIG_DFL))
+
     def test_a_signal_ends_a_command_in_order_and_only_once(self) -> None:
         def ended(_: object) -> int:
             os.kill(os.getpid(), signal.SIGTERM)
@@ -97,8 +103,7 @@ class Signals(unittest.TestCase):
         self.assertEqual(stopping.number_of(raised.exception), signal.SIGHUP)
 
     def test_a_signal_that_is_ignored_stays_ignored(self) -> None:
-        before = signal.signal(signal.SIGHUP, signal.SIG_IGN)
-        self.addCleanup(signal.signal, signal.SIGHUP, before)
+        signal.signal(signal.SIGHUP, signal.SIG_IGN)
         with stopping.in_order():
             self.assertIs(signal.getsignal(signal.SIGHUP), signal.SIG_IGN)
             self.assertIsNot(signal.getsignal(signal.SIGTERM), signal.SIG_DFL)

@@ -169,6 +169,30 @@ class Whole(KeptLogs):
         data = json.loads(self.audited("--json")[1])
         self.assertEqual(data["not_judged"], ["2 calls that a policy may refuse could not be recorded: io_uring (2)"])
 
+    def test_calls_that_were_not_traced_stand_beside_each_audit(self) -> None:
+        said = "note: readlink(2) into other processes is not recorded (run --readlink)\n"
+        about = json.loads((self.recording / recordings.ABOUT).read_text())
+        for readlink in (False, True):
+            with self.subTest(readlink=readlink):
+                said_of_it = json.dumps({**about, "looks": True, "readlink": readlink})
+                (self.recording / recordings.ABOUT).write_text(said_of_it)
+                self.convert_it()
+                status, out, _ = self.audited()
+                self.assertEqual((status, said in out), (0, not readlink))
+
+    def test_a_policy_with_scopes_is_told_of_calls_that_they_may_refuse(self) -> None:
+        policy = Path(self._folder.name) / "policy.toml"
+        policy.write_text('[[layer]]\nhandled_access_net = ["bind_tcp"]\nscoped = ["signal"]\n')
+        with Recording(self.recording, Tree(names())) as recording:
+            recording.write("start", 10, 1, nnp=True)
+            recording.write("exec", 10, 1, "ok", path="/p")
+            recording.leave_to_scope("signal", 2, 10, "kill(1, 0) = 0")
+            recording.finish(ended=True)
+        self.assertEqual(self.audited()[0], 0)
+        status, out, _ = self.audited("--policy", str(policy))
+        last = "NOT ALL IS JUDGED: 1 call that scoped = signal may refuse can't be judged: a signal to another process"
+        self.assertEqual((status, out.splitlines()[-1]), (NOT_ALL_JUDGED, last))
+
     def test_a_recording_by_hand_says_what_it_left_out(self) -> None:
         folder = Path(self._folder.name) / "by-hand"
         folder.mkdir()

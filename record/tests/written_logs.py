@@ -4,7 +4,9 @@ from __future__ import annotations
 
 import tempfile
 import unittest
+from dataclasses import replace
 from pathlib import Path
+from typing import Any
 
 from landaudit_record import jsonl
 from landaudit_record.finished import Converted
@@ -31,7 +33,16 @@ DISK: list[jsonl.Record] = [
 
 
 class WrittenLogs(unittest.TestCase):
-    """A test on lines; a line without a thread's number is of the first process, 10."""
+    """A test on lines; a line without a thread's number is of the first process, 10.
+
+    `readlink` says whether the recording was made with readlink(2), `hidepid` whether /proc has this option; `formats`
+    are those that binfmt_misc had.
+    """
+
+    readlink = True
+    hidepid = False
+    formats: list[dict[str, Any]] | None = None
+    disk = DISK
 
     def setUp(self) -> None:
         folder = tempfile.TemporaryDirectory()
@@ -49,8 +60,9 @@ class WrittenLogs(unittest.TestCase):
 
     def conversion(self, *lines: str) -> Converted:
         """What the conversion of lines says of itself."""
-        recordings.About(["p"], "/w", 0.0, False, True, {}).write(self.out)
-        jsonl.write(self.out / recordings.OBJECTS, DISK)
+        about = recordings.About(["p"], "/w", 0.0, False, True, {}, looks=True, readlink=self.readlink)
+        replace(about, formats=self.formats, hidepid=self.hidepid).write(self.out)
+        jsonl.write(self.out / recordings.OBJECTS, self.disk)
         whole = [FIRST, *(line if line[:1].isdigit() else f"10  {line}" for line in lines)]
         (self.out / "strace.txt").write_text("".join(line + "\n" for line in whole), encoding="ascii")
         return converting.convert(self.out, Ports())

@@ -74,7 +74,7 @@ def run(arguments: argparse.Namespace) -> int:
     accepted = [*(accepting.read(policy.path, only=False) if policy else ()),
                 *(accepting.read(arguments.accepted) if arguments.accepted else ())]
     members = together.opened(arguments.recordings, policy, arguments.program)
-    notes = together.policy_notes(members, arguments.abis, here=not arguments.json)
+    notes = together.policy_notes(members, arguments.abis, here=not arguments.json) + together.recording_notes(members)
     with together.audits(members, program, NAME, best_effort=not arguments.as_recorded) as audits:
         each = [(it, _summaries(it, auditing, arguments.abis)) for it, auditing in zip(members, audits)]
         for auditing in audits:

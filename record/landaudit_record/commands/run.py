@@ -17,7 +17,7 @@ from pathlib import Path
 from .. import PROGRAMS, RECORDER, confining, landaudit, policies
 from ..options import add_abi
 from ..problems import USAGE, WANTING, Problem
-from ..recorder import recordings, tracing
+from ..recorder import formats, recordings, tracing
 from . import audit, convert
 
 NAME = "run"
@@ -29,7 +29,7 @@ BEHIND_DASHES = "give a command after '--', as in 'landaudit-record run rec -- l
 def add_arguments(parser: argparse.ArgumentParser) -> None:
     parser.usage = (
         "landaudit-record run [-h] OUT [--watch DIR].. [--policy POLICY.toml] [--abi N] [--port-rules POLICY.toml] "
-        "-- COMMAND.."
+        "[--readlink] -- COMMAND.."
     )
     parser.add_argument("out", metavar="OUT", type=Path, help="the folder to make for the recording")
     parser.add_argument(
@@ -49,6 +49,12 @@ def add_arguments(parser: argparse.ArgumentParser) -> None:
     )
     add_abi(parser, "with --policy, rights that this ABI or the kernel does not have are dropped")
     convert.add_port_rules(parser)
+    parser.add_argument(
+        "--readlink",
+        action="store_true",
+        help="trace readlink(2) too, by which a program may look into other processes (/proc/PID/exe), and Landlock"
+        " refuses that; builds take about twice as long then",
+    )
 
 
 def run(arguments: argparse.Namespace) -> int:
@@ -63,11 +69,11 @@ def run(arguments: argparse.Namespace) -> int:
     tracing.may_trace()
     directories = _directories(arguments.watch)
     with _made(arguments.out) as folder:
-        about = _about(command, _watched(folder, directories), strace)
+        about = _about(command, _watched(folder, directories), strace, readlink=arguments.readlink)
         about.write(folder)
         if policy is not None:
             command = confining.under(policy.kept_in(folder), policy.abi, command)
-    outcome = tracing.run(folder / "strace.txt", command)
+    outcome = tracing.run(folder / "strace.txt", command, readlink=arguments.readlink)
     if outcome.ended:
         replace(about, ended=True).write(folder)
     else:
@@ -151,7 +157,7 @@ def _directories(named: list[str]) -> list[str]:
     return chosen
 
 
-def _about(command: list[str], watched: list[str], strace: str) -> recordings.About:
+def _about(command: list[str], watched: list[str], strace: str, *, readlink: bool) -> recordings.About:
     return recordings.About(
         command=command,
         directory=os.getcwd(),
@@ -166,4 +172,8 @@ def _about(command: list[str], watched: list[str], strace: str) -> recordings.Ab
         uid=recordings.user(),
         groups=[os.getegid(), *os.getgroups()],
         ended=False,
+        looks=True,
+        readlink=readlink,
+        formats=formats.registered(),
+        hidepid=recordings.hides_processes(),
     )

@@ -7,7 +7,7 @@ from pathlib import Path
 from ..finished import Converted
 from ..problems import Problem
 from . import disk, strace_log
-from .calls import HANDLERS
+from .calls import HANDLERS, others
 from .names import Names
 from .ports import Ports
 from .processes import Handle, Place, Process, Thread
@@ -28,12 +28,14 @@ def convert(folder: Path, ports: Ports, limits: Limits = LIMITS) -> Converted:
     """Writes the trees and traces of a recording from its log; the files are put in place when all are written."""
     about = read_about(folder)
     log = strace_log.find_log(folder)
-    kept = disk.kept(folder / OBJECTS, about.started)
+    kept = disk.kept(folder / OBJECTS, about.started, about.registered)
     names = Names(kept, read_before(folder), about.watched, about.whiteouts)
     with Recording(folder, Tree(names), limits) as recording, Progress("records") as progress:
         births = strace_log.births(log)
-        scene = Scene(names, kept, recording, births, ports, about.asker)
-        for event in strace_log.events(log, births.ends):
+        scene = Scene(
+            names, kept, recording, births, ports, about.asker, reads_links=about.readlink, hides=about.hidepid
+        )
+        for event in strace_log.events(log, births.ends, scene.near):
             if isinstance(event, Call):
                 _take_call(scene, about, event)
             else:
@@ -46,7 +48,8 @@ def convert(folder: Path, ports: Ports, limits: Limits = LIMITS) -> Converted:
         if recording.records == 0:
             raise Problem(f"{log} has no call of a program: record it again")
         kept.keep(folder / OBJECTS)
-        return recording.finish(about.ended and scene.have_ended(scene.threads), scene.further_names())
+        ended = about.ended and scene.have_ended(scene.threads)
+        return recording.finish(ended, scene.further_names(), about.untraced)
 
 
 def _take(scene: Scene, event: Ended | Superseded | Unread) -> None:
@@ -68,8 +71,13 @@ def _take_call(scene: Scene, about: About, call: Call) -> None:
         if thread is None or scene.unmet:
             thread = scene.known(call.tid, call.line, call.text) or _started(scene, about, call)
         thread.forked = None
+        if scene.through:
+            scene.through.clear()
+        looked = scene.near.is_look(call.text) and others.look(scene, thread, call)
         if handler is not None:
             handler(scene, thread, call)
+        if scene.through and not looked:
+            others.passed_by_links(scene, thread, call)
     except CannotSay as reason:
         scene.recording.drop()
         scene.recording.leave_out(str(reason), call.line, call.tid, call.text, asks=reason.asks)
@@ -78,7 +86,8 @@ def _take_call(scene: Scene, about: About, call: Call) -> None:
 def _started(scene: Scene, about: About, call: Call) -> Thread:
     """A thread that no fork made: that of the first process, or of a process whose start was not seen."""
     process = Process(call.tid)
-    thread = Thread(call.tid, process, Place("/", about.directory))
+    thread = Thread(call.tid, process, Place("/", "/"))
+    scene.go_to(thread, about.directory)
     if scene.recording.records:
         process.confined = True
         scene.leave_out(thread, call, NOT_SEEN_TO_START, asks=True)

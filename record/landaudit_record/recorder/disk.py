@@ -1,17 +1,20 @@
-"""What is on the disk after the run, kept with the recording so that it can be converted anywhere and later."""
+"""What the disk holds after the run, kept with the recording so that it converts anywhere and later."""
 
 from __future__ import annotations
 
 import ctypes
 import os
 import stat
+from collections.abc import Sequence
 from dataclasses import dataclass
+from functools import cache
 from pathlib import Path
 from struct import Struct
 from sys import maxsize
 from typing import BinaryIO
 
 from .. import jsonl
+from .formats import HEAD, Format, first_of
 from .modes import Mode
 
 _KINDS = {
@@ -28,8 +31,7 @@ _AT_SYMLINK_NOFOLLOW = 0x100
 _STATX_BTIME = 0x800
 _STATX_SIZE = 256
 _STATX_BTIME_AT = 80
-_SCRIPT_LINE = 256
-#: A character device 0:0; the kernel says which kind Landlock takes it for (docs/SEMANTICS.md, "Whiteouts").
+#: A character device 0:0: which kind it is for Landlock the kernel says (docs/SEMANTICS.md, "Whiteouts").
 WHITEOUT = "whiteout"
 
 
@@ -37,7 +39,7 @@ WHITEOUT = "whiteout"
 class Seen:
     """An object: its kind, a link's target, whether it was made after the run began, and whether a file may be run.
 
-    `inode` is set if the object has several names (hard links) and had them when the run began: names with the same
+    `inode` is there where the object has several names (hard links) and had them when the run began: those with one
     `inode` are one object.
     """
 
@@ -79,7 +81,7 @@ def mode(path: str) -> Mode | None:
 
 
 def _born(path: str) -> float | None:
-    """When an object was made, if its file system says so (statx(2))."""
+    """When an object was made, where its file system says so (statx(2))."""
     buffer = ctypes.create_string_buffer(_STATX_SIZE)
     name = os.fsencode(path)
     if _libc().statx(_AT_FDCWD, name, _AT_SYMLINK_NOFOLLOW, _STATX_BTIME, buffer) != 0:
@@ -97,10 +99,10 @@ def _libc() -> ctypes.CDLL:
 
 
 def interpreter(path: str) -> str | None:
-    """The interpreter of a file: the program after `#!`, or the loader that an ELF file names (PT_INTERP)."""
+    """What the kernel runs a file by: the program after `#!`, or the loader that an ELF file names (PT_INTERP)."""
     try:
         with open(path, "rb") as program:
-            head = program.read(_SCRIPT_LINE)
+            head = program.read(HEAD)
             if head.startswith(b"#!"):
                 words = head[2:].split(b"\n", 1)[0].split(None, 1)
                 return _text(words[0]) if words else None
@@ -110,6 +112,41 @@ def interpreter(path: str) -> str | None:
         return None
 
 
+def head(path: str) -> bytes:
+    """How a file begins; nothing of one that can't be read."""
+    try:
+        with open(path, "rb") as program:
+            return program.read(HEAD)
+    except (OSError, ValueError):
+        return b""
+
+
+#: What runs beside programs of a machine's own: the older ones of a family (elf.h has the numbers).
+_COMPATIBLE = {62: {3, 6}, 183: {40}, 21: {20}, 43: {2, 18}}
+_MACHINE_AT = 18
+
+
+def is_foreign(head: bytes) -> bool:
+    """Whether a file is neither a script nor a program of this machine: only a format lets the kernel run it."""
+    if head.startswith(b"#!"):
+        return False
+    machine = _machine(head)
+    return machine is None or machine not in _own_machines()
+
+
+def _machine(head: bytes) -> int | None:
+    """The machine that an ELF file is for."""
+    if head[:6] not in _LAYOUTS or len(head) < _MACHINE_AT + 2:
+        return None
+    return int.from_bytes(head[_MACHINE_AT : _MACHINE_AT + 2], "little" if head[5] == 1 else "big")
+
+
+@cache
+def _own_machines() -> set[int | None]:
+    own = _machine(head("/proc/self/exe"))
+    return {own} | _COMPATIBLE.get(own or 0, set())
+
+
 def _text(written: bytes) -> str | None:
     """A path that a file names, which ends at a NUL."""
     return os.fsdecode(written.split(b"\0", 1)[0]) or None
@@ -117,10 +154,10 @@ def _text(written: bytes) -> str | None:
 
 @dataclass(frozen=True)
 class _Layout:
-    """The layout of ELF files of a width and a byte order (elf(5)).
+    """How ELF files of a width and an order of bytes are laid out (elf(5)): where what is asked for is.
 
-    In the file's header, `table` is the offset of the table of program headers, and `counts` their size and number. A
-    program header has a type, an offset in the file, and a length.
+    `table` is in the file's header where its table of program headers begins and `counts` the size and number of
+    these; a program header says what it is, `at` which place of the file, and how long that is.
     """
 
     table: Struct
@@ -143,7 +180,7 @@ _LAYOUTS = {
 
 
 def _loader(program: BinaryIO, head: bytes, layout: _Layout) -> str | None:
-    """The loader of an ELF file, by its program headers, if it names one; the kernel does not run a malformed file."""
+    """The loader of an ELF file, by its program headers; a file that is none the kernel does not run."""
     if len(head) < layout.counts_at + layout.counts.size:
         return None
     (table,) = layout.table.unpack_from(head, layout.table_at)
@@ -158,7 +195,7 @@ def _loader(program: BinaryIO, head: bytes, layout: _Layout) -> str | None:
 
 
 def _read(program: BinaryIO, place: int, length: int) -> bytes:
-    """The bytes at an offset of a file; nothing for an offset that no file can have."""
+    """What is at a place of a file; nothing where no file has such a place."""
     if place > maxsize:
         return b""
     program.seek(place)
@@ -166,7 +203,7 @@ def _read(program: BinaryIO, place: int, length: int) -> bytes:
 
 
 class Disk:
-    """The disk as a recording sees it: each answer is kept and used again."""
+    """The disk as a recording sees it: each answer is kept, and a kept answer is never asked again."""
 
     def __init__(
         self,
@@ -174,12 +211,17 @@ class Disk:
         kept: dict[str, Seen] | None = None,
         by: dict[str, str] | None = None,
         modes: dict[str, Mode] | None = None,
+        *,
+        formats: Sequence[Format] = (),
+        heads: dict[str, bytes] | None = None,
     ) -> None:
         self._since = since
         self._live = kept is None
         self._seen: dict[str, Seen | None] = dict(kept or {})
         self._interpreters: dict[str, str | None] = dict(by or {})
         self._modes: dict[str, Mode | None] = dict(modes or {})
+        self.formats = formats
+        self._heads: dict[str, bytes] = dict(heads or {})
 
     def look(self, path: str) -> Seen | None:
         """The object at a path after the run."""
@@ -188,22 +230,31 @@ class Disk:
         return self._seen[path]
 
     def interpreter(self, path: str) -> str | None:
-        """The interpreter of a file, if the file still exists and names one."""
+        """What a file is run by, if it is still there and names something."""
         seen = self.look(path)
         if path not in self._interpreters:
             runs = self._live and seen is not None and seen.kind == "reg"
             self._interpreters[path] = interpreter(path) if runs else None
         return self._interpreters[path]
 
+    def head(self, path: str) -> bytes:
+        """How a file begins that is run by a format, be it one that is not known; nothing of all others."""
+        seen = self.look(path)
+        if path not in self._heads:
+            begins = head(path) if self._live and seen is not None and seen.kind == "reg" else b""
+            by_format = begins and (is_foreign(begins) or first_of(self.formats, "", begins) is not None)
+            self._heads[path] = begins if by_format else b""
+        return self._heads[path]
+
     def mode(self, path: str) -> Mode | None:
-        """The mode of the object that a path leads to, if it still exists."""
+        """The mode of what a path leads to, if that is still there."""
         self.look(path)
         if path not in self._modes:
             self._modes[path] = mode(path) if self._live else None
         return self._modes[path]
 
     def keep(self, file: Path) -> None:
-        """Writes the kept answers, for a later conversion."""
+        """Writes what was asked, for a later conversion."""
         jsonl.write(file, (self._line(path, seen) for path, seen in self._seen.items() if seen is not None))
 
     def _line(self, path: str, seen: Seen) -> jsonl.Record:
@@ -220,16 +271,19 @@ class Disk:
             line["mode"] = [of.bits, of.uid, of.gid]
         if self._interpreters.get(path) is not None:
             line["interpreter"] = self._interpreters[path]
+        if self._heads.get(path):
+            line["head"] = self._heads[path].hex()
         return line
 
 
-def kept(file: Path, since: float) -> Disk:
-    """The disk as an earlier conversion kept it, or the disk of this machine if there was none."""
+def kept(file: Path, since: float, formats: Sequence[Format] = ()) -> Disk:
+    """The disk as an earlier conversion kept it, or the disk of this machine where there was none."""
     if not file.is_file():
-        return Disk(since)
+        return Disk(since, formats=formats)
     seen: dict[str, Seen] = {}
     loaders: dict[str, str] = {}
     modes: dict[str, Mode] = {}
+    heads: dict[str, bytes] = {}
     for _, line in jsonl.numbered(file):
         new, runs = line.get("new", False), line.get("runs", False)
         seen[line["path"]] = Seen(line["kind"], line.get("target"), new, runs, line.get("inode"))
@@ -237,11 +291,13 @@ def kept(file: Path, since: float) -> Disk:
             loaders[line["path"]] = line["interpreter"]
         if "mode" in line:
             modes[line["path"]] = Mode(*line["mode"])
-    return Disk(since, seen, loaders, modes)
+        if "head" in line:
+            heads[line["path"]] = bytes.fromhex(line["head"])
+    return Disk(since, seen, loaders, modes, formats=formats, heads=heads)
 
 
 def list_below(top: str, limit: int, unread: list[str]) -> list[tuple[str, Seen]] | None:
-    """Everything in a directory and below it, or None if there is more than the limit.
+    """Everything in a directory and below it, or None where it is more than the limit.
 
     Directories that can't be read are added to `unread`.
     """

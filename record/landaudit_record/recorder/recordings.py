@@ -8,11 +8,14 @@ import os
 import stat
 from dataclasses import asdict, dataclass, field
 from pathlib import Path
+from typing import Any
 
 from .. import jsonl
 from . import disk
 from .disk import Seen
+from .formats import Format
 from .modes import Asker
+from ..finished import LOOKING, READING_LINKS, SIGNALS
 from ..problems import Problem
 
 ABOUT = "recording.json"
@@ -29,12 +32,14 @@ _LANDLOCK_CREATE_RULESET_ERRATA = 2
 class About:
     """How a recording was made.
 
-    `started` is the time at which the run began (seconds since 1970). `watched` has the directories that were listed
-    before it. `descriptors` has those that the command was given, each with its path and the kind with which a trace
-    adopts it. `admin` and `nnp` are those of the first process. `errata` has the faults of Landlock that the kernel
-    says it has fixed, the first as bit 0. `uid` and `groups` are those of the command; `uid` is set only if it has no
-    privilege that bypasses file modes. `ended`, which is written after the run, says that the tracer ended by itself,
-    so that the log is whole.
+    `started` is the time at which the run began (seconds since 1970), `watched` the directories that
+    were listed before it, `descriptors` those that the command was given, with the kind as which a
+    trace adopts each and its path, `admin` and `nnp` what the first process had, `errata` the faults of
+    Landlock that the kernel says it has mended, the first as bit 0. `uid` and `groups` say as whom the command runs,
+    `uid` only if it has no privilege by which file modes would not count. `ended` says that the tracer ended by itself,
+    so that the log is whole; it is said after the run. `looks` says that calls were traced which only look at what a
+    path leads to and such as send signals, `readlink` that those were which read links. `formats` are those that
+    binfmt_misc had, None if that was not known; `hidepid` says that /proc is mounted with this option (proc(5)).
     """
 
     command: list[str]
@@ -50,15 +55,30 @@ class About:
     errata: int = 0
     uid: int | None = None
     groups: list[int] = field(default_factory=list)
+    looks: bool = False
+    readlink: bool = False
+    formats: list[dict[str, Any]] | None = None
+    hidepid: bool = False
+
+    @property
+    def untraced(self) -> tuple[str, ...]:
+        """The kinds of calls that were not traced, of those that not every recording has."""
+        named = ((LOOKING, self.looks), (READING_LINKS, self.readlink), (SIGNALS, self.looks))
+        return tuple(name for name, traced in named if not traced)
+
+    @property
+    def registered(self) -> list[Format]:
+        """The formats of files that are run by an interpreter, as far as they are known."""
+        return [Format(**told) for told in self.formats or ()]
 
     @property
     def whiteouts(self) -> str:
-        """The kind of object as which the kernel guards whiteouts; by erratum 4, they are character devices."""
+        """The kind of object as which the kernel guards whiteouts: erratum 4 is that they are character devices."""
         return "reg" if self.errata & 8 else "char"
 
     @property
     def asker(self) -> Asker | None:
-        """The user of all processes: without privileges, none can become another user (credentials(7))."""
+        """As whom all processes ask for files: without privileges none can become another user (credentials(7))."""
         return None if self.uid is None else Asker(self.uid, frozenset(self.groups))
 
     def write(self, folder: Path) -> None:
@@ -77,13 +97,13 @@ def read_about(folder: Path) -> About:
 
 
 def policy_of(folder: Path) -> Path | None:
-    """The policy under which a recording was made, if it was made with `run --policy`."""
+    """The policy that a recording was made under, if it was by `run --policy`."""
     file = folder / POLICY
     return file if file.is_file() else None
 
 
 def standard_descriptors() -> dict[str, dict[str, str | None]]:
-    """The kinds and paths of standard input, output and error of this process."""
+    """What standard input, output and error of this process are."""
     found: dict[str, dict[str, str | None]] = {}
     for number in range(3):
         try:
@@ -98,10 +118,19 @@ def standard_descriptors() -> dict[str, dict[str, str | None]]:
 
 
 def errata() -> int:
-    """The errata of Landlock that this kernel has fixed, as bits; 0 if it does not say."""
+    """The errata of Landlock that this kernel has mended, as bits; 0 where it does not say."""
     libc = ctypes.CDLL(None, use_errno=True)
     mended: int = libc.syscall(_SYS_LANDLOCK_CREATE_RULESET, None, 0, _LANDLOCK_CREATE_RULESET_ERRATA)
     return max(0, mended)
+
+
+def hides_processes(mounts: Path = Path("/proc/self/mountinfo")) -> bool:
+    """Whether /proc is mounted so that what is in it of a process is not for all (proc(5), `hidepid`)."""
+    with open(mounts, encoding="utf-8", errors="surrogateescape") as lines:
+        fields = [line.split() for line in lines]
+    options = [field[-1].split(",") for field in fields if field[4:5] == ["/proc"]]
+    hidepid = [option for option in (options[-1] if options else ()) if option.startswith("hidepid=")]
+    return bool(hidepid) and hidepid[-1] not in ("hidepid=0", "hidepid=off")
 
 
 def is_admin() -> bool:
@@ -110,7 +139,7 @@ def is_admin() -> bool:
 
 
 def user() -> int | None:
-    """The number of this process's user, if the process has no capability; with some, file modes would not count."""
+    """The number of this process's user, if the process has no capability: with some file modes would not count."""
     return None if _capabilities() else os.geteuid()
 
 
@@ -123,7 +152,7 @@ def _capabilities() -> int:
 
 @dataclass
 class Watched:
-    """Directories before a run: those that were listed, those with too many objects, and those that can't be read."""
+    """Directories before a run: those that were listed, those that hold too much, and what of them can't be read."""
 
     watched: list[str] = field(default_factory=list)
     too_large: list[str] = field(default_factory=list)

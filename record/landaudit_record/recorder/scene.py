@@ -1,4 +1,4 @@
-"""The state of a conversion: names, processes and what was written so far, with the operations that all calls share."""
+"""How far a conversion is: names, processes and what was written so far, with the words that all calls share."""
 
 from __future__ import annotations
 
@@ -11,6 +11,7 @@ from typing import Any
 from ..living import Members
 from . import modes
 from .disk import Disk
+from .looks import Near
 from .names import Found, Names, Node, join, split
 from .ports import Ports
 from .processes import Handle, Process, Thread
@@ -23,18 +24,22 @@ AT_FDCWD = -100
 CLONE_FS = 0x200
 CLONE_FILES = 0x400
 CLONE_THREAD = 0x10000
-#: The directory in /proc of every process has the same names as this one (proc(5)).
+#: Of so many processes that ended it is known whose children they are.
+MOST_ENDED = 1_024
+#: The directory of processes.
+PROC = "proc"
+#: What /proc has of each process is what it has of the one that looks (proc(5)).
 OWN_FILES = "/proc/self"
 NO_PATH = "a file without a path"
 SHARED_TABLE = "a descriptor table that two processes share"
-#: The class of EACCES in a process without layers, and of EACCES that the mode of an object explains.
+#: So it is where a process has no layer, and where the mode of what is asked for says so.
 BY_MODES = "EACCES by file modes, whatever a policy says"
-_OF_PROCESS = re.compile(r"/proc/(\d+)(?:/task/\d+)?/(fd/(\d+)|exe|cwd|root)")
+_OF_PROCESS = re.compile(r"/proc/(\d+)(?:/task/\d+)?/(fd/(\d+)|exe|cwd|root|(?:map_files|ns)/[^/]+)")
 
 
 @dataclass(slots=True)
 class Spot:
-    """What a path names at the moment: the real path, and the object if there is one.
+    """What a path names at this moment: the real path, and the object if there is one.
 
     `broken` is how many names of the real path lead to the last directory on it, where the object is missing.
     """
@@ -47,7 +52,7 @@ class Spot:
 
     @property
     def path(self) -> str:
-        """The text in the trace: the object's name in the tree, or a name that no object ever has."""
+        """The text in the trace: the object's name in the tree, or one that nothing ever has."""
         text = self._text
         if text is None:
             if self.node is not None:
@@ -60,12 +65,12 @@ class Spot:
 
     @property
     def in_directory(self) -> bool:
-        """Whether the object exists, or is missing in a directory that exists."""
+        """Whether the object is there, or is missing in a directory that is."""
         return self.node is not None or self.broken == len(split(self.real)) - 1
 
     @property
     def shown(self) -> str | None:
-        """The real path, if the text in the trace is another one."""
+        """The real path, where the text in the trace is another."""
         text = self._text if self._text is not None else self.path
         return self.real if self.real != text else None
 
@@ -73,10 +78,13 @@ class Spot:
 class Scene:
     """The state of a conversion.
 
-    `asker` is the user of all processes, if file modes are known to count for them. `ruled` has each name on which a
-    record of the program puts a rule, with the object. `unmet` has the threads of which the log has only the fork that
-    made them so far, each with whether the result of that fork is doubtful. `placeless` says whether there was a
-    descriptor in a mount without a place.
+    `asker` is as whom all processes ask for files, if file modes are known to count for them. `ruled` has each name on
+    which a record of the program puts a rule, with the object. `unmet` are the threads of which the log has nothing
+    yet but the fork that made them, each with whether that fork's result is to be doubted. `placeless` says whether
+    there was a descriptor that is in a mount without a place. `through` are the processes whose links in /proc a path
+    of this call goes through, `near` says which paths may, `reads_links` whether readlink(2) was traced, and `hides`
+    whether all of a process in /proc is only for those who may trace it. `abstract` has the process that bound an
+    abstract name of UNIX sockets, `ended` the processes that ended last.
     """
 
     def __init__(
@@ -87,6 +95,9 @@ class Scene:
         births: Births,
         ports: Ports,
         asker: modes.Asker | None = None,
+        *,
+        reads_links: bool = False,
+        hides: bool = False,
     ) -> None:
         self.names = names
         self.disk = disk
@@ -100,6 +111,12 @@ class Scene:
         self.begun: set[int] = set()
         self.unmet: dict[int, bool] = {}
         self.placeless = False
+        self.near = Near()
+        self.through: set[int] = set()
+        self.reads_links = reads_links
+        self.hides = hides
+        self.abstract: dict[str, int] = {}
+        self.ended: dict[int, Process] = {}
         self.ruled: list[tuple[str, Node]] = []
         self.handles: dict[str, str] = {}
         self._walked: set[tuple[str, str, str]] = set()
@@ -108,11 +125,11 @@ class Scene:
     # What is said
 
     def say(self, thread: Thread, call: Call, op: str, **members: Any) -> None:
-        """Writes a record of a call that Landlock judges, with the kernel's answer."""
+        """Writes a record of something that Landlock judges, with what the kernel answered."""
         self.judged(thread, call, op, members)
 
     def judged(self, thread: Thread, call: Call, op: str, members: Members) -> None:
-        """Writes a record as `say` does, from members that do not change afterwards."""
+        """Writes a record as `say` does, from members that nobody changes afterwards."""
         process, error = thread.process, call.error
         if thread.layers < len(process.restricted):
             raise CannotSay("a call of a thread with fewer layers than its process")
@@ -126,11 +143,11 @@ class Scene:
         return self.asker is not None and modes.refuse(self.asker, self.disk.mode, op, members, runs)
 
     def note(self, thread: Thread, call: Call, op: str, **members: Any) -> None:
-        """Writes a record that only keeps the state right, without the kernel's answer."""
+        """Writes a record that only keeps the books, where the kernel's answer is not said."""
         self.recording.add(op, thread.process.pid, call.line, None, members)
 
     def leave_out(self, thread: Thread, call: Call, reason: str, *, asks: bool = False) -> None:
-        """Counts a call that trace and tree can't express; `asks` is as in `Recording.leave_out`."""
+        """Counts something about a call that trace and tree can't hold; `asks` as `Recording.leave_out` has it."""
         self.recording.leave_out(reason, call.line, thread.process.pid, call.text, asks=asks)
 
     def further_names(self) -> dict[str, list[str]]:
@@ -162,16 +179,25 @@ class Scene:
         links = self._links
         if links is None or links.thread is not thread:
             links = self._links = ThreadLinks(self, thread)
-        return self.names.find(thread.place.root, directory, path, follow, links)
+        found = self.names.find(thread.place.root, directory, path, follow, links)
+        if found.broken is not None and found.names[:1] == [PROC] and (link := _OF_PROCESS.match(found.path)):
+            self.through.add(int(link[1]))
+        return found
 
     def list_links(self, thread: Thread, base: Descriptor | None, path: str) -> None:
-        """Lists the symbolic links on the way of a path, once for each directory and path."""
+        """Lists the symbolic links by which a path leads on, once for each directory and path."""
         directory = base.path if base is not None and base.path is not None else thread.place.directory
         walk = (thread.place.root, "" if path.startswith("/") else directory, path)
         if walk not in self._walked:
-            self._walked.add(walk)
             with suppress(CannotSay):
                 self.find(thread, base, path, True)
+            if not self.through:
+                self._walked.add(walk)
+
+    def go_to(self, thread: Thread, directory: str) -> None:
+        """A thread works in a directory from now on."""
+        thread.place.directory = directory
+        self.near.relative = self.near.relative or split(directory)[:1] == (PROC,)
 
     def written(self, found: Found) -> Spot:
         """What a resolved path names, as the trace writes it."""
@@ -182,7 +208,7 @@ class Scene:
         return Spot(self.tree, real, node)
 
     def absent(self, real: str) -> Spot:
-        """A name in a directory at which, as the kernel says, nothing is, whatever was known before."""
+        """A name in a directory of which the kernel says that nothing is there, whatever was known before."""
         self.names.gone(real)
         return self.missing(real)
 
@@ -191,7 +217,7 @@ class Scene:
         return Spot(self.tree, real, None, len(split(real)) - 1)
 
     def present(self, real: str, kind: str) -> Spot:
-        """An object that is known to exist, whatever was known of it before."""
+        """An object that is known to be there, whatever was known of it before."""
         return self.there(real, self.names.ensure(real, kind))
 
     def as_missing(self, spot: Spot) -> Spot:
@@ -203,7 +229,7 @@ class Scene:
         return spot
 
     def moved(self, ways: dict[str, str]) -> None:
-        """Directories moved: the processes that work in them, and what is open in them, move along."""
+        """Directories went from some paths to others: who works in one, and what is open in it, goes with it."""
         places = {id(thread.place): thread.place for thread in self.threads.values()}
         for place in places.values():
             place.directory, place.root = (_went(path, ways) for path in (place.directory, place.root))
@@ -216,8 +242,8 @@ class Scene:
     def handle(self, thread: Thread, call: Call, of: Descriptor) -> Handle | None:
         """What a process knows of a descriptor, if it is open.
 
-        A number of which nothing is known, or that stands for another kind of object than the known one, was opened
-        unseen: by pipe(2) or the like, or elsewhere.
+        A number that nothing is known of, or that stands for another kind of thing than what is known, came unseen:
+        from pipe(2) and its like, or from elsewhere.
         """
         known = thread.process.table.get(of.number)
         if of.behind is None or (known is not None and (known.path is None) == (of.path is None)):
@@ -261,7 +287,7 @@ class Scene:
         self.recording.add_close(thread.process.pid, call.line, number)
 
     def put(self, thread: Thread, call: Call, number: int, handle: Handle) -> None:
-        """Puts a descriptor under a number; an unseen descriptor there is closed."""
+        """Puts a descriptor under a number; what was there unseen is closed."""
         table = thread.process.table
         if number in table:
             self.close(thread, call, number)
@@ -270,9 +296,9 @@ class Scene:
     # Processes
 
     def known(self, tid: int, line: int, text: str) -> Thread | None:
-        """The thread of a line, which may be its end; a thread that is met for the first time is begun by its fork.
+        """A thread of which a line tells, be it that it ends; one that is met for the first time is begun by its fork.
 
-        None if the log has no such fork.
+        None where the log tells of no such fork.
         """
         thread = self.threads.get(tid)
         if thread is None and (birth := self.births.next(tid)) is not None:
@@ -285,8 +311,8 @@ class Scene:
     def begin(self, birth: Birth, tid: int, line: int, text: str) -> None:
         """A thread that a fork makes, or a process with a copy of what its maker has.
 
-        If a number is used again, its last thread has ended, even if nothing else says so. The maker may be met here
-        for the first time, since its own fork may not have ended either.
+        A number that is used again says that its last thread has ended, if nothing else did. The maker may be met for
+        the first time here, since its own fork may be under way as well.
         """
         self.begun.add(birth.line)
         self.end(tid, line)
@@ -313,12 +339,12 @@ class Scene:
         self.recording.write("fork", maker.process.pid, line, child=tid)
 
     def doubt(self, maker: Thread) -> None:
-        """Doubts the result of a fork after which its thread was killed: strace may show a wrong value."""
+        """Doubts the result of a fork behind which its thread was killed: strace may show what it read elsewhere."""
         if maker.forked in self.unmet:
             self.unmet[maker.forked] = True
 
     def have_ended(self, threads: Iterable[int]) -> bool:
-        """Whether none of these threads is left, as far as the log can be believed."""
+        """Whether none is left of what were threads, as far as the log is to be believed."""
         return all(self.unmet.get(tid, False) for tid in threads)
 
     def _join(self, thread: Thread) -> None:
@@ -331,13 +357,13 @@ class Scene:
         self.names.put(f"{own}/task/{thread.tid}", Node("dir", origin=OWN_FILES))
 
     def start(self, thread: Thread, call: Call, *, nnp: bool, admin: bool) -> None:
-        """Starts a process that exists when the trace begins, with or without no_new_privs and CAP_SYS_ADMIN."""
+        """A process that is there when the trace begins: whether it has no_new_privs, and whether CAP_SYS_ADMIN."""
         self._join(thread)
         self.processes[thread.process.pid] = thread.process
         self.recording.write("start", thread.process.pid, call.line, nnp=nnp, admin=admin)
 
     def end(self, tid: int, line: int) -> None:
-        """Ends a thread, and its process with its last thread."""
+        """A thread that ended, and its process with its last thread."""
         thread = self.threads.pop(tid, None)
         if thread is None:
             return
@@ -345,14 +371,22 @@ class Scene:
         process.threads.discard(tid)
         if self.have_ended(process.threads) and self.processes.get(process.pid) is process:
             del self.processes[process.pid]
+            self._keep_ended(process)
             self.names.put(f"/proc/{process.pid}", None)
             self.recording.write("exit", process.pid, line)
 
+    def _keep_ended(self, process: Process) -> None:
+        """Keeps a process that ended: its number is its own until its parent has waited for it."""
+        self.ended.pop(process.pid, None)
+        self.ended[process.pid] = process
+        if len(self.ended) > MOST_ENDED:
+            del self.ended[next(iter(self.ended))]
+
 
 def _is_foreign(of: Descriptor) -> bool:
-    """Whether a descriptor has rights that Landlock gave it elsewhere: a socket, or a file that was opened.
+    """Whether what a number stands for has rights that Landlock gave it elsewhere: a socket, or a file that was opened.
 
-    Memfds, pipes and the like are never refused (memfd_create(2), pipe(2)).
+    A memfd, a pipe and their like are never refused (memfd_create(2), pipe(2)).
     """
     if of.path is not None:
         return not of.in_memory
@@ -371,7 +405,7 @@ class ThreadLinks:
         self.scene.tree.place(path, node)
 
     def magic(self, path: str) -> tuple[str, Node | None] | None:
-        """Where a link of /proc leads, and to which object if that is known (proc(5))."""
+        """Where a link of /proc leads, and to what object if that is known (proc(5))."""
         if not path.startswith("/proc/"):
             return None
         own = f"/proc/{self.thread.process.pid}"
@@ -380,8 +414,11 @@ class ThreadLinks:
         if path == "/proc/thread-self":
             return f"{own}/task/{self.thread.tid}", None
         link = _OF_PROCESS.fullmatch(path)
-        process = self.scene.processes.get(int(link[1])) if link else None
-        return self._of_process(process, link[2], link[3]) if link and process else None
+        if link is None:
+            return None
+        self.scene.through.add(int(link[1]))
+        process = self.scene.processes.get(int(link[1]))
+        return self._of_process(process, link[2], link[3]) if process else None
 
     def _of_process(self, process: Process, name: str, number: str | None) -> tuple[str, Node | None] | None:
         match name:
@@ -391,7 +428,9 @@ class ThreadLinks:
                 return self.thread.place.directory, None
             case "root":
                 return self.thread.place.root, None
-        handle = process.table.get(int(number or 0))
+        if number is None:
+            return None
+        handle = process.table.get(int(number))
         if handle is None:
             raise CannotSay("a file by a descriptor of which nothing is known")
         if handle.path is None:
@@ -400,7 +439,7 @@ class ThreadLinks:
 
 
 def _went(path: str, ways: dict[str, str]) -> str:
-    """A path after directories moved."""
+    """A path, now that directories went from some paths to others."""
     for start, end in ways.items():
         if path == start or path.startswith(start + "/"):
             return end + path[len(start) :]

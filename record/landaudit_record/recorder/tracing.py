@@ -16,6 +16,7 @@ from types import FrameType
 
 from ..problems import WANTING, Problem
 from ..stopping import SIGNALS
+from .looks import LOOKS, READLINKS
 
 OLDEST = (6, 1)
 
@@ -37,10 +38,13 @@ mount umount2 pivot_root ?move_mount ?fsconfig ?fsmount ?open_tree ?open_tree_at
 sendto sendmsg sendmmsg
 ptrace process_vm_readv process_vm_writev kcmp ?move_pages ?migrate_pages ?get_robust_list perf_event_open
 ?process_madvise ?pidfd_getfd
+kill tkill tgkill rt_sigqueueinfo ?rt_tgsigqueueinfo ?pidfd_send_signal
 """.split()
 
 #: Calls of which only the flags are read: their data stay out of the log.
 UNDECODED = ("sendto", "sendmsg", "sendmmsg")
+#: Calls that tell much of what they look at: that stays out of the log.
+BRIEF = ("stat", "lstat", "newfstatat", "fstatat64", "statx", "statfs")
 
 #: The time that a command has to end before it is killed, in seconds.
 PATIENCE = 5.0
@@ -68,8 +72,9 @@ def may_trace() -> None:
         raise Problem(f"strace may not trace programs here: {said}", WANTING)
 
 
-def command_line(log: Path, command: list[str]) -> list[str]:
-    """The whole command that runs a command under strace."""
+def command_line(log: Path, command: list[str], *, readlink: bool = False) -> list[str]:
+    """The whole command that runs a command under strace; `readlink` says whether calls that read links are traced."""
+    looks = [f"?{name}" for name in sorted(LOOKS | READLINKS if readlink else LOOKS)]
     return [
         "strace",
         "--follow-forks",
@@ -82,7 +87,8 @@ def command_line(log: Path, command: list[str]) -> list[str]:
         f"--signal=!{','.join(HARMLESS_SIGNALS)}",
         "--string-limit=4096",
         "--abbrev=execve,execveat",
-        f"--trace={','.join(CALLS)}",
+        f"--verbose=!{','.join(f'?{name}' for name in BRIEF)}",
+        f"--trace={','.join([*CALLS, *looks])}",
         f"--output={log}",
         "--",
         *command,
@@ -97,8 +103,8 @@ class Outcome:
     ended: bool
 
 
-def run(log: Path, command: list[str]) -> Outcome:
-    """Runs a command under strace.
+def run(log: Path, command: list[str], *, readlink: bool = False) -> Outcome:
+    """Runs a command under strace; `readlink` is that of `command_line`.
 
     An interrupt from the terminal goes to the command, which decides how it ends. Other signals that ask for the end
     are passed to everything that strace traces, and what has not ended after a while is killed. Nothing is left
@@ -107,7 +113,7 @@ def run(log: Path, command: list[str]) -> Outcome:
     _adopt_orphans()
     passing = _Passing()
     with passing.installed():
-        tracer = subprocess.Popen(command_line(log, command))
+        tracer = subprocess.Popen(command_line(log, command, readlink=readlink))
         passing.tracer = tracer.pid
         tracer.returncode = _wait(tracer.pid)
     left = _kill_children() if tracer.returncode < 0 else 0

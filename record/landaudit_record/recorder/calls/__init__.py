@@ -7,14 +7,9 @@ from collections.abc import Callable, Mapping
 from ..processes import Thread
 from ..scene import Scene
 from ..strace_log import Call
-from . import beyond, descriptors, files, landlock, mounts, moves, opening, others, programs
+from . import beyond, descriptors, files, landlock, mounts, moves, opening, others, programs, scopes
 
 Handler = Callable[[Scene, Thread, Call], None]
-
-
-def _opening(name: str, base: int | None, path: int) -> Handler:
-    """The handler of a call that opens files, some of which a trace can't express."""
-    return mounts.from_a_place(others.opening(opening.HANDLERS[name], base, path), base)
 
 
 HANDLERS: Mapping[str, Handler] = {
@@ -27,5 +22,6 @@ HANDLERS: Mapping[str, Handler] = {
     **opening.HANDLERS,
     **others.HANDLERS,
     **programs.HANDLERS,
-    **{name: _opening(name, *given) for name, given in opening.GIVEN.items()},
+    **scopes.HANDLERS,
+    **{name: mounts.from_a_place(opening.HANDLERS[name], base) for name, (base, _) in opening.GIVEN.items()},
 }

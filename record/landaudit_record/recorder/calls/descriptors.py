@@ -16,7 +16,7 @@ from ..processes import Handle, Thread
 from ..scene import Scene
 from ..strace_log import Call
 from ..unsaid import CannotSay, NotAsked
-from . import arguments, files, opening
+from . import arguments, files, opening, scopes
 
 F_DUPFD = 0
 F_SETFD = 2
@@ -127,11 +127,14 @@ def _bind(scene: Scene, thread: Thread, call: Call) -> None:
         raise NotAsked(OTHER_FAMILY)
     else:
         files.bound(scene, thread, call)
+        scopes.bound(scene, thread, call)
 
 
 def _connect(scene: Scene, thread: Thread, call: Call) -> None:
     if _family(call) != files.AF_UNIX:
         _on_port(scene, thread, call, "connect")
+    else:
+        scopes.connected(scene, thread, call)
 
 
 def _family(call: Call) -> int:

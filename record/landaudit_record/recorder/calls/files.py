@@ -100,13 +100,13 @@ def _truncate(scene: Scene, thread: Thread, call: Call) -> None:
 
 def _chdir(scene: Scene, thread: Thread, call: Call) -> None:
     if call.ok:
-        thread.place.directory = arguments.spot_at(scene, thread, call, None, 0, True).real
+        scene.go_to(thread, arguments.spot_at(scene, thread, call, None, 0, True).real)
 
 
 def _fchdir(scene: Scene, thread: Thread, call: Call) -> None:
     path = values.descriptor(call.arguments[0]).path
     if call.ok and path is not None:
-        thread.place.directory = path
+        scene.go_to(thread, path)
 
 
 def _chroot(scene: Scene, thread: Thread, call: Call) -> None:

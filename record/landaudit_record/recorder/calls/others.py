@@ -1,83 +1,159 @@
 """Landlock's rule on ptrace: a process under a layer reaches no process that is not under the same one.
 
-The kernel applies it whenever a process looks into another one, whatever the rules for files say: by calls (ptrace(2),
-process_vm_readv(2), pidfd_getfd(2), ...) and by files of /proc (proc(5)). A trace can't express it.
+The kernel asks it wherever a process looks into another, whatever the rules for files say: by calls (ptrace(2),
+process_vm_readv(2), pidfd_getfd(2), ...), by files of /proc that are opened, and by links of /proc that any call
+follows (proc(5)). A trace has no words for it.
 """
 
 from __future__ import annotations
 
 import re
-from collections.abc import Callable
+from collections.abc import Callable, Iterable
 
 from .. import values
+from ..looks import READLINKS
+from ..names import Node
 from ..processes import Process, Thread
-from ..scene import Scene
+from ..scene import Scene, ThreadLinks
 from ..strace_log import Call
 from ..unsaid import CannotSay
 from ..values import Descriptor
-from . import arguments
+from . import arguments, opening
+from .ways import WAYS, Way
 
 PTRACE_ATTACH, PTRACE_SEIZE = 0x10, 0x4206
-PROC = "/proc/"
 INTO_ANOTHER = "a look into another process, which Landlock's rule on ptrace may refuse"
+NOT_TRACED = "a process that looks at others in /proc: which links it reads there is not recorded (run --readlink)"
 
-#: The files of a process that only processes that may trace it may use; and its links, which only they may follow.
-_GUARDED = re.compile(
-    r"/proc/(\d+)/(?:task/\d+/)?"
-    r"(?:(?:cwd|exe|fdinfo|root)(?:/|$)|(?:fd|map_files|ns)/.|"
-    r"(?:auxv|environ|io|maps|mem|numa_maps|pagemap|personality|smaps|smaps_rollup|stack|syscall|timers)$)"
+#: The links of a process, which only those may follow who may trace it, as a path or a text in quotes has them; and
+#: what only they may reach.
+_LINK = re.compile(r"/proc/(\d+)/(?:task/\d+/)?(?:cwd|exe|root|(?:fd|map_files|ns)/[^/\"\\]+)(?!\w)")
+_REACHED = re.compile(r"/proc/(\d+)/(?:task/\d+/)?fdinfo/.")
+#: The directory of a process, and its files and the directory that only those may open who may trace it.
+_OF_PROCESS = re.compile(r"/proc/(\d+)(?=/|$)")
+_OPENED = re.compile(
+    r"/proc/(\d+)/(?:task/\d+/)?(?:auxv|environ|fdinfo|io|maps|mem|numa_maps|pagemap|personality|smaps|smaps_rollup|"
+    r"stack|syscall|timers)"
 )
+#: Calls by which the kernel asks whether what is in a directory may be reached.
+_SEARCHES = frozenset({"access", "faccessat", "faccessat2", "chdir", "inotify_add_watch", "getxattr", "lgetxattr"})
+_RUNS = ("execve", "execveat")
+_LISTED = "/proc"
 _PIDFD = re.compile(r"pid:(\d+)$")
 
 Handler = Callable[[Scene, Thread, Call], None]
 
 
-def opening(handler: Handler, base: int | None, path: int) -> Handler:
-    """The handler of a call that opens files, which counts those of another process."""
+class _Passing(ThreadLinks):
+    """Links as a thread meets them whose path is looked at alone: none is listed for it."""
 
-    def opened(scene: Scene, thread: Thread, call: Call) -> None:
-        whole = values.text(call.arguments[path]) or ""
-        if not whole.startswith("/"):
-            whole = f"{_directory(scene, thread, call, base)}/{whole}"
-        if whole.startswith(PROC) and _is_guarded(scene, thread, whole) and _may_be_refused(call):
-            if call.error is not None and thread.layers:
-                raise CannotSay(INTO_ANOTHER)
-            scene.leave_out(thread, call, INTO_ANOTHER, asks=True)
-        handler(scene, thread, call)
-
-    return opened
+    def passed(self, path: str, node: Node) -> None:
+        """A link that is followed is not listed."""
 
 
-def _may_be_refused(call: Call) -> bool:
-    return call.ok or call.error == "EACCES"
+def look(scene: Scene, thread: Thread, call: Call) -> bool:
+    """Counts a call that leads into another process, and says whether it does.
+
+    One that failed under a layer is not said: the kernel may have refused it by the rule on ptrace.
+    """
+    if not _may_be_refused(scene, thread, call):
+        return False
+    led = [(way, _led(scene, thread, call, way, path)) for way, path in _paths(call)]
+    opened = _opened(call)
+    pids = {pid for way, path in led for pid in _kept(call, path, follows=way.follows_last(call))}
+    pids |= scene.through | _numbers([_OPENED.fullmatch(opened)])
+    if scene.hides:
+        pids |= _numbers(_OF_PROCESS.match(path) for path in [opened, *(path for _, path in led)])
+    if any(may_refuse(scene, thread, pid) for pid in pids):
+        _count(scene, thread, call)
+        return True
+    if not scene.reads_links and not thread.process.looks:
+        named = _numbers(_OF_PROCESS.match(path) for _, path in led)
+        named |= _numbers(_LINK.finditer(call.text)) if call.name in _RUNS else set()
+        if opened == _LISTED or any(may_refuse(scene, thread, pid) for pid in named):
+            thread.process.looks = True
+            scene.leave_out(thread, call, NOT_TRACED, asks=True)
+    return False
 
 
-def _directory(scene: Scene, thread: Thread, call: Call, base: int | None) -> str:
-    """The directory from which a call's path leads on."""
-    directory = arguments.descriptor_at(call, base)
-    return (directory.path if directory else None) or thread.place.directory
+def _count(scene: Scene, thread: Thread, call: Call) -> None:
+    """Counts a call that leads into another process."""
+    if call.error is not None and thread.layers:
+        raise CannotSay(INTO_ANOTHER)
+    scene.leave_out(thread, call, INTO_ANOTHER, asks=True)
 
 
-def _is_guarded(scene: Scene, thread: Thread, path: str) -> bool:
-    guarded = _GUARDED.match(path)
-    return guarded is not None and may_refuse(scene, thread, int(guarded[1]))
+def passed_by_links(scene: Scene, thread: Thread, call: Call) -> None:
+    """Counts a call whose path has nothing of /proc in it, and leads there by links."""
+    if _may_be_refused(scene, thread, call) and any(may_refuse(scene, thread, pid) for pid in scene.through):
+        _count(scene, thread, call)
+
+
+def _may_be_refused(scene: Scene, thread: Thread, call: Call) -> bool:
+    """Whether a call passed, or a layer may have refused it; without one it fails whatever a policy says."""
+    refused = ("EACCES", "EPERM") if scene.hides else ("EACCES",)
+    return call.ok or (thread.process.confined and call.error in refused)
+
+
+def _paths(call: Call) -> Iterable[tuple[Way, str]]:
+    """The paths of a call; an empty one stands for an open descriptor, by which nothing is followed."""
+    for way in WAYS.get(call.name, ()):
+        path = way.text(call)
+        if path:
+            yield way, path
+
+
+def _led(scene: Scene, thread: Thread, call: Call, way: Way, path: str) -> str:
+    """Where a path leads below the thread's root, as far as it does.
+
+    The processes through whose links it goes are kept in `through`.
+    """
+    base = arguments.descriptor_at(call, way.base)
+    root, directory = thread.place.root, (base.path if base is not None else None) or thread.place.directory
+    try:
+        found = scene.names.find(root, directory, path, way.follows_last(call), _Passing(scene, thread))
+        return found.path if root == "/" else found.path.removeprefix(root)
+    except CannotSay:
+        return ""
+
+
+def _opened(call: Call) -> str:
+    """The path of what a call opened, if it has one; O_PATH opens nothing."""
+    if not call.ok or call.name not in opening.GIVEN or opening.flags_of(call) & opening.O_PATH:
+        return ""
+    return values.descriptor(f"{call.value}{call.note}").path or ""
+
+
+def _kept(call: Call, path: str, *, follows: bool) -> set[int]:
+    """The process into which a path leads that has no link on its way, if it leads into one."""
+    link = _LINK.match(path)
+    if link is not None:
+        is_followed = link.end() < len(path) or follows or call.name in READLINKS
+        return _numbers([link]) if is_followed else set()
+    opens = call.name in opening.GIVEN and not opening.flags_of(call) & opening.O_PATH
+    searched = path.endswith("/fdinfo") and call.name in _SEARCHES
+    return _numbers([_REACHED.match(path), _OPENED.fullmatch(path) if opens or searched else None])
+
+
+def _numbers(matches: Iterable[re.Match[str] | None]) -> set[int]:
+    return {int(match[1]) for match in matches if match is not None}
 
 
 def may_refuse(scene: Scene, thread: Thread, pid: int) -> bool:
-    """Whether a process may be under other layers than the process that looks into it.
+    """Whether a process may be under other layers than one that looks into it.
 
-    It is under the same layers if it is that process itself, or a child of it that has its layers.
+    It is under the same ones if it is the process itself, or a child that has all layers of its own.
     """
-    other = scene.threads.get(pid)
-    mine = thread.process
+    mine, there = thread.process, scene.threads.get(pid)
+    other = scene.ended.get(pid) if there is None else there.process
     if other is None:
         return True
     layers = len(mine.restricted)
-    return not _comes_from(other.process, mine) or other.process.restricted[:layers] != mine.restricted
+    return not _comes_from(other, mine) or other.restricted[:layers] != mine.restricted
 
 
 def _comes_from(process: Process, maker: Process) -> bool:
-    """Whether a process is another one, or was forked from it."""
+    """Whether a process is another, or was forked from it."""
     at: Process | None = process
     while at is not None and at is not maker:
         at = at.maker
@@ -96,9 +172,15 @@ def _by_pid(*indexes: int) -> Handler:
 
 def by_pidfd(scene: Scene, thread: Thread, call: Call) -> None:
     """A call that names a process by a descriptor (pidfd_open(2))."""
+    pid = pid_behind(call)
+    if pid is not None:
+        _look(scene, thread, call, [pid])
+
+
+def pid_behind(call: Call) -> int | None:
+    """The process that the first argument of a call is a descriptor of."""
     named = _PIDFD.match(values.descriptor(call.arguments[0]).behind or "")
-    if named is not None:
-        _look(scene, thread, call, [int(named[1])])
+    return int(named[1]) if named is not None else None
 
 
 def _look(scene: Scene, thread: Thread, call: Call, pids: list[int]) -> None:

@@ -4,7 +4,7 @@ from __future__ import annotations
 
 from dataclasses import replace
 
-from .. import values
+from .. import formats, values
 from ..processes import Thread
 from ..scene import CLONE_FILES, CLONE_FS, Scene, Spot
 from ..strace_log import Call
@@ -15,6 +15,7 @@ from .descriptors import OWN_TABLE
 #: The kernel follows this many interpreters of interpreters (execve(2)).
 MOST_INTERPRETERS = 5
 USUAL_PROGRAM = "/bin/sh"
+UNKNOWN_FORMAT = "a program that the kernel runs by a format which is not known (binfmt_misc)"
 
 
 def _execve(scene: Scene, thread: Thread, call: Call) -> None:
@@ -27,9 +28,9 @@ def _execveat(scene: Scene, thread: Thread, call: Call) -> None:
 
 
 def _run(scene: Scene, thread: Thread, call: Call, spot: Spot) -> None:
-    """A program that is run: the files that the kernel opens for it, then the descriptors that it closes.
+    """A program that is run: what the kernel opens for it, then what closes with it.
 
-    Landlock is not asked about a program that is only in memory (memfd_create(2)), but about its loader.
+    A program that is in memory alone (memfd_create(2)) is not asked about, but its loader is.
     """
     in_memory = values.is_in_memory(spot.real)
     if call.error != "ENOENT" and not in_memory:
@@ -47,13 +48,13 @@ def _run(scene: Scene, thread: Thread, call: Call, spot: Spot) -> None:
 
 
 def _may_not_run(scene: Scene, spot: Spot) -> bool:
-    """Whether the kind or the mode of a file forbids running it, whatever Landlock says (execve(2))."""
+    """Whether the kind or the mode of a file forbids to run it, whatever Landlock says (execve(2))."""
     seen = scene.disk.look(spot.real)
     return spot.node is not None and (spot.node.kind != "reg" or (seen is not None and not seen.runs))
 
 
 def _run_one(scene: Scene, thread: Thread, call: Call, spot: Spot, role: str | None) -> int | None:
-    """One file that the kernel opens and runs, with a descriptor of its own."""
+    """One file that the kernel opens and runs, by a descriptor of its own."""
     number = None
     if spot.node is not None:
         number = thread.process.made_up()
@@ -63,25 +64,45 @@ def _run_one(scene: Scene, thread: Thread, call: Call, spot: Spot, role: str | N
 
 
 def _interpreters(scene: Scene, thread: Thread, call: Call, program: Spot) -> list[Spot]:
-    """The interpreters of a program: the program after `#!` and further ones, then the loader."""
+    """What a program is run by: the interpreter of its format, or the program after `#!` and its like; then the loader.
+
+    An interpreter that was opened when its format was registered is not asked about, but its loader is.
+    """
     found: list[Spot] = []
-    spot = program
-    while len(found) < MOST_INTERPRETERS:
-        text = scene.disk.interpreter(spot.real)
-        if text is None and spot is program and scene.disk.look(spot.real) is None:
-            scene.leave_out(thread, call, "a program that is gone: its loader is taken to be the usual one")
-            text = scene.disk.interpreter(scene.spot(thread, None, USUAL_PROGRAM, True).real)
-        if text is None:
+    spot, called = program, _called(call)
+    for _ in range(MOST_INTERPRETERS):
+        of = formats.first_of(scene.disk.formats, called, scene.disk.head(spot.real))
+        called = of.interpreter if of is not None else _named(scene, thread, call, spot, is_first=spot is program)
+        if not called:
             return found
-        spot = scene.spot(thread, None, text, True)
-        found.append(spot)
+        spot = scene.spot(thread, None, called, True)
+        if of is None or not of.opened:
+            found.append(spot)
         if spot.node is None:
             return found
     return found
 
 
+def _called(call: Call) -> str:
+    """The path by which a program is run, as the call has it."""
+    return values.text(call.arguments[1 if call.name == "execveat" else 0]) or ""
+
+
+def _named(scene: Scene, thread: Thread, call: Call, spot: Spot, *, is_first: bool) -> str:
+    """The interpreter or loader that a file names, if it names one."""
+    if scene.disk.head(spot.real):
+        if call.ok:
+            scene.leave_out(thread, call, UNKNOWN_FORMAT, asks=True)
+        return ""
+    text = scene.disk.interpreter(spot.real)
+    if text is None and is_first and scene.disk.look(spot.real) is None:
+        scene.leave_out(thread, call, "a program that is gone: its loader is taken to be the usual one")
+        text = scene.disk.interpreter(scene.spot(thread, None, USUAL_PROGRAM, True).real)
+    return text or ""
+
+
 def _became(scene: Scene, thread: Thread, call: Call, spot: Spot) -> None:
-    """The process runs the program: close-on-exec descriptors are closed, and no other thread is left."""
+    """The process runs the program: what closes on exec is closed, and no other thread is left."""
     process = thread.process
     for tid in process.threads - {thread.tid}:
         scene.threads.pop(tid, None)
