@@ -19,6 +19,7 @@ ROOT := $(DESTDIR)$(PREFIX)
 SCRIPTS := landaudit-record landaudit-policy
 MODULES := -name '*.py' -o -name '*.toml' -o -name 'page.css' -o -name 'page.js'
 COMMANDS := landaudit $(SCRIPTS)
+SCHEMAS := audit.schema.json check.schema.json
 INSTALLED := share/man/man5/landaudit.5 $(foreach command,$(COMMANDS),bin/$(command) share/man/man1/$(command).1 \
 	share/bash-completion/completions/$(command) share/zsh/site-functions/_$(command) \
 	share/fish/vendor_completions.d/$(command).fish)
@@ -45,13 +46,14 @@ landaudit:
 	@cd crates/landaudit && ../../packaging/progress --keep '$(CHECK)' rt run -- --help
 	@echo '$(PROGRAM) is there; sudo make install puts it into $(PREFIX)'
 
-# The scripts, their modules and the groups of rules stay together in share/landaudit; they find landaudit beside them in
-# bin.
+# The scripts, their modules and the groups of rules stay together in share/landaudit, with the schemas of what they
+# print; they find landaudit beside them in bin.
 install:
 	$(IS_BUILT)
 	@rm -rf '$(ROOT)/share/landaudit'
 	@for file in $(SCRIPTS) $$(cd record && find landaudit_record $(MODULES)); do \
 	install -D -m 644 record/$$file '$(ROOT)'/share/landaudit/$$file || exit 1; done
+	@for schema in $(SCHEMAS); do install -m 644 docs/$$schema '$(ROOT)/share/landaudit' || exit 1; done
 	@cd '$(ROOT)' && mkdir -p $(sort $(dir $(INSTALLED)))
 	@for script in $(SCRIPTS); do chmod 755 '$(ROOT)'/share/landaudit/$$script && \
 	ln -sf ../share/landaudit/$$script '$(ROOT)'/bin/$$script || exit 1; done

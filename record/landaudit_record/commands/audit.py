@@ -19,6 +19,8 @@ from ..together import Member
 from ..trying import Auditing
 
 NAME = "audit"
+#: The version of what --json prints: docs/audit.schema.json describes it, docs/CI.md says when it changes.
+FORMAT = 1
 HELP = "say what a policy would refuse, or without one what the program's own layers refuse"
 EXAMPLE = """landaudit-record audit rec --policy policy.toml --abi 4
   landaudit-record audit rec again --policy policy.toml"""
@@ -134,9 +136,12 @@ def _lines(
 
 def _data(each: Each, summaries: list[Summary], arguments: argparse.Namespace) -> dict[str, Any]:
     """The summary as data; of several recordings that of all together, and that of each in `recordings`."""
+    version = {"format": FORMAT}
     about: dict[str, Any] = {key: getattr(arguments, key) for key in ("policy", "as_recorded")}
-    alone: list[dict[str, Any]] = [{"recording": member.name, **about, **_data_of(found)} for member, found in each]
-    return alone[0] if len(each) == 1 else {**about, **_data_of(summaries), "recordings": alone}
+    alone: list[dict[str, Any]] = [
+        {**version, "recording": member.name, **about, **_data_of(found)} for member, found in each
+    ]
+    return alone[0] if len(each) == 1 else {**version, **about, **_data_of(summaries), "recordings": alone}
 
 
 def _data_of(summaries: list[Summary]) -> dict[str, Any]:
