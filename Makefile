@@ -8,6 +8,9 @@ PROGRAM := crates/landaudit/out/landaudit
 # What the check of landaudit said, as `make landaudit` keeps it.
 CHECK := $(CURDIR)/crates/landaudit/out/check.txt
 
+# The commit that `make test` passed on, and the last line of `rt ci`.
+GATE := $(CURDIR)/crates/landaudit/out/gate.txt
+
 # What `make example` audits: `make example TREE=.. TRACE=.. ABI=..` takes your own files.
 TREE := examples/first-path/tree.jsonl
 TRACE := examples/first-path/trace.jsonl
@@ -75,13 +78,13 @@ uninstall:
 deb:
 	$(IS_BUILT)
 	$(IS_PROVED)
-	@packaging/package deb '$(PROGRAM)' '$(CHECK)' '$(PACKAGES)'
+	@packaging/package deb '$(PROGRAM)' '$(CHECK)' '$(GATE)' '$(PACKAGES)'
 
 # The same as a tar for other Linuxes, which is unpacked anywhere.
 dist:
 	$(IS_BUILT)
 	$(IS_PROVED)
-	@packaging/package dist '$(PROGRAM)' '$(CHECK)' '$(PACKAGES)'
+	@packaging/package dist '$(PROGRAM)' '$(CHECK)' '$(GATE)' '$(PACKAGES)'
 
 # Tests the recorder and the packaging, proves everything and runs every test; then refuses the built program, and
 # the tests made for it, each of their requests for memory, and drives the program through faults of the system
@@ -89,11 +92,11 @@ dist:
 test:
 	$(call UNIT_TESTS,record)
 	$(call UNIT_TESTS,packaging)
-	rt ci
+	packaging/gate '$(GATE)' rt ci
 	@log=$$(mktemp); \
 	{ bench/refuse-memory $$(ls $(PROGRAM)) & bench/refuse-tests; tests=$$?; \
 	wait $$! && test $$tests -eq 0 && bench/drive; } > $$log 2>&1; status=$$?; \
-	test $$status -eq 0 || cat $$log >&2; rm -f $$log; exit $$status
+	test $$status -eq 0 || { cat $$log >&2; rm -f '$(GATE)'; }; rm -f $$log; exit $$status
 
 # What needs strace and a kernel with Landlock, and is no part of the gate; says what it skips and why. Then policies by
 # brute force, in smaller numbers than they have by themselves.
