@@ -23,9 +23,9 @@ class Kind:
 class Step:
     """An ABI, against the one before it in the range.
 
-    `breaks` are the kinds that are refused here and not there, all of them at the oldest ABI; `no_more` are those
-    whose calls were refused there and are not here, by whatever error. `warnings` are those that the newest ABI does
-    not have.
+    `breaks` are the kinds that are refused here and not there, all of them at the oldest ABI: the earliest first, since
+    there the program breaks, then the most frequent. `no_more` are those whose calls were refused there and are not
+    here, by whatever error. `warnings` are those that the newest ABI does not have.
     """
 
     abi: int
@@ -43,7 +43,9 @@ def steps(summaries: Sequence[Summary]) -> list[Step]:
     for summary in summaries:
         kinds = _kinds(summary)
         refused = {(kind.call, kind.place) for kind in kinds}
-        breaks = tuple(kind for kind, _ in kinds.most_common() if kind not in before)
+        first = next((kind for kind in kinds if kind not in before), None)
+        breaks = tuple(kind for kind, _ in sorted(kinds.items(), key=lambda item: (item[0] != first, -item[1]))
+                       if kind not in before)
         no_more = tuple(kind for kind, _ in before.most_common() if (kind.call, kind.place) not in refused)
         warnings = tuple(text for text in summary.warnings if text not in newest)
         found.append(Step(summary.abi, summary.verdicts, breaks, no_more, warnings))
@@ -52,7 +54,7 @@ def steps(summaries: Sequence[Summary]) -> list[Step]:
 
 
 def _kinds(summary: Summary) -> Counter[Kind]:
-    """The kinds of an audit's refused calls, with how many there are of each."""
+    """The kinds of an audit's refused calls, in the order of the trace, with how many there are of each."""
     found: Counter[Kind] = Counter()
     for refusal, programs in summary.refusals.items():
         found[Kind(refusal.call, refusal.place, refusal.error)] += programs.total()

@@ -9,7 +9,7 @@ import os
 import shlex
 import shutil
 import unicodedata
-from collections.abc import Callable, Iterator, Sequence
+from collections.abc import Callable, Collection, Iterator, Sequence
 from dataclasses import dataclass
 from itertools import product
 from typing import TextIO
@@ -22,11 +22,14 @@ WIDTH = 80
 LEAST_WIDTH = 20
 #: A shortened column keeps so many characters; a table in which that is too wide has a line for each cell.
 LEAST_COLUMN = 14
-#: A path beside words that stay keeps so many, while there is room.
+#: A path beside words that stay keeps so many, while there is room; one of several less.
 LEAST_PATH = 7
+_LEAST_OF_SEVERAL = 5
 _MARGIN = "  "
 _BETWEEN = "  "
 _NATURAL = 1 << 30
+#: Where a table has lines for each cell, so many for a long one.
+_STACKED = 3
 #: How much of what is shown of a long text is its beginning: the end of a path tells more.
 _HEAD = 0.3
 #: How Unicode names the directions of letters and digits that a terminal may draw from right to left.
@@ -137,10 +140,55 @@ def parts(texts: Sequence[str], between: str, *, head: float = _HEAD) -> Cell:
     return fitted
 
 
+@dataclass(frozen=True)
+class Lack:
+    """Words, what links them to a path, and the path; without a path the words are all."""
+
+    words: tuple[str, ...]
+    link: str = ""
+    path: str = ""
+
+    @property
+    def said(self) -> str:
+        """All but the path."""
+        return plain(", ".join(self.words)) + self.link
+
+    @property
+    def whole(self) -> str:
+        return self.said + plain(self.path)
+
+
+def lacks(texts: Sequence[Lack], between: str = "; ") -> Cell:
+    """A cell with what is lacking: whole, else with shorter paths, else without them, else with fewer words."""
+    whole = between.join(text.whole for text in texts)
+    bare = between.join(dict.fromkeys(plain(", ".join(text.words)) for text in texts))
+
+    def fitted(width: int) -> str:
+        if wide(whole) <= width:
+            return whole
+        paths = [wide(plain(text.path)) for text in texts]
+        least = LEAST_PATH if len(texts) == 1 else _LEAST_OF_SEVERAL
+        room = width - sum(wide(text.said) for text in texts) - len(between) * (len(texts) - 1)
+        rooms = shared(paths, room)
+        if all(given >= min(path, least) for path, given in zip(paths, rooms)):
+            return between.join(text.said + shortened(plain(text.path), given) for text, given in zip(texts, rooms))
+        if wide(bare) <= width:
+            return bare
+        if len(texts) == 1:
+            listed = texts[0].words
+            for number in range(len(listed) - 1, 0, -1):
+                told = f"{plain(', '.join(listed[:number]))} +{len(listed) - number}"
+                if wide(told) <= width:
+                    return told
+        return shortened(bare, width, head=0.7)
+
+    return fitted
+
+
 def names(texts: Sequence[str], *, said: str = "", brief: Callable[[str], str] | None = None) -> Cell:
     """A cell with some of many names behind what is said of them: fewer, or by a shorter form, where that is to fit."""
     whole = [plain(text) for text in texts]
-    forms = [whole, *([[plain(brief(text)) for text in texts]] if brief else [])]
+    forms = [whole, *([list(dict.fromkeys(plain(brief(text)) for text in texts))] if brief else [])]
 
     def some(width: int) -> str:
         for shown, more in product(forms, (" and {} more", " +{}")):
@@ -149,7 +197,7 @@ def names(texts: Sequence[str], *, said: str = "", brief: Callable[[str], str] |
                 told = said + ", ".join(shown[:number]) + (more.format(left) if left else "")
                 if wide(told) <= width:
                     return told
-        rest = f" +{len(whole) - 1}" if len(whole) > 1 else ""
+        rest = f" +{len(forms[-1]) - 1}" if len(forms[-1]) > 1 else ""
         return shortened(behind(said, forms[-1][0])(width - len(rest)) + rest, width) if whole else ""
 
     return some
@@ -171,7 +219,8 @@ class Column:
     """A column: a number flush right, or a text, which may be shortened, that of `less` weight before the others.
 
     `once` says that where all rows have the same, and the table is too wide, it is said once before it; a row with `-`
-    has none of it, in which case `none` is said too, and is as the others if it is given.
+    has none of it, in which case `none` is said too, and is as the others if it is given. Where the table is so narrow
+    that other columns are shortened, `instead` is said before it in the place of the column.
     """
 
     head: str
@@ -180,6 +229,7 @@ class Column:
     less: bool = False
     once: bool = False
     none: str = ""
+    instead: Cell | None = None
 
 
 def table(columns: Sequence[Column], rows: Sequence[Sequence[Cell]], width: int) -> Iterator[str]:
@@ -189,10 +239,34 @@ def table(columns: Sequence[Column], rows: Sequence[Sequence[Cell]], width: int)
         if alike:
             said = ", ".join(f"{columns[index].head} {text}" for index, text in alike.items())
             yield from (_MARGIN + line for line in folded(f"all: {said}", width - len(_MARGIN)))
-            columns = [column for index, column in enumerate(columns) if index not in alike]
-            rows = [[cell for index, cell in enumerate(row) if index not in alike] for row in rows]
+            columns, rows = _without(columns, rows, alike)
+    left_out = [index for index, column in enumerate(columns) if column.instead is not None]
+    if left_out and _is_tight(columns, rows, width):
+        fewer = _without(columns, rows, left_out)
+        if _widths(*fewer, width) is not None:
+            for index in left_out:
+                instead = columns[index].instead
+                assert instead is not None
+                yield _MARGIN + instead(width - len(_MARGIN))
+            columns, rows = fewer
     widths = _widths(columns, rows, width)
     yield from _stacked(columns, rows, width) if widths is None else _flat(columns, rows, widths)
+
+
+def _without(
+    columns: Sequence[Column], rows: Sequence[Sequence[Cell]], some: Collection[int]
+) -> tuple[Sequence[Column], Sequence[Sequence[Cell]]]:
+    """A table without some of its columns."""
+    return ([column for index, column in enumerate(columns) if index not in some],
+            [[cell for index, cell in enumerate(row) if index not in some] for row in rows])
+
+
+def _is_tight(columns: Sequence[Column], rows: Sequence[Sequence[Cell]], width: int) -> bool:
+    """Whether columns of more weight are shortened, whatever is taken from those of less."""
+    widths, wanted = _widths(columns, rows, width), _natural(columns, rows)
+    return widths is None or any(
+        given < natural for column, given, natural in zip(columns, widths, wanted) if not column.less
+    )
 
 
 def _alike(column: Column, index: int, rows: Sequence[Sequence[Cell]]) -> str:
@@ -238,12 +312,19 @@ def _filled(text: str, room: int, *, right: bool) -> str:
 
 
 def _stacked(columns: Sequence[Column], rows: Sequence[Sequence[Cell]], width: int) -> Iterator[str]:
-    """A line for each cell, with a dash before the first one of a row."""
+    """Some lines for each cell, with a dash before the first one of a row."""
     for row in rows:
         mark = "- "
         for column, cell in zip(columns, row):
-            said = f"{mark}{column.head}: "
-            text = cell(max(1, width - len(said)))
-            if text:
-                yield said + text
+            for line in _told(column.head, cell, width - len(mark)):
+                yield mark + line
                 mark = _MARGIN
+
+
+def _told(head: str, cell: Cell, width: int) -> list[str]:
+    """A cell behind its head: words on several lines, a name on one."""
+    said = f"{head}: "
+    text = cell(max(1, _STACKED * (width - len(_MARGIN)) - len(said)))
+    if " " in text:
+        return folded(said + text, width)
+    return [said + cell(max(1, width - len(said)))] if text else []

@@ -5,14 +5,14 @@ from __future__ import annotations
 import os
 from collections import Counter
 from collections.abc import Callable, Iterator, Sequence
-from dataclasses import dataclass
+from dataclasses import dataclass, replace
 from typing import TextIO
 
 from . import explanations, grouping, layout
 from .by_abi import Kind, Step
 from .explanations import Closed, Kept, Missing, Objection
-from .grouping import Group
-from .layout import Cell, Column, plain, table, wide, words
+from .grouping import Group, Lacking
+from .layout import Cell, Column, Lack, plain, table, wide, words
 from .recorder.processes import FIRST_MADE_UP
 from .summary import MISSED, Brief, Refusal, RefusingLayer, Summary
 from .trees import directory_of
@@ -204,7 +204,9 @@ def _refusals(summary: Summary, style: Style, *, each: bool) -> Iterator[str]:
 def _behind(summary: Summary) -> tuple[Column, ...]:
     """The columns of what most refused calls of an audit have in common."""
     where = (Column("recordings", short=True, less=True, once=True),) if summary.recordings else ()
-    program = Column("program", short=True, less=True, once=True, none=" or none yet")
+    programs = sum(summary.refusals.values(), Counter[str]())
+    named = layout.names(list(dict.fromkeys(os.path.basename(name) for name in _most(programs))), said="programs: ")
+    program = Column("program", short=True, less=True, once=True, none=" or none yet", instead=named)
     return Column("error", once=True), Column("layers", once=True), *where, program
 
 
@@ -225,8 +227,13 @@ def _group_row(group: Group, summary: Summary) -> list[Cell]:
     lacking, programs = group.lacking, group.programs
     named = dict.fromkeys(name for kind in group.kinds for name in summary.recordings.get(kind.refusal, ()))
     where = (layout.names(list(named)),) if summary.recordings else ()
-    return [words(str(programs.total())), layout.parts(lacking.objections, "; ", head=0.7), _where(group),
+    return [words(str(programs.total())), _lacking(lacking), _where(group),
             words(lacking.error), words(", ".join(lacking.layers) or "-"), *where, _programs(programs)]
+
+
+def _lacking(lacking: Lacking) -> Cell:
+    """What the calls of a group lack."""
+    return layout.lacks([Lack(tuple(text.split(", "))) for text in lacking.objections])
 
 
 def _where(group: Group) -> Cell:
@@ -268,7 +275,26 @@ def _refusal_row(refusal: Refusal, programs: Counter[str], summary: Summary) -> 
     where = (layout.names(summary.recordings[refusal]),) if summary.recordings else ()
     place = layout.parts(_person(refusal.place).split(" -> "), " -> ")
     return [words(str(programs.total())), words(refusal.call), place, words(refusal.error), words(layers), *where,
-            _programs(programs), layout.parts(why(refusal).split("; "), "; ", head=0.7)]
+            _programs(programs), _why(refusal)]
+
+
+def _why(refusal: Refusal) -> Cell:
+    """What the layers object to, with a path shorter or left out where that is to fit: the row has the place."""
+    if refusal.condition is not None:
+        return words(refusal.condition, head=0.7)
+    by_layer = [(layer.name, [_lack(one, refusal.place) for one in layer.objections]) for layer in refusal.layers]
+    if all(found == by_layer[0][1] for _, found in by_layer):
+        return layout.lacks(by_layer[0][1])
+    return layout.lacks([replace(one, words=(f"{name}: {one.words[0]}", *one.words[1:])) if index == 0 else one
+                         for name, found in by_layer for index, one in enumerate(found)])
+
+
+def _lack(objection: Objection, place: str) -> Lack:
+    """What a layer objects to: the rights, and where they are lacking if that is not the place."""
+    if isinstance(objection, Missing) and objection.path != place:
+        return Lack(objection.rights, " on ", objection.path)
+    text = _objection(objection, place)
+    return Lack(tuple(text.split(", ")) if isinstance(objection, (Missing, Closed)) else (text,))
 
 
 def why(refusal: Refusal) -> str:

@@ -20,7 +20,7 @@ from .reading import Walk
 from .recorder.progress import Progress
 from .rights import FILE_RIGHTS, FS, alone
 from .trees import ROOT, Tree, upwards
-from .wording import counted, span
+from .wording import span
 
 #: What a shell's pattern has.
 GLOB = "*?["
@@ -186,16 +186,16 @@ class Auditing:
 def notes(tried: Tried, abis: range, *, here: bool = False) -> Iterator[str]:
     """Notes on what of a policy is not judged, and what of it the ABIs do not have.
 
-    Of the newest ABI all is said, of each older one how many notes there are. What the recording did not meet is looked
-    for on this machine if `here` asks for it.
+    Of the newest ABI all is said, of the older ones which of them have something to be said of. What the recording did
+    not meet is looked for on this machine if `here` asks for it.
     """
     yield from _not_judged(tried.policy, tried.tree, here=here)
-    for abi in abis:
-        _, dropped = fitting.fit(tried.policy, abi)
-        if abi == abis[-1]:
-            yield from dropped
-        elif dropped:
-            yield f"ABI {abi} is missing rights of the policy: see --abi {abi} ({counted(len(dropped), 'note')})"
+    older = [abi for abi in abis[:-1] if fitting.fit(tried.policy, abi)[1]]
+    if len(older) == 1:
+        yield f"ABI {older[0]} lacks rights of the policy: --abi {older[0]} says which"
+    elif older:
+        yield f"ABI {span(range(older[0], older[-1] + 1))} lack rights of the policy: --abi N says which of them N lacks"
+    yield from fitting.fit(tried.policy, abis[-1])[1]
 
 
 def _not_judged(policy: Policy, tree: Tree, *, here: bool) -> Iterator[str]:
