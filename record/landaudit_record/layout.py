@@ -158,10 +158,15 @@ class Lack:
         return self.said + plain(self.path)
 
 
+def bare(texts: Sequence[Lack], between: str = "; ") -> str:
+    """What is lacking, without paths."""
+    return between.join(dict.fromkeys(plain(", ".join(text.words)) for text in texts))
+
+
 def lacks(texts: Sequence[Lack], between: str = "; ") -> Cell:
     """A cell with what is lacking: whole, else with shorter paths, else without them, else with fewer words."""
     whole = between.join(text.whole for text in texts)
-    bare = between.join(dict.fromkeys(plain(", ".join(text.words)) for text in texts))
+    pathless = bare(texts, between)
 
     def fitted(width: int) -> str:
         if wide(whole) <= width:
@@ -172,15 +177,15 @@ def lacks(texts: Sequence[Lack], between: str = "; ") -> Cell:
         rooms = shared(paths, room)
         if all(given >= min(path, least) for path, given in zip(paths, rooms)):
             return between.join(text.said + shortened(plain(text.path), given) for text, given in zip(texts, rooms))
-        if wide(bare) <= width:
-            return bare
+        if wide(pathless) <= width:
+            return pathless
         if len(texts) == 1:
             listed = texts[0].words
             for number in range(len(listed) - 1, 0, -1):
                 told = f"{plain(', '.join(listed[:number]))} +{len(listed) - number}"
                 if wide(told) <= width:
                     return told
-        return shortened(bare, width, head=0.7)
+        return shortened(pathless, width, head=0.7)
 
     return fitted
 
@@ -191,13 +196,13 @@ def names(texts: Sequence[str], *, said: str = "", brief: Callable[[str], str] |
     forms = [whole, *([list(dict.fromkeys(plain(brief(text)) for text in texts))] if brief else [])]
 
     def some(width: int) -> str:
-        for shown, more in product(forms, (" and {} more", " +{}")):
+        for shown, more in product(forms, (" and {:,} more", " +{:,}")):
             for number in range(min(MOST_NAMES, len(shown)), 0, -1):
                 left = len(shown) - number
                 told = said + ", ".join(shown[:number]) + (more.format(left) if left else "")
                 if wide(told) <= width:
                     return told
-        rest = f" +{len(forms[-1]) - 1}" if len(forms[-1]) > 1 else ""
+        rest = f" +{len(forms[-1]) - 1:,}" if len(forms[-1]) > 1 else ""
         return shortened(behind(said, forms[-1][0])(width - len(rest)) + rest, width) if whole else ""
 
     return some
@@ -220,7 +225,8 @@ class Column:
 
     `once` says that where all rows have the same, and the table is too wide, it is said once before it; a row with `-`
     has none of it, in which case `none` is said too, and is as the others if it is given. Where the table is so narrow
-    that other columns are shortened, `instead` is said before it in the place of the column.
+    that other columns are shortened, `instead` is said before it in the place of the column. A column that is shortened
+    keeps the width `least`, while the others have room.
     """
 
     head: str
@@ -230,6 +236,7 @@ class Column:
     once: bool = False
     none: str = ""
     instead: Cell | None = None
+    least: int = 0
 
 
 def table(columns: Sequence[Column], rows: Sequence[Sequence[Cell]], width: int) -> Iterator[str]:
@@ -293,8 +300,14 @@ def _widths(columns: Sequence[Column], rows: Sequence[Sequence[Cell]], width: in
         short = [index for index, column in enumerate(columns) if column.short and column.less == less]
         room = width - _total(widths) + sum(widths[index] for index in short)
         room = max(room, sum(min(widths[index], LEAST_COLUMN) for index in short))
-        for index, given in zip(short, shared([widths[index] for index in short], room)):
-            widths[index] = given
+        given = dict(zip(short, shared([widths[index] for index in short], room)))
+        for index in short:
+            others = [other for other in short if other != index]
+            left = room - min(widths[index], columns[index].least)
+            if given[index] < room - left and left >= sum(min(widths[other], LEAST_COLUMN) for other in others):
+                given = {index: room - left, **dict(zip(others, shared([widths[other] for other in others], left)))}
+        for index in short:
+            widths[index] = given[index]
     return widths if _total(widths) <= width else None
 
 

@@ -35,7 +35,8 @@ _IN_WORDS = {
 }
 _FAILED_TOO = "the call failed in the recording too: "
 _TIMES = Column("times", number=True)
-_WHY = Column("why", short=True)
+#: So much of its width the column of rights keeps before paths do.
+_MOST_KEPT = 34
 
 
 @dataclass(frozen=True)
@@ -86,7 +87,7 @@ def lines(summary: Summary, title: str, style: Style, beside: Beside = Beside())
     yield from _moot(summary, style)
     if summary.unsaid:
         yield from _heading(f"not recorded: {counted(summary.unsaid.total(), 'call')}", style)
-        rows = [(words(str(times)), words(name)) for name, times in summary.unsaid.most_common()]
+        rows = [(words(f"{times:,}"), words(name)) for name, times in summary.unsaid.most_common()]
         yield from table((_TIMES, Column("class", short=True)), rows, style.width)
 
 
@@ -102,7 +103,7 @@ def by_recording(each: Sequence[tuple[str, Summary]], style: Style) -> Iterator[
     rows = []
     for name, summary in each:
         counts = (summary.records, *(summary.verdicts[verdict] for verdict in VERDICTS))
-        rows.append([words(str(cell)) for cell in (*counts, name)])
+        rows.append([*(words(f"{count:,}") for count in counts), words(name)])
     columns = [Column(head, number=True) for head in ("records", *VERDICTS)]
     yield from table((*columns, Column("recording", short=True)), rows, style.width)
 
@@ -117,7 +118,7 @@ def by_abi(steps: Sequence[Step], style: Style) -> Iterator[str]:
 
 def _step_rows(step: Step) -> Iterator[list[Cell]]:
     """The rows of an ABI: its counts are in the first, and each says one thing that changes."""
-    counts = [words(str(number)) for number in (step.abi, *(step.verdicts[verdict] for verdict in VERDICTS))]
+    counts = [words(f"{number:,}") for number in (step.abi, *(step.verdicts[verdict] for verdict in VERDICTS))]
     for said in _changes(step) or [words("")]:
         yield [*counts, said]
         counts = [words("")] * len(counts)
@@ -152,10 +153,10 @@ def _marked(mark: str, text: str, marked: Callable[[str], str], width: int) -> I
 def _counts(summary: Summary, style: Style) -> Iterator[str]:
     """How many records there are of each answer."""
     verdicts = summary.verdicts
-    refused = f"{verdicts['refused']} refused"
+    refused = f"{verdicts['refused']:,} refused"
     not_all = ", and NOT ALL IS JUDGED (see the end)" if summary.missing else ""
-    text = (f"{summary.records} records: {verdicts['allowed']} allowed, {refused}{_of_these(summary)}, "
-            f"{verdicts['moot']} not asked (moot){not_all}")
+    text = (f"{summary.records:,} records: {verdicts['allowed']:,} allowed, {refused}{_of_these(summary)}, "
+            f"{verdicts['moot']:,} not asked (moot){not_all}")
     for line in layout.folded(text, style.width):
         yield line.replace(refused, style.red(refused)) if summary.others_refused else line
 
@@ -197,7 +198,8 @@ def _refusals(summary: Summary, style: Style, *, each: bool) -> Iterator[str]:
     elif summary.refusals:
         yield from _heading(f"refused, the most frequent first ({counted(len(summary.refusals), 'kind')})", style)
         rows = [_refusal_row(refusal, programs, summary) for refusal, programs in summary.by_frequency()]
-        columns = (_TIMES, Column("call"), Column("place", short=True), *_behind(summary), _WHY)
+        why = _why_column([_lacks(refusal) for refusal in summary.refusals])
+        columns = (_TIMES, Column("call"), Column("place", short=True), *_behind(summary), why)
         yield from table(columns, rows, style.width)
 
 
@@ -214,9 +216,10 @@ def _groups(summary: Summary, style: Style) -> Iterator[str]:
     """Refused calls of many kinds in groups."""
     groups = grouping.grouped(summary.refusals.items())
     shown = groups[:MOST_ROWS]
-    title = f"refused: {len(summary.refusals)} kinds in {counted(len(groups), 'group')}"
+    title = f"refused: {len(summary.refusals):,} kinds in {counted(len(groups), 'group')}"
     yield from _heading(f"{title}, the earliest first, then the most frequent", style)
-    columns = (_TIMES, _WHY, Column("where", short=True), *_behind(summary))
+    columns = (_TIMES, _why_column([_lacking(group.lacking) for group in shown]), Column("where", short=True),
+               *_behind(summary))
     yield from table(columns, [_group_row(group, summary) for group in shown], style.width)
     more = f"{counted(len(groups) - len(shown), 'group')} more, and " if len(groups) > len(shown) else ""
     yield from (f"  {line}" for line in layout.folded(f"{more}each kind by itself: --all lists them", style.width - 2))
@@ -227,13 +230,18 @@ def _group_row(group: Group, summary: Summary) -> list[Cell]:
     lacking, programs = group.lacking, group.programs
     named = dict.fromkeys(name for kind in group.kinds for name in summary.recordings.get(kind.refusal, ()))
     where = (layout.names(list(named)),) if summary.recordings else ()
-    return [words(str(programs.total())), _lacking(lacking), _where(group),
+    return [words(f"{programs.total():,}"), layout.lacks(_lacking(lacking)), _where(group),
             words(lacking.error), words(", ".join(lacking.layers) or "-"), *where, _programs(programs)]
 
 
-def _lacking(lacking: Lacking) -> Cell:
+def _lacking(lacking: Lacking) -> list[Lack]:
     """What the calls of a group lack."""
-    return layout.lacks([Lack(tuple(text.split(", "))) for text in lacking.objections])
+    return [Lack(tuple(text.split(", "))) for text in lacking.objections]
+
+
+def _why_column(lacking: Sequence[Sequence[Lack]]) -> Column:
+    """The column of what is lacking, which shows the rights before others show their paths."""
+    return Column("why", short=True, least=min(_MOST_KEPT, max(wide(layout.bare(texts)) for texts in lacking)))
 
 
 def _where(group: Group) -> Cell:
@@ -243,7 +251,7 @@ def _where(group: Group) -> Cell:
         return words(_person(kinds[0].refusal.place))
     if group.lacking.on_ports:
         ports = sorted(map(int, spots))
-        return words(f"{len(ports)} ports from {ports[0]} to {ports[-1]}")
+        return words(f"{len(ports):,} ports from {ports[0]} to {ports[-1]}")
     if not group.directory:
         return words(counted(len(kinds), "kind"))
     if group.others:
@@ -252,19 +260,19 @@ def _where(group: Group) -> Cell:
         return words(spots[0])
     things = "files" if group.lacking.of_files else "directories"
     inside = all(directory_of(spot) == group.directory for spot in spots)
-    return layout.behind(f"{len(spots)} {things} {'in' if inside else 'under'} ", group.directory)
+    return layout.behind(f"{len(spots):,} {things} {'in' if inside else 'under'} ", group.directory)
 
 
 def _of_these(summary: Summary) -> str:
     """How many of the refused records are accepted, if any are."""
     accepted = summary.accepted.total()
-    return f" ({accepted} accepted)" if accepted else ""
+    return f" ({accepted:,} accepted)" if accepted else ""
 
 
 def _accepted(summary: Summary, style: Style) -> Iterator[str]:
     if summary.accepted:
         yield from _heading(f"refused and accepted ({counted(len(summary.accepted), 'kind')})", style)
-        rows = [[words(cell) for cell in (str(times), one.call, one.place, one.reason)]
+        rows = [[words(cell) for cell in (f"{times:,}", one.call, one.place, one.reason)]
                 for one, times in summary.accepted.most_common()]
         columns = (_TIMES, Column("call"), Column("place", short=True), Column("reason", short=True))
         yield from table(columns, rows, style.width)
@@ -274,19 +282,19 @@ def _refusal_row(refusal: Refusal, programs: Counter[str], summary: Summary) -> 
     layers = ", ".join(layer.name for layer in refusal.layers) or "-"
     where = (layout.names(summary.recordings[refusal]),) if summary.recordings else ()
     place = layout.parts(_person(refusal.place).split(" -> "), " -> ")
-    return [words(str(programs.total())), words(refusal.call), place, words(refusal.error), words(layers), *where,
-            _programs(programs), _why(refusal)]
+    return [words(f"{programs.total():,}"), words(refusal.call), place, words(refusal.error), words(layers), *where,
+            _programs(programs), layout.lacks(_lacks(refusal))]
 
 
-def _why(refusal: Refusal) -> Cell:
-    """What the layers object to, with a path shorter or left out where that is to fit: the row has the place."""
+def _lacks(refusal: Refusal) -> list[Lack]:
+    """What the layers object to, of which paths may be left out since the row has the place."""
     if refusal.condition is not None:
-        return words(refusal.condition, head=0.7)
+        return [Lack((refusal.condition,))]
     by_layer = [(layer.name, [_lack(one, refusal.place) for one in layer.objections]) for layer in refusal.layers]
     if all(found == by_layer[0][1] for _, found in by_layer):
-        return layout.lacks(by_layer[0][1])
-    return layout.lacks([replace(one, words=(f"{name}: {one.words[0]}", *one.words[1:])) if index == 0 else one
-                         for name, found in by_layer for index, one in enumerate(found)])
+        return by_layer[0][1]
+    return [replace(one, words=(f"{name}: {one.words[0]}", *one.words[1:])) if index == 0 else one
+            for name, found in by_layer for index, one in enumerate(found)]
 
 
 def _lack(objection: Objection, place: str) -> Lack:
@@ -328,7 +336,7 @@ def _moot(summary: Summary, style: Style) -> Iterator[str]:
         return
     yield from _heading("not asked (moot), and why", style)
     found = sorted(summary.moot.items(), key=lambda item: -item[1].total())
-    rows = [[words(str(at.total())), words(_in_words(why)), layout.names(_known(at))] for why, at in found]
+    rows = [[words(f"{at.total():,}"), words(_in_words(why)), layout.names(_known(at))] for why, at in found]
     yield from table((_TIMES, Column("why"), Column("at", short=True)), rows, style.width)
 
 

@@ -9,14 +9,14 @@ MOST_NAMES = 3
 
 
 def counted(number: int, thing: str) -> str:
-    """A number of things, as `1 call` or `2 calls`."""
-    return f"{number} {thing}" if number == 1 else f"{number} {thing}s"
+    """A number of things, as `1 call` or `2,000 calls`."""
+    return f"{number} {thing}" if number == 1 else f"{number:,} {thing}s"
 
 
 def some_of(names: Sequence[str]) -> str:
     """The first names, and how many are left."""
     left = len(names) - MOST_NAMES
-    return ", ".join(names[:MOST_NAMES]) + (f" and {left} more" if left > 0 else "")
+    return ", ".join(names[:MOST_NAMES]) + (f" and {left:,} more" if left > 0 else "")
 
 
 def span(numbers: range) -> str:
