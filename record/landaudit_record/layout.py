@@ -176,7 +176,7 @@ def lacks(texts: Sequence[Lack], between: str = "; ") -> Cell:
         room = width - sum(wide(text.said) for text in texts) - len(between) * (len(texts) - 1)
         rooms = shared(paths, room)
         if all(given >= min(path, least) for path, given in zip(paths, rooms)):
-            return between.join(text.said + shortened(plain(text.path), given) for text, given in zip(texts, rooms))
+            return between.join(text.said + _end_of(plain(text.path), given) for text, given in zip(texts, rooms))
         if wide(pathless) <= width:
             return pathless
         if len(texts) == 1:
@@ -188,6 +188,11 @@ def lacks(texts: Sequence[Lack], between: str = "; ") -> Cell:
         return shortened(pathless, width, head=0.7)
 
     return fitted
+
+
+def _end_of(path: str, width: int) -> str:
+    """A path that fits: of little room its end takes all."""
+    return shortened(path, width, head=_HEAD if width >= LEAST_COLUMN else 0)
 
 
 def names(texts: Sequence[str], *, said: str = "", brief: Callable[[str], str] | None = None) -> Cell:

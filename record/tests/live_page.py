@@ -50,8 +50,8 @@ parent = "/dev/null"
 allowed_access = ["read", "execute", "write_file", "make_reg", "make_dir", "remove_file"]
 parent = "@"
 """
-#: Cells that are seen and have more in them than fits.
-CUT = ("[...document.querySelectorAll('th, td, .row > span')].slice(0, 3000)"
+#: Of the first cells those that are seen and have more in them than fits; each is laid out for it, which takes its time.
+CUT = ("[...document.querySelectorAll('th, td, .row > span')].slice(0, 400)"
        ".filter(cell => cell.checkVisibility() && cell.scrollWidth > cell.clientWidth + 1).map(cell => cell.textContent)")
 WIDER = "document.documentElement.scrollWidth - document.documentElement.clientWidth"
 VISIBLE = "[...document.querySelectorAll('table.refusals tbody tr')].filter(row => row.checkVisibility())"
@@ -198,9 +198,23 @@ class LivePage(unittest.TestCase):
         file = self.build(GROUPS)
         self.tab("Performance.enable", timeDomain="threadTicks")
         self.tab.open(file)
-        metrics = {one["name"]: one["value"] for one in self.tab("Performance.getMetrics")["metrics"]}
+        duration = self.duration()
         self.assertEqual(self.tab.says("document.querySelectorAll('table.refusals tbody tr').length"), GROUPS)
-        self.assertLess(metrics["TaskDuration"], SOON)
+        self.assertLess(duration, SOON)
+
+    def test_many_groups_follow_the_window(self) -> None:
+        """The page of many groups is laid out anew, for a window that is narrow, without a search of all for each."""
+        self.tab.open(self.build(GROUPS))
+        self.tab("Performance.enable", timeDomain="threadTicks")
+        before = self.duration()
+        self.tab.wide(400)
+        self.tab.picture()
+        self.assertLess(self.duration() - before, 3 * SOON)
+
+    def duration(self) -> float:
+        """How long the browser's main thread has worked."""
+        metrics = {one["name"]: one["value"] for one in self.tab("Performance.getMetrics")["metrics"]}
+        return float(metrics["TaskDuration"])
 
     def test_the_filter_leaves_rows_that_have_all_words(self) -> None:
         self.tab.open(self.build(), "#find=ssl+MAKE_REG")

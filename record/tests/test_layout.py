@@ -89,7 +89,7 @@ class Cells(unittest.TestCase):
     def test_rights_stay_whole_longer_than_their_path(self) -> None:
         cell = layout.lacks([Lack(("write_file", "read_file", "make_reg"), " on ", "/srv/data/files")])
         self.assertEqual(cell(50), "write_file, read_file, make_reg on /srv/data/files")
-        self.assertEqual(cell(42), "write_file, read_file, make_reg on /…files")
+        self.assertEqual(cell(42), "write_file, read_file, make_reg on …/files")
         self.assertEqual(cell(41), "write_file, read_file, make_reg")
         self.assertEqual((cell(30), cell(24)), ("write_file, read_file +1",) * 2)
         self.assertEqual((cell(23), cell(13)), ("write_file +2",) * 2)
@@ -98,7 +98,7 @@ class Cells(unittest.TestCase):
     def test_rights_on_two_paths(self) -> None:
         cell = layout.lacks([Lack(("refer",), " on ", "/srv/data"), Lack(("refer",), " on ", "/srv/files")])
         self.assertEqual(cell(39), "refer on /srv/data; refer on /srv/files")
-        self.assertEqual(cell(30), "refer on /…ata; refer on /…les")
+        self.assertEqual(cell(30), "refer on …data; refer on …iles")
         self.assertEqual((cell(29), cell(5)), ("refer", "refer"))
 
     def test_names_that_are_alike_by_a_shorter_form_are_told_once(self) -> None:

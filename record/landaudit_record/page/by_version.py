@@ -29,9 +29,12 @@ def choice(abi: int) -> str:
 
 
 def rules(newest: int) -> Markup:
-    """The rules of style by which what is chosen is shown, without a script; an old browser shows the newest ABI."""
-    chosen = (f"body:has(#{choice(abi)}:checked) .a:not(.a{abi}){{display:none}}\n"
-              f"body:has(#{choice(abi)}:checked) .t{abi}{{background:var(--chosen)}}\n"
+    """The rules of style by which what is chosen is shown, without a script; an old browser shows the newest ABI.
+
+    It is the bar that has the button and not the body: Chromium looks through all of what has one, once for each row.
+    """
+    chosen = (f"nav:has(#{choice(abi)}:checked)~main .a:not(.a{abi}){{display:none}}\n"
+              f"nav:has(#{choice(abi)}:checked)~main .t{abi}{{background:var(--chosen)}}\n"
               for abi in range(OLDEST_ABI, NEWEST_ABI + 1))
     old = f"@supports not selector(:has(a)){{.a:not(.a{newest}),.abis{{display:none}}}}\n"
     return Markup("".join((*chosen, old)))
