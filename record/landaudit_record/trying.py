@@ -194,7 +194,8 @@ def notes(tried: Tried, abis: range, *, here: bool = False) -> Iterator[str]:
     if len(older) == 1:
         yield f"ABI {older[0]} lacks rights of the policy: --abi {older[0]} says which"
     elif older:
-        yield f"ABI {span(range(older[0], older[-1] + 1))} lack rights of the policy: --abi N says which of them N lacks"
+        several = span(range(older[0], older[-1] + 1))
+        yield f"ABI {several} lack rights of the policy: --abi N says which of them N lacks"
     yield from fitting.fit(tried.policy, abis[-1])[1]
 
 

@@ -50,9 +50,10 @@ parent = "/dev/null"
 allowed_access = ["read", "execute", "write_file", "make_reg", "make_dir", "remove_file"]
 parent = "@"
 """
-#: Of the first cells those that are seen and have more in them than fits; each is laid out for it, which takes its time.
+#: Of the first cells those that are seen and have more in them than fits; each is laid out for that.
 CUT = ("[...document.querySelectorAll('th, td, .row > span')].slice(0, 400)"
-       ".filter(cell => cell.checkVisibility() && cell.scrollWidth > cell.clientWidth + 1).map(cell => cell.textContent)")
+       ".filter(cell => cell.checkVisibility() && cell.scrollWidth > cell.clientWidth + 1)"
+       ".map(cell => cell.textContent)")
 WIDER = "document.documentElement.scrollWidth - document.documentElement.clientWidth"
 VISIBLE = "[...document.querySelectorAll('table.refusals tbody tr')].filter(row => row.checkVisibility())"
 
