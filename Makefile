@@ -8,6 +8,9 @@ PROGRAM := crates/landaudit/out/landaudit
 # What the check of landaudit said, as `make landaudit` keeps it.
 CHECK := $(CURDIR)/crates/landaudit/out/check.txt
 
+# The commit that `make test` passed on, and the last line of `rt ci`.
+GATE := $(CURDIR)/crates/landaudit/out/gate.txt
+
 # What `make example` audits: `make example TREE=.. TRACE=.. ABI=..` takes your own files.
 TREE := examples/first-path/tree.jsonl
 TRACE := examples/first-path/trace.jsonl
@@ -19,6 +22,7 @@ ROOT := $(DESTDIR)$(PREFIX)
 SCRIPTS := landaudit-record landaudit-policy
 MODULES := -name '*.py' -o -name '*.toml' -o -name 'page.css' -o -name 'page.js'
 COMMANDS := landaudit $(SCRIPTS)
+SCHEMAS := audit.schema.json check.schema.json
 INSTALLED := share/man/man5/landaudit.5 $(foreach command,$(COMMANDS),bin/$(command) share/man/man1/$(command).1 \
 	share/bash-completion/completions/$(command) share/zsh/site-functions/_$(command) \
 	share/fish/vendor_completions.d/$(command).fish)
@@ -45,13 +49,14 @@ landaudit:
 	@cd crates/landaudit && ../../packaging/progress --keep '$(CHECK)' rt run -- --help
 	@echo '$(PROGRAM) is there; sudo make install puts it into $(PREFIX)'
 
-# The scripts, their modules and the groups of rules stay together in share/landaudit; they find landaudit beside them in
-# bin.
+# The scripts, their modules and the groups of rules stay together in share/landaudit, with the schemas of what they
+# print; they find landaudit beside them in bin.
 install:
 	$(IS_BUILT)
 	@rm -rf '$(ROOT)/share/landaudit'
 	@for file in $(SCRIPTS) $$(cd record && find landaudit_record $(MODULES)); do \
 	install -D -m 644 record/$$file '$(ROOT)'/share/landaudit/$$file || exit 1; done
+	@for schema in $(SCHEMAS); do install -m 644 docs/$$schema '$(ROOT)/share/landaudit' || exit 1; done
 	@cd '$(ROOT)' && mkdir -p $(sort $(dir $(INSTALLED)))
 	@for script in $(SCRIPTS); do chmod 755 '$(ROOT)'/share/landaudit/$$script && \
 	ln -sf ../share/landaudit/$$script '$(ROOT)'/bin/$$script || exit 1; done
@@ -73,13 +78,13 @@ uninstall:
 deb:
 	$(IS_BUILT)
 	$(IS_PROVED)
-	@packaging/package deb '$(PROGRAM)' '$(CHECK)' '$(PACKAGES)'
+	@packaging/package deb '$(PROGRAM)' '$(CHECK)' '$(GATE)' '$(PACKAGES)'
 
 # The same as a tar for other Linuxes, which is unpacked anywhere.
 dist:
 	$(IS_BUILT)
 	$(IS_PROVED)
-	@packaging/package dist '$(PROGRAM)' '$(CHECK)' '$(PACKAGES)'
+	@packaging/package dist '$(PROGRAM)' '$(CHECK)' '$(GATE)' '$(PACKAGES)'
 
 # Tests the recorder and the packaging, proves everything and runs every test; then refuses the built program, and
 # the tests made for it, each of their requests for memory, and drives the program through faults of the system
@@ -87,11 +92,11 @@ dist:
 test:
 	$(call UNIT_TESTS,record)
 	$(call UNIT_TESTS,packaging)
-	rt ci
+	packaging/gate '$(GATE)' rt ci
 	@log=$$(mktemp); \
 	{ bench/refuse-memory $$(ls $(PROGRAM)) & bench/refuse-tests; tests=$$?; \
 	wait $$! && test $$tests -eq 0 && bench/drive; } > $$log 2>&1; status=$$?; \
-	test $$status -eq 0 || cat $$log >&2; rm -f $$log; exit $$status
+	test $$status -eq 0 || { cat $$log >&2; rm -f '$(GATE)'; }; rm -f $$log; exit $$status
 
 # What needs strace and a kernel with Landlock, and is no part of the gate; says what it skips and why. Then policies by
 # brute force, in smaller numbers than they have by themselves.

@@ -5,7 +5,7 @@ _landaudit_policy_words() {
     case $1 in
         confine) echo '-h --help --abi --' ;;
         diff) echo '-h --help --abi --landaudit' ;;
-        check) echo '-h --help --landaudit' ;;
+        check) echo '-h --help --json --landaudit' ;;
         export) echo '-h --help --c' ;;
         *) echo 'confine check diff export -h --help -V --version' ;;
     esac

@@ -61,6 +61,8 @@ class Install(unittest.TestCase):
                 "bin/landaudit-policy",
                 "share/landaudit/landaudit-record",
                 "share/landaudit/landaudit-policy",
+                "share/landaudit/audit.schema.json",
+                "share/landaudit/check.schema.json",
                 "share/man/man1/landaudit.1",
                 "share/man/man1/landaudit-record.1",
                 "share/man/man1/landaudit-policy.1",

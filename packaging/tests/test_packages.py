@@ -17,13 +17,16 @@ from typing import ClassVar
 
 from landaudit_record import VERSION
 
-from .places import TOP
+from .places import TOP, script
 from .test_trusted import LINES
 
 TOOLCHAIN = "rattle-kit-13f logic dac8208d650f15bf"
 STAND_IN = """#include <stdio.h>
 int main(void) { puts("landaudit %s (%s)"); return 0; }
 """
+#: What `make landaudit` keeps of a check of these sources.
+KEPT = f"sources sha256 {script('sources').digest()}\n{LINES}"
+NOT_RUN = "The tests of the sources were not run on this commit."
 EPOCH = 1_700_000_000
 TAR = f"landaudit-{VERSION}-x86_64-linux-glibc*.tar.xz"
 DOC = "./usr/share/doc/landaudit"
@@ -61,11 +64,11 @@ class Packages(unittest.TestCase):
         self.folder = Path(self.enterContext(tempfile.TemporaryDirectory())).resolve()
         self.out = self.folder / "out"
         self.check = self.folder / "check.txt"
-        self.check.write_text(LINES, encoding="utf-8")
+        self.check.write_text(KEPT, encoding="utf-8")
 
     def make(self, target: str, program: Path) -> subprocess.CompletedProcess[str]:
         """Makes a package."""
-        files = (f"PROGRAM={program}", f"CHECK={self.check}", f"PACKAGES={self.out}")
+        files = (f"PROGRAM={program}", f"CHECK={self.check}", f"GATE={self.folder}/none", f"PACKAGES={self.out}")
         return ran("make", "--no-print-directory", target, *files)
 
 
@@ -81,14 +84,15 @@ class Made(unittest.TestCase):
     def setUpClass(cls) -> None:
         cls.folder = Path(cls.enterClassContext(tempfile.TemporaryDirectory())).resolve()
         cls.program = stand_in(cls.folder)
-        (cls.folder / "check.txt").write_text(LINES, encoding="utf-8")
+        (cls.folder / "check.txt").write_text(KEPT, encoding="utf-8")
         run, cls.package = cls.made("out")
         assert run.stdout.startswith(f"{cls.package}: needs the GNU C library 2."), run.stdout
 
     @classmethod
     def made(cls, out: str, *before: str, **variables: str) -> tuple[subprocess.CompletedProcess[str], Path]:
         """Makes the package, with its time by SOURCE_DATE_EPOCH."""
-        files = (f"PROGRAM={cls.program}", f"CHECK={cls.folder}/check.txt", f"PACKAGES={cls.folder}/{out}")
+        files = (f"PROGRAM={cls.program}", f"CHECK={cls.folder}/check.txt", f"GATE={cls.folder}/none",
+                 f"PACKAGES={cls.folder}/{out}")
         words = (*before, "make", "--no-print-directory", cls.TARGET, *files)
         run = ran(*words, SOURCE_DATE_EPOCH=str(EPOCH), **variables)
         assert (run.returncode, run.stderr) == (0, ""), run.stderr
@@ -130,10 +134,15 @@ class Refused(Packages):
         self.refused(stand_in(self.folder), "nothing says that ")
 
     def test_a_check_that_proved_nothing(self) -> None:
-        other = LINES.replace("crate landaudit", "crate ll_tree")
-        for text in ("", other, LINES.replace("logic=proved", "logic=unproved")):
+        other = KEPT.replace("crate landaudit", "crate ll_tree")
+        for text in ("", other, KEPT.replace("logic=proved", "logic=unproved")):
             self.check.write_text(text)
             self.refused(stand_in(self.folder), "does not say that landaudit is proved")
+
+    def test_a_check_of_other_sources(self) -> None:
+        for text in (LINES, KEPT.replace("sha256 ", "sha256 0")[:-1], re.sub("[0-9a-f]{64}", "0" * 64, KEPT)):
+            self.check.write_text(text)
+            self.refused(stand_in(self.folder), "the sources are not those that ")
 
     def test_another_version(self) -> None:
         self.refused(stand_in(self.folder, "9.9"), f"and not of version {VERSION}")
@@ -180,7 +189,7 @@ class Deb(Made):
         text = self.text(files, f"{DOC}/PROOF")
         commit = ran("git", "rev-parse", "HEAD").stdout.strip()
         digest = hashlib.sha256(self.program.read_bytes()).hexdigest()
-        for words in (commit, TOOLCHAIN, digest, LINES):
+        for words in (commit, TOOLCHAIN, digest, KEPT, NOT_RUN):
             self.assertIn(words, text)
         self.assertIn(commit, self.text(files, f"{DOC}/changelog.gz"))
 
@@ -230,6 +239,36 @@ class Dist(Made):
 
     def test_the_same_sources_make_the_same_bytes(self) -> None:
         self.assert_alike()
+
+
+class Tested(unittest.TestCase):
+    """What a package says of the gate: its last line, if that is of the commit and nothing is changed."""
+
+    package = script("package")
+
+    def setUp(self) -> None:
+        self.gate = Path(self.enterContext(tempfile.TemporaryDirectory())) / "gate.txt"
+
+    def said(self, text: str | None, changed: bool = False) -> str:
+        """What is said where this is kept of the gate."""
+        if text is not None:
+            self.gate.write_text(text, encoding="utf-8")
+        tested = self.package.last_of_the_gate(self.gate, self.package.Origin("a" * 40, EPOCH, "me <me>", changed))
+        what = self.package.Proved(self.gate, TOOLCHAIN, KEPT, "libc.so.6", "2.34", tested)
+        return str(self.package.tested_text(what))
+
+    def test_the_last_line_of_the_gate(self) -> None:
+        text = self.said(f"{'a' * 40}\n308 passed, 0 failed\n")
+        self.assertEqual(text.splitlines()[-1], "308 passed, 0 failed")
+        self.assertNotIn(NOT_RUN, text)
+
+    def test_where_it_was_not_run_on_this_commit(self) -> None:
+        passed = f"{'a' * 40}\n308 passed, 0 failed\n"
+        self.assertIn(NOT_RUN, self.said(None))
+        self.assertIn(NOT_RUN, self.said(passed, changed=True))
+        for text in (passed.replace("a", "b", 1), passed.replace(" 0 ", " 1 "), passed.splitlines()[1], "", passed * 2):
+            with self.subTest(text):
+                self.assertIn(NOT_RUN, self.said(text))
 
 
 class Versions(unittest.TestCase):

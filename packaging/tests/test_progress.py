@@ -76,10 +76,17 @@ class Command(unittest.TestCase):
             file = Path(folder) / "check.txt"
             self.run_on("".join(LINES), 3, "--keep", str(file))
             self.assertFalse(file.exists(), "the command failed")
-            self.run_on("".join(LINES), 0, "--keep", str(file))
-            self.assertEqual(file.read_text(encoding="utf-8"), "".join(LINES[-2:]))
             self.run_on("nothing was proved", 0, "--keep", str(file))
-            self.assertEqual(file.read_text(encoding="utf-8"), "".join(LINES[-2:]))
+            self.assertFalse(file.exists(), "nothing was ever proved")
+            sources = f"sources sha256 {script('sources').digest()}\n"
+            self.run_on("".join(LINES), 0, "--keep", str(file))
+            self.assertEqual(file.read_text(encoding="utf-8"), sources + "".join(LINES[-2:]))
+            file.write_text("sources sha256 0\n" + "".join(LINES[-2:]))
+            self.run_on("nothing was proved", 0, "--keep", str(file))
+            self.assertEqual(file.read_text(encoding="utf-8"), sources + "".join(LINES[-2:]))
+            file.write_text("sources sha256 0\n" + "".join(LINES[-2:]))
+            self.run_on("error: not proved", 3, "--keep", str(file))
+            self.assertEqual(file.read_text(encoding="utf-8").splitlines()[0], "sources sha256 0")
 
     def test_a_command_that_is_not_there(self) -> None:
         with redirect_stdout(io.StringIO()), mock.patch.object(sys, "stderr", io.StringIO()) as error:

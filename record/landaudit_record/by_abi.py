@@ -1,4 +1,4 @@
-"""What changes from one ABI of a range to the next: which calls break there first, and which are no longer refused."""
+"""What changes from one ABI of a range to the next: which calls break there first, and which are refused no more."""
 
 from __future__ import annotations
 
@@ -12,7 +12,7 @@ from .summary import Summary
 
 @dataclass(frozen=True)
 class Kind:
-    """Refused calls that look the same to a program, whichever layer refuses them and why."""
+    """Refused calls that are alike to a program, whichever layer refuses them and why."""
 
     call: str
     place: str
@@ -21,11 +21,11 @@ class Kind:
 
 @dataclass(frozen=True)
 class Step:
-    """An ABI, compared with the one before it in the range.
+    """An ABI, against the one before it in the range.
 
-    `breaks` are the kinds that this ABI refuses and the one before does not; at the oldest ABI, all that it refuses.
-    `no_more` are the kinds whose calls the one before refuses and this one does not, whatever the error. `warnings`
-    are those that the newest ABI does not have.
+    `breaks` are the kinds that are refused here and not there, all of them at the oldest ABI: the earliest first, since
+    there the program breaks, then the most frequent. `no_more` are those whose calls were refused there and are not
+    here, by whatever error. `warnings` are those that the newest ABI does not have.
     """
 
     abi: int
@@ -43,7 +43,9 @@ def steps(summaries: Sequence[Summary]) -> list[Step]:
     for summary in summaries:
         kinds = _kinds(summary)
         refused = {(kind.call, kind.place) for kind in kinds}
-        breaks = tuple(kind for kind, _ in kinds.most_common() if kind not in before)
+        first = next((kind for kind in kinds if kind not in before), None)
+        breaks = tuple(kind for kind, _ in sorted(kinds.items(), key=lambda item: (item[0] != first, -item[1]))
+                       if kind not in before)
         no_more = tuple(kind for kind, _ in before.most_common() if (kind.call, kind.place) not in refused)
         warnings = tuple(text for text in summary.warnings if text not in newest)
         found.append(Step(summary.abi, summary.verdicts, breaks, no_more, warnings))
@@ -52,7 +54,7 @@ def steps(summaries: Sequence[Summary]) -> list[Step]:
 
 
 def _kinds(summary: Summary) -> Counter[Kind]:
-    """The kinds of an audit's refused calls, with how many there are of each."""
+    """The kinds of an audit's refused calls, in the order of the trace, with how many there are of each."""
     found: Counter[Kind] = Counter()
     for refusal, programs in summary.refusals.items():
         found[Kind(refusal.call, refusal.place, refusal.error)] += programs.total()

@@ -53,16 +53,29 @@ CALLS = (
 )
 KEYS = ("call", "path", "kind", "from", "to", "to_kind", "port", "abi")
 NEW_NAME = "~new~"
+#: The place of a call that has none.
+NO_PLACE = "-"
 
 
 @dataclass(frozen=True)
 class Case:
-    """One case: whether its call must be refused, at which ABIs, the call in words, and what is asked."""
+    """One case: whether its call must be refused, at which ABIs, the call and its place in words, and what is asked."""
 
     refused: bool
     abis: range
-    text: str
+    call: str
+    place: str
     question: Question
+
+    @property
+    def must_be(self) -> str:
+        """What the answer must be."""
+        return "refused" if self.refused else "allowed"
+
+    @property
+    def text(self) -> str:
+        """The case in words; the call alone where it has no place."""
+        return self.call if self.place == NO_PLACE else f"{self.call} {self.place}"
 
 
 @dataclass
@@ -103,8 +116,8 @@ class _Reader:
         members = self._members(call)
         question = self._question(call, members)
         shown = " -> ".join(str(self.table[key]) for key in members if key in ("path", "from", "to"))
-        about = f"port {self.table['port']}" if "port" in members else shown
-        return Case(refused, self._abis(), f"{call} {about}".rstrip(), question)
+        place = f"port {self.table['port']}" if "port" in members else shown or NO_PLACE
+        return Case(refused, self._abis(), call, place, question)
 
     def _call(self) -> str:
         call = self.table.get("call")

@@ -19,7 +19,8 @@ from __future__ import annotations
 import json
 import re
 from collections.abc import Sequence
-from dataclasses import dataclass, field
+from dataclasses import asdict, dataclass, field
+from typing import Any
 
 from .jsonl import Record
 from .landaudit import Answer
@@ -95,6 +96,11 @@ class Kept:
 
 
 Objection = Missing | Closed | Gained | Mounting | Kept
+
+
+def as_data(objection: Objection) -> dict[str, Any]:
+    """An objection as data for programs: its text, and what it is made of."""
+    return {"text": str(objection), **asdict(objection)}
 
 
 @dataclass(frozen=True)

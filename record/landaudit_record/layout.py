@@ -1,6 +1,6 @@
 """Text that fits a width: sentences folded at blanks, long names shortened in the middle, tables without wrapped lines.
 
-Names are not trusted: a printed name is on one line, runs from left to right, and is as wide as it is counted.
+What a name holds is never trusted: it is on one line, from left to right, and as wide as it is counted.
 """
 
 from __future__ import annotations
@@ -9,7 +9,7 @@ import os
 import shlex
 import shutil
 import unicodedata
-from collections.abc import Callable, Iterator, Sequence
+from collections.abc import Callable, Collection, Iterator, Sequence
 from dataclasses import dataclass
 from itertools import product
 from typing import TextIO
@@ -17,33 +17,36 @@ from typing import TextIO
 from .wording import MOST_NAMES, printable
 
 ELLIPSIS = "…"
-#: The width of lines without a terminal, and on a terminal that is too narrow.
+#: How wide lines are where there is no terminal, and where one is narrower than can be.
 WIDTH = 80
 LEAST_WIDTH = 20
-#: The fewest characters of a shortened column; a table in which that is too wide has a line for each cell.
+#: A shortened column keeps so many characters; a table in which that is too wide has a line for each cell.
 LEAST_COLUMN = 14
-#: The fewest characters of a path after fixed words, while there is room.
+#: A path beside words that stay keeps so many, while there is room; one of several less.
 LEAST_PATH = 7
+_LEAST_OF_SEVERAL = 5
 _MARGIN = "  "
 _BETWEEN = "  "
 _NATURAL = 1 << 30
-#: The share of a shortened text that is its beginning: the end of a path says more.
+#: Where a table has lines for each cell, so many for a long one.
+_STACKED = 3
+#: How much of what is shown of a long text is its beginning: the end of a path tells more.
 _HEAD = 0.3
-#: Unicode's names of the directions of letters and digits that a terminal may draw from right to left.
+#: How Unicode names the directions of letters and digits that a terminal may draw from right to left.
 _RIGHT_TO_LEFT = frozenset({"R", "AL", "AN"})
 
-#: The text of a cell for a given width.
+#: What is in a cell, by how much room it has.
 Cell = Callable[[int], str]
 
 
 def width_of(stream: TextIO) -> int:
-    """The width of lines on a stream: that of its terminal, or COLUMNS."""
+    """How wide the lines on a stream are: as its terminal is, or as COLUMNS says."""
     asked = stream.isatty() or "COLUMNS" in os.environ
     return max(LEAST_WIDTH, shutil.get_terminal_size((WIDTH, 0)).columns) if asked else WIDTH
 
 
 def encodable(line: str, stream: TextIO) -> str:
-    """A line in the characters that a stream can encode, with a question mark for each other one."""
+    """A line in the characters that a stream has, each other one as a question mark."""
     encoding = stream.encoding or "utf-8"
     return line.encode(encoding, "replace").decode(encoding)
 
@@ -60,7 +63,7 @@ def plain(text: str) -> str:
 
 
 def wide(text: str) -> int:
-    """The most columns that a text can take."""
+    """How many columns a text takes at most."""
     return len(text) if text.isascii() else sum(map(_wide, text))
 
 
@@ -69,7 +72,7 @@ def _wide(character: str) -> int:
 
 
 def shortened(text: str, width: int, *, head: float = _HEAD) -> str:
-    """A text with an ellipsis for its middle if it does not fit; `head` is the share of its beginning."""
+    """A text with an ellipsis for its middle, where it does not fit; `head` is the share of its beginning."""
     if wide(text) <= width:
         return text
     before = _beginning(text, int((width - 1) * head))
@@ -88,7 +91,7 @@ def _beginning(text: str, width: int) -> str:
 
 
 def folded(text: str, width: int) -> list[str]:
-    """A sentence on lines that fit, indented after the first; a word that does not fit on a line is shortened."""
+    """A sentence on lines that fit, those behind the first one indented; a word that fits on none is shortened."""
     found: list[str] = []
     for word in plain(text).split():
         if found and wide(found[-1]) + 1 + wide(word) <= width:
@@ -100,7 +103,7 @@ def folded(text: str, width: int) -> list[str]:
 
 
 def command(words: Sequence[str], width: int) -> list[str]:
-    """A shell command, continued over lines; a word in quotes stays whole, however long it is."""
+    """A command for a shell on lines that it reads as one; a word in quotes stays whole, however long it is."""
     lines = [""]
     for word in map(shlex.quote, words):
         if lines[-1] and wide(f"{lines[-1]} {word} \\") > width:
@@ -120,7 +123,7 @@ def words(text: str, *, head: float = _HEAD) -> Cell:
 
 
 def behind(said: str, path: str) -> Cell:
-    """A cell with some fixed words and a path after them."""
+    """A cell with some words that stay and a path behind them."""
     shown = plain(path)
     return lambda width: shortened(said + shortened(shown, max(LEAST_PATH, width - wide(said))), width, head=0.7)
 
@@ -137,26 +140,81 @@ def parts(texts: Sequence[str], between: str, *, head: float = _HEAD) -> Cell:
     return fitted
 
 
+@dataclass(frozen=True)
+class Lack:
+    """Words, what links them to a path, and the path; without a path the words are all."""
+
+    words: tuple[str, ...]
+    link: str = ""
+    path: str = ""
+
+    @property
+    def said(self) -> str:
+        """All but the path."""
+        return plain(", ".join(self.words)) + self.link
+
+    @property
+    def whole(self) -> str:
+        return self.said + plain(self.path)
+
+
+def bare(texts: Sequence[Lack], between: str = "; ") -> str:
+    """What is lacking, without paths."""
+    return between.join(dict.fromkeys(plain(", ".join(text.words)) for text in texts))
+
+
+def lacks(texts: Sequence[Lack], between: str = "; ") -> Cell:
+    """A cell with what is lacking: whole, else with shorter paths, else without them, else with fewer words."""
+    whole = between.join(text.whole for text in texts)
+    pathless = bare(texts, between)
+
+    def fitted(width: int) -> str:
+        if wide(whole) <= width:
+            return whole
+        paths = [wide(plain(text.path)) for text in texts]
+        least = LEAST_PATH if len(texts) == 1 else _LEAST_OF_SEVERAL
+        room = width - sum(wide(text.said) for text in texts) - len(between) * (len(texts) - 1)
+        rooms = shared(paths, room)
+        if all(given >= min(path, least) for path, given in zip(paths, rooms)):
+            return between.join(text.said + _end_of(plain(text.path), given) for text, given in zip(texts, rooms))
+        if wide(pathless) <= width:
+            return pathless
+        if len(texts) == 1:
+            listed = texts[0].words
+            for number in range(len(listed) - 1, 0, -1):
+                told = f"{plain(', '.join(listed[:number]))} +{len(listed) - number}"
+                if wide(told) <= width:
+                    return told
+        return shortened(pathless, width, head=0.7)
+
+    return fitted
+
+
+def _end_of(path: str, width: int) -> str:
+    """A path that fits: of little room its end takes all."""
+    return shortened(path, width, head=_HEAD if width >= LEAST_COLUMN else 0)
+
+
 def names(texts: Sequence[str], *, said: str = "", brief: Callable[[str], str] | None = None) -> Cell:
-    """A cell with some of many names after a few words: fewer names, or shorter forms, if there is little room."""
+    """A cell with some of many names behind what is said of them: fewer, or by a shorter form, where that is to fit."""
     whole = [plain(text) for text in texts]
-    forms = [whole, *([[plain(brief(text)) for text in texts]] if brief else [])]
+    forms = [whole, *([list(dict.fromkeys(plain(brief(text)) for text in texts))] if brief else [])]
 
     def some(width: int) -> str:
-        for shown, more in product(forms, (" and {} more", " +{}")):
+        for shown, more in product(forms, (" and {:,} more", " +{:,}")):
             for number in range(min(MOST_NAMES, len(shown)), 0, -1):
                 left = len(shown) - number
                 told = said + ", ".join(shown[:number]) + (more.format(left) if left else "")
                 if wide(told) <= width:
                     return told
-        rest = f" +{len(whole) - 1}" if len(whole) > 1 else ""
+        rest = f" +{len(forms[-1]) - 1:,}" if len(forms[-1]) > 1 else ""
         return shortened(behind(said, forms[-1][0])(width - len(rest)) + rest, width) if whole else ""
 
     return some
 
 
 def shared(wanted: Sequence[int], room: int) -> list[int]:
-    """Shares out room: each gets what it wants, or, if that is too much, those that want most get equal parts."""
+    """Room shared out: each gets what it wants, and where that is too much, those that want most get equal parts."""
     given = [0] * len(wanted)
     left = sorted(range(len(wanted)), key=lambda index: wanted[index])
     while left:
@@ -168,10 +226,12 @@ def shared(wanted: Sequence[int], room: int) -> list[int]:
 
 @dataclass(frozen=True)
 class Column:
-    """A column: a number flush right, or a text, which may be shortened; columns with `less` are shortened first.
+    """A column: a number flush right, or a text, which may be shortened, that of `less` weight before the others.
 
-    With `once`, if all rows have the same text and the table is too wide, the text is printed once before the table. A
-    row with `-` has no text; if `none` is given, such a row counts as having the same text, and `none` is added to it.
+    `once` says that where all rows have the same, and the table is too wide, it is said once before it; a row with `-`
+    has none of it, in which case `none` is said too, and is as the others if it is given. Where the table is so narrow
+    that other columns are shortened, `instead` is said before it in the place of the column. A column that is shortened
+    keeps the width `least`, while the others have room.
     """
 
     head: str
@@ -180,30 +240,56 @@ class Column:
     less: bool = False
     once: bool = False
     none: str = ""
+    instead: Cell | None = None
+    least: int = 0
 
 
 def table(columns: Sequence[Column], rows: Sequence[Sequence[Cell]], width: int) -> Iterator[str]:
-    """Rows under the names of their columns, or, if that does not fit, a line for each cell."""
+    """Rows under the names of their columns, or where that does not fit a line for each cell."""
     if _total(_natural(columns, rows)) > width:
         alike = {index: said for index, column in enumerate(columns) if (said := _alike(column, index, rows))}
         if alike:
             said = ", ".join(f"{columns[index].head} {text}" for index, text in alike.items())
             yield from (_MARGIN + line for line in folded(f"all: {said}", width - len(_MARGIN)))
-            columns = [column for index, column in enumerate(columns) if index not in alike]
-            rows = [[cell for index, cell in enumerate(row) if index not in alike] for row in rows]
+            columns, rows = _without(columns, rows, alike)
+    left_out = [index for index, column in enumerate(columns) if column.instead is not None]
+    if left_out and _is_tight(columns, rows, width):
+        fewer = _without(columns, rows, left_out)
+        if _widths(*fewer, width) is not None:
+            for index in left_out:
+                instead = columns[index].instead
+                assert instead is not None
+                yield _MARGIN + instead(width - len(_MARGIN))
+            columns, rows = fewer
     widths = _widths(columns, rows, width)
     yield from _stacked(columns, rows, width) if widths is None else _flat(columns, rows, widths)
 
 
+def _without(
+    columns: Sequence[Column], rows: Sequence[Sequence[Cell]], some: Collection[int]
+) -> tuple[Sequence[Column], Sequence[Sequence[Cell]]]:
+    """A table without some of its columns."""
+    return ([column for index, column in enumerate(columns) if index not in some],
+            [[cell for index, cell in enumerate(row) if index not in some] for row in rows])
+
+
+def _is_tight(columns: Sequence[Column], rows: Sequence[Sequence[Cell]], width: int) -> bool:
+    """Whether columns of more weight are shortened, whatever is taken from those of less."""
+    widths, wanted = _widths(columns, rows, width), _natural(columns, rows)
+    return widths is None or any(
+        given < natural for column, given, natural in zip(columns, widths, wanted) if not column.less
+    )
+
+
 def _alike(column: Column, index: int, rows: Sequence[Sequence[Cell]]) -> str:
-    """The text that all rows have in a `once` column, if they have the same."""
+    """What all rows have in a column that is told once, if they have the same."""
     found = {row[index](_NATURAL) for row in rows} if column.once else set()
     said = found - {"-"} if column.none else found
     return said.pop() + (column.none if "-" in found and column.none else "") if len(said) == 1 else ""
 
 
 def _natural(columns: Sequence[Column], rows: Sequence[Sequence[Cell]]) -> list[int]:
-    """The width of each column if nothing is shortened."""
+    """How wide each column is where nothing is shortened."""
     return [max(len(column.head), *(wide(row[index](_NATURAL)) for row in rows), 0)
             for index, column in enumerate(columns)]
 
@@ -213,14 +299,20 @@ def _total(widths: Sequence[int]) -> int:
 
 
 def _widths(columns: Sequence[Column], rows: Sequence[Sequence[Cell]], width: int) -> list[int] | None:
-    """The width of each column; None if the table can't be so narrow."""
+    """How wide each column is; None if the table can't be so narrow."""
     widths = _natural(columns, rows)
     for less in (True, False):
         short = [index for index, column in enumerate(columns) if column.short and column.less == less]
         room = width - _total(widths) + sum(widths[index] for index in short)
         room = max(room, sum(min(widths[index], LEAST_COLUMN) for index in short))
-        for index, given in zip(short, shared([widths[index] for index in short], room)):
-            widths[index] = given
+        given = dict(zip(short, shared([widths[index] for index in short], room)))
+        for index in short:
+            others = [other for other in short if other != index]
+            left = room - min(widths[index], columns[index].least)
+            if given[index] < room - left and left >= sum(min(widths[other], LEAST_COLUMN) for other in others):
+                given = {index: room - left, **dict(zip(others, shared([widths[other] for other in others], left)))}
+        for index in short:
+            widths[index] = given[index]
     return widths if _total(widths) <= width else None
 
 
@@ -238,12 +330,19 @@ def _filled(text: str, room: int, *, right: bool) -> str:
 
 
 def _stacked(columns: Sequence[Column], rows: Sequence[Sequence[Cell]], width: int) -> Iterator[str]:
-    """A line for each cell, with a dash before the first one of a row."""
+    """Some lines for each cell, with a dash before the first one of a row."""
     for row in rows:
         mark = "- "
         for column, cell in zip(columns, row):
-            said = f"{mark}{column.head}: "
-            text = cell(max(1, width - len(said)))
-            if text:
-                yield said + text
+            for line in _told(column.head, cell, width - len(mark)):
+                yield mark + line
                 mark = _MARGIN
+
+
+def _told(head: str, cell: Cell, width: int) -> list[str]:
+    """A cell behind its head: words on several lines, a name on one."""
+    said = f"{head}: "
+    text = cell(max(1, _STACKED * (width - len(_MARGIN)) - len(said)))
+    if " " in text:
+        return folded(said + text, width)
+    return [said + cell(max(1, width - len(said)))] if text else []

@@ -349,5 +349,5 @@ def _refusal_data(refusal: Refusal, programs: Counter[str], summary: Summary) ->
 
 
 def _layer_data(layer: RefusingLayer) -> dict[str, Any]:
-    objections = [{"text": str(objection), **asdict(objection)} for objection in layer.objections]
+    objections = [explanations.as_data(objection) for objection in layer.objections]
     return {"number": layer.number, "policy": layer.policy, "objections": objections}

@@ -5,14 +5,14 @@ from __future__ import annotations
 import os
 from collections import Counter
 from collections.abc import Callable, Iterator, Sequence
-from dataclasses import dataclass
+from dataclasses import dataclass, replace
 from typing import TextIO
 
 from . import explanations, grouping, layout
 from .by_abi import Kind, Step
 from .explanations import Closed, Kept, Missing, Objection
-from .grouping import Group
-from .layout import Cell, Column, plain, table, wide, words
+from .grouping import Group, Lacking
+from .layout import Cell, Column, Lack, plain, table, wide, words
 from .recorder.processes import FIRST_MADE_UP
 from .summary import MISSED, Brief, Refusal, RefusingLayer, Summary
 from .trees import directory_of
@@ -21,33 +21,34 @@ from .wording import counted, some_of
 #: The answers in the order in which they are counted.
 VERDICTS = ("allowed", "refused", "moot")
 
-#: Up to this number, kinds of refused calls are shown one by one; more kinds are shown in at most so many groups.
+#: So many kinds of refused calls are told one by one; more of them in groups, of which so many are told.
 MOST_ROWS = 20
-#: The number of warnings about rules that the run never used that are shown.
+#: So many warnings of rules that the run never used are told.
 MOST_UNUSED = 5
-#: Words for a person instead of landaudit's words for why Landlock is not asked.
+#: What a person is told in the place of landaudit's words for why the policy is not asked.
 _IN_WORDS = {
     "is not in the tree": "the recording has no such file",
     "is in the tree already": "it is there already",
-    "is not a directory": "it is not a directory",
+    "is not a directory": "it is no directory",
     explanations.NOT_OPEN: "its file is not open",
     MISSED: "its opening was refused or not asked",
 }
 _FAILED_TOO = "the call failed in the recording too: "
 _TIMES = Column("times", number=True)
-_WHY = Column("why", short=True)
+#: So much of its width the column of rights keeps before paths do.
+_MOST_KEPT = 34
 
 
 @dataclass(frozen=True)
 class Style:
-    """How words are marked, and the width of lines; without `coloured`, words are plain."""
+    """How words are marked, and how wide lines are; with `coloured` false words are plain."""
 
     coloured: bool
     width: int = layout.WIDTH
 
     @classmethod
     def of(cls, stream: TextIO) -> Style:
-        """Colours only on a terminal, and only if NO_COLOR is not set; as wide as the terminal."""
+        """Colours on a terminal alone, and none where NO_COLOR is set; as wide as the terminal."""
         return cls(stream.isatty() and not os.environ.get("NO_COLOR"), layout.width_of(stream))
 
     def bold(self, text: str) -> str:
@@ -65,7 +66,7 @@ class Style:
 
 @dataclass(frozen=True)
 class Beside:
-    """What is printed with a summary: notes, and the command that suggests rules; `each` asks for each kind of call."""
+    """What is told beside a summary: notes, and the command that suggests rules; `each` asks for each kind of calls."""
 
     notes: Sequence[str] = ()
     suggesting: Sequence[str] = ()
@@ -73,7 +74,7 @@ class Beside:
 
 
 def lines(summary: Summary, title: str, style: Style, beside: Beside = Beside()) -> Iterator[str]:
-    """The lines of a summary, each without its line feed and at most as wide as the style says."""
+    """The lines of a summary, each without its line feed and none wider than the style has it."""
     yield from map(style.bold, layout.folded(title, style.width))
     yield from _counts(summary, style)
     yield from _warnings(summary, style, each=beside.each)
@@ -86,29 +87,29 @@ def lines(summary: Summary, title: str, style: Style, beside: Beside = Beside())
     yield from _moot(summary, style)
     if summary.unsaid:
         yield from _heading(f"not recorded: {counted(summary.unsaid.total(), 'call')}", style)
-        rows = [(words(str(times)), words(name)) for name, times in summary.unsaid.most_common()]
+        rows = [(words(f"{times:,}"), words(name)) for name, times in summary.unsaid.most_common()]
         yield from table((_TIMES, Column("class", short=True)), rows, style.width)
 
 
 def ending(summary: Summary, style: Style) -> Iterator[str]:
-    """The last lines of all: what could not be judged, so that no audit looks complete that is not."""
+    """The last lines of all: what could not be judged, so that no audit looks like more than it is."""
     for text in summary.missing:
         yield from _marked("NOT ALL IS JUDGED:", text, style.red, style.width)
 
 
 def by_recording(each: Sequence[tuple[str, Summary]], style: Style) -> Iterator[str]:
-    """The lines of the table by recording, which follows a summary of several."""
+    """The lines of the table by recording, which is behind a summary of several."""
     yield from _heading("by recording", style)
     rows = []
     for name, summary in each:
         counts = (summary.records, *(summary.verdicts[verdict] for verdict in VERDICTS))
-        rows.append([words(str(cell)) for cell in (*counts, name)])
+        rows.append([*(words(f"{count:,}") for count in counts), words(name)])
     columns = [Column(head, number=True) for head in ("records", *VERDICTS)]
     yield from table((*columns, Column("recording", short=True)), rows, style.width)
 
 
 def by_abi(steps: Sequence[Step], style: Style) -> Iterator[str]:
-    """The lines of the table by ABI, which follows a summary."""
+    """The lines of the table by ABI, which is behind a summary."""
     yield from _heading("by ABI: what breaks there first, and what is refused no more", style)
     columns = [Column(head, number=True) for head in ("ABI", *VERDICTS)]
     rows = [row for step in steps for row in _step_rows(step)]
@@ -116,24 +117,24 @@ def by_abi(steps: Sequence[Step], style: Style) -> Iterator[str]:
 
 
 def _step_rows(step: Step) -> Iterator[list[Cell]]:
-    """The rows of an ABI: the first has its counts, and each has one change."""
-    counts = [words(str(number)) for number in (step.abi, *(step.verdicts[verdict] for verdict in VERDICTS))]
+    """The rows of an ABI: its counts are in the first, and each says one thing that changes."""
+    counts = [words(f"{number:,}") for number in (step.abi, *(step.verdicts[verdict] for verdict in VERDICTS))]
     for said in _changes(step) or [words("")]:
         yield [*counts, said]
         counts = [words("")] * len(counts)
 
 
 def _changes(step: Step) -> list[Cell]:
-    """What an ABI changes, compared with the one before it."""
+    """What an ABI changes, against the one before it."""
     named = (("breaks: ", step.breaks), ("refused no more: ", step.no_more))
     said = [layout.names([_kind(kind) for kind in kinds], said=what) for what, kinds in named if kinds]
     if step.warnings:
-        said.append(words(f"{counted(len(step.warnings), 'more warning')}: see --abi {step.abi}"))
+        said.append(words(f"{counted(len(step.warnings), 'warning')} more: see --abi {step.abi}"))
     return said
 
 
 def _kind(kind: Kind) -> str:
-    """A kind in a row; a call without a path or port is shown by the call and the error."""
+    """A kind in a row: of a call that is about nothing by name, the call and the error."""
     return " ".join(word for word in (kind.call, _person(kind.place), kind.error) if word != "-")
 
 
@@ -143,7 +144,7 @@ def _heading(text: str, style: Style) -> Iterator[str]:
 
 
 def _marked(mark: str, text: str, marked: Callable[[str], str], width: int) -> Iterator[str]:
-    """A text on lines that fit, with the mark before it in a colour if the mark stays whole."""
+    """A text on lines that fit, the mark before it in a colour where it stays whole."""
     first, *others = layout.folded(f"{mark} {text}", width)
     yield marked(mark) + first.removeprefix(mark) if first.startswith(mark) else first
     yield from others
@@ -152,16 +153,16 @@ def _marked(mark: str, text: str, marked: Callable[[str], str], width: int) -> I
 def _counts(summary: Summary, style: Style) -> Iterator[str]:
     """How many records there are of each answer."""
     verdicts = summary.verdicts
-    refused = f"{verdicts['refused']} refused"
+    refused = f"{verdicts['refused']:,} refused"
     not_all = ", and NOT ALL IS JUDGED (see the end)" if summary.missing else ""
-    text = (f"{summary.records} records: {verdicts['allowed']} allowed, {refused}{_of_these(summary)}, "
-            f"{verdicts['moot']} not asked (moot){not_all}")
+    text = (f"{summary.records:,} records: {verdicts['allowed']:,} allowed, {refused}{_of_these(summary)}, "
+            f"{verdicts['moot']:,} not asked (moot){not_all}")
     for line in layout.folded(text, style.width):
         yield line.replace(refused, style.red(refused)) if summary.others_refused else line
 
 
 def _warnings(summary: Summary, style: Style, *, each: bool) -> Iterator[str]:
-    """The warnings; those about rules that the run never used come last, and only some of them unless `each`."""
+    """The warnings, those of rules that the run never used behind the others, and of them some unless each is asked."""
     used = [text for text in summary.warnings if text not in summary.untouched]
     unused = sorted((text for text in summary.warnings if text in summary.untouched),
                     key=lambda text: _is_here(summary.brief.get(text)))
@@ -169,7 +170,7 @@ def _warnings(summary: Summary, style: Style, *, each: bool) -> Iterator[str]:
     for text in (*used, *shown):
         yield from _warning(summary.brief.get(text, Brief(text)), summary.warnings[text], style, with_rule=each)
     if len(unused) > len(shown):
-        more = f"{counted(len(unused) - len(shown), 'more rule')} that this run never used: --all lists them"
+        more = f"{counted(len(unused) - len(shown), 'rule')} more that this run never used: --all lists them"
         yield from _marked("warning:", more, style.yellow, style.width)
 
 
@@ -178,10 +179,10 @@ def _is_here(brief: Brief | None) -> bool:
 
 
 def _warning(brief: Brief, times: int, style: Style, *, with_rule: bool) -> Iterator[str]:
-    """A warning on one line if it fits, with a shortened path."""
+    """A warning on one line where it fits, its path shortened for it."""
     said = brief.said
     if said is None:
-        said = "exists here, but this run never used it" if _is_here(brief) else "no such path here"
+        said = "exists here, this run never used it" if _is_here(brief) else "no such path here"
     said += f" ({counted(times, 'time')})" if times > 1 else ""
     said += f" ({brief.rule})" if with_rule and brief.rule else ""
     room = style.width - len("warning: ") - wide(plain(f": {said}"))
@@ -197,14 +198,17 @@ def _refusals(summary: Summary, style: Style, *, each: bool) -> Iterator[str]:
     elif summary.refusals:
         yield from _heading(f"refused, the most frequent first ({counted(len(summary.refusals), 'kind')})", style)
         rows = [_refusal_row(refusal, programs, summary) for refusal, programs in summary.by_frequency()]
-        columns = (_TIMES, Column("call"), Column("place", short=True), *_behind(summary), _WHY)
+        why = _why_column([_lacks(refusal) for refusal in summary.refusals])
+        columns = (_TIMES, Column("call"), Column("place", short=True), *_behind(summary), why)
         yield from table(columns, rows, style.width)
 
 
 def _behind(summary: Summary) -> tuple[Column, ...]:
-    """The columns whose values most refused calls of an audit have in common."""
+    """The columns of what most refused calls of an audit have in common."""
     where = (Column("recordings", short=True, less=True, once=True),) if summary.recordings else ()
-    program = Column("program", short=True, less=True, once=True, none=" or none yet")
+    programs = sum(summary.refusals.values(), Counter[str]())
+    named = layout.names(list(dict.fromkeys(os.path.basename(name) for name in _most(programs))), said="programs: ")
+    program = Column("program", short=True, less=True, once=True, none=" or none yet", instead=named)
     return Column("error", once=True), Column("layers", once=True), *where, program
 
 
@@ -212,12 +216,13 @@ def _groups(summary: Summary, style: Style) -> Iterator[str]:
     """Refused calls of many kinds in groups."""
     groups = grouping.grouped(summary.refusals.items())
     shown = groups[:MOST_ROWS]
-    title = f"refused: {len(summary.refusals)} kinds in {counted(len(groups), 'group')}"
+    title = f"refused: {len(summary.refusals):,} kinds in {counted(len(groups), 'group')}"
     yield from _heading(f"{title}, the earliest first, then the most frequent", style)
-    columns = (_TIMES, _WHY, Column("where", short=True), *_behind(summary))
+    columns = (_TIMES, _why_column([_lacking(group.lacking) for group in shown]), Column("where", short=True),
+               *_behind(summary))
     yield from table(columns, [_group_row(group, summary) for group in shown], style.width)
-    more = f"{counted(len(groups) - len(shown), 'more group')} and " if len(groups) > len(shown) else ""
-    yield from (f"  {line}" for line in layout.folded(f"--all lists {more}each kind by itself", style.width - 2))
+    more = f"{counted(len(groups) - len(shown), 'group')} more, and " if len(groups) > len(shown) else ""
+    yield from (f"  {line}" for line in layout.folded(f"{more}each kind by itself: --all lists them", style.width - 2))
 
 
 def _group_row(group: Group, summary: Summary) -> list[Cell]:
@@ -225,8 +230,18 @@ def _group_row(group: Group, summary: Summary) -> list[Cell]:
     lacking, programs = group.lacking, group.programs
     named = dict.fromkeys(name for kind in group.kinds for name in summary.recordings.get(kind.refusal, ()))
     where = (layout.names(list(named)),) if summary.recordings else ()
-    return [words(str(programs.total())), layout.parts(lacking.objections, "; ", head=0.7), _where(group),
+    return [words(f"{programs.total():,}"), layout.lacks(_lacking(lacking)), _where(group),
             words(lacking.error), words(", ".join(lacking.layers) or "-"), *where, _programs(programs)]
+
+
+def _lacking(lacking: Lacking) -> list[Lack]:
+    """What the calls of a group lack."""
+    return [Lack(tuple(text.split(", "))) for text in lacking.objections]
+
+
+def _why_column(lacking: Sequence[Sequence[Lack]]) -> Column:
+    """The column of what is lacking, which shows the rights before others show their paths."""
+    return Column("why", short=True, least=min(_MOST_KEPT, max(wide(layout.bare(texts)) for texts in lacking)))
 
 
 def _where(group: Group) -> Cell:
@@ -236,7 +251,7 @@ def _where(group: Group) -> Cell:
         return words(_person(kinds[0].refusal.place))
     if group.lacking.on_ports:
         ports = sorted(map(int, spots))
-        return words(f"{len(ports)} ports from {ports[0]} to {ports[-1]}")
+        return words(f"{len(ports):,} ports from {ports[0]} to {ports[-1]}")
     if not group.directory:
         return words(counted(len(kinds), "kind"))
     if group.others:
@@ -245,19 +260,19 @@ def _where(group: Group) -> Cell:
         return words(spots[0])
     things = "files" if group.lacking.of_files else "directories"
     inside = all(directory_of(spot) == group.directory for spot in spots)
-    return layout.behind(f"{len(spots)} {things} {'in' if inside else 'under'} ", group.directory)
+    return layout.behind(f"{len(spots):,} {things} {'in' if inside else 'under'} ", group.directory)
 
 
 def _of_these(summary: Summary) -> str:
     """How many of the refused records are accepted, if any are."""
     accepted = summary.accepted.total()
-    return f" ({accepted} accepted)" if accepted else ""
+    return f" ({accepted:,} accepted)" if accepted else ""
 
 
 def _accepted(summary: Summary, style: Style) -> Iterator[str]:
     if summary.accepted:
         yield from _heading(f"refused and accepted ({counted(len(summary.accepted), 'kind')})", style)
-        rows = [[words(cell) for cell in (str(times), one.call, one.place, one.reason)]
+        rows = [[words(cell) for cell in (f"{times:,}", one.call, one.place, one.reason)]
                 for one, times in summary.accepted.most_common()]
         columns = (_TIMES, Column("call"), Column("place", short=True), Column("reason", short=True))
         yield from table(columns, rows, style.width)
@@ -267,12 +282,31 @@ def _refusal_row(refusal: Refusal, programs: Counter[str], summary: Summary) -> 
     layers = ", ".join(layer.name for layer in refusal.layers) or "-"
     where = (layout.names(summary.recordings[refusal]),) if summary.recordings else ()
     place = layout.parts(_person(refusal.place).split(" -> "), " -> ")
-    return [words(str(programs.total())), words(refusal.call), place, words(refusal.error), words(layers), *where,
-            _programs(programs), layout.parts(why(refusal).split("; "), "; ", head=0.7)]
+    return [words(f"{programs.total():,}"), words(refusal.call), place, words(refusal.error), words(layers), *where,
+            _programs(programs), layout.lacks(_lacks(refusal))]
+
+
+def _lacks(refusal: Refusal) -> list[Lack]:
+    """What the layers object to, of which paths may be left out since the row has the place."""
+    if refusal.condition is not None:
+        return [Lack((refusal.condition,))]
+    by_layer = [(layer.name, [_lack(one, refusal.place) for one in layer.objections]) for layer in refusal.layers]
+    if all(found == by_layer[0][1] for _, found in by_layer):
+        return by_layer[0][1]
+    return [replace(one, words=(f"{name}: {one.words[0]}", *one.words[1:])) if index == 0 else one
+            for name, found in by_layer for index, one in enumerate(found)]
+
+
+def _lack(objection: Objection, place: str) -> Lack:
+    """What a layer objects to: the rights, and where they are lacking if that is not the place."""
+    if isinstance(objection, Missing) and objection.path != place:
+        return Lack(objection.rights, " on ", objection.path)
+    text = _objection(objection, place)
+    return Lack(tuple(text.split(", ")) if isinstance(objection, (Missing, Closed)) else (text,))
 
 
 def why(refusal: Refusal) -> str:
-    """The objections of the layers, once if they are the same for all; or the condition by which the calls fail."""
+    """What the layers object to, once if it is the same for all; or the condition by which the calls fail."""
     if refusal.condition is not None:
         return refusal.condition
     told = [(layer.name, _objections(layer, refusal.place)) for layer in refusal.layers]
@@ -286,7 +320,7 @@ def _objections(layer: RefusingLayer, place: str) -> str:
 
 
 def _objection(objection: Objection, place: str) -> str:
-    """The objection of a layer, without the place that the row has."""
+    """What a layer objects to, without the place that the row has."""
     match objection:
         case Missing(rights=rights, path=path) if path == place:
             return ", ".join(rights)
@@ -302,12 +336,12 @@ def _moot(summary: Summary, style: Style) -> Iterator[str]:
         return
     yield from _heading("not asked (moot), and why", style)
     found = sorted(summary.moot.items(), key=lambda item: -item[1].total())
-    rows = [[words(str(at.total())), words(_in_words(why)), layout.names(_known(at))] for why, at in found]
+    rows = [[words(f"{at.total():,}"), words(_in_words(why)), layout.names(_known(at))] for why, at in found]
     yield from table((_TIMES, Column("why"), Column("at", short=True)), rows, style.width)
 
 
 def _in_words(why: str) -> str:
-    """Why Landlock is not asked, in a person's words."""
+    """Why the policy is not asked, as a person says it."""
     if why.startswith(_FAILED_TOO):
         return f"it failed when recorded too: {why.removeprefix(_FAILED_TOO)}"
     return _IN_WORDS.get(why, f"it {why}")
@@ -326,7 +360,7 @@ def _person(place: str) -> str:
 
 
 def _programs(programs: Counter[str]) -> Cell:
-    """The most frequent programs, by their names alone if there is little room; a process without one comes last."""
+    """The most frequent programs, by their names alone where that is to fit; a process without one is told last."""
     return layout.names(sorted(_most(programs), key=lambda name: name == "-"), brief=os.path.basename)
 
 

@@ -1,12 +1,16 @@
 """The page of an audit in a headless Chromium: opened from the disk, looked at, filtered, sorted, switched, with keys.
 
 Pictures of it go to the folder that LANDAUDIT_PICTURES names; where it names none, they are looked at and thrown away.
+One page is that of a recorded build: of the recording that LANDAUDIT_RECORDING names, under the policy in the file that
+LANDAUDIT_POLICY names, or else of a small build that is recorded for it.
 """
 
 from __future__ import annotations
 
 import os
+import shutil
 import struct
+import subprocess
 import tempfile
 import unittest
 from collections import Counter
@@ -17,6 +21,7 @@ from typing import Any, ClassVar
 
 from landaudit_record import page
 from landaudit_record.explanations import Missing
+from landaudit_record.landaudit import BUILT
 from landaudit_record.page.counting import Paths
 from landaudit_record.reading import Place
 from landaudit_record.summary import Accepted, Refusal, RefusingLayer, Summary
@@ -24,12 +29,32 @@ from landaudit_record.summary import Accepted, Refusal, RefusingLayer, Summary
 from .chromium import CHROMIUM, Tab, browser
 from .test_page import HOSTILE
 
+RECORDER = Path(__file__).resolve().parents[1] / "landaudit-record"
 WIDTHS = (400, 1280, 2000)
+SCHEMES = (("light", "rgb(255, 255, 255)"), ("dark", "rgb(21, 24, 28)"))
 GROUPS = 5_000
 #: How long a page may keep the browser's main thread until it is there, in seconds.
 SOON = 1.0
 DIRECTORIES = ("/usr/lib/python3.11", "/usr/include/linux", "/home/builder/src/crypto/evp", "/etc/ssl/certs", "/tmp/cc")
 CALLS = (("open r", "read_file"), ("open w create", "make_reg"), ("exec", "execute"), ("open w trunc", "truncate"))
+#: A policy that lets a build in the folder `@` work but for what its compiler puts into /tmp, and for truncating.
+POLICY = """[[layer]]
+handled_access_fs = ["all"]
+[[layer.path_beneath]]
+allowed_access = ["read", "execute"]
+parent = ["/usr", "/lib", "/lib64", "/bin", "/etc"]
+[[layer.path_beneath]]
+allowed_access = ["read_file", "write_file"]
+parent = "/dev/null"
+[[layer.path_beneath]]
+allowed_access = ["read", "execute", "write_file", "make_reg", "make_dir", "remove_file"]
+parent = "@"
+"""
+#: Of the first cells those that are seen and have more in them than fits; each is laid out for that.
+CUT = ("[...document.querySelectorAll('th, td, .row > span')].slice(0, 400)"
+       ".filter(cell => cell.checkVisibility() && cell.scrollWidth > cell.clientWidth + 1)"
+       ".map(cell => cell.textContent)")
+WIDER = "document.documentElement.scrollWidth - document.documentElement.clientWidth"
 VISIBLE = "[...document.querySelectorAll('table.refusals tbody tr')].filter(row => row.checkVisibility())"
 
 
@@ -81,6 +106,41 @@ def hostile() -> Summary:
     return found
 
 
+def missing() -> str | None:
+    """Why no page of a build can be made here, if none can."""
+    if CHROMIUM is None:
+        return "chromium is not installed"
+    if not BUILT.exists():
+        return f"{BUILT} is not built: run 'make landaudit'"
+    absent = [program for program in ("strace", "make", "cc") if shutil.which(program) is None]
+    return f"{absent[0]} is not installed" if absent and "LANDAUDIT_RECORDING" not in os.environ else None
+
+
+def given() -> tuple[Path, Path] | None:
+    """The recording that somebody wants the page of, and its policy."""
+    if "LANDAUDIT_RECORDING" not in os.environ:
+        return None
+    return Path(os.environ["LANDAUDIT_RECORDING"]).resolve(), Path(os.environ["LANDAUDIT_POLICY"]).resolve()
+
+
+def build(folder: Path) -> tuple[Path, Path]:
+    """Records a small build in a folder; gives the recording and a policy for it."""
+    for number in range(12):
+        (folder / f"part{number}.c").write_text(f"int part{number}(void) {{ return {number}; }}\n", encoding="utf-8")
+    rule = "libparts.a: $(patsubst %.c,%.o,$(wildcard *.c))\n\tar rcs $@ $^\n"
+    (folder / "Makefile").write_text(rule, encoding="utf-8")
+    policy = folder / "policy.toml"
+    policy.write_text(POLICY.replace("@", str(folder)), encoding="utf-8")
+    subprocess.run([RECORDER, "run", "build.rec", "--", "make", "-j4"], cwd=folder, check=True, capture_output=True)
+    return folder / "build.rec", policy
+
+
+def kept(name: str, picture: bytes) -> None:
+    """Keeps a picture where somebody wants to look at it."""
+    if folder := os.environ.get("LANDAUDIT_PICTURES"):
+        Path(folder, f"{name}.png").write_bytes(picture)
+
+
 def size(picture: bytes) -> tuple[int, int]:
     """The width and height of a picture, by its header (PNG, 11.2.2)."""
     width, height = struct.unpack(">II", picture[16:24])
@@ -118,35 +178,44 @@ class LivePage(unittest.TestCase):
     def counted(self) -> Any:
         return self.tab.says("document.getElementById('left').textContent")
 
-    def kept(self, name: str, picture: bytes) -> None:
-        """Keeps a picture where somebody wants to look at it."""
-        if folder := os.environ.get("LANDAUDIT_PICTURES"):
-            Path(folder, f"{name}.png").write_bytes(picture)
-
     def test_pictures_at_three_widths_light_and_dark(self) -> None:
         file = self.build()
         for width in WIDTHS:
             pictures = {}
-            for scheme, ground in (("light", "rgb(255, 255, 255)"), ("dark", "rgb(21, 24, 28)")):
+            for scheme, ground in SCHEMES:
                 with self.subTest(width=width, scheme=scheme):
                     self.tab.wide(width, 760)
                     self.tab.scheme(scheme)
                     self.tab.open(file)
                     pictures[scheme] = self.tab.picture()
-                    self.kept(f"page-{width}-{scheme}", pictures[scheme])
+                    kept(f"page-{width}-{scheme}", pictures[scheme])
                     self.assertEqual(size(pictures[scheme])[0], width)
                     self.assertEqual(self.tab.says("getComputedStyle(document.body).backgroundColor"), ground)
-                    wider = self.tab.says("document.documentElement.scrollWidth - document.documentElement.clientWidth")
-                    self.assertEqual(wider, 0, "the page is wider than the window")
+                    self.assertEqual(self.tab.says(WIDER), 0, "the page is wider than the window")
+                    self.assertEqual(self.tab.says(CUT), [])
             self.assertNotEqual(pictures["light"], pictures["dark"])
 
     def test_many_groups_are_there_soon(self) -> None:
         file = self.build(GROUPS)
         self.tab("Performance.enable", timeDomain="threadTicks")
         self.tab.open(file)
-        metrics = {one["name"]: one["value"] for one in self.tab("Performance.getMetrics")["metrics"]}
+        duration = self.duration()
         self.assertEqual(self.tab.says("document.querySelectorAll('table.refusals tbody tr').length"), GROUPS)
-        self.assertLess(metrics["TaskDuration"], SOON)
+        self.assertLess(duration, SOON)
+
+    def test_many_groups_follow_the_window(self) -> None:
+        """The page of many groups is laid out anew, for a window that is narrow, without a search of all for each."""
+        self.tab.open(self.build(GROUPS))
+        self.tab("Performance.enable", timeDomain="threadTicks")
+        before = self.duration()
+        self.tab.wide(400)
+        self.tab.picture()
+        self.assertLess(self.duration() - before, 3 * SOON)
+
+    def duration(self) -> float:
+        """How long the browser's main thread has worked."""
+        metrics = {one["name"]: one["value"] for one in self.tab("Performance.getMetrics")["metrics"]}
+        return float(metrics["TaskDuration"])
 
     def test_the_filter_leaves_rows_that_have_all_words(self) -> None:
         self.tab.open(self.build(), "#find=ssl+MAKE_REG")
@@ -195,7 +264,7 @@ class LivePage(unittest.TestCase):
             self.tab.open(self.build())
             self.assertEqual(len(self.shown()), 40)
             self.assertEqual(self.tab.says("getComputedStyle(document.getElementById('filter')).display"), "none")
-            self.kept("page-1280-no-script", self.tab.picture())
+            kept("page-1280-no-script", self.tab.picture())
             self.tab.says("document.getElementById('abi-2').click()")
             self.assertEqual(len(self.shown()), 30)
             self.tab.says("document.querySelector('.tree summary').click()")
@@ -212,9 +281,8 @@ class LivePage(unittest.TestCase):
             self.assertEqual(foreign, 0)
             self.assertEqual(self.tab.says("document.scripts.length"), 1)
             self.assertEqual(self.shown(), [f"/a/{HOSTILE[1]}"])
-            wider = self.tab.says("document.documentElement.scrollWidth - document.documentElement.clientWidth")
-            self.assertEqual(wider, 0, f"a name is wider than the window of {width}")
-            self.kept(f"hostile-{width}", self.tab.picture(whole=True))
+            self.assertEqual(self.tab.says(WIDER), 0, f"a name is wider than the window of {width}")
+            kept(f"hostile-{width}", self.tab.picture(whole=True))
 
     def test_the_pages_policy_lets_no_other_script_or_style_work(self) -> None:
         file = self.build()
@@ -230,6 +298,29 @@ class LivePage(unittest.TestCase):
         broken = [fault for fault in self.tab.faults if "Content Security Policy" in fault]
         self.assertGreaterEqual(len(broken), 4)
         self.tab.faults.clear()
+
+
+@unittest.skipIf(missing() is not None, missing() or "")
+class LiveBuild(unittest.TestCase):
+    def test_the_page_of_a_recorded_build(self) -> None:
+        folder = Path(self.enterContext(tempfile.TemporaryDirectory())).resolve()
+        recording, policy = given() or build(folder)
+        file = folder / "page.html"
+        words = ["audit", recording.name, "--policy", os.path.relpath(policy, recording.parent), "--html", file]
+        run = subprocess.run([RECORDER, *words], cwd=recording.parent, capture_output=True, text=True, check=False)
+        self.assertEqual(run.returncode, 1, run.stderr)
+        with browser() as tab:
+            for width in WIDTHS:
+                for scheme, ground in SCHEMES:
+                    with self.subTest(width=width, scheme=scheme):
+                        tab.wide(width, 760)
+                        tab.scheme(scheme)
+                        tab.open(file)
+                        kept(f"build-{width}-{scheme}", tab.picture())
+                        self.assertEqual(tab.says("getComputedStyle(document.body).backgroundColor"), ground)
+                        self.assertEqual((tab.says(WIDER), tab.says(CUT)), (0, []))
+                        self.assertGreater(tab.says(f"{VISIBLE}.length"), 0)
+            self.assertEqual(tab.faults, [])
 
 
 if __name__ == "__main__":

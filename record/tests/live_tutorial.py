@@ -1,6 +1,7 @@
-"""Runs every command of docs/TUTORIAL.md, docs/CI.md and of the README's way, and compares what they print.
+"""Runs every command of docs/TUTORIAL.md, CI.md, SERVICES.md and of the README's way, and compares what they print.
 
-It needs strace, git and a built landaudit, and says which of them is missing.
+It needs strace, git and a built landaudit, and says which of them is missing. A command that can't run here is skipped,
+and why is printed.
 """
 
 from __future__ import annotations
@@ -53,6 +54,21 @@ def alike(text: str) -> str:
     return " ".join(re.sub(r"\d+", "N", text).split())
 
 
+def cannot(command: str) -> str | None:
+    """Why a command can't be run on this machine, if it can't."""
+    programs = set(re.findall(r"(?:^|&& )(\w+)", command))
+    if "systemctl" in programs:
+        if not Path("/run/systemd/system").exists():
+            return "systemd does not run here"
+        if subprocess.run(["systemctl", "cat", "greeter"], capture_output=True, check=False).returncode:
+            return "there is no unit greeter.service here"
+    if programs & {"setpriv", "unshare"} and os.geteuid() != 0:
+        return "it needs root"
+    if "run rec -- make" in command and None in map(shutil.which, ("make", "cc")):
+        return "make or cc is not installed"
+    return None
+
+
 def missing() -> str | None:
     """Why the commands can't be run here, if they can't."""
     for program in ("strace", "git"):
@@ -77,11 +93,23 @@ class Tutorial(unittest.TestCase):
         again = ["git -C app checkout -q tests", "git -C app update-ref refs/remotes/origin/main main", "rm -r app/build"]
         self.run_document(document, [*again, *(f"cd app && {line}" for line in sorted(jobs))])
 
+    def test_every_command_of_the_page_on_services(self) -> None:
+        """What a command that is skipped would have left is not asked about either."""
+        self.run_document(TOP / "docs" / "SERVICES.md")
+
     def run_document(self, document: Path, behind: Sequence[str] = ()) -> None:
         environment = {**os.environ, "PATH": f"{TOP / 'record'}:{BUILT.parent}:{os.environ['PATH']}"}
         with tempfile.TemporaryDirectory() as folder:
+            # A user without rights goes through it to a folder of their own.
+            Path(folder).chmod(0o755)
+            absent: list[str] = []
             for step in [*steps(document), *map(Step, behind)]:
                 with self.subTest(step.command):
+                    reason = cannot(step.command)
+                    if reason or any(re.search(rf"\b{name}\b", step.command) for name in absent):
+                        absent += re.findall(r"landaudit-record run (\w+) ", step.command)
+                        print(f"skipped: {step.command}: {reason or 'its recording was not made'}")
+                        continue
                     self.run_step(step, folder, environment)
 
     def run_step(self, step: Step, folder: str, environment: dict[str, str]) -> None:

@@ -46,9 +46,13 @@ class Steps(unittest.TestCase):
         found = changes(summary(1, MOVE), summary(2), summary(3, CUT), summary(4, CUT, CALL), summary(5, CUT, MOVE))
         self.assertEqual(found, [((MOVE,), ()), ((), (MOVE,)), ((CUT,), ()), ((CALL,), ()), ((MOVE,), (CALL,))])
 
-    def test_the_most_frequent_come_first(self) -> None:
+    def test_the_earliest_comes_first_and_then_the_most_frequent(self) -> None:
+        found = changes(summary(1, MOVE, CUT, CALL, CALL), summary(2), summary(3, CALL, MOVE, CUT, CUT))
+        self.assertEqual([breaks for breaks, _ in found], [(MOVE, CALL, CUT), (), (CALL, CUT, MOVE)])
+
+    def test_of_what_is_refused_no_more_the_most_frequent_come_first(self) -> None:
         found = changes(summary(1, MOVE, CUT, CALL, CUT), summary(2))
-        self.assertEqual(found, [((CUT, MOVE, CALL), ()), ((), (CUT, MOVE, CALL))])
+        self.assertEqual(found[1], ((), (CUT, MOVE, CALL)))
 
     def test_a_kind_is_one_whichever_layers_refuse_it(self) -> None:
         both = summary(2, CALL)

@@ -118,7 +118,7 @@ class Checking(unittest.TestCase):
             with self.subTest(case):
                 status, lines = self.point("[[refused]]\n" + case, policy)
                 self.assertEqual(status, 0)
-                self.assertIn(f'"layer 1: {asked}, opened at line ', lines[3])
+                self.assertIn(f'"layer 1: {asked} when it was opened"', lines[3])
 
     def test_a_case_about_which_the_policy_is_not_asked(self) -> None:
         status, lines, errors = self.checked('[[refused]]\ncall = "rmdir"\npath = "@/open/file"\n')

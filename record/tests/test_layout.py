@@ -9,7 +9,7 @@ from io import BytesIO, StringIO, TextIOWrapper
 from unittest import mock
 
 from landaudit_record import layout
-from landaudit_record.layout import Column, words
+from landaudit_record.layout import Column, Lack, words
 
 
 class Widths(unittest.TestCase):
@@ -86,6 +86,29 @@ class Cells(unittest.TestCase):
         self.assertEqual((cell(19), cell(15)), ("/a/aaaaaaaaaa -> /b", "/a…aaaaaa -> /b"))
 
 
+    def test_rights_stay_whole_longer_than_their_path(self) -> None:
+        cell = layout.lacks([Lack(("write_file", "read_file", "make_reg"), " on ", "/srv/data/files")])
+        self.assertEqual(cell(50), "write_file, read_file, make_reg on /srv/data/files")
+        self.assertEqual(cell(42), "write_file, read_file, make_reg on …/files")
+        self.assertEqual(cell(41), "write_file, read_file, make_reg")
+        self.assertEqual((cell(30), cell(24)), ("write_file, read_file +1",) * 2)
+        self.assertEqual((cell(23), cell(13)), ("write_file +2",) * 2)
+        self.assertEqual(layout.wide(cell(12)), 12)
+
+    def test_rights_on_two_paths(self) -> None:
+        cell = layout.lacks([Lack(("refer",), " on ", "/srv/data"), Lack(("refer",), " on ", "/srv/files")])
+        self.assertEqual(cell(39), "refer on /srv/data; refer on /srv/files")
+        self.assertEqual(cell(30), "refer on …data; refer on …iles")
+        self.assertEqual((cell(29), cell(5)), ("refer", "refer"))
+
+    def test_names_that_are_alike_by_a_shorter_form_are_told_once(self) -> None:
+        cell = layout.names(["/usr/bin/git", "/usr/lib/git-core/git"], brief=os.path.basename)
+        self.assertEqual((cell(35), cell(10)), ("/usr/bin/git, /usr/lib/git-core/git", "git"))
+
+    def test_many_names_have_separators_in_their_number(self) -> None:
+        self.assertEqual(layout.names([str(number) for number in range(2000)])(30), "0, 1, 2 and 1,997 more")
+
+
 class Tables(unittest.TestCase):
     COLUMNS = (Column("times", number=True), Column("place", short=True), Column("error", once=True),
                Column("program", short=True, less=True, once=True, none=" or none yet"), Column("why", short=True))
@@ -116,6 +139,24 @@ class Tables(unittest.TestCase):
         self.assertEqual(lines[1], "      2  /a/…/to/a/file  EACCES  /x       execute")
         self.assertEqual(max(map(len, lines)), 51)
         self.assertEqual(self.table(50, *rows)[0], "- times: 2")
+
+    def test_a_column_that_is_told_before_the_table_where_others_would_be_shortened(self) -> None:
+        columns = (*self.COLUMNS[:3], Column("program", short=True, less=True, instead=words("programs: x, y")),
+                   self.COLUMNS[4])
+        rows = ("2", "/a/long/path", "EACCES", "/bin/x", "execute"), ("1", "/b", "EXDEV", "/bin/y", "read_file")
+        cells = [[words(cell) for cell in row] for row in rows]
+        self.assertEqual(list(layout.table(columns, cells, 54))[0], "  times  place         error   program  why")
+        self.assertEqual(list(layout.table(columns, cells, 48)), [
+            "  programs: x, y",
+            "  times  place         error   why",
+            "      2  /a/long/path  EACCES  execute",
+            "      1  /b            EXDEV   read_file",
+        ])
+
+    def test_words_are_folded_where_no_row_can_be_one(self) -> None:
+        lines = list(layout.table((Column("why", short=True), Column("place")), [
+            [words("its opening was refused or not asked"), words("/a/name/longer/than/the/line")]], 20))
+        self.assertEqual(lines, ["- why: its opening", "    was refused or", "    not asked", "  place: /a/…he/line"])
 
     def test_a_line_for_each_cell_where_no_row_can_be_one(self) -> None:
         self.assertEqual(self.table(20, ("2", "/a/long/path/to", "EACCES", "/x", "execute")), [

@@ -139,7 +139,7 @@ class Data(unittest.TestCase):
             with self.subTest(abi):
                 self.assertEqual(shown, [
                     f"{of_abi['records']:,} records at ABI {abi}{of_abi['allowed']:,} allowed"
-                    f"{of_abi['refused']:,} refused, {abi} of them accepted{of_abi['moot']:,} moot"
+                    f"{of_abi['refused']:,} refused, {abi} of them accepted{of_abi['moot']:,} not asked (moot)"
                 ])
 
     def test_what_is_accepted(self) -> None:

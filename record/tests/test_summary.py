@@ -19,7 +19,8 @@ from landaudit_record.jsonl import Record
 from landaudit_record.problems import Problem
 from landaudit_record.reading import Walk, judged
 from landaudit_record.rights import FS, alone
-from landaudit_record.summary import Summary
+from landaudit_record.explanations import Missing
+from landaudit_record.summary import RefusingLayer, Summary
 from landaudit_record.summary_text import Beside, Style
 
 from .recorded import PID, failed, moot, records, refused, write_lines, write_report
@@ -448,6 +449,45 @@ class Narrow(unittest.TestCase):
                 self.assertLessEqual(max(map(layout.wide, lines)), width)
                 self.assertTrue(all(line.isprintable() for line in lines))
                 self.assertTrue(any("read_file" in line and "warning" not in line for line in lines))
+
+
+class AtEighty(unittest.TestCase):
+    """Screens of 80 columns: of rights and programs, the rights stay whole."""
+
+    COMPILER = "/usr/lib/gcc/x86_64-linux-gnu/12/cc1"
+    WRITES = ("write_file", "read_file", "make_reg")
+
+    def found(self, *places: str) -> list[str]:
+        """What is said of files that a compiler and an assembler make at some places."""
+        found = Summary(5, Counter(refused=2 * len(places)))
+        for index, place in enumerate(places):
+            missing = Missing(self.WRITES, os.path.dirname(place))
+            refusal = summary.Refusal("open rw create", place, "EACCES", (RefusingLayer(1, 1, (missing,)),), None)
+            program = "/usr/bin/x86_64-linux-gnu-as" if index % 2 else self.COMPILER
+            found.refusals[refusal] = Counter({program: 2 + index % 2})
+        return text(found, width=80).splitlines()
+
+    def test_rights_are_not_cut_for_their_path_nor_for_programs(self) -> None:
+        lines = self.found("/srv/build/objects/cc4aUeXw.s", "/srv/build/objects/ccb0Tpq1.s")
+        self.assertEqual(lines[3:], [
+            "refused, the most frequent first (2 kinds)",
+            "  all: error EACCES, layers policy's 1",
+            "  programs: x86_64-linux-gnu-as, cc1",
+            "  times  call            place                   why",
+            "      3  open rw create  /srv/b…ects/ccb0Tpq1.s  write_file, read_file, make_reg",
+            "      2  open rw create  /srv/b…ects/cc4aUeXw.s  write_file, read_file, make_reg",
+        ])
+
+    def test_groups_have_their_rights_and_say_the_programs_once(self) -> None:
+        places = (f"/srv/{('compiled', 'assembled')[number % 2]}/{number % 10}/cc{number}.s" for number in range(22))
+        self.assertEqual(self.found(*places)[3:9], [
+            "refused: 22 kinds in 2 groups, the earliest first, then the most frequent",
+            "  all: error EACCES, layers policy's 1",
+            "  programs: x86_64-linux-gnu-as, cc1",
+            "  times  why                              where",
+            "     22  write_file, read_file, make_reg  5 directories in /srv/compiled",
+            "     33  write_file, read_file, make_reg  5 directories in /srv/assembled",
+        ])
 
 
 class Data(unittest.TestCase):

@@ -151,10 +151,11 @@ class Trying(StandIn):
             "    3        7        1     0",
             "    4        7        1     0",
         ])
-        lacking = "note: ABI {0} is missing rights of the policy: see --abi {0} (3 notes)"
-        self.assertEqual(notes_in(out), [lacking.format(abi) for abi in (1, 2)])
+        self.assertEqual(notes_in(out), ["note: ABI 1-2 lack rights of the policy: --abi N says which of them N lacks"])
         self.assertEqual(errors, "")
         self.assertEqual(self.ran(), ["1-4 --best-effort --explain"])
+        _, out, _ = self.audited("audit", self.recording, "--policy", self.policy, abi="2-4")
+        self.assertEqual(notes_in(out), ["note: ABI 2 lacks rights of the policy: --abi 2 says which"])
 
     def test_a_page_is_written_beside_what_is_printed(self) -> None:
         file = self.folder / "page.html"

@@ -12,7 +12,8 @@ from ..problems import USAGE, Problem
 
 NAME = "apply"
 HELP = "write a trace in which the recorded program starts under a policy"
-EXAMPLE = "landaudit-record apply policy.toml rec --out tried.jsonl"
+EXAMPLE = """landaudit-record apply policy.toml rec --out tried.jsonl
+  landaudit --abi 1-5 --best-effort rec/tree.jsonl tried.jsonl"""
 POLICIES = """
 A policy is a TOML file: each [[layer]] has handled_access_fs, handled_access_net,
 and rules, [[layer.path_beneath]] with allowed_access and parent (one or several)

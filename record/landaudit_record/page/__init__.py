@@ -68,7 +68,7 @@ def _parts(summaries: Sequence[Summary], found: Paths, tried: Tried | None) -> I
     yield Section("totals", "By ABI", sections.totals(by_abi.steps(summaries)))
     yield Section("paths", "Paths", sections.paths(abis, found))
     yield Section("rules", "Rules of the policy", sections.rules(abis, tried, found) if tried else Markup())
-    yield Section("moot", "Moot", sections.moot(newest))
+    yield Section("moot", "Not asked (moot)", sections.moot(newest))
     yield Section("unsaid", "Not recorded", sections.unsaid(newest))
 
 

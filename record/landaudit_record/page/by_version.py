@@ -1,4 +1,4 @@
-"""Parts of the page that differ from ABI to ABI: equal ones are written once, and the page shows one at a time."""
+"""What differs from ABI to ABI: said once for those that say the same, of which the page shows one at a time."""
 
 from __future__ import annotations
 
@@ -9,12 +9,12 @@ from .markup import Markup, element, together
 
 
 def kinds(abis: Iterable[int]) -> str:
-    """The classes of an element that is shown only at some ABIs."""
+    """The classes of what is shown at some ABIs alone."""
     return " ".join(("a", *(f"a{abi}" for abi in abis)))
 
 
 def varied(abis: Sequence[int], said: Sequence[str]) -> Markup:
-    """The text of each ABI; the page shows that of the chosen one."""
+    """What each ABI says, of which the page shows that of the one which is chosen."""
     if len(set(said)) == 1:
         return together(said[:1])
     groups: dict[str, list[int]] = {}
@@ -29,9 +29,12 @@ def choice(abi: int) -> str:
 
 
 def rules(newest: int) -> Markup:
-    """The style rules that show the chosen ABI without a script; an old browser shows the newest ABI."""
-    chosen = (f"body:has(#{choice(abi)}:checked) .a:not(.a{abi}){{display:none}}\n"
-              f"body:has(#{choice(abi)}:checked) .t{abi}{{background:var(--chosen)}}\n"
+    """The rules of style by which what is chosen is shown, without a script; an old browser shows the newest ABI.
+
+    It is the bar that has the button and not the body: Chromium looks through all of what has one, once for each row.
+    """
+    chosen = (f"nav:has(#{choice(abi)}:checked)~main .a:not(.a{abi}){{display:none}}\n"
+              f"nav:has(#{choice(abi)}:checked)~main .t{abi}{{background:var(--chosen)}}\n"
               for abi in range(OLDEST_ABI, NEWEST_ABI + 1))
     old = f"@supports not selector(:has(a)){{.a:not(.a{newest}),.abis{{display:none}}}}\n"
     return Markup("".join((*chosen, old)))

@@ -88,7 +88,7 @@ def _figures(summary: Summary) -> Markup:
         (f"{summary.records:,}", f"records at ABI {summary.abi}", ""),
         (f"{verdicts['allowed']:,}", "allowed", "allowed"),
         (f"{verdicts['refused']:,}", f"refused{of_these}", "refused" if summary.others_refused else "none"),
-        (f"{verdicts['moot']:,}", "moot", "moot"),
+        (f"{verdicts['moot']:,}", "not asked (moot)", "moot"),
     )
     told = (element("div", element("b", number), " ", element("span", what), kind=kind)
             for number, what, kind in figures)

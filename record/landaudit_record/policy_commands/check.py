@@ -3,14 +3,17 @@
 from __future__ import annotations
 
 import argparse
+import json
 import os
 from collections.abc import Iterator, Sequence
-from dataclasses import dataclass, replace
+from dataclasses import asdict, dataclass, replace
 from pathlib import Path
+from typing import Any
 
-from .. import asking, cases, granting, landaudit, policies, tap
+from .. import asking, cases, explanations, granting, landaudit, policies, tap
 from ..asking import Found
 from ..cases import Case
+from ..explanations import Kept, Objection
 from ..granting import Grant
 from ..options import add_landaudit, add_policy
 from ..policies import Policy
@@ -19,43 +22,66 @@ from ..rights import NEWEST_ABI
 from ..wording import span
 
 NAME = "check"
+#: The version of what --json prints: docs/check.schema.json describes it, docs/CI.md says when it changes.
+FORMAT = 1
 HELP = "check that a policy allows what it must allow, and refuses what it must refuse"
 EXAMPLE = "landaudit-policy check policy.toml cases.toml"
 CASES = """
-A file of cases is TOML: each [[refused]] or [[allowed]] has a call in the words
-of a trace (open r, open w create, exec, mknod fifo, rename, connect, ..) with
-path, from and to, or port. It has abi (one or a range) unless it is about all
-ABIs, and kind for a path that does not exist on this machine. The output is TAP,
-version 14."""
+Cases are TOML: each [[refused]] or [[allowed]] has a call in the words of a
+trace (open r, open w create, exec, mknod fifo, rename, connect, ..) with path,
+from and to, or port; abi (one or a range) unless it is about all of them; and
+kind for a path that is not on this machine. The output is TAP, version 14, or
+with --json the same as data."""
 
 
 def add_arguments(parser: argparse.ArgumentParser) -> None:
-    """Adds the arguments of the subcommand."""
+    """Names the words of the subcommand."""
     parser.description = f"{HELP}\n{CASES}"
     add_policy(parser)
     parser.add_argument("cases", metavar="CASES.toml", type=Path, help="what the policy must allow and refuse")
+    parser.add_argument("--json", action="store_true", help="print the same as data")
     add_landaudit(parser)
 
 
 def run(arguments: argparse.Namespace) -> int:
-    """Prints a line of TAP for each case, with why; the status is 1 if any fails."""
+    """Prints a line of TAP for each case, with why, or all as data; the status is 1 if any fails."""
     program = landaudit.find(arguments.landaudit)
     policy = _followed(policies.read(arguments.policy))
     given = cases.read(arguments.cases)
     outcomes = list(_outcomes(program, policy, given))
+    if arguments.json:
+        print(json.dumps(_data(arguments, outcomes), indent=2))
+    else:
+        _print(outcomes)
+    return 0 if all(outcome.holds for outcome in outcomes) else 1
+
+
+def _print(outcomes: Sequence[_Outcome]) -> None:
+    """Prints TAP."""
     print(tap.VERSION)
     print(tap.plan(len(outcomes)))
     for number, outcome in enumerate(outcomes, start=1):
         case = outcome.case
-        words = f"{'refused' if case.refused else 'allowed'}: {case.text}"
         at = "" if case.abis == cases.ALL_ABIS else f" at ABI {span(case.abis)}"
-        for line in tap.point(number, outcome.holds, words + at, outcome.about()):
+        for line in tap.point(number, outcome.holds, f"{case.must_be}: {case.text}{at}", outcome.about()):
             print(line)
-    return 0 if all(outcome.holds for outcome in outcomes) else 1
+
+
+def _data(arguments: argparse.Namespace, outcomes: Sequence[_Outcome]) -> dict[str, Any]:
+    """What is found of all cases, as data for programs; its keys stay."""
+    held = sum(outcome.holds for outcome in outcomes)
+    return {
+        "format": FORMAT,
+        "policy": str(arguments.policy),
+        "cases": str(arguments.cases),
+        "held": held,
+        "failed": len(outcomes) - held,
+        "results": [outcome.data() for outcome in outcomes],
+    }
 
 
 def _followed(policy: Policy) -> Policy:
-    """The policy with the targets of its parents on this machine: a rule is on an object, and not on a link to it."""
+    """The policy with what its parents lead to on this machine: a rule is on an object, and not on a link to it."""
     return replace(
         policy,
         layers=tuple(
@@ -73,7 +99,7 @@ def _followed(policy: Policy) -> Policy:
 
 @dataclass(frozen=True)
 class _Outcome:
-    """A case with landaudit's answer at each of its ABIs, and the rules that grant something of the call."""
+    """A case with what landaudit answers at each of its ABIs, and the rules that grant something of the call."""
 
     case: Case
     answers: dict[int, Found]
@@ -85,13 +111,30 @@ class _Outcome:
         return all(found.passes != self.case.refused for found in self.answers.values())
 
     def about(self) -> dict[str, str | Sequence[str]]:
-        """The answer at each ABI, with the rules that grant the call, or the layers that refuse it and why."""
+        """What is answered at which ABI, and by which layers and rules, or which rights are missing."""
         about: dict[str, str | Sequence[str]] = {}
         for abis, found in _together(self.answers):
             about[f"abi {span(abis)}"] = list(_refusing(found)) if found.answer.refused else "allowed"
-        if any(found.passes for found in self.answers.values()):
+        if self.passes_somewhere:
             about["rules"] = [str(grant) for grant in self.grants] or "no layer handles what the call asks"
         return about
+
+    @property
+    def passes_somewhere(self) -> bool:
+        """Whether an ABI lets the call pass."""
+        return any(found.passes for found in self.answers.values())
+
+    def data(self) -> dict[str, Any]:
+        """The same as data for programs."""
+        case = self.case
+        return {
+            "must_be": case.must_be,
+            "call": case.call,
+            "place": case.place,
+            "holds": self.holds,
+            "answers": [_answer_data(abi, found) for abi, found in self.answers.items()],
+            "grants": [{"text": str(it), **asdict(it)} for it in self.grants] if self.passes_somewhere else [],
+        }
 
 
 def _outcomes(program: Path, policy: Policy, given: cases.Cases) -> Iterator[_Outcome]:
@@ -104,12 +147,12 @@ def _outcomes(program: Path, policy: Policy, given: cases.Cases) -> Iterator[_Ou
         answers = {abi: by_abi[abi][number] for abi in case.abis}
         for found in answers.values():
             if found.answer.verdict == "moot":
-                raise Problem(f"{given.path}: {case.text}: Landlock is not asked: {found.reason}")
+                raise Problem(f"{given.path}: {case.text}: the policy is not asked: {found.reason}")
         yield _Outcome(case, answers, grants[number])
 
 
 def _together(answers: dict[int, Found]) -> Iterator[tuple[range, Found]]:
-    """Groups neighbouring ABIs with the same answer."""
+    """Neighbouring ABIs that say the same, together."""
     first: int | None = None
     for abi, found in answers.items():
         if first is None:
@@ -124,4 +167,30 @@ def _refusing(found: Found) -> Iterator[str]:
     """What each layer objects to."""
     if found.answer.refused:
         for layer, objections in found.objections.items():
-            yield f"layer {layer}: {'; '.join(str(objection) for objection in objections)}"
+            yield f"layer {layer}: {'; '.join(map(_text, objections))}"
+
+
+def _text(objection: Objection) -> str:
+    """An objection, without the line of a trace that was written for the question alone."""
+    if isinstance(objection, Kept):
+        return f"{', '.join(objection.rights)} on {objection.path} when it was opened"
+    return str(objection)
+
+
+def _answer_data(abi: int, found: Found) -> dict[str, Any]:
+    """What an ABI answers, as data: the error and the layers of a call that is refused."""
+    layers = found.objections.items() if found.answer.refused else ()
+    return {
+        "abi": abi,
+        "answer": found.answer.verdict,
+        "error": found.answer.error,
+        "layers": [{"number": number, "objections": [_objection_data(it) for it in objections]}
+                   for number, objections in layers],
+    }
+
+
+def _objection_data(objection: Objection) -> dict[str, Any]:
+    """An objection as data, by the same text."""
+    data = {**explanations.as_data(objection), "text": _text(objection)}
+    data.pop("opened", None)
+    return data

@@ -1,0 +1,366 @@
+"""The data that `audit --json` and `check --json` print, by the schemas in docs/; and the validator that reads these."""
+
+from __future__ import annotations
+
+import contextlib
+import copy
+import io
+import json
+import re
+import unittest
+from collections import Counter
+from collections.abc import Callable, Iterator, Sequence
+from pathlib import Path
+from typing import Any
+
+from landaudit_record import by_abi, cli
+from landaudit_record.commands import audit
+from landaudit_record.explanations import Closed, Gained, Kept, Missing, Mounting
+from landaudit_record.landaudit import BUILT
+from landaudit_record.policy_commands import check
+from landaudit_record.recorder import converting
+from landaudit_record.recorder.ports import Ports
+from landaudit_record.summary import Accepted, Refusal, RefusingLayer, Summary, as_data
+
+from .json_schema import DIALECT, DOCS, Schema, Unknown, Validator
+from .kept_logs import KeptLogs
+from .stand_in import StandIn
+from .test_page import HOSTILE
+
+AUDIT, CHECK = (Validator.of(f"{name}.schema.json") for name in ("audit", "check"))
+FORMATS = (DOCS / "FORMATS.md").read_text(encoding="utf-8")
+
+#: A schema, values that are as it says, and values that are not, by the documents Core and Validation of 2020-12.
+KEYWORDS: tuple[tuple[Schema, tuple[Any, ...], tuple[Any, ...]], ...] = (
+    ({"type": "integer"}, (0, -3, 2.0), (True, "1", 1.5, None, [])),
+    ({"type": ["string", "null"]}, ("", None), (0, False, {})),
+    ({"type": "object"}, ({},), ([], "", None)),
+    ({"type": "array"}, ([],), ({}, "")),
+    ({"type": "boolean"}, (True, False), (0, 1, "true")),
+    ({"const": 1}, (1,), (2, "1", True, None)),
+    ({"enum": ["a", None]}, ("a", None), ("b", False, "")),
+    ({"required": ["a"]}, ({"a": None}, {"a": 1, "b": 2}, "no object"), ({}, {"b": 1})),
+    ({"dependentRequired": {"a": ["b"]}}, ({}, {"b": 1}, {"a": 1, "b": 2}, 3), ({"a": 1},)),
+    ({"properties": {"a": {"type": "null"}}}, ({}, {"a": None}, {"b": 1}, []), ({"a": 1},)),
+    ({"additionalProperties": {"minimum": 1}}, ({}, {"x": 1}, 0), ({"x": 0}, {"x": 1, "y": 0})),
+    ({"items": {"type": "string"}}, ([], ["a"], {"a": 1}), ([1], ["a", None])),
+    ({"minItems": 1}, ([0], "", {}), ([],)),
+    ({"maxItems": 1}, ([], [0], "ab"), ([0, 0],)),
+    ({"minimum": 1}, (1, 2.5, "0", True), (0, 0.5, -1)),
+    ({"maximum": 1}, (1, 0.5, "2"), (2, 1.5)),
+    ({"minLength": 1}, ("a", 0, []), ("",)),
+    ({"pattern": "^/"}, ("/", "/a", 3), ("a/", "")),
+    ({"oneOf": [{"type": "integer"}, {"minimum": 2}]}, (1, 2.5), (2, 0.5)),
+    ({"$ref": "#/$defs/a", "$defs": {"a": {"const": 1}}}, (1,), (2,)),
+    ({"properties": {"a": {"$ref": "#"}}, "required": ["b"]}, ({"b": 1, "a": {"b": 1}},), ({"b": 1, "a": {}},)),
+)
+
+#: All that a layer objects to.
+OBJECTIONS = (
+    Missing(("read_file", "write_file"), "/a/f"), Closed(("connect_tcp",), 443),
+    Gained("/a/f", ("execute",), "/b"), Mounting(), Kept(("truncate",), "/a/f", 7),
+)
+POLICY = """[[layer]]
+handled_access_fs = ["all"]
+handled_access_net = ["connect_tcp"]
+[[layer.path_beneath]]
+allowed_access = ["read"]
+parent = ["/usr", "/lib"]
+[[layer.path_beneath]]
+allowed_access = ["make_reg", "write_file", "refer"]
+parent = "/tmp"
+[[layer.net_port]]
+allowed_access = ["connect_tcp"]
+port = [80, 443]
+[[layer]]
+handled_access_fs = ["truncate", "refer"]
+[[accepted]]
+call = "ioctl"
+path = "/dev/null"
+reason = "shells ask"
+"""
+CASES = """
+[[refused]]
+call = "open r"
+path = "/etc/passwd"
+[[refused]]
+call = "open r"
+path = "/usr"
+[[refused]]
+call = "rename"
+from = "/usr/x"
+kind = "reg"
+to = "/tmp/x"
+[[refused]]
+call = "ftruncate"
+path = "/tmp/none"
+kind = "reg"
+[[refused]]
+call = "mount"
+[[refused]]
+call = "connect"
+port = 22
+[[allowed]]
+call = "connect"
+port = 80
+abi = "4-5"
+[[allowed]]
+call = "bind"
+port = 80
+"""
+
+
+class Keywords(unittest.TestCase):
+    """The validator itself."""
+
+    def test_each_keyword(self) -> None:
+        for schema, good, bad in KEYWORDS:
+            validator = Validator({"$schema": DIALECT, **schema})
+            for value in good:
+                with self.subTest(schema, good=value):
+                    self.assertEqual(validator.faults(value), [])
+            for value in bad:
+                with self.subTest(schema, bad=value):
+                    self.assertNotEqual(validator.faults(value), [])
+
+    def test_what_it_does_not_know(self) -> None:
+        for schema in ({"maxLength": 3}, {"format": "uri"}, {"anyOf": [{}]}, {"type": "number"},
+                       {"$ref": "other.json"}, {"$ref": "#/$defs/none", "$defs": {}}, {"properties": {"a": {"not": {}}}}):
+            with self.subTest(schema), self.assertRaises(Unknown):
+                Validator({"$schema": DIALECT, **schema}).faults({"a": 1})
+        for dialect in ({}, {"$schema": "http://json-schema.org/draft-07/schema#"}):
+            with self.subTest(dialect), self.assertRaises(Unknown):
+                Validator(dialect)
+
+    def test_faults_say_where(self) -> None:
+        schema = {"properties": {"a": {"items": {"type": "null"}}}}
+        self.assertEqual(Validator({"$schema": DIALECT, **schema}).faults({"a": [None, 1]}), ["/a/1: is no null"])
+
+    def test_members_that_no_schema_names(self) -> None:
+        inner: Schema = {"properties": {"b": {}}, "oneOf": [{"properties": {"c": {}}}]}
+        schema = {"$schema": DIALECT, "properties": {"a": {"items": inner}, "m": {"additionalProperties": {}}}}
+        value = {"a": [{"b": 1, "c": 1, "x": 1}], "m": {"free": 1}, "y": 2}
+        self.assertEqual(Validator(schema).undescribed(value), ["/a/0/x", "/y"])
+
+
+class Schemas(unittest.TestCase):
+    """The two schemas against documents that they must refuse, and against the document that describes members."""
+
+    def test_formats_describes_each_member(self) -> None:
+        for validator, title in ((AUDIT, "Data of an audit"), (CHECK, "Data of a check")):
+            section = FORMATS.partition(f"### {title}\n")[2].partition("\n##")[0]
+            rows = re.findall(r"^\| (`.*?) \|", section, re.MULTILINE)
+            described = {name for row in rows for name in re.findall("`([^`]+)`", row)}
+            with self.subTest(title):
+                self.assertEqual(described, validator.members())
+
+    def test_the_versions_are_those_of_the_programs(self) -> None:
+        for name, number in (("audit", audit.FORMAT), ("check", check.FORMAT)):
+            schema = json.loads((DOCS / f"{name}.schema.json").read_text(encoding="utf-8"))
+            self.assertEqual(schema["properties"]["format"], {"const": number})
+
+    def test_what_is_no_audit(self) -> None:
+        for why, spoil in SPOILED_AUDITS.items():
+            document = an_audit()
+            self.assertEqual(AUDIT.faults(document), [])
+            spoil(document)
+            with self.subTest(why):
+                self.assertNotEqual(AUDIT.faults(document), [])
+
+    def test_what_is_no_check(self) -> None:
+        for why, spoil in SPOILED_CHECKS.items():
+            document = copy.deepcopy(A_CHECK)
+            self.assertEqual(CHECK.faults(document), [])
+            spoil(document)
+            with self.subTest(why):
+                self.assertNotEqual(CHECK.faults(document), [])
+
+    def test_a_member_that_is_gone(self) -> None:
+        """Each member of each object is needed, but for those that only some objections have."""
+        optional = {"rights", "path", "directory", "port", "opened", "recordings"}
+        for validator, whole in ((AUDIT, an_audit()), (CHECK, A_CHECK)):
+            for at, without in less(whole):
+                if at.rpartition("/")[2] not in optional and not re.search("(^|/)(programs|at|unsaid)/", at):
+                    with self.subTest(at):
+                        self.assertNotEqual(validator.faults(without), [])
+
+
+def less(document: Any) -> Iterator[tuple[str, Any]]:
+    """A document without one of its members, once for each; and where that was."""
+    for path in _paths(document):
+        without = copy.deepcopy(document)
+        inside = without
+        for step in path[:-1]:
+            inside = inside[step]
+        del inside[path[-1]]
+        yield "/".join(map(str, path)), without
+
+
+def _paths(value: Any) -> Iterator[list[Any]]:
+    """The ways to all members of objects in a value."""
+    if isinstance(value, dict):
+        for name, inside in value.items():
+            yield [name]
+            yield from ([name, *path] for path in _paths(inside))
+    elif isinstance(value, list):
+        for number, inside in enumerate(value):
+            yield from ([number, *path] for path in _paths(inside))
+
+
+def a_summary(abi: int, names: Sequence[str]) -> Summary:
+    """A summary that has something of everything, with these names of files."""
+    found = Summary(abi, Counter(allowed=9, moot=1), path_calls=9, moot_path_calls=1)
+    layers = tuple(RefusingLayer(number, None if number > 1 else 1, OBJECTIONS) for number in (1, 2))
+    for name in names:
+        found.refusals[Refusal("open r", f"/a/{name}", "EACCES", layers, None)] = Counter({name: 2, "-": 1})
+    found.refusals[Refusal("restrict", "-", "E2BIG", (), "the process has 16 layers already")] = Counter({"/bin/a": 1})
+    found.verdicts["refused"] = sum(programs.total() for programs in found.refusals.values())
+    found.accepted[Accepted("ioctl", "/dev/null", "")] = 1
+    found.moot["is not in the tree"] = Counter({"/c": 1})
+    found.warnings, found.unsaid, found.missing = {f"warning {abi}": 1}, Counter({"a class": 2}), ("2 calls",)
+    return found
+
+
+def an_audit(names: Sequence[str] = ("f", "g")) -> dict[str, Any]:
+    """What an audit of one recording prints that has something of everything."""
+    older, newer = a_summary(4, names), a_summary(5, names)
+    del older.refusals[next(iter(older.refusals))], newer.refusals[next(reversed(newer.refusals))]
+    data: dict[str, Any] = {
+        "format": 1, "recording": "rec", "policy": None, "as_recorded": False, **as_data(newer),
+        "abis": by_abi.as_data(by_abi.steps([older, newer])),
+    }
+    found: dict[str, Any] = json.loads(json.dumps(data))
+    return found
+
+
+#: What a check prints, by docs/FORMATS.md.
+A_CHECK: dict[str, Any] = {
+    "format": 1, "policy": "policy.toml", "cases": "cases.toml", "held": 1, "failed": 0,
+    "results": [{
+        "must_be": "refused", "call": "truncate", "place": "/a", "holds": True,
+        "answers": [
+            {"abi": 3, "answer": "refused", "error": "EACCES",
+             "layers": [{"number": 1, "objections": [{"text": "truncate on /a", "rights": ["truncate"], "path": "/a"}]}]},
+            {"abi": 2, "answer": "allowed", "error": None, "layers": []},
+        ],
+        "grants": [{"text": "layer 1: path_beneath 1 on /a grants read_file", "layer": 1, "rule": "path_beneath 1",
+                    "on": "/a", "rights": ["read_file"]}],
+    }],
+}
+
+Spoil = Callable[[dict[str, Any]], object]
+SPOILED_AUDITS: dict[str, Spoil] = {
+    "another version": lambda data: data.update(format=2),
+    "no number": lambda data: data.update(refused="31"),
+    "true is no number": lambda data: data.update(refused=True),
+    "fewer than none": lambda data: data.update(moot=-1),
+    "no ABI": lambda data: data.update(abi=0),
+    "of one recording and of several": lambda data: data.update(recordings=[an_audit(), an_audit()]),
+    "of several, of which one is missing": lambda data: (data.pop("recording"), data.update(recordings=[an_audit()])),
+    "of several, of which one has no name": lambda data: (
+        data.pop("recording"), data.update(recordings=[an_audit(), copy.deepcopy(data)])),
+    "a layer without objections": lambda data: data["refusals"][0]["layers"][0].update(objections=[]),
+    "neither layers nor a condition": lambda data: data["refusals"][0].update(layers=[]),
+    "layers and a condition": lambda data: data["refusals"][0].update(condition="no right is named"),
+    "no error": lambda data: data["refusals"][0].update(error="-"),
+    "never": lambda data: data["refusals"][0]["programs"].update({"/bin/a": 0}),
+    "a path that is none": lambda data: data["refusals"][0]["layers"][0]["objections"][0].update(path="a"),
+    "a path without rights": lambda data: data["refusals"][0]["layers"][0]["objections"][0].pop("rights"),
+    "a port past the last one": lambda data: data["refusals"][0]["layers"][0]["objections"][1].update(port=65536),
+    "no ABIs": lambda data: data.update(abis=[]),
+    "a list that is none": lambda data: data.update(not_judged=None),
+}
+SPOILED_CHECKS: dict[str, Spoil] = {
+    "another version": lambda data: data.update(format=2),
+    "no cases": lambda data: data.update(results=[]),
+    "another answer": lambda data: data["results"][0].update(must_be="moot"),
+    "refused by no layer": lambda data: data["results"][0]["answers"][0].update(layers=[]),
+    "refused without an error": lambda data: data["results"][0]["answers"][0].update(error=None),
+    "allowed with an error": lambda data: data["results"][0]["answers"][1].update(error="EACCES"),
+    "held is a word": lambda data: data["results"][0].update(holds="yes"),
+    "no rights": lambda data: data["results"][0]["grants"][0].update(rights=[]),
+}
+
+
+class Printed(StandIn):
+    """What an audit prints, by a landaudit whose reports are written by hand."""
+
+    def valid(self, printed: str) -> dict[str, Any]:
+        """What is printed, which is as the schema says and has nothing besides."""
+        data: dict[str, Any] = json.loads(printed)
+        self.assertEqual(AUDIT.faults(data), [])
+        self.assertEqual(AUDIT.undescribed(data), [])
+        return data
+
+    def test_an_audit_at_one_abi_and_at_several(self) -> None:
+        for abi, steps in (("3", 1), ("1-5", 5)):
+            data = self.valid(self.audited("audit", self.recording, "--policy", self.policy, "--json", abi=abi)[1])
+            self.assertEqual((data["format"], len(data["abis"])), (1, steps))
+            self.assertTrue(data["refusals"])
+
+    def test_an_audit_without_a_policy(self) -> None:
+        self.assertIsNone(self.valid(self.audited("audit", self.recording, "--json")[1])["policy"])
+
+    def test_an_audit_of_several_recordings(self) -> None:
+        second = self.folder / "second"
+        second.mkdir()
+        for file in ("tree.jsonl", "trace.jsonl"):
+            (second / file).write_bytes((self.recording / file).read_bytes())
+        words = ("audit", self.recording, second, "--policy", self.policy, "--json")
+        data = self.valid(self.audited(*words)[1])
+        self.assertEqual(len(data["recordings"]), 2)
+        self.assertEqual([one["format"] for one in data["recordings"]], [1, 1])
+
+    def test_a_summary_that_has_something_of_everything(self) -> None:
+        data = an_audit(HOSTILE)
+        self.assertEqual((AUDIT.faults(data), AUDIT.undescribed(data)), ([], []))
+        self.assertTrue(data["abis"][1]["breaks"] and data["abis"][1]["refused_no_more"])
+
+
+@unittest.skipUnless(BUILT.exists(), f"{BUILT} is not built")
+class Built(KeptLogs):
+    """What both commands print, by the built landaudit."""
+
+    def called(self, program: Any, *words: object) -> dict[str, Any]:
+        """What a command prints as data."""
+        with contextlib.redirect_stdout(io.StringIO()) as out, contextlib.redirect_stderr(io.StringIO()) as errors:
+            status = cli.main([*map(str, words), "--json"], program)
+        self.assertIn(status, (0, 1, 5), errors.getvalue())
+        found: dict[str, Any] = json.loads(out.getvalue())
+        return found
+
+    def file(self, name: str, text: str) -> Path:
+        """A file in the test's folder."""
+        path = Path(self._folder.name) / name
+        path.write_text(text, encoding="utf-8")
+        return path
+
+    def test_audits_of_kept_logs(self) -> None:
+        policy = self.file("policy.toml", POLICY)
+        for name in ("descriptors", "forks", "moves", "objects", "policy", "script", "threads"):
+            folder = self.folder(name)
+            converting.convert(folder, Ports())
+            for words in ((), ("--policy", policy)):
+                with self.subTest(name, words=words):
+                    data = self.called(cli.RECORD, "audit", folder, *words)
+                    self.assertEqual((AUDIT.faults(data), AUDIT.undescribed(data)), ([], []))
+                    self.assertTrue(data["refusals"] or not words)
+
+    def test_a_check(self) -> None:
+        data = self.called(cli.POLICY, "check", self.file("policy.toml", POLICY), self.file("cases.toml", CASES))
+        self.assertEqual((CHECK.faults(data), CHECK.undescribed(data)), ([], []))
+        self.assertEqual((data["held"] + data["failed"], len(data["results"])), (8, 8))
+        by_case = {f"{one['call']} {one['place']}": one for one in data["results"]}
+        self.assertEqual([by_case[case]["holds"] for case in ("open r /etc/passwd", "open r /usr")], [True, False])
+        (layer,) = by_case["open r /etc/passwd"]["answers"][0]["layers"]
+        self.assertEqual(layer["objections"], [
+            {"text": "read_file on /etc/passwd", "rights": ["read_file"], "path": "/etc/passwd"}])
+        (grant,) = by_case["connect port 80"]["grants"]
+        self.assertEqual(grant, {"text": "layer 1: net_port 1 on port 80 grants connect_tcp", "layer": 1,
+                                 "rule": "net_port 1", "on": "port 80", "rights": ["connect_tcp"]})
+        self.assertEqual([one["abi"] for one in by_case["connect port 80"]["answers"]], [4, 5])
+        self.assertEqual(by_case["mount -"]["answers"][0]["error"], "EPERM")
+
+
+if __name__ == "__main__":
+    unittest.main()
