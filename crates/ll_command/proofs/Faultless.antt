@@ -542,7 +542,19 @@ are_known =
             (refl, flag),
             (
               (refl, flag),
-              ((refl, flag), ((refl, flag), ((refl, flag), ((refl, sets), ((refl, sets), ((refl, inr (inr (inl refl))), ((refl, inr (inr (inr refl))), tt))))))),
+              (
+                (refl, flag),
+                (
+                  (refl, flag),
+                  (
+                    (refl, flag),
+                    (
+                      (refl, sets),
+                      ((refl, sets), ((refl, inr (inr (inl refl))), ((refl, inr (inr (inr refl))), tt))),
+                    ),
+                  ),
+                ),
+              ),
             ),
           ),
         ),

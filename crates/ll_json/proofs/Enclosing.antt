@@ -19,6 +19,3 @@ named_end (named ∷ more) =
 
 pub array_tokens : (values : List Json) → token.begin_array ∷ (values_tokens values ++ token.end_array ∷ []) ≡ json_tokens (array_of values)
 array_tokens values = ap (λ rest. token.begin_array ∷ rest) (values_end values)
-
-pub object_tokens : (members : List Named) → token.begin_object ∷ (named_tokens members ++ token.end_object ∷ []) ≡ json_tokens (object_of members)
-object_tokens members = ap (λ rest. token.begin_object ∷ rest) (named_end members)

@@ -1,5 +1,6 @@
 -- The lines of records that are put together of texts are those of the values that the versions answer.
-use Rattle.std.proofs.Common.{◌≡◌, ◌∙◌, ◌+◌, ◌-◌, ◌<◌, ◌≤◌, ℕ, zero, suc, Bool, true, false, cond, List, [], ◌∷◌, ◌++◌, Option, Some, None, drop, get_or, length, map}
+use Rattle.std.proofs.Common.{◌≡◌, ◌∙◌, ◌+◌, ◌-◌, ◌<◌, ◌≤◌, ℕ, zero, suc, Bool, true, false}
+use Rattle.std.proofs.Common.{cond, List, [], ◌∷◌, ◌++◌, Option, Some, None, drop, get_or, length, map}
 use Rattle.std.proofs.Common.{refl, sym, ap, ap₂, subst, append_assoc, arith, codes}
 use Rattle.std.specs.Prelude.{bytes_eq, if◌then◌else◌, slice_get, unwrap_or}
 use Rattle.std.specs.List.{range_with_len}
@@ -22,7 +23,8 @@ use Rattle.ll_report.specs.Rows.{is_row_left_out}
 use Rattle.ll_report.specs.Spans.{Span, spans_from, spans_of}
 use Rattle.ll_json.specs.Kept.{is_explained, kept_at, kept_under, said_by, text_said}
 use Rattle.ll_json.specs.Parts.{Named, items_of, line_text, members_of, named_tokens, values_tokens}
-use Rattle.ll_json.specs.Records.{about, answer_json, answer_members, layers_json, members_at, members_of_both, members_with, record_json, record_of, why_members}
+use Rattle.ll_json.specs.Records.{about, answer_json, answer_members, layers_json, members_at}
+use Rattle.ll_json.specs.Records.{members_of_both, members_with, record_json, record_of, why_members}
 use Rattle.ll_json.specs.Reports.{kept_of, lines_from, row_line, said_under}
 use Rattle.ll_json.specs.Rows.{head_tokens, row_text, rows_from, separated, span_text, versions_tokens}
 use Rattle.ll_json.specs.Spans.{answers_json, members_text, span_json}
@@ -68,7 +70,8 @@ module _ (tree : List Entry) (version : Version) (place : ℕ) where
         → unwrap_or (slice_get (cond explains (map (kept_at tree version.abi version.records) (range_with_len 0 (length version.records))) []) place) []
         ≡ members_text (members_with true tree version place r answer)
     kept_is explains below shows explained =
-        ap (λ (b : Bool). unwrap_or (slice_get (cond b (map (kept_at tree version.abi version.records) (range_with_len 0 (length version.records))) []) place) []) shows
+        ap (λ (b : Bool). unwrap_or (slice_get (cond b (map (kept_at tree version.abi version.records) (range_with_len 0 (length version.records))) []) place)
+        []) shows
         ∙ unwrap_or-slice_get (map (kept_at tree version.abi version.records) (range_with_len 0 (length version.records))) place []
         ∙ get_or-map-range_with_len (kept_at tree version.abi version.records) 0 (length version.records) place place [] below (omega arith)
         ∙ sym (kept_told tree version.abi version.records place answer answered r there explained)

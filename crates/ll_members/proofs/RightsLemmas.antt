@@ -11,7 +11,7 @@ use Rattle.ll_lines.specs.Fault.{◌>>=◌}
 use Rattle.ll_lines.specs.Members.{fold_texts}
 use Rattle.ll_lines.specs.Values.{data_of_items, is_in_range, are_in_range}
 use Rattle.ll_lines.proofs.Values.{text_in_data}
-use Rattle.ll_members.specs.Rights.{with_rights}
+use Rattle.ll_members.specs.BothSets.{with_rights}
 use Rattle.ll_members.specs.Slots.{with_text, rights_of, folded, part_of}
 use Rattle.ll_members.specs.Walks.{behind}
 use Rattle.ll_members.specs.declared.rights.Rights.{Rights}
@@ -27,7 +27,8 @@ pub folded-none : (rights : Option Rights) (r : Option (json.Items × List Token
 folded-none rights None none = refl
 folded-none rights (Some p) none = folds_none rights p (are_in_range p.0) refl none
 
-leaves_none : (rights : Option Rights) (p : json.Items × List Token) (b : Bool) → are_in_range p.0 ≡ b → cond {A = Option (Option Rights × List Token)} b (Some (rights_of rights p.0, p.1)) None ≡ None
+leaves_none : (rights : Option Rights) (p : json.Items × List Token) (b : Bool) → are_in_range p.0 ≡ b → cond {A = Option (Option Rights × List Token)} b
+    (Some (rights_of rights p.0, p.1)) None ≡ None
     → behind are_in_range (Some p) ≡ None
 leaves_none rights p true is none = absurd (let never = none in cc)
 leaves_none rights p false is none = rw is refl

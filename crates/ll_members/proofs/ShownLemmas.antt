@@ -9,7 +9,8 @@ use Rattle.ll_lines.specs.Fault.{◌>>=◌}
 use Rattle.ll_lines.specs.Members.{text_at, number_at, truth_at, flag_at, items_at, fold_texts}
 use Rattle.ll_lines.specs.Values.{data_of}
 use Rattle.ll_lines.proofs.Values.{whole, text_at_data, number_at_data, truth_at_data, flag_at_none, flag_at_some, items_at_none, items_at_some}
-use Rattle.ll_members.specs.Rights.{with_fs, fs_at, with_net, net_at, with_rights, texts_at, no_rights}
+use Rattle.ll_members.specs.Rights.{with_fs, fs_at, with_net, net_at, texts_at}
+use Rattle.ll_members.specs.BothSets.{with_rights, no_rights}
 use Rattle.ll_members.specs.Slots.{spelt, slot_at, Shows, Hold, text_from, number_from, truth_from, flag_from, rights_from, part_of}
 use Rattle.ll_members.specs.declared.rights.Rights.{Rights}
 use Rattle.ll_members.specs.declared.row.Members.{Members}

@@ -1,5 +1,6 @@
 -- Slots after one member more, and what they read as.
-use Rattle.std.proofs.Common.{◌≡◌, ℕ, zero, suc, replicate, ◌-◌, ◌<◌, ◌&&◌, ◌==◌, Bool, true, false, cond, List, [], ◌∷◌, length, get_or, slice_set, Option, Some, None, Ok, Err, refl, sym, ap, ◌∙◌, arith, true≢false, lit<}
+use Rattle.std.proofs.Common.{◌≡◌, ℕ, zero, suc, replicate, ◌-◌, ◌<◌, ◌&&◌, ◌==◌, Bool, true, false, cond, List, []}
+use Rattle.std.proofs.Common.{◌∷◌, length, get_or, slice_set, Option, Some, None, Ok, Err, refl, sym, ap, ◌∙◌, arith, true≢false, lit<}
 use Rattle.std.specs.Prelude.{◌≢◌, ok_or, IsUtf8}
 use Rattle.std.specs.Str.{bytes_eq}
 use Rattle.std.proofs.lemmas.List.{get_or-set_same, get_or-set_other}
@@ -13,14 +14,15 @@ use Rattle.ll_lines.specs.declared.fault.Cause.TheVariants.{Json}
 use Rattle.ll_lines.specs.Members.{value_at}
 use Rattle.ll_lines.specs.Values.{parsed, data_of, is_in_range, are_in_range, have_range}
 use Rattle.ll_members.specs.Walks.{behind, behind_value, behind_items, behind_members}
-use Rattle.ll_members.specs.Rights.{no_rights}
+use Rattle.ll_members.specs.BothSets.{no_rights}
 use Rattle.ll_members.specs.Slots.{spelt, named, place, slot_at, Shows, folded, IsReadFrom, AreReadFrom, Takes, IsValue, IsLine, AreMissing, Stands}
 use Rattle.ll_members.specs.declared.rights.Rights.{Rights}
 use Rattle.ll_members.specs.declared.row.Members.{Members}
 use Rattle.ll_members.specs.declared.row.Slot.{Slot}
 use Rattle.ll_members.specs.declared.row.Slot.TheVariants.{Missing, Names, Other}
 use Rattle.ll_members.specs.declared.row.Name.{Name}
-use Rattle.ll_members.specs.declared.row.Name.TheVariants.{Op, Pid, Child, Rs, Fs, Net, Path, From, To, Port, Fd, Mode, Create, Trunc, Kind, Exchange, Nnp, Admin, Driver}
+use Rattle.ll_members.specs.declared.row.Name.TheVariants.{Op, Pid, Child, Rs, Fs, Net, Path, From, To}
+use Rattle.ll_members.specs.declared.row.Name.TheVariants.{Port, Fd, Mode, Create, Trunc, Kind, Exchange, Nnp, Admin, Driver}
 use Rattle.ll_lines.proofs.Values.{in_range, out_of_range, parse_fails}
 use Rattle.ll_members.proofs.WalkLemmas.{found, is_unfit, behind-map}
 use Rattle.ll_members.proofs.RightsLemmas.{found_rights}
@@ -126,7 +128,8 @@ one_name : (key : List ℕ) (a b : Name) → named key ≡ Some a → key ≡ sp
 one_name key a b e is = itself a b (sym e ∙ ap named is ∙ named-spelt b)
 
 -- a member whose key is no name shows nowhere
-unnamed : (key : List ℕ) (name : Name) (same : Bool) (value : json.Json) (r : Option json.Json) (slot : Slot) → named key ≡ None → bytes_eq key (spelt name) ≡ same
+unnamed : (key : List ℕ) (name : Name) (same : Bool) (value : json.Json) (r : Option json.Json) (slot : Slot) → named key ≡ None → bytes_eq key (spelt name) ≡
+    same
     → Shows slot r → Shows slot (later_or (cond same (Some value) None) r)
 unnamed key name true value r slot none is shows =
     let key_is : key ≡ spelt name = (bytes_eq-Decides key (spelt name)).0 is in
@@ -162,14 +165,16 @@ renamed key name other false value r slots slot some spelt_so size is shows befo
     get_or-set_other slots (place name) (place other) slot Missing apart in
     rw now before
 
-pub takes_named : (depth : ℕ) (key : List ℕ) (old new : List Token) (before after : Members) (name : Name) (slot : Slot) → named key ≡ Some name → key ≡ spelt name
+pub takes_named : (depth : ℕ) (key : List ℕ) (old new : List Token) (before after : Members) (name : Name) (slot : Slot) → named key ≡ Some name → key ≡ spelt
+    name
     → length before.slots ≡ 19 → after.slots ≡ slice_set before.slots (place name) slot → IsReadFrom depth old new slot → Takes depth key old new before after
 takes_named depth key old new before after name slot some spelt_so size set read =
     record {
       value = read.value;
       is = read.is;
       fits = read.fits;
-      shown = λ other r shows. rw set (renamed key name other (bytes_eq key (spelt other)) read.value r before.slots slot some spelt_so size refl read.shows shows);
+      shown = λ other r shows. rw set (renamed key name other (bytes_eq key (spelt other)) read.value r before.slots slot some spelt_so size refl read.shows
+          shows);
     }
 
 -- members before others
@@ -231,7 +236,8 @@ one_more ms k j (Some p) = ap (λ all. Some (all, p.1)) (in_front-one ms k j p.0
 -- lists and objects
 
 pub read_array : (depth : ℕ) (ts new : List Token) (rights : Option Rights) → 0 < depth
-    → folded (Some no_rights) (json.items (json.value (depth - 1)) (length ts) ts) ≡ Some (rights, new) → IsReadFrom depth (Token.begin_array ∷ ts) new (Names rights)
+    → folded (Some no_rights) (json.items (json.value (depth - 1)) (length ts) ts) ≡ Some (rights, new) → IsReadFrom depth (Token.begin_array ∷ ts) new
+    (Names rights)
 read_array depth ts new rights some left =
     let js = found_rights (Some no_rights) (json.items (json.value (depth - 1)) (length ts) ts) rights new left in
     record {
@@ -246,7 +252,8 @@ no_array depth ts some none =
     ap (behind is_in_range) (value-begin_array depth ts some)
     ∙ behind-map is_in_range are_in_range json.array (λ js. refl) (json.items (json.value (depth - 1)) (length ts) ts) ∙ none
 
-pub read_object : (depth : ℕ) (ts new : List Token) → 0 < depth → behind_members (depth - 1) ts ≡ Some new → IsReadFrom depth (Token.begin_object ∷ ts) new Other
+pub read_object : (depth : ℕ) (ts new : List Token) → 0 < depth → behind_members (depth - 1) ts ≡ Some new → IsReadFrom depth (Token.begin_object ∷ ts) new
+    Other
 read_object depth ts new some left =
     let ms = found have_range (json.members (json.value (depth - 1)) (length ts) ts) new left in
     record {
@@ -282,12 +289,14 @@ line_read line members utf8 read =
       hold = record { read = read.value; is = refl; stands = read.stands };
     }
 
-pub line_goes_on : (line : List ℕ) (t : Token) (new : List Token) (members : Members) → IsUtf8 line → IsValue (tokens line) (t ∷ new) members → value_at line ≡ Err Json
+pub line_goes_on : (line : List ℕ) (t : Token) (new : List Token) (members : Members) → IsUtf8 line → IsValue (tokens line) (t ∷ new) members → value_at line ≡
+    Err Json
 line_goes_on line t new members utf8 read =
     let parses : ok_or (parsed line) Json ≡ Err Json = rw read.is refl in
     parse_fails line Json utf8 parses
 
-fails_if : (line : List ℕ) (r : Option (json.Json × List Token)) → IsUtf8 line → json.value 127 (tokens line) ≡ r → behind is_in_range r ≡ None → value_at line ≡ Err Json
+fails_if : (line : List ℕ) (r : Option (json.Json × List Token)) → IsUtf8 line → json.value 127 (tokens line) ≡ r → behind is_in_range r ≡ None → value_at line
+    ≡ Err Json
 fails_if line None utf8 is none =
     let parses : ok_or (parsed line) Json ≡ Err Json = rw is refl in
     parse_fails line Json utf8 parses
@@ -306,7 +315,8 @@ line_fails line utf8 none = fails_if line (json.value 127 (tokens line)) utf8 re
 pub stands_for_none : (members : Members) (value : json.Json) → AreMissing members → ((name : List ℕ) → get name value ≡ None) → Stands members value
 stands_for_none members value missing none name = rw (missing name, none (spelt name)) refl
 
-pub array_stands : (ts new : List Token) (members : Members) → AreMissing members → behind_items 126 ts ≡ Some new → IsValue (Token.begin_array ∷ ts) new members
+pub array_stands : (ts new : List Token) (members : Members) → AreMissing members → behind_items 126 ts ≡ Some new → IsValue (Token.begin_array ∷ ts) new
+    members
 array_stands ts new members missing left =
     let js = found are_in_range (json.items (json.value 126) (length ts) ts) new left in
     record {

@@ -1,3 +1,4 @@
 pub mod Rights
+pub mod BothSets
 pub mod Walks
 pub mod Slots

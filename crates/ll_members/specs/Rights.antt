@@ -9,7 +9,6 @@ use Rattle.ll_rights.specs.NetRights as network
 use Rattle.ll_lines.specs.declared.fault.Cause.{Cause}
 use Rattle.ll_lines.specs.Fault.{◌>>=◌}
 use Rattle.ll_lines.specs.Members.{items_at, fold_texts}
-use Rattle.ll_members.specs.declared.rights.Rights.{Rights}
 
 -- the texts of a member that is a list, put together one after another
 abbrev pub texts_at : {Whole : Type 0} → List ℕ → (Whole → List ℕ → Whole) → Whole → Data → Result Whole Cause
@@ -30,10 +29,3 @@ with_net set name = network.united set (network.only (network.right_named name))
 
 unfoldable pub net_at : Data → Result Net Cause
 net_at value = texts_at (codes "net") with_net network.no_right value
-
--- the same of both
-abbrev pub with_rights : Rights → List ℕ → Rights
-with_rights rights name = record { fs = with_fs rights.fs name; net = with_net rights.net name }
-
-abbrev pub no_rights : Rights
-no_rights = record { fs = files.no_right; net = network.no_right }

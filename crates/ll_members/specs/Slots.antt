@@ -11,7 +11,7 @@ use Rattle.ll_lines.specs.Members.{value_at}
 use Rattle.ll_lines.specs.Values.{data_of, is_in_range, are_in_range, have_range}
 use Rattle.ll_lines.specs.declared.fault.Cause.{Cause}
 use Rattle.ll_lines.specs.declared.fault.Cause.TheVariants.{Field}
-use Rattle.ll_members.specs.Rights.{with_rights, no_rights}
+use Rattle.ll_members.specs.BothSets.{with_rights, no_rights}
 use Rattle.ll_members.specs.declared.rights.Rights.{Rights}
 use Rattle.ll_members.specs.declared.row.Name.{Name}
 use Rattle.ll_members.specs.declared.row.Name.TheVariants.{Op, Pid, Child, Rs, Fs, Net, Path, From, To, Port, Fd, Mode, Create, Trunc, Kind, Exchange, Nnp, Admin, Driver}

@@ -68,7 +68,8 @@ fn rights_in(slot: Slot<'_>) -> Result<Rights, Cause>
 }
 
 fn fs_in(slot: Slot<'_>) -> Result<Fs, Cause>
-    ensures { Reads (λ set. set) result (part_of (λ (r : RightsOf). r.fs) (rights_from slot.entry)) }
+    ensures { Reads (λ set. set) result
+        (part_of (λ (r : RightsOf). r.fs) (rights_from slot.entry)) }
 {
     let rights = rights_in(slot)?;
     Ok(rights.fs)

@@ -5,7 +5,7 @@ ghost use Rattle.json.specs.Json as spec;
 ghost use Rattle.ll_lines.specs.declared.fault.Cause.TheVariants.{Json};
 ghost use Rattle.ll_lines.specs.Members.{value_at};
 ghost use Rattle.ll_lines.specs.Readers.{Fails};
-ghost use Rattle.ll_members.specs.Rights.{no_rights};
+ghost use Rattle.ll_members.specs.BothSets.{no_rights};
 ghost use Rattle.ll_members.specs.Walks.{behind_value, behind_items, behind_members};
 ghost use Rattle.ll_members.specs.Slots.{folded, with_text, text_from, IsReadFrom, Takes, AreReadFrom, AreMissing, IsValue, IsLine};
 

@@ -9,7 +9,7 @@ use Rattle.json.proofs.Grammar.{value_is, items_end}
 use Rattle.ll_lines.specs.Values.{is_in_range}
 use Rattle.ll_members.specs.Walks.{behind, behind_value}
 use Rattle.ll_lines.specs.declared.fault.Cause.TheVariants.{Field}
-use Rattle.ll_members.specs.Rights.{no_rights}
+use Rattle.ll_members.specs.BothSets.{no_rights}
 use Rattle.ll_members.specs.Slots.{IsReadFrom, with_text, folded}
 use Rattle.ll_members.proofs.RightsLemmas.{rights_more, rights_fail, behind-none}
 use Rattle.ll_members.proofs.ShownLemmas.{text_shows}
@@ -96,7 +96,8 @@ pub slot_in-returns-in_ok-rights-in-BeginArray-clause-value : goal.slot_in-retur
 slot_in-returns-in_ok-rights-in-BeginArray-clause-value t c =
     let first : c.args.reader.now ≡ token_of c.in_ok-token.token ∷ c.next.new.self = grind arith in
     let opened : c.args.reader.now ≡ Token.begin_array ∷ c.next.new.self = first ∙ ap (λ k. token_of k ∷ c.next.new.self) c.in-BeginArray.is in
-    rw opened (read_array c.args.depth c.next.new.self c.rights_in.new.reader c.in_ok-rights-in-BeginArray.rights (omega arith) c.in_ok-rights-in-BeginArray.ensures.value)
+    rw opened (read_array c.args.depth c.next.new.self c.rights_in.new.reader c.in_ok-rights-in-BeginArray.rights (omega arith)
+    c.in_ok-rights-in-BeginArray.ensures.value)
 
 pub slot_in-returns-then-depth-eq0-2-clause-value : goal.slot_in-returns-then-depth-eq0-2-clause-value
 unfolding value
@@ -130,7 +131,8 @@ rights_in-returns-in_err-slot-clause-value t c =
     let l = c.loop-reader in
     let n = l.invariant.0 in
     let going : (after_end_array l.reader ≡ None) × (c.take_end_array.new.self ≡ l.reader) = grind arith in
-    let none = behind-none (Some no_rights) (items p (length c.args.reader.now) c.args.reader.now) (l.invariant.2 ∙ rights_fail p l.rights n l.reader going.0 (rw (← going.1) c.in_err-slot.ensures.value)) in
+    let none = behind-none (Some no_rights) (items p (length c.args.reader.now) c.args.reader.now)
+    (l.invariant.2 ∙ rights_fail p l.rights n l.reader going.0 (rw (← going.1) c.in_err-slot.ensures.value)) in
     grind (arith, none)
 
 pub rights_in-returns-clause-value : goal.rights_in-returns-clause-value

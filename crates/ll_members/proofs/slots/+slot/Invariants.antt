@@ -1,7 +1,7 @@
 -- The values so far stand for these rights, and those that are left for the others.
 use Rattle.std.proofs.Common.{◌≡◌, ℕ, ◌+◌, ◌*◌, ◌≤◌, Some, length}
 use Rattle.json.specs.Json.{items, value}
-use Rattle.ll_members.specs.Rights.{no_rights}
+use Rattle.ll_members.specs.BothSets.{no_rights}
 use Rattle.ll_members.specs.Slots.{folded}
 use Rattle.ll_members.proofs.slots.+slot.Given as goal
 

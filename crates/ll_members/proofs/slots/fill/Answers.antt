@@ -61,7 +61,8 @@ returns-in_err-take_member-clause-value c =
     let s = c.next_key.new.self in
     let key : read_key l.reader ≡ Some (Some k, s) = grind arith in
     let none : behind_members c.args.depth c.args.reader.now ≡ None =
-    ap (behind have_range) l.invariant.3 ∙ behind-map have_range have_range (in_front seen) (λ ms. range-in_front seen ms l.invariant.4) (json.members p n l.reader)
+    ap (behind have_range) l.invariant.3 ∙ behind-map have_range have_range (in_front seen) (λ ms. range-in_front seen ms l.invariant.4)
+    (json.members p n l.reader)
     ∙ skip_member_fails p n l.reader s k key c.in_err-take_member.ensures.value in
     grind (arith, none)
 
@@ -74,7 +75,8 @@ returns-clause-value c =
     let r = c.next_key.new.self in
     record {
       entries = seen;
-      are = l.invariant.3 ∙ ap (parse_map (in_front seen)) (members_end p n l.reader r l.invariant.2 (grind arith)) ∙ ap (λ ms. Some (ms, r)) (in_front-none seen);
+      are = l.invariant.3 ∙ ap (parse_map (in_front seen)) (members_end p n l.reader r l.invariant.2 (grind arith)) ∙ ap (λ ms. Some (ms, r))
+          (in_front-none seen);
       fit = l.invariant.4;
       shown = l.invariant.5;
     }

@@ -9,7 +9,8 @@ use Rattle.ll_members.proofs.slots.fill.Given as goal
 abbrev pub invariant-loop-key : goal.invariant-loop-key
 invariant-loop-key l =
     (n : ℕ) × (seen : json.Members) × (length l.reader ≤ n)
-    × (json.members (json.value l.depth) (length l.initial.reader) l.initial.reader ≡ json.parse_map (in_front seen) (json.members (json.value l.depth) n l.reader))
+    × (json.members (json.value l.depth) (length l.initial.reader) l.initial.reader ≡ json.parse_map (in_front seen)
+    (json.members (json.value l.depth) n l.reader))
     × (have_range seen ≡ true) × ShowMembers l.members seen
 
 abbrev pub decreases-loop-key : goal.decreases-loop-key

@@ -16,8 +16,13 @@ skip_items-loop-reader-preserved t c =
     let l = c.loop-reader in
     let n = l.invariant.0 in
     let going : (after_end_array l.reader ≡ None) × (c.take_end_array.new.self ≡ l.reader) = grind arith in
-    let less : length c.skip_value.new.reader < length l.reader = rw (← going.1) c.in_ok-skip_value.ensures.shorter in
-    (n - 1, omega (arith, l.invariant.1), l.invariant.2 ∙ skip_item p n l.reader _ (omega (arith, l.invariant.1)) going.0 (rw (← going.1) c.in_ok-skip_value.ensures.value), omega (arith, l.invariant.3))
+    let less : length c.skip_value.new.reader < length l.reader = rw (← going.1) c.in_ok-skip_value.ensures.shorter in (
+      n - 1,
+      omega (arith, l.invariant.1),
+      l.invariant.2 ∙ skip_item p n l.reader _ (omega (arith, l.invariant.1)) going.0
+          (rw (← going.1) c.in_ok-skip_value.ensures.value),
+      omega (arith, l.invariant.3),
+    )
 
 pub skip_items-returns-in_err-skip_value-clause-value : goal.skip_items-returns-in_err-skip_value-clause-value
 skip_items-returns-in_err-skip_value-clause-value t c =
@@ -52,8 +57,12 @@ skip_members-loop-reader-preserved t c =
     let s = c.next_key.new.self in
     let key : read_key l.reader ≡ Some (Some k, s) = grind arith in
     let less = read_key-shorter l.reader (Some k) s key in
-    let lesser = c.in_ok-skip_value.ensures.shorter in
-    (n - 1, omega (arith, l.invariant.1), l.invariant.2 ∙ skip_member p n l.reader s _ k (omega (arith, l.invariant.1)) key c.in_ok-skip_value.ensures.value, omega (arith, l.invariant.3))
+    let lesser = c.in_ok-skip_value.ensures.shorter in (
+      n - 1,
+      omega (arith, l.invariant.1),
+      l.invariant.2 ∙ skip_member p n l.reader s _ k (omega (arith, l.invariant.1)) key c.in_ok-skip_value.ensures.value,
+      omega (arith, l.invariant.3),
+    )
 
 pub skip_members-returns-in_err-skip_value-clause-value : goal.skip_members-returns-in_err-skip_value-clause-value
 skip_members-returns-in_err-skip_value-clause-value t c =
@@ -115,7 +124,8 @@ skip_value-returns-else-depth-eq0-clause-value t c =
     let first : c.args.reader.now ≡ token_of c.in_ok-token.token ∷ c.next.new.self = grind arith in
     let opened : c.args.reader.now ≡ Token.begin_array ∷ c.next.new.self = first ∙ ap (λ k. token_of k ∷ c.next.new.self) c.in-BeginArray.is in
     let same : behind_value c.args.depth c.args.reader.now ≡ behind_items (c.args.depth - 1) c.next.new.self =
-    ap (behind_value c.args.depth) opened ∙ ap (behind is_in_range) (value-begin_array c.args.depth c.next.new.self (omega arith)) ∙ behind-map is_in_range are_in_range array (λ js. refl) (items (value (c.args.depth - 1)) (length c.next.new.self) c.next.new.self) in
+    ap (behind_value c.args.depth) opened ∙ ap (behind is_in_range) (value-begin_array c.args.depth c.next.new.self (omega arith)) ∙ behind-map is_in_range
+    are_in_range array (λ js. refl) (items (value (c.args.depth - 1)) (length c.next.new.self) c.next.new.self) in
     rw same c.skip_items.ensures.value
 
 pub skip_value-returns-then-depth-eq0-2-clause-value : goal.skip_value-returns-then-depth-eq0-2-clause-value
@@ -130,5 +140,6 @@ skip_value-returns-else-depth-eq0-2-clause-value t c =
     let first : c.args.reader.now ≡ token_of c.in_ok-token.token ∷ c.next.new.self = grind arith in
     let opened : c.args.reader.now ≡ Token.begin_object ∷ c.next.new.self = first ∙ ap (λ k. token_of k ∷ c.next.new.self) c.in-BeginObject.is in
     let same : behind_value c.args.depth c.args.reader.now ≡ behind_members (c.args.depth - 1) c.next.new.self =
-    ap (behind_value c.args.depth) opened ∙ ap (behind is_in_range) (value-begin_object c.args.depth c.next.new.self (omega arith)) ∙ behind-map is_in_range have_range object (λ ms. refl) (members (value (c.args.depth - 1)) (length c.next.new.self) c.next.new.self) in
+    ap (behind_value c.args.depth) opened ∙ ap (behind is_in_range) (value-begin_object c.args.depth c.next.new.self (omega arith)) ∙ behind-map is_in_range
+    have_range object (λ ms. refl) (members (value (c.args.depth - 1)) (length c.next.new.self) c.next.new.self) in
     rw same c.skip_members.ensures.value

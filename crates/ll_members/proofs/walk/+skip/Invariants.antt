@@ -15,14 +15,16 @@ decreases-skip_members l = 2 * l.depth + 1
 
 abbrev pub invariant-skip_items-loop-reader : goal.invariant-skip_items-loop-reader
 invariant-skip_items-loop-reader l =
-    (n : ℕ) × (length l.reader ≤ n) × (behind_items l.depth l.initial.reader ≡ behind are_in_range (items (value l.depth) n l.reader)) × (length l.reader ≤ length l.initial.reader)
+    (n : ℕ) × (length l.reader ≤ n) × (behind_items l.depth l.initial.reader ≡ behind are_in_range (items (value l.depth) n l.reader)) ×
+    (length l.reader ≤ length l.initial.reader)
 
 abbrev pub decreases-skip_items-loop-reader : goal.decreases-skip_items-loop-reader
 decreases-skip_items-loop-reader l = length l.reader
 
 abbrev pub invariant-skip_members-loop-reader : goal.invariant-skip_members-loop-reader
 invariant-skip_members-loop-reader l =
-    (n : ℕ) × (length l.reader ≤ n) × (behind_members l.depth l.initial.reader ≡ behind have_range (members (value l.depth) n l.reader)) × (length l.reader ≤ length l.initial.reader)
+    (n : ℕ) × (length l.reader ≤ n) × (behind_members l.depth l.initial.reader ≡ behind have_range (members (value l.depth) n l.reader)) ×
+    (length l.reader ≤ length l.initial.reader)
 
 abbrev pub decreases-skip_members-loop-reader : goal.decreases-skip_members-loop-reader
 decreases-skip_members-loop-reader l = length l.reader

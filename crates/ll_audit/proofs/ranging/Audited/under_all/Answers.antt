@@ -11,5 +11,5 @@ loop-place-preserved g c =
 
 pub returns-clause-findings : goal.returns-clause-findings
 returns-clause-findings g c =
-    all_versions_found c.args.format c.args.options.now c.args.self.located.tree c.args.self.located.trace c.all-versions.result.now c.loop-place.place c.loop-place.audited
-    c.all-versions.ensures (omega (arith, c.loop-place-test.false)) c.loop-place.invariant
+    all_versions_found c.args.format c.args.options.now c.args.self.located.tree c.args.self.located.trace
+    c.all-versions.result.now c.loop-place.place c.loop-place.audited c.all-versions.ensures (omega (arith, c.loop-place-test.false)) c.loop-place.invariant
