@@ -1,4 +1,4 @@
-"""What changes from one ABI of a range to the next: which calls break there first, and which are refused no more."""
+"""What changes from one ABI of a range to the next: which calls break there first, and which are no longer refused."""
 
 from __future__ import annotations
 
@@ -12,7 +12,7 @@ from .summary import Summary
 
 @dataclass(frozen=True)
 class Kind:
-    """Refused calls that are alike to a program, whichever layer refuses them and why."""
+    """Refused calls that look the same to a program, whichever layer refuses them and why."""
 
     call: str
     place: str
@@ -21,7 +21,7 @@ class Kind:
 
 @dataclass(frozen=True)
 class Step:
-    """An ABI, against the one before it in the range.
+    """An ABI, compared with the one before it in the range.
 
     `breaks` are the kinds that are refused here and not there, all of them at the oldest ABI: the earliest first, since
     there the program breaks, then the most frequent. `no_more` are those whose calls were refused there and are not

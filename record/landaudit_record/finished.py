@@ -1,7 +1,7 @@
-"""A finished recording: the files of its folder by what they hold, and what its conversion says of itself.
+"""A finished recording: the files of its folder, and what its conversion says about itself.
 
-A recording is kept in parts, each with a tree and a trace that landaudit reads by themselves. One that is all in one
-part has `tree.jsonl` and `trace.jsonl`; else they are `tree-1.jsonl`, `trace-1.jsonl`, `tree-2.jsonl` and so on.
+A recording is kept in parts, each with a tree and a trace that landaudit reads without the others. A recording of one
+part has `tree.jsonl` and `trace.jsonl`; others have `tree-1.jsonl`, `trace-1.jsonl`, `tree-2.jsonl` and so on.
 """
 
 from __future__ import annotations
@@ -20,7 +20,7 @@ from .wording import counted
 
 CONVERTED = "converted.json"
 FORMAT = 1
-#: The files of which each part has one, with their endings; the last two are those of the last audit.
+#: The files that each part has, with their endings; the last two are those of the last audit.
 OF_A_PART = {"tree": "jsonl", "trace": "jsonl", "tried": "jsonl", "report": "txt"}
 #: Kinds of calls that not every recording has: those that only look at an object, that read links, that send signals.
 LOOKING, READING_LINKS, SIGNALS = "looks", "readlink", "signals"
@@ -36,7 +36,7 @@ RECORDED = ("recording.json", "strace.txt", "strace.txt.gz")
 
 @dataclass(frozen=True)
 class Size:
-    """How much a part holds: records, those of them that only give once more what there was, objects, bytes."""
+    """The size of a part: its records, those of them that only repeat what there was, its objects, its bytes."""
 
     records: int
     again: int
@@ -46,7 +46,7 @@ class Size:
 
 @dataclass(frozen=True)
 class Converted:
-    """What a conversion that came to its end says of itself.
+    """What a conversion that finished says about itself.
 
     `unsaid` counts by class what could not be said, `holes` those of these calls that the kernel may refuse by a policy
     and an audit can't foresee, `scopes` those that it may refuse if the policy has the scope; `ended` says that the
@@ -64,7 +64,7 @@ class Converted:
 
     @property
     def records(self) -> int:
-        """How many records there are in all parts, but for those that are written again."""
+        """The number of records in all parts, except those that are written again."""
         return sum(part.records - part.again for part in self.parts)
 
     def write(self, folder: Path) -> None:
@@ -101,7 +101,7 @@ class Part:
 
     @property
     def tried(self) -> Path:
-        """The trace with a policy's records in it, where a policy was tried."""
+        """The trace with a policy's records in it, if a policy was tried."""
         return self._file("tried")
 
     @property
@@ -141,7 +141,7 @@ class Finished:
 
     @property
     def missing(self) -> list[str]:
-        """What an audit of the recording can't say, a text for each cause; with any of them none is an all clear."""
+        """What an audit of the recording can't judge, a text for each cause; with any, no audit says all is well."""
         told: list[str] = []
         if self.holes:
             calls = ", ".join(f"{name} ({times})" for name, times in self.holes.most_common())
@@ -171,7 +171,7 @@ class Finished:
 
 
 def opened(folder: str) -> Finished:
-    """The recording in a folder; a folder without one, or with one that is not whole, is a Problem."""
+    """The recording in a folder; if the folder has none, or one that is not whole, that is a Problem."""
     path = Path(folder)
     converted = _converted(path)
     if converted is None:
@@ -190,7 +190,7 @@ def _mending(path: Path) -> str:
 
 
 def _converted(folder: Path) -> Converted | None:
-    """What a conversion says of itself in a folder, None if there is no word of one."""
+    """What a conversion says about itself in a folder, None if it says nothing."""
     file = folder / CONVERTED
     try:
         said: dict[str, Any] = json.loads(file.read_text(encoding="utf-8"))
@@ -207,7 +207,7 @@ def _converted(folder: Path) -> Converted | None:
 
 
 def _by_hand(path: Path) -> Finished:
-    """A tree and a trace that no conversion wrote; beside a log that is a conversion which did not come to its end."""
+    """A tree and a trace that no conversion wrote; if there is a log beside them, a conversion did not finish."""
     part = Part(path)
     if any((path / name).is_file() for name in RECORDED):
         raise Problem(f"{path} was not converted to the end: {_mending(path)}")
@@ -221,7 +221,7 @@ def _by_hand(path: Path) -> Finished:
 
 
 def _unsaid(path: Path) -> tuple[Counter[str], Counter[str]]:
-    """What the recording could not say, by class, and which of it are holes; nothing where it left no list."""
+    """The calls that could not be written, by class, and which of them are holes; nothing if there is no list."""
     unsaid: Counter[str] = Counter()
     holes: Counter[str] = Counter()
     for _, entry in jsonl.numbered(path) if path.exists() else ():

@@ -1,6 +1,6 @@
 """Text that fits a width: sentences folded at blanks, long names shortened in the middle, tables without wrapped lines.
 
-What a name holds is never trusted: it is on one line, from left to right, and as wide as it is counted.
+Names are not trusted: a printed name is on one line, runs from left to right, and is as wide as it is counted.
 """
 
 from __future__ import annotations
@@ -17,10 +17,10 @@ from typing import TextIO
 from .wording import MOST_NAMES, printable
 
 ELLIPSIS = "…"
-#: How wide lines are where there is no terminal, and where one is narrower than can be.
+#: The width of lines without a terminal, and on a terminal that is too narrow.
 WIDTH = 80
 LEAST_WIDTH = 20
-#: A shortened column keeps so many characters; a table in which that is too wide has a line for each cell.
+#: The fewest characters of a shortened column; a table in which that is too wide has a line for each cell.
 LEAST_COLUMN = 14
 #: A path beside words that stay keeps so many, while there is room; one of several less.
 LEAST_PATH = 7
@@ -32,21 +32,21 @@ _NATURAL = 1 << 30
 _STACKED = 3
 #: How much of what is shown of a long text is its beginning: the end of a path tells more.
 _HEAD = 0.3
-#: How Unicode names the directions of letters and digits that a terminal may draw from right to left.
+#: Unicode's names of the directions of letters and digits that a terminal may draw from right to left.
 _RIGHT_TO_LEFT = frozenset({"R", "AL", "AN"})
 
-#: What is in a cell, by how much room it has.
+#: The text of a cell for a given width.
 Cell = Callable[[int], str]
 
 
 def width_of(stream: TextIO) -> int:
-    """How wide the lines on a stream are: as its terminal is, or as COLUMNS says."""
+    """The width of lines on a stream: that of its terminal, or COLUMNS."""
     asked = stream.isatty() or "COLUMNS" in os.environ
     return max(LEAST_WIDTH, shutil.get_terminal_size((WIDTH, 0)).columns) if asked else WIDTH
 
 
 def encodable(line: str, stream: TextIO) -> str:
-    """A line in the characters that a stream has, each other one as a question mark."""
+    """A line in the characters that a stream can encode, with a question mark for each other one."""
     encoding = stream.encoding or "utf-8"
     return line.encode(encoding, "replace").decode(encoding)
 
@@ -63,7 +63,7 @@ def plain(text: str) -> str:
 
 
 def wide(text: str) -> int:
-    """How many columns a text takes at most."""
+    """The most columns that a text can take."""
     return len(text) if text.isascii() else sum(map(_wide, text))
 
 
@@ -72,7 +72,7 @@ def _wide(character: str) -> int:
 
 
 def shortened(text: str, width: int, *, head: float = _HEAD) -> str:
-    """A text with an ellipsis for its middle, where it does not fit; `head` is the share of its beginning."""
+    """A text with an ellipsis for its middle if it does not fit; `head` is the share of its beginning."""
     if wide(text) <= width:
         return text
     before = _beginning(text, int((width - 1) * head))
@@ -91,7 +91,7 @@ def _beginning(text: str, width: int) -> str:
 
 
 def folded(text: str, width: int) -> list[str]:
-    """A sentence on lines that fit, those behind the first one indented; a word that fits on none is shortened."""
+    """A sentence on lines that fit, indented after the first; a word that does not fit on a line is shortened."""
     found: list[str] = []
     for word in plain(text).split():
         if found and wide(found[-1]) + 1 + wide(word) <= width:
@@ -103,7 +103,7 @@ def folded(text: str, width: int) -> list[str]:
 
 
 def command(words: Sequence[str], width: int) -> list[str]:
-    """A command for a shell on lines that it reads as one; a word in quotes stays whole, however long it is."""
+    """A shell command, continued over lines; a word in quotes stays whole, however long it is."""
     lines = [""]
     for word in map(shlex.quote, words):
         if lines[-1] and wide(f"{lines[-1]} {word} \\") > width:
@@ -123,7 +123,7 @@ def words(text: str, *, head: float = _HEAD) -> Cell:
 
 
 def behind(said: str, path: str) -> Cell:
-    """A cell with some words that stay and a path behind them."""
+    """A cell with some fixed words and a path after them."""
     shown = plain(path)
     return lambda width: shortened(said + shortened(shown, max(LEAST_PATH, width - wide(said))), width, head=0.7)
 
@@ -196,7 +196,7 @@ def _end_of(path: str, width: int) -> str:
 
 
 def names(texts: Sequence[str], *, said: str = "", brief: Callable[[str], str] | None = None) -> Cell:
-    """A cell with some of many names behind what is said of them: fewer, or by a shorter form, where that is to fit."""
+    """A cell with some of many names after a few words: fewer names, or shorter forms, if there is little room."""
     whole = [plain(text) for text in texts]
     forms = [whole, *([list(dict.fromkeys(plain(brief(text)) for text in texts))] if brief else [])]
 
@@ -214,7 +214,7 @@ def names(texts: Sequence[str], *, said: str = "", brief: Callable[[str], str] |
 
 
 def shared(wanted: Sequence[int], room: int) -> list[int]:
-    """Room shared out: each gets what it wants, and where that is too much, those that want most get equal parts."""
+    """Shares out room: each gets what it wants, or, if that is too much, those that want most get equal parts."""
     given = [0] * len(wanted)
     left = sorted(range(len(wanted)), key=lambda index: wanted[index])
     while left:
@@ -226,7 +226,7 @@ def shared(wanted: Sequence[int], room: int) -> list[int]:
 
 @dataclass(frozen=True)
 class Column:
-    """A column: a number flush right, or a text, which may be shortened, that of `less` weight before the others.
+    """A column: a number flush right, or a text, which may be shortened; columns with `less` are shortened first.
 
     `once` says that where all rows have the same, and the table is too wide, it is said once before it; a row with `-`
     has none of it, in which case `none` is said too, and is as the others if it is given. Where the table is so narrow
@@ -245,7 +245,7 @@ class Column:
 
 
 def table(columns: Sequence[Column], rows: Sequence[Sequence[Cell]], width: int) -> Iterator[str]:
-    """Rows under the names of their columns, or where that does not fit a line for each cell."""
+    """Rows under the names of their columns, or, if that does not fit, a line for each cell."""
     if _total(_natural(columns, rows)) > width:
         alike = {index: said for index, column in enumerate(columns) if (said := _alike(column, index, rows))}
         if alike:
@@ -282,14 +282,14 @@ def _is_tight(columns: Sequence[Column], rows: Sequence[Sequence[Cell]], width: 
 
 
 def _alike(column: Column, index: int, rows: Sequence[Sequence[Cell]]) -> str:
-    """What all rows have in a column that is told once, if they have the same."""
+    """The text that all rows have in a `once` column, if they have the same."""
     found = {row[index](_NATURAL) for row in rows} if column.once else set()
     said = found - {"-"} if column.none else found
     return said.pop() + (column.none if "-" in found and column.none else "") if len(said) == 1 else ""
 
 
 def _natural(columns: Sequence[Column], rows: Sequence[Sequence[Cell]]) -> list[int]:
-    """How wide each column is where nothing is shortened."""
+    """The width of each column if nothing is shortened."""
     return [max(len(column.head), *(wide(row[index](_NATURAL)) for row in rows), 0)
             for index, column in enumerate(columns)]
 
@@ -299,7 +299,7 @@ def _total(widths: Sequence[int]) -> int:
 
 
 def _widths(columns: Sequence[Column], rows: Sequence[Sequence[Cell]], width: int) -> list[int] | None:
-    """How wide each column is; None if the table can't be so narrow."""
+    """The width of each column; None if the table can't be so narrow."""
     widths = _natural(columns, rows)
     for less in (True, False):
         short = [index for index, column in enumerate(columns) if column.short and column.less == less]

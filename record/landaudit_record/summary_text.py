@@ -21,15 +21,15 @@ from .wording import counted, some_of
 #: The answers in the order in which they are counted.
 VERDICTS = ("allowed", "refused", "moot")
 
-#: So many kinds of refused calls are told one by one; more of them in groups, of which so many are told.
+#: Up to this number, kinds of refused calls are shown one by one; more kinds are shown in at most so many groups.
 MOST_ROWS = 20
-#: So many warnings of rules that the run never used are told.
+#: The number of warnings about rules that the run never used that are shown.
 MOST_UNUSED = 5
-#: What a person is told in the place of landaudit's words for why the policy is not asked.
+#: Words for a person instead of landaudit's words for why Landlock is not asked.
 _IN_WORDS = {
     "is not in the tree": "the recording has no such file",
     "is in the tree already": "it is there already",
-    "is not a directory": "it is no directory",
+    "is not a directory": "it is not a directory",
     explanations.NOT_OPEN: "its file is not open",
     MISSED: "its opening was refused or not asked",
 }
@@ -41,14 +41,14 @@ _MOST_KEPT = 34
 
 @dataclass(frozen=True)
 class Style:
-    """How words are marked, and how wide lines are; with `coloured` false words are plain."""
+    """How words are marked, and the width of lines; without `coloured`, words are plain."""
 
     coloured: bool
     width: int = layout.WIDTH
 
     @classmethod
     def of(cls, stream: TextIO) -> Style:
-        """Colours on a terminal alone, and none where NO_COLOR is set; as wide as the terminal."""
+        """Colours only on a terminal, and only if NO_COLOR is not set; as wide as the terminal."""
         return cls(stream.isatty() and not os.environ.get("NO_COLOR"), layout.width_of(stream))
 
     def bold(self, text: str) -> str:
@@ -66,7 +66,7 @@ class Style:
 
 @dataclass(frozen=True)
 class Beside:
-    """What is told beside a summary: notes, and the command that suggests rules; `each` asks for each kind of calls."""
+    """What is printed with a summary: notes, and the command that suggests rules; `each` asks for each kind of call."""
 
     notes: Sequence[str] = ()
     suggesting: Sequence[str] = ()
@@ -74,7 +74,7 @@ class Beside:
 
 
 def lines(summary: Summary, title: str, style: Style, beside: Beside = Beside()) -> Iterator[str]:
-    """The lines of a summary, each without its line feed and none wider than the style has it."""
+    """The lines of a summary, each without its line feed and at most as wide as the style says."""
     yield from map(style.bold, layout.folded(title, style.width))
     yield from _counts(summary, style)
     yield from _warnings(summary, style, each=beside.each)
@@ -92,13 +92,13 @@ def lines(summary: Summary, title: str, style: Style, beside: Beside = Beside())
 
 
 def ending(summary: Summary, style: Style) -> Iterator[str]:
-    """The last lines of all: what could not be judged, so that no audit looks like more than it is."""
+    """The last lines of all: what could not be judged, so that no audit looks complete that is not."""
     for text in summary.missing:
         yield from _marked("NOT ALL IS JUDGED:", text, style.red, style.width)
 
 
 def by_recording(each: Sequence[tuple[str, Summary]], style: Style) -> Iterator[str]:
-    """The lines of the table by recording, which is behind a summary of several."""
+    """The lines of the table by recording, which follows a summary of several."""
     yield from _heading("by recording", style)
     rows = []
     for name, summary in each:
@@ -109,7 +109,7 @@ def by_recording(each: Sequence[tuple[str, Summary]], style: Style) -> Iterator[
 
 
 def by_abi(steps: Sequence[Step], style: Style) -> Iterator[str]:
-    """The lines of the table by ABI, which is behind a summary."""
+    """The lines of the table by ABI, which follows a summary."""
     yield from _heading("by ABI: what breaks there first, and what is refused no more", style)
     columns = [Column(head, number=True) for head in ("ABI", *VERDICTS)]
     rows = [row for step in steps for row in _step_rows(step)]
@@ -125,16 +125,16 @@ def _step_rows(step: Step) -> Iterator[list[Cell]]:
 
 
 def _changes(step: Step) -> list[Cell]:
-    """What an ABI changes, against the one before it."""
+    """What an ABI changes, compared with the one before it."""
     named = (("breaks: ", step.breaks), ("refused no more: ", step.no_more))
     said = [layout.names([_kind(kind) for kind in kinds], said=what) for what, kinds in named if kinds]
     if step.warnings:
-        said.append(words(f"{counted(len(step.warnings), 'warning')} more: see --abi {step.abi}"))
+        said.append(words(f"{counted(len(step.warnings), 'more warning')}: see --abi {step.abi}"))
     return said
 
 
 def _kind(kind: Kind) -> str:
-    """A kind in a row: of a call that is about nothing by name, the call and the error."""
+    """A kind in a row; a call without a path or port is shown by the call and the error."""
     return " ".join(word for word in (kind.call, _person(kind.place), kind.error) if word != "-")
 
 
@@ -144,7 +144,7 @@ def _heading(text: str, style: Style) -> Iterator[str]:
 
 
 def _marked(mark: str, text: str, marked: Callable[[str], str], width: int) -> Iterator[str]:
-    """A text on lines that fit, the mark before it in a colour where it stays whole."""
+    """A text on lines that fit, with the mark before it in a colour if the mark stays whole."""
     first, *others = layout.folded(f"{mark} {text}", width)
     yield marked(mark) + first.removeprefix(mark) if first.startswith(mark) else first
     yield from others
@@ -162,7 +162,7 @@ def _counts(summary: Summary, style: Style) -> Iterator[str]:
 
 
 def _warnings(summary: Summary, style: Style, *, each: bool) -> Iterator[str]:
-    """The warnings, those of rules that the run never used behind the others, and of them some unless each is asked."""
+    """The warnings; those about rules that the run never used come last, and only some of them unless `each`."""
     used = [text for text in summary.warnings if text not in summary.untouched]
     unused = sorted((text for text in summary.warnings if text in summary.untouched),
                     key=lambda text: _is_here(summary.brief.get(text)))
@@ -170,7 +170,7 @@ def _warnings(summary: Summary, style: Style, *, each: bool) -> Iterator[str]:
     for text in (*used, *shown):
         yield from _warning(summary.brief.get(text, Brief(text)), summary.warnings[text], style, with_rule=each)
     if len(unused) > len(shown):
-        more = f"{counted(len(unused) - len(shown), 'rule')} more that this run never used: --all lists them"
+        more = f"{counted(len(unused) - len(shown), 'more rule')} that this run never used: --all lists them"
         yield from _marked("warning:", more, style.yellow, style.width)
 
 
@@ -179,10 +179,10 @@ def _is_here(brief: Brief | None) -> bool:
 
 
 def _warning(brief: Brief, times: int, style: Style, *, with_rule: bool) -> Iterator[str]:
-    """A warning on one line where it fits, its path shortened for it."""
+    """A warning on one line if it fits, with a shortened path."""
     said = brief.said
     if said is None:
-        said = "exists here, this run never used it" if _is_here(brief) else "no such path here"
+        said = "exists here, but this run never used it" if _is_here(brief) else "no such path here"
     said += f" ({counted(times, 'time')})" if times > 1 else ""
     said += f" ({brief.rule})" if with_rule and brief.rule else ""
     room = style.width - len("warning: ") - wide(plain(f": {said}"))
@@ -204,7 +204,7 @@ def _refusals(summary: Summary, style: Style, *, each: bool) -> Iterator[str]:
 
 
 def _behind(summary: Summary) -> tuple[Column, ...]:
-    """The columns of what most refused calls of an audit have in common."""
+    """The columns whose values most refused calls of an audit have in common."""
     where = (Column("recordings", short=True, less=True, once=True),) if summary.recordings else ()
     programs = sum(summary.refusals.values(), Counter[str]())
     named = layout.names(list(dict.fromkeys(os.path.basename(name) for name in _most(programs))), said="programs: ")
@@ -221,8 +221,8 @@ def _groups(summary: Summary, style: Style) -> Iterator[str]:
     columns = (_TIMES, _why_column([_lacking(group.lacking) for group in shown]), Column("where", short=True),
                *_behind(summary))
     yield from table(columns, [_group_row(group, summary) for group in shown], style.width)
-    more = f"{counted(len(groups) - len(shown), 'group')} more, and " if len(groups) > len(shown) else ""
-    yield from (f"  {line}" for line in layout.folded(f"{more}each kind by itself: --all lists them", style.width - 2))
+    more = f"{counted(len(groups) - len(shown), 'more group')} and " if len(groups) > len(shown) else ""
+    yield from (f"  {line}" for line in layout.folded(f"--all lists {more}each kind by itself", style.width - 2))
 
 
 def _group_row(group: Group, summary: Summary) -> list[Cell]:
@@ -306,7 +306,7 @@ def _lack(objection: Objection, place: str) -> Lack:
 
 
 def why(refusal: Refusal) -> str:
-    """What the layers object to, once if it is the same for all; or the condition by which the calls fail."""
+    """The objections of the layers, once if they are the same for all; or the condition by which the calls fail."""
     if refusal.condition is not None:
         return refusal.condition
     told = [(layer.name, _objections(layer, refusal.place)) for layer in refusal.layers]
@@ -320,7 +320,7 @@ def _objections(layer: RefusingLayer, place: str) -> str:
 
 
 def _objection(objection: Objection, place: str) -> str:
-    """What a layer objects to, without the place that the row has."""
+    """The objection of a layer, without the place that the row has."""
     match objection:
         case Missing(rights=rights, path=path) if path == place:
             return ", ".join(rights)
@@ -341,7 +341,7 @@ def _moot(summary: Summary, style: Style) -> Iterator[str]:
 
 
 def _in_words(why: str) -> str:
-    """Why the policy is not asked, as a person says it."""
+    """Why Landlock is not asked, in a person's words."""
     if why.startswith(_FAILED_TOO):
         return f"it failed when recorded too: {why.removeprefix(_FAILED_TOO)}"
     return _IN_WORDS.get(why, f"it {why}")
@@ -360,7 +360,7 @@ def _person(place: str) -> str:
 
 
 def _programs(programs: Counter[str]) -> Cell:
-    """The most frequent programs, by their names alone where that is to fit; a process without one is told last."""
+    """The most frequent programs, by their names alone if there is little room; a process without one comes last."""
     return layout.names(sorted(_most(programs), key=lambda name: name == "-"), brief=os.path.basename)
 
 

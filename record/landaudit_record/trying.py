@@ -1,4 +1,4 @@
-"""A recording that is audited, part by part, as it is or with a policy that is tried on it."""
+"""Audits a recording, part by part, as it is or with a policy that is tried on it."""
 
 from __future__ import annotations
 
@@ -7,7 +7,7 @@ import os
 import tempfile
 from collections.abc import Iterable, Iterator
 from contextlib import contextmanager
-from dataclasses import dataclass
+from dataclasses import dataclass, field
 from pathlib import Path
 from typing import NamedTuple
 
@@ -22,9 +22,9 @@ from .rights import FILE_RIGHTS, FS, alone
 from .trees import ROOT, Tree, upwards
 from .wording import span
 
-#: What a shell's pattern has.
+#: The characters of a shell pattern.
 GLOB = "*?["
-#: How the kernel says that nothing can be made in a folder.
+#: The errors by which the kernel says that nothing can be made in a folder.
 _READ_ONLY = (errno.EACCES, errno.EPERM, errno.EROFS)
 
 
@@ -43,7 +43,7 @@ class Files(NamedTuple):
 
 @dataclass(frozen=True)
 class Tried:
-    """A policy on a recording: before which program, where it goes in each part, and the tree of the whole."""
+    """A policy on a recording: the program before which it goes, its places in each part, and the tree of the whole."""
 
     recording: Finished
     policy: Policy
@@ -52,7 +52,7 @@ class Tried:
     places: list[Plan]
 
     def steps(self, abis: range, *, best_effort: bool) -> list[range]:
-        """The ABIs of a range in steps, the oldest first: each is judged by the traces of its newest."""
+        """The ABIs of a range in steps, the oldest first: each step is judged with the traces of its newest ABI."""
         found = [alone(abis[-1])]
         for abi in reversed(abis[:-1]):
             inserted = self.inserted(self.policy, found[0][-1])
@@ -65,9 +65,9 @@ class Tried:
         return found
 
     def write(self, policy: Policy, abi: int, number: int, into: Part) -> Iterator[Files]:
-        """Writes a part with a policy as an ABI knows it, and gives the tree and the trace that are to be judged.
+        """Writes a part with a policy at an ABI, and yields the tree and the trace to judge.
 
-        Where they would be more records than landaudit reads, the part is cut into pieces, one after another.
+        If there would be more records than landaudit reads, the part is cut into pieces, one after another.
         """
         part, places, inserted = self.recording.parts[number], self.places[number], self.inserted(policy, abi)
         tree = part.tree
@@ -85,7 +85,7 @@ class Tried:
             yield Files(tree, piece.with_suffix(".tried"), piece.with_suffix(".report"))
 
     def inserted(self, policy: Policy, abi: int) -> list[Record]:
-        """The policy's records as an ABI knows them."""
+        """The policy's records at an ABI."""
         layers, _ = fitting.fit(policy, abi)
         return applying.records(policy, layers, self.tree, max(places.rs for places in self.places))
 
@@ -96,7 +96,7 @@ def _write_trace(trace: Path, places: Plan, inserted: list[Record], tried: Path)
 
 
 def _write_tree(part: Path, tree: Tree, inserted: Iterable[Record], out: Path) -> None:
-    """Writes the tree of a part with what rules are on, which the part may not have met."""
+    """Writes the tree of a part with the objects of rules, which may not occur in the part."""
     lines = [line for _, line in jsonl.numbered(part)]
     listed = {ROOT, *(line["path"] for line in lines)}
     for record in inserted:
@@ -117,7 +117,7 @@ def tried(recording: Finished, policy: Policy, program: str | None) -> Tried:
 
 @contextmanager
 def folder_for(recording: Finished, name: str) -> Iterator[tuple[Path, bool]]:
-    """A folder to work in, which is gone behind it, and whether what is in it can stay in the recording's folder."""
+    """A folder to work in, which is removed afterwards, and whether its files can be kept in the recording's folder."""
     try:
         made = tempfile.TemporaryDirectory(prefix=f"{name}-", dir=recording.folder)
     except OSError as error:
@@ -132,10 +132,10 @@ def folder_for(recording: Finished, name: str) -> Iterator[tuple[Path, bool]]:
 
 @dataclass
 class Auditing:
-    """How a recording is audited: by which landaudit, in which folder, and whether at best effort.
+    """The audit of a recording: with which landaudit, in which folder, and whether at best effort.
 
-    `progress` shows how far it is; `stays` says that what is in the folder can stay in the recording's; `status` is 1
-    once an ABI has refused something.
+    `progress` shows how far it is; `stays` says that the folder's files can be kept in the recording's; `status` is 1
+    once an ABI has refused a record.
     """
 
     program: Path
@@ -145,37 +145,60 @@ class Auditing:
     progress: Progress
     stays: bool = True
     status: int = 0
+    _run: landaudit.Run | None = field(default=None, init=False)
 
     def walks(self, abis: range, tried: Tried | None, policy: Policy | None = None) -> Iterator[Walk]:
-        """Judges each part at some ABIs, and gives a walk over its answers, as `judged` does."""
+        """Judges each part at some ABIs, and yields a walk over its answers, as `judged` does."""
         for files in self.judged(abis, tried, policy):
             yield Walk(files.trace, files.report, abis, self.progress)
 
     def judged(
         self, abis: range, tried: Tried | None, policy: Policy | None = None, *, explain: bool = True
     ) -> Iterator[Files]:
-        """Judges each part at some ABIs, and gives its files, which the next part may take the place of.
+        """Judges each part at some ABIs, and gives its files. landaudit judges the next part meanwhile.
 
-        Where something is tried, `policy` is what it has in the place of the policy, with other rules.
+        If a policy is tried, `policy` is one with other rules to try instead.
         """
+        before: Files | None = None
+        try:
+            for own, files in self._files(abis, tried, policy):
+                ready = self._ready(before)
+                self._run = landaudit.start(self.program, abis, *files, best_effort=self.best_effort, explain=explain)
+                yield from ready
+                self.progress.say(f"judging at ABI {span(abis)}{self._of_all(own)}")
+                before = files
+            yield from self._ready(before)
+        finally:
+            self.stop()
+
+    def _files(self, abis: range, tried: Tried | None, policy: Policy | None) -> Iterator[tuple[Part, Files]]:
+        """What is to be judged of each part."""
         for number, own in enumerate(self.recording.parts):
             part = Part(self.folder, own.number)
             if tried is None:
-                judged: Iterable[Files] = [Files(own.tree, own.trace, part.report)]
+                yield own, Files(own.tree, own.trace, part.report)
             else:
-                judged = tried.write(policy or tried.policy, abis[-1], number, part)
-            for files in judged:
-                self.progress.say(f"judging at ABI {span(abis)}{self._of_all(own)}")
-                self.status |= landaudit.audit(
-                    self.program, abis, *files, best_effort=self.best_effort, explain=explain
-                )
-                yield files
+                for files in tried.write(policy or tried.policy, abis[-1], number, part):
+                    yield own, files
+
+    def _ready(self, files: Files | None) -> list[Files]:
+        """Files that were judged, once landaudit is done with them."""
+        if self._run is not None:
+            self.status |= self._run.status()
+            self._run = None
+        return [] if files is None else [files]
+
+    def stop(self) -> None:
+        """Ends what landaudit still does."""
+        if self._run is not None:
+            self._run.stop()
+            self._run = None
 
     def _of_all(self, part: Part) -> str:
         return "" if part.number is None else f", part {part.number} of {len(self.recording.parts)}"
 
     def keep(self) -> None:
-        """Puts the last tried traces and reports into the recording's folder, where that can be written."""
+        """Puts the last tried traces and reports into the recording's folder, if that can be written."""
         for own in self.recording.parts if self.stays else ():
             files = Part(self.folder, own.number)
             for made, place in ((files.tried, own.tried), (files.report, own.report)):
@@ -184,7 +207,7 @@ class Auditing:
 
 
 def notes(tried: Tried, abis: range, *, here: bool = False) -> Iterator[str]:
-    """Notes on what of a policy is not judged, and what of it the ABIs do not have.
+    """Notes on parts of a policy that are not judged or that the ABIs do not have.
 
     Of the newest ABI all is said, of the older ones which of them have something to be said of. What the recording did
     not meet is looked for on this machine if `here` asks for it.
@@ -200,10 +223,10 @@ def notes(tried: Tried, abis: range, *, here: bool = False) -> Iterator[str]:
 
 
 def _not_judged(policy: Policy, tree: Tree, *, here: bool) -> Iterator[str]:
-    """What no ABI here judges of a policy, and rules that the kernel may understand otherwise than their author."""
+    """Parts of a policy that no ABI here judges, and rules that the kernel may read in another way than the author."""
     for layer in policy.layers:
         if layer.scoped:
-            yield f"layer {layer.number}: scoped is kept and not judged: {', '.join(layer.scoped)}"
+            yield f"layer {layer.number}: scopes are not judged: {', '.join(layer.scoped)}"
         for rule in layer.path_beneath:
             named = FS.ordered(rule.allowed_access.outright - FILE_RIGHTS)
             for parent in rule.parents:
@@ -213,12 +236,12 @@ def _not_judged(policy: Policy, tree: Tree, *, here: bool) -> Iterator[str]:
 
 
 def _notes_on_absent(where: str, parent: str, named: list[str], *, here: bool) -> Iterator[str]:
-    """What to know of a rule on a path that the recording did not meet."""
+    """Notes on a rule on a path that does not occur in the recording."""
     if any(letter in parent for letter in GLOB):
         yield f"{where}: Landlock has no patterns: name the directory, or each file"
     elif named and here:
         if os.path.exists(parent) and not os.path.isdir(parent):
-            yield f"{where}: no directory here, so the kernel refuses {', '.join(named)} with EINVAL"
+            yield f"{where}: not a directory on this machine, so the kernel refuses {', '.join(named)} with EINVAL"
     elif named:
-        yield (f"{where}: not in the tree, so it is not known whether it is a directory: on anything else the kernel "
-               f"refuses {', '.join(named)} with EINVAL")
+        yield (f"{where}: not in the tree, so it may not be a directory: then the kernel refuses {', '.join(named)} "
+               "with EINVAL")

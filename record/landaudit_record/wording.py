@@ -4,7 +4,7 @@ from __future__ import annotations
 
 from collections.abc import Sequence
 
-#: Of many names so many are told.
+#: The number of names that are printed of many.
 MOST_NAMES = 3
 
 
@@ -20,10 +20,10 @@ def some_of(names: Sequence[str]) -> str:
 
 
 def span(numbers: range) -> str:
-    """A range, as `2-5`; as `2` where it has one number."""
+    """A range, such as `2-5`, or `2` if it has one number."""
     return str(numbers[0]) if len(numbers) == 1 else f"{numbers[0]}-{numbers[-1]}"
 
 
 def printable(text: str) -> str:
-    """A text on one line, with an escape for each character that a terminal would act on."""
+    """A text on one line, with an escape for each character that a terminal would interpret."""
     return text if text.isprintable() else text.encode("unicode_escape").decode()

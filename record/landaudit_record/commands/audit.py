@@ -27,7 +27,7 @@ EXAMPLE = """landaudit-record audit rec --policy policy.toml --abi 4
 
 
 def add_arguments(parser: argparse.ArgumentParser) -> None:
-    """Names the words of the subcommand."""
+    """Adds the arguments of the subcommand."""
     add_recordings(parser)
     parser.add_argument(
         "--policy",
@@ -38,8 +38,8 @@ def add_arguments(parser: argparse.ArgumentParser) -> None:
         "--accepted",
         metavar="FILE.toml",
         type=Path,
-        help="refusals that are known and fine: [[accepted]] with call, path (or from and to, or port) and reason; the "
-        "policy's file may have them too",
+        help="refusals that you know and accept: [[accepted]] with call, path (or from and to, or port) and reason; "
+        "the file of the policy may also have them",
     )
     add_program(parser)
     add_abis(parser)
@@ -47,17 +47,17 @@ def add_arguments(parser: argparse.ArgumentParser) -> None:
     parser.add_argument(
         "--all",
         action="store_true",
-        help=f"show each kind of refused calls, where more than {summary_text.MOST_ROWS} are shown in groups, and each "
+        help=f"show each kind of refused call, even if there are more than {summary_text.MOST_ROWS} kinds, and each "
         "rule that the run never used",
     )
     parser.add_argument(
         "--json",
         action="store_true",
-        help="print the same as data: that of each ABI is in 'abis' and, of several recordings, that of each in "
-        "'recordings'",
+        help="print the result as JSON: 'abis' is about each ABI and, for several recordings, 'recordings' about each "
+        "recording",
     )
     parser.add_argument(
-        "--html", metavar="FILE", type=Path, help="write all of it as a page for a browser too, which is one file"
+        "--html", metavar="FILE", type=Path, help="also write the result as a page for a browser, which is one file"
     )
     add_landaudit(parser)
 
@@ -69,21 +69,21 @@ Each = Sequence[tuple[Member, list[Summary]]]
 def run(arguments: argparse.Namespace) -> int:
     """Writes OUT/report.txt of each recording, and prints the summary of all.
 
-    The status is 1 if an ABI refuses something of any, else 5 if not all that a policy may refuse could be judged.
+    The status is 1 if an ABI refuses a record, else 5 if not everything that a policy may refuse could be judged.
     """
     program = landaudit.find(arguments.landaudit)
     policy = None if arguments.policy is None else policies.read(Path(arguments.policy))
     accepted = [*(accepting.read(policy.path, only=False) if policy else ()),
                 *(accepting.read(arguments.accepted) if arguments.accepted else ())]
     members = together.opened(arguments.recordings, policy, arguments.program)
-    notes = together.policy_notes(members, arguments.abis, here=not arguments.json)
+    notes = together.policy_notes(members, arguments.abis, here=not arguments.json) + together.recording_notes(members)
     with together.audits(members, program, NAME, best_effort=not arguments.as_recorded) as audits:
         each = [(it, _summaries(it, auditing, arguments.abis)) for it, auditing in zip(members, audits)]
         for auditing in audits:
             auditing.keep()
-    notes += (f"{auditing.recording.folder} can't be written: report and tried trace are not kept"
+    notes += (f"{auditing.recording.folder} can't be written: the report and the tried trace are not kept"
               for auditing in audits if not auditing.stays)
-    notes += (f"accepted and refused no more: {one} ({one.reason})" for one in accepting.set_apart(
+    notes += (f"accepted, but no longer refused: {one} ({one.reason})" for one in accepting.set_apart(
         accepted, [summary for _, summaries in each for summary in summaries]))
     summaries = [together.united(list(zip(members, of_abi))) for of_abi in zip(*(found for _, found in each))]
     _print(each, summaries, arguments, notes)
@@ -97,7 +97,7 @@ def run(arguments: argparse.Namespace) -> int:
 
 
 def _summaries(member: Member, auditing: Auditing, abis: range) -> list[Summary]:
-    """Audits one recording. landaudit runs once for all ABIs that are judged by one trace; the newest is the last."""
+    """Audits one recording. landaudit runs once for all ABIs that are judged with one trace; the newest comes last."""
     tried = member.tried
     found = Summaries(abis, tried=tried is not None)
     for step in [abis] if tried is None else tried.steps(abis, best_effort=auditing.best_effort):
@@ -107,7 +107,7 @@ def _summaries(member: Member, auditing: Auditing, abis: range) -> list[Summary]
 
 
 def _print(each: Each, summaries: list[Summary], arguments: argparse.Namespace, notes: list[str]) -> None:
-    """Prints what is told; as data, with the notes apart from them."""
+    """Prints the result; as JSON, with the notes on standard error."""
     if arguments.json:
         note(notes)
         print(json.dumps(_data(each, summaries, arguments), indent=2))
@@ -145,7 +145,7 @@ def _data(each: Each, summaries: list[Summary], arguments: argparse.Namespace) -
 
 
 def _data_of(summaries: list[Summary]) -> dict[str, Any]:
-    """What is said of the newest ABI, and what changes from ABI to ABI."""
+    """The data about the newest ABI, and the changes from ABI to ABI."""
     return {**as_data(summaries[-1]), "abis": by_abi.as_data(by_abi.steps(summaries))}
 
 

@@ -1,4 +1,4 @@
-"""What differs from ABI to ABI: said once for those that say the same, of which the page shows one at a time."""
+"""Parts of the page that differ from ABI to ABI: equal ones are written once, and the page shows one at a time."""
 
 from __future__ import annotations
 
@@ -9,12 +9,12 @@ from .markup import Markup, element, together
 
 
 def kinds(abis: Iterable[int]) -> str:
-    """The classes of what is shown at some ABIs alone."""
+    """The classes of an element that is shown only at some ABIs."""
     return " ".join(("a", *(f"a{abi}" for abi in abis)))
 
 
 def varied(abis: Sequence[int], said: Sequence[str]) -> Markup:
-    """What each ABI says, of which the page shows that of the one which is chosen."""
+    """The text of each ABI; the page shows that of the chosen one."""
     if len(set(said)) == 1:
         return together(said[:1])
     groups: dict[str, list[int]] = {}

@@ -35,7 +35,7 @@ with --json the same as data."""
 
 
 def add_arguments(parser: argparse.ArgumentParser) -> None:
-    """Names the words of the subcommand."""
+    """Adds the arguments of the subcommand."""
     parser.description = f"{HELP}\n{CASES}"
     add_policy(parser)
     parser.add_argument("cases", metavar="CASES.toml", type=Path, help="what the policy must allow and refuse")
@@ -81,7 +81,7 @@ def _data(arguments: argparse.Namespace, outcomes: Sequence[_Outcome]) -> dict[s
 
 
 def _followed(policy: Policy) -> Policy:
-    """The policy with what its parents lead to on this machine: a rule is on an object, and not on a link to it."""
+    """The policy with the targets of its parents on this machine: a rule is on an object, and not on a link to it."""
     return replace(
         policy,
         layers=tuple(
@@ -99,7 +99,7 @@ def _followed(policy: Policy) -> Policy:
 
 @dataclass(frozen=True)
 class _Outcome:
-    """A case with what landaudit answers at each of its ABIs, and the rules that grant something of the call."""
+    """A case with landaudit's answer at each of its ABIs, and the rules that grant something of the call."""
 
     case: Case
     answers: dict[int, Found]
@@ -111,7 +111,7 @@ class _Outcome:
         return all(found.passes != self.case.refused for found in self.answers.values())
 
     def about(self) -> dict[str, str | Sequence[str]]:
-        """What is answered at which ABI, and by which layers and rules, or which rights are missing."""
+        """The answer at each ABI, with the rules that grant the call, or the layers that refuse it and why."""
         about: dict[str, str | Sequence[str]] = {}
         for abis, found in _together(self.answers):
             about[f"abi {span(abis)}"] = list(_refusing(found)) if found.answer.refused else "allowed"
@@ -147,12 +147,12 @@ def _outcomes(program: Path, policy: Policy, given: cases.Cases) -> Iterator[_Ou
         answers = {abi: by_abi[abi][number] for abi in case.abis}
         for found in answers.values():
             if found.answer.verdict == "moot":
-                raise Problem(f"{given.path}: {case.text}: the policy is not asked: {found.reason}")
+                raise Problem(f"{given.path}: {case.text}: Landlock is not asked: {found.reason}")
         yield _Outcome(case, answers, grants[number])
 
 
 def _together(answers: dict[int, Found]) -> Iterator[tuple[range, Found]]:
-    """Neighbouring ABIs that say the same, together."""
+    """Groups neighbouring ABIs with the same answer."""
     first: int | None = None
     for abi, found in answers.items():
         if first is None:

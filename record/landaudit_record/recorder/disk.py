@@ -1,4 +1,4 @@
-"""What the disk holds after the run, kept with the recording so that it converts anywhere and later."""
+"""What is on the disk after the run, kept with the recording so that it can be converted anywhere and later."""
 
 from __future__ import annotations
 
@@ -39,7 +39,7 @@ WHITEOUT = "whiteout"
 class Seen:
     """An object: its kind, a link's target, whether it was made after the run began, and whether a file may be run.
 
-    `inode` is there where the object has several names (hard links) and had them when the run began: those with one
+    `inode` is set if the object has several names (hard links) and had them when the run began: names with the same
     `inode` are one object.
     """
 
@@ -81,7 +81,7 @@ def mode(path: str) -> Mode | None:
 
 
 def _born(path: str) -> float | None:
-    """When an object was made, where its file system says so (statx(2))."""
+    """When an object was made, if its file system says so (statx(2))."""
     buffer = ctypes.create_string_buffer(_STATX_SIZE)
     name = os.fsencode(path)
     if _libc().statx(_AT_FDCWD, name, _AT_SYMLINK_NOFOLLOW, _STATX_BTIME, buffer) != 0:
@@ -99,7 +99,7 @@ def _libc() -> ctypes.CDLL:
 
 
 def interpreter(path: str) -> str | None:
-    """What the kernel runs a file by: the program after `#!`, or the loader that an ELF file names (PT_INTERP)."""
+    """The interpreter of a file: the program after `#!`, or the loader that an ELF file names (PT_INTERP)."""
     try:
         with open(path, "rb") as program:
             head = program.read(HEAD)
@@ -154,10 +154,10 @@ def _text(written: bytes) -> str | None:
 
 @dataclass(frozen=True)
 class _Layout:
-    """How ELF files of a width and an order of bytes are laid out (elf(5)): where what is asked for is.
+    """The layout of ELF files of a width and a byte order (elf(5)).
 
-    `table` is in the file's header where its table of program headers begins and `counts` the size and number of
-    these; a program header says what it is, `at` which place of the file, and how long that is.
+    In the file's header, `table` is the offset of the table of program headers, and `counts` their size and number. A
+    program header has a type, an offset in the file, and a length.
     """
 
     table: Struct
@@ -180,7 +180,7 @@ _LAYOUTS = {
 
 
 def _loader(program: BinaryIO, head: bytes, layout: _Layout) -> str | None:
-    """The loader of an ELF file, by its program headers; a file that is none the kernel does not run."""
+    """The loader of an ELF file, by its program headers, if it names one; the kernel does not run a malformed file."""
     if len(head) < layout.counts_at + layout.counts.size:
         return None
     (table,) = layout.table.unpack_from(head, layout.table_at)
@@ -195,7 +195,7 @@ def _loader(program: BinaryIO, head: bytes, layout: _Layout) -> str | None:
 
 
 def _read(program: BinaryIO, place: int, length: int) -> bytes:
-    """What is at a place of a file; nothing where no file has such a place."""
+    """The bytes at an offset of a file; nothing for an offset that no file can have."""
     if place > maxsize:
         return b""
     program.seek(place)
@@ -203,7 +203,7 @@ def _read(program: BinaryIO, place: int, length: int) -> bytes:
 
 
 class Disk:
-    """The disk as a recording sees it: each answer is kept, and a kept answer is never asked again."""
+    """The disk as a recording sees it: each answer is kept and used again."""
 
     def __init__(
         self,
@@ -230,7 +230,7 @@ class Disk:
         return self._seen[path]
 
     def interpreter(self, path: str) -> str | None:
-        """What a file is run by, if it is still there and names something."""
+        """The interpreter of a file, if the file still exists and names one."""
         seen = self.look(path)
         if path not in self._interpreters:
             runs = self._live and seen is not None and seen.kind == "reg"
@@ -247,14 +247,14 @@ class Disk:
         return self._heads[path]
 
     def mode(self, path: str) -> Mode | None:
-        """The mode of what a path leads to, if that is still there."""
+        """The mode of the object that a path leads to, if it still exists."""
         self.look(path)
         if path not in self._modes:
             self._modes[path] = mode(path) if self._live else None
         return self._modes[path]
 
     def keep(self, file: Path) -> None:
-        """Writes what was asked, for a later conversion."""
+        """Writes the kept answers, for a later conversion."""
         jsonl.write(file, (self._line(path, seen) for path, seen in self._seen.items() if seen is not None))
 
     def _line(self, path: str, seen: Seen) -> jsonl.Record:
@@ -297,7 +297,7 @@ def kept(file: Path, since: float, formats: Sequence[Format] = ()) -> Disk:
 
 
 def list_below(top: str, limit: int, unread: list[str]) -> list[tuple[str, Seen]] | None:
-    """Everything in a directory and below it, or None where it is more than the limit.
+    """Everything in a directory and below it, or None if there is more than the limit.
 
     Directories that can't be read are added to `unread`.
     """

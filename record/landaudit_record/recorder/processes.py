@@ -11,12 +11,12 @@ FIRST_MADE_UP = 1_000_001
 
 @dataclass(slots=True)
 class Handle:
-    """What a process knows of an open descriptor.
+    """What is known about an open descriptor of a process.
 
     `node` is the object that it is open on, if that has a path and is known. `in_trace` says whether a record opened
-    or adopted it; `adopted` the kind as which it is adopted when it is first needed; `ruleset` whether it is a
-    Landlock ruleset; `tcp` is the family of a TCP socket. `foreign` says that the process did not open it, so that
-    nobody knows what Landlock kept with it; `placeless` that it is in a mount that has no place in the tree.
+    or adopted it; `adopted` is the kind with which it is adopted when it is first needed; `ruleset` says whether it is
+    a Landlock ruleset; `tcp` is the family of a TCP socket. `foreign` says that the process did not open it, so nobody
+    knows what Landlock kept with it; `placeless` says that it is in a mount that has no place in the tree.
     """
 
     path: str | None = None
@@ -60,7 +60,7 @@ class Place:
 
 @dataclass(slots=True, eq=False)
 class Process:
-    """A process as a trace has it: what shares one table of descriptors and one domain.
+    """A process as a trace has it: the threads that share a table of descriptors and a domain.
 
     `confined` says whether it has a layer, or may have one; `restricted` are the rulesets of its restrictions; `maker`
     is the process that forked it; `threaded` says whether it has or had several threads, `looks` whether it is
@@ -86,7 +86,7 @@ class Process:
 
 @dataclass(slots=True, eq=False)
 class Thread:
-    """A thread: its process, where it is, and how many layers it has put on itself or inherited.
+    """A thread: its process, its directories, and how many layers it has put on itself or inherited.
 
     `forked` is the child that its last call made, if that was a fork.
     """

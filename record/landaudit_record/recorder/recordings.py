@@ -73,12 +73,12 @@ class About:
 
     @property
     def whiteouts(self) -> str:
-        """The kind of object as which the kernel guards whiteouts: erratum 4 is that they are character devices."""
+        """The kind of object as which the kernel guards whiteouts; by erratum 4, they are character devices."""
         return "reg" if self.errata & 8 else "char"
 
     @property
     def asker(self) -> Asker | None:
-        """As whom all processes ask for files: without privileges none can become another user (credentials(7))."""
+        """The user of all processes: without privileges, none can become another user (credentials(7))."""
         return None if self.uid is None else Asker(self.uid, frozenset(self.groups))
 
     def write(self, folder: Path) -> None:
@@ -97,13 +97,13 @@ def read_about(folder: Path) -> About:
 
 
 def policy_of(folder: Path) -> Path | None:
-    """The policy that a recording was made under, if it was by `run --policy`."""
+    """The policy under which a recording was made, if it was made with `run --policy`."""
     file = folder / POLICY
     return file if file.is_file() else None
 
 
 def standard_descriptors() -> dict[str, dict[str, str | None]]:
-    """What standard input, output and error of this process are."""
+    """The kinds and paths of standard input, output and error of this process."""
     found: dict[str, dict[str, str | None]] = {}
     for number in range(3):
         try:
@@ -118,7 +118,7 @@ def standard_descriptors() -> dict[str, dict[str, str | None]]:
 
 
 def errata() -> int:
-    """The errata of Landlock that this kernel has mended, as bits; 0 where it does not say."""
+    """The errata of Landlock that this kernel has fixed, as bits; 0 if it does not say."""
     libc = ctypes.CDLL(None, use_errno=True)
     mended: int = libc.syscall(_SYS_LANDLOCK_CREATE_RULESET, None, 0, _LANDLOCK_CREATE_RULESET_ERRATA)
     return max(0, mended)
@@ -139,7 +139,7 @@ def is_admin() -> bool:
 
 
 def user() -> int | None:
-    """The number of this process's user, if the process has no capability: with some file modes would not count."""
+    """The number of this process's user, if the process has no capability; with some, file modes would not count."""
     return None if _capabilities() else os.geteuid()
 
 
@@ -152,7 +152,7 @@ def _capabilities() -> int:
 
 @dataclass
 class Watched:
-    """Directories before a run: those that were listed, those that hold too much, and what of them can't be read."""
+    """Directories before a run: those that were listed, those with too many objects, and those that can't be read."""
 
     watched: list[str] = field(default_factory=list)
     too_large: list[str] = field(default_factory=list)

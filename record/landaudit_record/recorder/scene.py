@@ -1,4 +1,4 @@
-"""How far a conversion is: names, processes and what was written so far, with the words that all calls share."""
+"""The state of a conversion: names, processes and what was written so far, with the operations that all calls share."""
 
 from __future__ import annotations
 
@@ -32,14 +32,14 @@ PROC = "proc"
 OWN_FILES = "/proc/self"
 NO_PATH = "a file without a path"
 SHARED_TABLE = "a descriptor table that two processes share"
-#: So it is where a process has no layer, and where the mode of what is asked for says so.
+#: The class of EACCES in a process without layers, and of EACCES that the mode of an object explains.
 BY_MODES = "EACCES by file modes, whatever a policy says"
 _OF_PROCESS = re.compile(r"/proc/(\d+)(?:/task/\d+)?/(fd/(\d+)|exe|cwd|root|(?:map_files|ns)/[^/]+)")
 
 
 @dataclass(slots=True)
 class Spot:
-    """What a path names at this moment: the real path, and the object if there is one.
+    """What a path names at the moment: the real path, and the object if there is one.
 
     `broken` is how many names of the real path lead to the last directory on it, where the object is missing.
     """
@@ -52,7 +52,7 @@ class Spot:
 
     @property
     def path(self) -> str:
-        """The text in the trace: the object's name in the tree, or one that nothing ever has."""
+        """The text in the trace: the object's name in the tree, or a name that no object ever has."""
         text = self._text
         if text is None:
             if self.node is not None:
@@ -65,12 +65,12 @@ class Spot:
 
     @property
     def in_directory(self) -> bool:
-        """Whether the object is there, or is missing in a directory that is."""
+        """Whether the object exists, or is missing in a directory that exists."""
         return self.node is not None or self.broken == len(split(self.real)) - 1
 
     @property
     def shown(self) -> str | None:
-        """The real path, where the text in the trace is another."""
+        """The real path, if the text in the trace is another one."""
         text = self._text if self._text is not None else self.path
         return self.real if self.real != text else None
 
@@ -125,11 +125,11 @@ class Scene:
     # What is said
 
     def say(self, thread: Thread, call: Call, op: str, **members: Any) -> None:
-        """Writes a record of something that Landlock judges, with what the kernel answered."""
+        """Writes a record of a call that Landlock judges, with the kernel's answer."""
         self.judged(thread, call, op, members)
 
     def judged(self, thread: Thread, call: Call, op: str, members: Members) -> None:
-        """Writes a record as `say` does, from members that nobody changes afterwards."""
+        """Writes a record as `say` does, from members that do not change afterwards."""
         process, error = thread.process, call.error
         if thread.layers < len(process.restricted):
             raise CannotSay("a call of a thread with fewer layers than its process")
@@ -143,11 +143,11 @@ class Scene:
         return self.asker is not None and modes.refuse(self.asker, self.disk.mode, op, members, runs)
 
     def note(self, thread: Thread, call: Call, op: str, **members: Any) -> None:
-        """Writes a record that only keeps the books, where the kernel's answer is not said."""
+        """Writes a record that only keeps the state right, without the kernel's answer."""
         self.recording.add(op, thread.process.pid, call.line, None, members)
 
     def leave_out(self, thread: Thread, call: Call, reason: str, *, asks: bool = False) -> None:
-        """Counts something about a call that trace and tree can't hold; `asks` as `Recording.leave_out` has it."""
+        """Counts a call that trace and tree can't express; `asks` is as in `Recording.leave_out`."""
         self.recording.leave_out(reason, call.line, thread.process.pid, call.text, asks=asks)
 
     def further_names(self) -> dict[str, list[str]]:
@@ -185,7 +185,7 @@ class Scene:
         return found
 
     def list_links(self, thread: Thread, base: Descriptor | None, path: str) -> None:
-        """Lists the symbolic links by which a path leads on, once for each directory and path."""
+        """Lists the symbolic links on the way of a path, once for each directory and path."""
         directory = base.path if base is not None and base.path is not None else thread.place.directory
         walk = (thread.place.root, "" if path.startswith("/") else directory, path)
         if walk not in self._walked:
@@ -208,7 +208,7 @@ class Scene:
         return Spot(self.tree, real, node)
 
     def absent(self, real: str) -> Spot:
-        """A name in a directory of which the kernel says that nothing is there, whatever was known before."""
+        """A name in a directory at which, as the kernel says, nothing is, whatever was known before."""
         self.names.gone(real)
         return self.missing(real)
 
@@ -217,7 +217,7 @@ class Scene:
         return Spot(self.tree, real, None, len(split(real)) - 1)
 
     def present(self, real: str, kind: str) -> Spot:
-        """An object that is known to be there, whatever was known of it before."""
+        """An object that is known to exist, whatever was known of it before."""
         return self.there(real, self.names.ensure(real, kind))
 
     def as_missing(self, spot: Spot) -> Spot:
@@ -229,7 +229,7 @@ class Scene:
         return spot
 
     def moved(self, ways: dict[str, str]) -> None:
-        """Directories went from some paths to others: who works in one, and what is open in it, goes with it."""
+        """Directories moved: the processes that work in them, and what is open in them, move along."""
         places = {id(thread.place): thread.place for thread in self.threads.values()}
         for place in places.values():
             place.directory, place.root = (_went(path, ways) for path in (place.directory, place.root))
@@ -242,8 +242,8 @@ class Scene:
     def handle(self, thread: Thread, call: Call, of: Descriptor) -> Handle | None:
         """What a process knows of a descriptor, if it is open.
 
-        A number that nothing is known of, or that stands for another kind of thing than what is known, came unseen:
-        from pipe(2) and its like, or from elsewhere.
+        A number of which nothing is known, or that stands for another kind of object than the known one, was opened
+        unseen: by pipe(2) or the like, or elsewhere.
         """
         known = thread.process.table.get(of.number)
         if of.behind is None or (known is not None and (known.path is None) == (of.path is None)):
@@ -287,7 +287,7 @@ class Scene:
         self.recording.add_close(thread.process.pid, call.line, number)
 
     def put(self, thread: Thread, call: Call, number: int, handle: Handle) -> None:
-        """Puts a descriptor under a number; what was there unseen is closed."""
+        """Puts a descriptor under a number; an unseen descriptor there is closed."""
         table = thread.process.table
         if number in table:
             self.close(thread, call, number)
@@ -296,9 +296,9 @@ class Scene:
     # Processes
 
     def known(self, tid: int, line: int, text: str) -> Thread | None:
-        """A thread of which a line tells, be it that it ends; one that is met for the first time is begun by its fork.
+        """The thread of a line, which may be its end; a thread that is met for the first time is begun by its fork.
 
-        None where the log tells of no such fork.
+        None if the log has no such fork.
         """
         thread = self.threads.get(tid)
         if thread is None and (birth := self.births.next(tid)) is not None:
@@ -311,8 +311,8 @@ class Scene:
     def begin(self, birth: Birth, tid: int, line: int, text: str) -> None:
         """A thread that a fork makes, or a process with a copy of what its maker has.
 
-        A number that is used again says that its last thread has ended, if nothing else did. The maker may be met for
-        the first time here, since its own fork may be under way as well.
+        If a number is used again, its last thread has ended, even if nothing else says so. The maker may be met here
+        for the first time, since its own fork may not have ended either.
         """
         self.begun.add(birth.line)
         self.end(tid, line)
@@ -339,12 +339,12 @@ class Scene:
         self.recording.write("fork", maker.process.pid, line, child=tid)
 
     def doubt(self, maker: Thread) -> None:
-        """Doubts the result of a fork behind which its thread was killed: strace may show what it read elsewhere."""
+        """Doubts the result of a fork after which its thread was killed: strace may show a wrong value."""
         if maker.forked in self.unmet:
             self.unmet[maker.forked] = True
 
     def have_ended(self, threads: Iterable[int]) -> bool:
-        """Whether none is left of what were threads, as far as the log is to be believed."""
+        """Whether none of these threads is left, as far as the log can be believed."""
         return all(self.unmet.get(tid, False) for tid in threads)
 
     def _join(self, thread: Thread) -> None:
@@ -357,13 +357,13 @@ class Scene:
         self.names.put(f"{own}/task/{thread.tid}", Node("dir", origin=OWN_FILES))
 
     def start(self, thread: Thread, call: Call, *, nnp: bool, admin: bool) -> None:
-        """A process that is there when the trace begins: whether it has no_new_privs, and whether CAP_SYS_ADMIN."""
+        """Starts a process that exists when the trace begins, with or without no_new_privs and CAP_SYS_ADMIN."""
         self._join(thread)
         self.processes[thread.process.pid] = thread.process
         self.recording.write("start", thread.process.pid, call.line, nnp=nnp, admin=admin)
 
     def end(self, tid: int, line: int) -> None:
-        """A thread that ended, and its process with its last thread."""
+        """Ends a thread, and its process with its last thread."""
         thread = self.threads.pop(tid, None)
         if thread is None:
             return
@@ -384,9 +384,9 @@ class Scene:
 
 
 def _is_foreign(of: Descriptor) -> bool:
-    """Whether what a number stands for has rights that Landlock gave it elsewhere: a socket, or a file that was opened.
+    """Whether a descriptor has rights that Landlock gave it elsewhere: a socket, or a file that was opened.
 
-    A memfd, a pipe and their like are never refused (memfd_create(2), pipe(2)).
+    Memfds, pipes and the like are never refused (memfd_create(2), pipe(2)).
     """
     if of.path is not None:
         return not of.in_memory
@@ -405,7 +405,7 @@ class ThreadLinks:
         self.scene.tree.place(path, node)
 
     def magic(self, path: str) -> tuple[str, Node | None] | None:
-        """Where a link of /proc leads, and to what object if that is known (proc(5))."""
+        """Where a link of /proc leads, and to which object if that is known (proc(5))."""
         if not path.startswith("/proc/"):
             return None
         own = f"/proc/{self.thread.process.pid}"
@@ -439,7 +439,7 @@ class ThreadLinks:
 
 
 def _went(path: str, ways: dict[str, str]) -> str:
-    """A path, now that directories went from some paths to others."""
+    """A path after directories moved."""
     for start, end in ways.items():
         if path == start or path.startswith(start + "/"):
             return end + path[len(start) :]

@@ -1,11 +1,10 @@
 """The log of strace: its lines as calls, in the order in which the calls took effect.
 
 A call that another process's line interrupts is written in two halves, "<unfinished ...>" and
-"<... resumed>", which are put together here. Most calls take effect where they end: what installs a
-number, say, is seen by nobody before. Those of AT_BEGINNING take effect where they begin: close(2) frees its
-number at once, and another thread may have it before the call has ended. So the ends of these calls are
-looked up in a first reading, and with them the children of all forks, since a child may run before its
-parent's fork has ended.
+"<... resumed>", which are put together here. Most calls take effect at their end: for example, nobody sees
+a new number before. Those of AT_BEGINNING take effect at their beginning: close(2) frees its number at once,
+and another thread may have it before the call has ended. So a first reading looks up the ends of these
+calls, and the children of all forks, since a child may run before its parent's fork has ended.
 """
 
 from __future__ import annotations
@@ -24,17 +23,17 @@ from .looks import DROPPED, Near
 from .unsaid import NotUnderstood
 from ..problems import Problem
 
-#: Calls that take effect where they begin: they free numbers, or look up what a number stands for.
+#: Calls that take effect at their beginning: they free numbers, or look up what a number stands for.
 AT_BEGINNING = frozenset({"close", "close_range", "ftruncate", "ioctl"})
 _BEGINNINGS = tuple(f"{name}(" for name in sorted(AT_BEGINNING))
-#: How the first half of a call ends; the second where a thread that is not the leader runs a program.
+#: The ends of the first half of a call; the second is for a thread that is not the leader and runs a program.
 UNFINISHED = " <unfinished ...>"
 _PID_CHANGED = re.compile(r" <pid changed to \d+ \.\.\.>$")
-#: What strace may write where a close has no end, since its thread was ended.
+#: What strace may write for a close without an end, since its thread was ended.
 _NO_END = ") = ?"
 _DONE = ") = 0"
 
-#: What strace writes of a call that a thread was to make which was killed first: it learns not even which call.
+#: What strace writes if a thread was killed before its call: strace does not even learn which call.
 _NOT_MADE = ("???(", "<... ???")
 #: The first letters of what is no call: the end of a thread, a signal, the second half of a call, and the above.
 _NO_CALL = frozenset("+-<?")
@@ -45,7 +44,7 @@ _ENDING = re.compile(_RESULT)
 _ERROR = re.compile(r" (E[A-Z0-9]+) ")
 _SUPERSEDED = re.compile(r"superseded by execve in pid (\d+)")
 _PIECE = re.compile(r'"[^"\\]*(?:\\.[^"\\]*)*"|/\*.*?\*/|<[^<>]*(?:<[^<>]*>[^<>]*)*>|[()\[\]{},]')
-#: What most arguments are made of: no brackets, and no comma in a text, a comment or what is behind a descriptor.
+#: The form of most arguments: no brackets, and no comma in a text, a comment or a descriptor's path.
 _USUAL_PARTS = (
     r'[^"/<>()\[\]{}]++',
     r'"[^"\\,]*+(?:\\[^,][^"\\,]*+)*+"',
@@ -66,9 +65,9 @@ _FLAGS = re.compile(r"flags=([^,}]+)")
 
 
 class Arguments(dict[int, str]):
-    """The arguments of a call by their places, from 0; one that is missing is a text that is not understood.
+    """The arguments of a call by their positions, from 0; a missing one is a text that is not understood.
 
-    A dict asks `__missing__` only for what it has not, so that no function runs for each argument that is read.
+    A dict calls `__missing__` only for what it lacks, so that no function runs for each argument that is read.
     """
 
     __slots__ = ()
@@ -101,9 +100,9 @@ class Call:
 
 @dataclass(slots=True)
 class Ended:
-    """A thread that ended; `dumped` says that its process left a core file, or was to leave one (core(5)).
+    """A thread that ended; `dumped` says that its process left a core file, or should have left one (core(5)).
 
-    `killed` says that SIGKILL ended it, which no process can see coming.
+    `killed` says that SIGKILL ended it.
     """
 
     line: int
@@ -114,7 +113,7 @@ class Ended:
 
 @dataclass(slots=True)
 class Superseded:
-    """The leader of a process whose other thread runs a program: from here on that thread has the leader's number."""
+    """The leader of a process in which another thread runs a program: from here on, that thread has its number."""
 
     line: int
     tid: int
@@ -123,7 +122,7 @@ class Superseded:
 
 @dataclass(slots=True)
 class Unread:
-    """A line that is no line of strace's."""
+    """A line that strace did not write."""
 
     line: int
     tid: int
@@ -144,9 +143,9 @@ class Birth:
 
 @dataclass
 class Births:
-    """Who was started by whom: for each new thread the forks that made one of its number, the first one last.
+    """For each new thread, the forks that made a thread of its number, the first one last.
 
-    `ends` has the second halves of the calls that take effect where they begin, by the lines of these.
+    `ends` has the second halves of the calls that take effect at their beginning, by the lines of the calls.
     """
 
     forks: dict[int, list[Birth]] = field(default_factory=dict)
@@ -174,7 +173,7 @@ def find_log(folder: Path) -> Path:
 
 
 def births(path: Path) -> Births:
-    """What a first reading of a log tells: all forks, and how the calls end that take effect where they begin."""
+    """The results of a first reading of a log: all forks, and the ends of calls that take effect at their beginning."""
     found = Births()
     forks, ends = _Forks(found), _Ends(found)
     with open_log(path) as lines:
@@ -191,19 +190,19 @@ def births(path: Path) -> Births:
 
 
 class _Ends:
-    """The second halves of the calls that take effect where they begin; `wanted` are the first halves without one."""
+    """The second halves of calls that take effect at their beginning; `wanted` has the first halves without one."""
 
     def __init__(self, found: Births) -> None:
         self._found = found
         self.wanted: dict[str, int] = {}
 
     def begin(self, number: int, line: str) -> None:
-        """Takes up a first half, if it is that of such a call."""
+        """Follows a first half, if it is that of such a call."""
         if begins := _BEGINS.match(line):
             self.wanted[begins[1]] = number
 
     def end(self, line: str) -> None:
-        """Takes up a second half, if it is that of such a call."""
+        """Follows a second half, if it is that of such a call."""
         if ends := _ENDS.match(line):
             first = self.wanted.pop(ends[1], None)
             if first is not None:
@@ -211,14 +210,14 @@ class _Ends:
 
 
 class _Forks:
-    """The forks of a log, as its lines tell them."""
+    """The forks of a log, read line by line."""
 
     def __init__(self, found: Births) -> None:
         self._found = found
         self._begun: dict[int, tuple[int, int]] = {}
 
     def read(self, number: int, line: str) -> None:
-        """Takes up a line, if a fork begins or ends on it; a fork that can't be read makes nobody that is known."""
+        """Follows a line, if a fork begins or ends on it; a fork that can't be read makes no known thread."""
         try:
             self._read(number, line)
         except NotUnderstood:
@@ -298,7 +297,7 @@ class _Reader:
         return _call(number, tid, text + end)
 
     def _resumes(self, number: int, tid: int, text: str, resumed: re.Match[str]) -> Event | None:
-        """The second half of a call, if it was not told where it began."""
+        """The second half of a call, if the call did not take effect at its beginning."""
         if tid in self._told:
             self._told.discard(tid)
             return None
@@ -310,9 +309,9 @@ class _Reader:
         return _call(begun[0], tid, begun[1] + end)
 
     def _end(self, number: int, tid: int, text: str) -> Event:
-        """The end of a thread, or of the leader of a process whose other thread runs a program.
+        """The end of a thread, or of the leader of a process in which another thread runs a program.
 
-        This has succeeded, whatever strace writes of it: the other threads end only when nothing can fail.
+        That exec has succeeded, whatever strace writes: the other threads end only when it can't fail any more.
         """
         self._told.discard(tid)
         superseded = _SUPERSEDED.search(text)
@@ -334,13 +333,13 @@ def _call(number: int, tid: int, text: str) -> Event:
     return Call(number, tid, name, arguments, value, error, note, text)
 
 
-#: What the text of a call says, as `Call` has it: name, arguments, value, error and note.
+#: The parts of a call's text, as `Call` has them: name, arguments, value, error and note.
 _Said = tuple[str, Arguments, int | None, str | None, str]
 
 
 @lru_cache(values.KEPT)
 def _said(text: str) -> _Said | None:
-    """What a text says, if it is the text of a call that ended."""
+    """The parts of a text, if it is the text of a call that ended."""
     parts = _parts(text)
     if parts is None:
         return None
@@ -356,7 +355,7 @@ def _said(text: str) -> _Said | None:
 
 
 def _parts(text: str) -> tuple[str, list[str], str, str] | None:
-    """The name of a call, its arguments, its result and the note behind it."""
+    """The name of a call, its arguments, its result and the note after it."""
     if usual := _USUAL_CALL.match(text):
         arguments = [argument.strip() for argument in usual[2].split(",")] if usual[2] else []
         return usual[1], arguments, usual[3], usual[4]

@@ -1,4 +1,4 @@
-"""What a conversion writes: the tree, the trace, and what could not be said."""
+"""What a conversion writes: the tree, the trace, and the calls that it could not write."""
 
 from __future__ import annotations
 
@@ -27,26 +27,26 @@ from .values import KEPT
 MOST_RECORDS = 1_000_000
 MOST_PROCESSES = 65_536
 MOST_OBJECTS = 65_536
-#: What a policy of sixteen layers of 1,000 rules takes: no_new_privs, and of each layer its rules and three more.
+#: The records of a policy of sixteen layers of 1,000 rules: no_new_privs, and for each layer its rules and three more.
 POLICY_RECORDS = 1 + 16 * 1_003
 POLICY_OBJECTS = 16 * 1_000
 LONGEST_PATH = 4_096
 LONGEST_CALL = 200
 DEEP = 100
-"""Of a path with more names than this, the directories over it are listed by steps of so many."""
+"""For a path with more names than this, the directories above it are listed in steps of so many."""
 ABSENT = "~new~"
-#: Before the name of a folder in which a conversion writes that is not done.
+#: The beginning of the name of a folder in which a conversion writes until it is done.
 UNDONE = ".converting-"
-#: What no path has: another beginning than a slash, an empty name, `.`, `..`, a NUL.
+#: What a path must not have: another beginning than a slash, an empty name, `.`, `..`, a NUL.
 _NO_PATH = re.compile(r"\A[^/]|\A\Z|/\.{0,2}(?:/|\Z)|\0")
 
 
 class Tree:
     """The names under which a recording lists objects; an object that is moved or linked has several.
 
-    An object's name is its path, or where another object has that, the path with a number behind it. What was there
-    when the run began has names of its own, and so has what the program itself puts a rule on. All else that the run
-    makes at one path is alike to Landlock where it is of one kind, and shares a name: no rule is on it.
+    An object's name is its path or, if another object has that, the path with a number after it. An object that existed
+    when the run began has names of its own, and so has one on which the program itself puts a rule. Other objects that
+    the run makes at one path share a name if they are of one kind: no rule is on them, so Landlock treats them alike.
     """
 
     def __init__(self, names: Names) -> None:
@@ -67,11 +67,11 @@ class Tree:
 
 
     def __len__(self) -> int:
-        """How many objects there are, the root among them."""
+        """The number of objects, including the root."""
         return len(self._lines) + 1
 
     def place(self, real: str, node: Node) -> str:
-        """Lists an object at a real path with the directories over it, and gives the name that it has there."""
+        """Lists an object at a real path with the directories above it, and returns the name that it has there."""
         if self._turns != self._names.turns:
             self._turns = self._names.turns
             self._places.clear()
@@ -101,9 +101,9 @@ class Tree:
         return self._several.get(node, ["/"])
 
     def gap(self, over: str, names: Sequence[str]) -> str:
-        """The name of what is missing in an object: one that nothing ever has, with the names behind it.
+        """The name of what is missing in an object: a name that no object ever has, with the names after it.
 
-        The root is never missing: a log that says so is damaged. Names are kept for speed alone, at most KEPT of them.
+        The root is never missing: a log that says so is damaged. Names are kept only for speed, at most KEPT of them.
         """
         if not names:
             raise NotUnderstood
@@ -135,7 +135,7 @@ class Tree:
         return self.place(real, node or self._lost.setdefault(real, Node("dir")))
 
     def _list_over(self, real: str) -> None:
-        """Lists some of the directories over a deep path, the upper ones first, so that no call goes down all of them."""
+        """Lists some of the directories above a deep path, the upper ones first, so that no call lists all of them."""
         names = real.split("/")
         for count in range(DEEP, len(names) - 1, DEEP):
             over = "/".join(names[: count + 1])
@@ -143,7 +143,7 @@ class Tree:
             self._over(over, directory if directory is not None and directory.kind == "dir" else None)
 
     def _list_start(self, node: Node) -> None:
-        """Lists what was there when the run began by the path that it had then, after the directories over it."""
+        """Lists an object that existed when the run began by its path at that time, after the directories above it."""
         unlisted: list[tuple[str, Node]] = []
         over: Node | None = node
         while over is not None and over.start and over.start not in self._lines:
@@ -153,7 +153,7 @@ class Tree:
             self._named(path, path, one)
 
     def _named(self, wanted: str, real: str, node: Node) -> str:
-        """The name of an object where one is wanted, listed."""
+        """The name of an object, which is then listed; the wanted name if possible."""
         owner: Node | str = node.kind if node.shares else node
         text = self._given.get((wanted, owner))
         if text is None:
@@ -167,7 +167,7 @@ class Tree:
         return text
 
     def _free(self, wanted: str, owner: Node | str) -> str:
-        """The name that is wanted, or that with a number behind it, which nothing else has."""
+        """The wanted name, or that name with a number after it, which no other object has."""
         text, count = wanted, 1
         while not self._may_have(text, owner):
             count += 1
@@ -192,7 +192,7 @@ class Tree:
         self.fresh.append(text)
 
     def write(self, file: Path, chosen: Container[str]) -> int:
-        """Writes chosen objects, directories before what is in them, and says how many it wrote with the root."""
+        """Writes chosen objects, directories before what is in them, and returns their number including the root."""
         lines = (self._line(text, line) for text, line in self._lines.items() if text in chosen)
         return 1 + jsonl.write(file, lines)
 
@@ -203,29 +203,33 @@ class Tree:
 
 @dataclass(frozen=True)
 class Limits:
-    """How much a part holds before the next one begins, with room for a policy; `own` are records not written again."""
+    """How much a part holds before the next one begins, with room for a policy; `own` are records not written again.
+
+    Of `own` there are less than landaudit reads: it takes its memory for one part, and judges a part while the one
+    before is read.
+    """
 
     records: int = MOST_RECORDS - POLICY_RECORDS
     processes: int = MOST_PROCESSES - 1
     objects: int = MOST_OBJECTS - POLICY_OBJECTS
-    own: int = MOST_RECORDS
+    own: int = 500_000
 
 
 LIMITS = Limits()
 _value, _text = jsonl.value, jsonl.text
-#: A call has far less records: so many are kept free for the last one of a part.
+#: The records that are kept free for the last call of a part; a call has far fewer.
 MOST_OF_A_CALL = 2_000
 _ADDS = b'{"op":"add_path"'
 _WITHOUT_PATH = frozenset({"start", "fork", "rename", "link"})
-#: A record that waits for the rest of its call: operation, process, members, what the kernel answered, and the line.
+#: A record that waits for the rest of its call: operation, process, members, the kernel's answer, and the line.
 _Waiting = tuple[str, int, Members, str | None, str]
 
 
 class Recording:
-    """The tree, the trace in its parts, and what could not be said, as they are written.
+    """The tree, the trace in its parts, and the calls that could not be written.
 
-    The records of a call wait until it is committed, so that no part ends within a call. All files have names of their
-    own until the conversion is done, so that what was converted before stays whole.
+    The records of a call wait until the call is committed, so that no part ends within a call. All files have temporary
+    names until the conversion is done, so that an earlier conversion stays whole.
     """
 
     def __init__(self, folder: Path, tree: Tree, limits: Limits = LIMITS) -> None:
@@ -256,7 +260,7 @@ class Recording:
 
     @property
     def records(self) -> int:
-        """How many records there are, with those of the call that is not committed yet."""
+        """The number of records, including those of the call that is not committed yet."""
         return self._committed + len(self._call)
 
     def write(self, op: str, pid: int, call: int, kernel: str | None = None, **members: Any) -> None:
@@ -264,7 +268,7 @@ class Recording:
         self.add(op, pid, call, kernel, members)
 
     def add(self, op: str, pid: int, call: int, kernel: str | None, members: Members) -> None:
-        """Adds a record as `write` does, from members that nobody changes afterwards."""
+        """Adds a record as `write` does, from members that do not change afterwards."""
         line = f'{{"op":"{op}","pid":{pid}'
         for name, value in members.items():
             if type(value) is str:
@@ -309,14 +313,14 @@ class Recording:
             self._list_fresh()
 
     def drop(self) -> None:
-        """Drops the records of a call that turns out not to be sayable.
+        """Drops the records of a call that turns out not to be writable.
 
-        Those stay that keep the books on numbers of the process itself, as the close of what a number stood for before.
+        Records that keep the numbers of the process right stay, such as the close of what a number stood for before.
         """
         self._call[:] = [waiting for waiting in self._call if not _is_judged(waiting)]
 
     def leave_out(self, reason: str, line: int, pid: int, call: str, *, asks: bool = False) -> None:
-        """Counts a call that could not be said; `asks` says that the kernel may refuse it by a policy."""
+        """Counts a call that could not be written; `asks` says that a policy may refuse it."""
         self.unsaid[reason] += 1
         entry: jsonl.Record = {"line": line, "pid": pid, "class": reason, "call": call[:LONGEST_CALL]}
         if asks:
@@ -391,7 +395,7 @@ class Recording:
     def _need(self, path: str) -> None:
         """Lists an object in the tree of the part, if it is one, and the directories over it.
 
-        What is no object is kept for speed alone, so that it is not looked at each time: at most KEPT such paths.
+        Paths that are not objects are kept only for speed, so that they are not looked up each time: at most KEPT.
         """
         while path not in self._objects and path not in self._others:
             (self._objects if path in self.tree else self._others).add(path)
@@ -422,7 +426,7 @@ class _PartInMaking:
     again: int
 
     def spread(self, further: Mapping[str, Sequence[str]]) -> None:
-        """Puts rules on further names of their objects: behind a record, a copy for each name."""
+        """Puts rules on further names of their objects: after a record, a copy for each name."""
         if not further:
             return
         beside = self.part.trace.with_suffix(".new")
@@ -443,7 +447,7 @@ class _PartInMaking:
 
 
 def _is_utf8(text: str) -> bool:
-    """Whether a text can be written, which a name of other bytes can't."""
+    """Whether a text can be written; a name with bytes that are not UTF-8 can't."""
     return text.isascii() or not any("\ud800" <= letter <= "\udfff" for letter in text)
 
 

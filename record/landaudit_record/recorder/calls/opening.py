@@ -24,9 +24,9 @@ O_PATH = 0o10000000
 O_TMPFILE = 0o20000000 | O_DIRECTORY
 MODES = ("r", "w", "rw")
 ACCESS_MODE = 0o3
-#: The errors by which the `resolve` flags of openat2(2) end a call before Landlock is asked.
+#: The errors with which the `resolve` flags of openat2(2) end a call before Landlock is asked.
 RESOLVE_ERRORS = frozenset({"EAGAIN", "ELOOP", "EXDEV"})
-#: The name of a file that O_TMPFILE would have made, had it been allowed.
+#: The name of a file that O_TMPFILE would have made if it had been allowed.
 UNNAMED = "#tmpfile"
 
 
@@ -77,9 +77,9 @@ def _opened(scene: Scene, thread: Thread, call: Call, base: int | None, path: in
 def succeeded(
     scene: Scene, thread: Thread, call: Call, result: Descriptor, flags: int, gone: Node | None = None
 ) -> None:
-    """A descriptor that is open now: a record, or what is needed to adopt it where Landlock was not asked.
+    """A descriptor that is open now: a record, or the data to adopt it if Landlock was not asked.
 
-    `gone` is the object if it has no name any more.
+    `gone` is the object, if it has no name any more.
     """
     handle = thread.process.table[result.number]
     if result.path is None or flags & O_PATH:
@@ -102,7 +102,7 @@ def succeeded(
 
 
 def _opened_spot(scene: Scene, path: str, result: Descriptor, flags: int) -> tuple[Spot, bool]:
-    """What was opened, and whether the call made it."""
+    """The object that was opened, and whether the call made it."""
     node = scene.names.at(path)
     if flags & O_TMPFILE == O_TMPFILE:
         return _without_name(scene, path), False
@@ -118,7 +118,7 @@ def _opened_spot(scene: Scene, path: str, result: Descriptor, flags: int) -> tup
 
 
 def _gone(scene: Scene, thread: Thread, call: Call, base: int | None, path: int) -> Node:
-    """What was opened though it has no name any more, as by /proc/self/fd; an object of its own if it is not known."""
+    """An opened object that has no name any more, as by /proc/self/fd; a new object if it is not known."""
     with suppress(CannotSay):
         found = scene.find(thread, arguments.descriptor_at(call, base), arguments.path_at(call, path), True)
         if found.node is not None:
@@ -127,13 +127,13 @@ def _gone(scene: Scene, thread: Thread, call: Call, base: int | None, path: int)
 
 
 def _without_name(scene: Scene, path: str) -> Spot:
-    """A file that O_TMPFILE makes: Landlock is asked for the open file alone, which has a path but no name."""
+    """A file that O_TMPFILE makes: Landlock is asked only about the open file, which has a path but no name."""
     directory, _, name = path.rpartition("/")
     return scene.there(path, Node("reg", over=scene.names.at(directory or "/"), name=name))
 
 
 def _kind_after(scene: Scene, path: str) -> str:
-    """The kind of an object that nothing was known of: what the disk says after the run, else a regular file."""
+    """The kind of an object of which nothing was known: as the disk says after the run, else a regular file."""
     seen = scene.disk.look(path)
     return scene.names.kind(seen.kind) if seen is not None and seen.kind != "sym" else "reg"
 
@@ -162,7 +162,7 @@ def _failed(scene: Scene, thread: Thread, call: Call, base: int | None, path: in
 
 
 def _after_failure(scene: Scene, call: Call, spot: Spot, flags: int) -> Spot:
-    """What an open that failed was about, after what the kernel answered."""
+    """The object of an open that failed, by the kernel's answer."""
     if call.error == "ENOTDIR" and flags & O_DIRECTORY:
         return scene.missing(spot.real) if spot.node is not None and spot.real != "/" else spot
     if flags & O_TMPFILE == O_TMPFILE:
@@ -174,7 +174,7 @@ def _after_failure(scene: Scene, call: Call, spot: Spot, flags: int) -> Spot:
 
 
 def _say_open(scene: Scene, thread: Thread, call: Call, spot: Spot, number: int, flags: int, create: bool) -> None:
-    """Says an open, the most frequent record of all: only with the members that say something."""
+    """Writes an open, the most frequent record of all, with only the members that are set."""
     members: dict[str, Any] = {"path": spot.path, "fd": number, "mode": MODES[flags & ACCESS_MODE]}
     if create:
         members["create"] = True

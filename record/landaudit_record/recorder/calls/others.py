@@ -140,9 +140,9 @@ def _numbers(matches: Iterable[re.Match[str] | None]) -> set[int]:
 
 
 def may_refuse(scene: Scene, thread: Thread, pid: int) -> bool:
-    """Whether a process may be under other layers than one that looks into it.
+    """Whether a process may be under other layers than the process that looks into it.
 
-    It is under the same ones if it is the process itself, or a child that has all layers of its own.
+    It is under the same layers if it is that process itself, or a child of it that has its layers.
     """
     mine, there = thread.process, scene.threads.get(pid)
     other = scene.ended.get(pid) if there is None else there.process
@@ -153,7 +153,7 @@ def may_refuse(scene: Scene, thread: Thread, pid: int) -> bool:
 
 
 def _comes_from(process: Process, maker: Process) -> bool:
-    """Whether a process is another, or was forked from it."""
+    """Whether a process is another one, or was forked from it."""
     at: Process | None = process
     while at is not None and at is not maker:
         at = at.maker

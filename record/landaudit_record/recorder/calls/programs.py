@@ -28,9 +28,9 @@ def _execveat(scene: Scene, thread: Thread, call: Call) -> None:
 
 
 def _run(scene: Scene, thread: Thread, call: Call, spot: Spot) -> None:
-    """A program that is run: what the kernel opens for it, then what closes with it.
+    """A program that is run: the files that the kernel opens for it, then the descriptors that it closes.
 
-    A program that is in memory alone (memfd_create(2)) is not asked about, but its loader is.
+    Landlock is not asked about a program that is only in memory (memfd_create(2)), but about its loader.
     """
     in_memory = values.is_in_memory(spot.real)
     if call.error != "ENOENT" and not in_memory:
@@ -48,13 +48,13 @@ def _run(scene: Scene, thread: Thread, call: Call, spot: Spot) -> None:
 
 
 def _may_not_run(scene: Scene, spot: Spot) -> bool:
-    """Whether the kind or the mode of a file forbids to run it, whatever Landlock says (execve(2))."""
+    """Whether the kind or the mode of a file forbids running it, whatever Landlock says (execve(2))."""
     seen = scene.disk.look(spot.real)
     return spot.node is not None and (spot.node.kind != "reg" or (seen is not None and not seen.runs))
 
 
 def _run_one(scene: Scene, thread: Thread, call: Call, spot: Spot, role: str | None) -> int | None:
-    """One file that the kernel opens and runs, by a descriptor of its own."""
+    """One file that the kernel opens and runs, with a descriptor of its own."""
     number = None
     if spot.node is not None:
         number = thread.process.made_up()
@@ -102,7 +102,7 @@ def _named(scene: Scene, thread: Thread, call: Call, spot: Spot, *, is_first: bo
 
 
 def _became(scene: Scene, thread: Thread, call: Call, spot: Spot) -> None:
-    """The process runs the program: what closes on exec is closed, and no other thread is left."""
+    """The process runs the program: close-on-exec descriptors are closed, and no other thread is left."""
     process = thread.process
     for tid in process.threads - {thread.tid}:
         scene.threads.pop(tid, None)
