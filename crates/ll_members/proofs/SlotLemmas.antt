@@ -15,7 +15,7 @@ use Rattle.ll_lines.specs.Members.{value_at}
 use Rattle.ll_lines.specs.Values.{parsed, data_of, is_in_range, are_in_range, have_range}
 use Rattle.ll_members.specs.Walks.{behind, behind_value, behind_items, behind_members}
 use Rattle.ll_members.specs.BothSets.{no_rights}
-use Rattle.ll_members.specs.Slots.{spelt, named, place, slot_at, Shows, folded, IsReadFrom, AreReadFrom, Takes, IsValue, IsLine, AreMissing, Stands}
+use Rattle.ll_members.specs.Slots.{spelt, named, place, slot_at, Shows, folded, IsReadFrom, AreReadFrom, ShowOneMore, Takes, IsValue, IsLine, AreMissing, Stands}
 use Rattle.ll_members.specs.declared.rights.Rights.{Rights}
 use Rattle.ll_members.specs.declared.row.Members.{Members}
 use Rattle.ll_members.specs.declared.row.Slot.{Slot}
@@ -137,16 +137,14 @@ unnamed key name true value r slot none is shows =
     absurd (let never = some in cc)
 unnamed key name false value r slot none is shows = shows
 
+pub unnamed_shows : (key : List ℕ) (value : json.Json) (members : Members) → named key ≡ None → ShowOneMore key value members members
+unnamed_shows key value members none name r shows = unnamed key name (bytes_eq key (spelt name)) value r (slot_at members name) none refl shows
+
 pub takes_unnamed : (depth : ℕ) (key : List ℕ) (old new : List Token) (members : Members) → named key ≡ None → behind_value depth old ≡ Some new
     → Takes depth key old new members members
 takes_unnamed depth key old new members none left =
     let j = found is_in_range (json.value depth old) new left in
-    record {
-      value = j.value;
-      is = j.is;
-      fits = j.fits;
-      shown = λ name r shows. unnamed key name (bytes_eq key (spelt name)) j.value r (slot_at members name) none refl shows;
-    }
+    record { value = j.value; is = j.is; fits = j.fits; shown = unnamed_shows key j.value members none }
 
 -- a member of this name shows in its slot, and all other slots are as they were
 renamed : (key : List ℕ) (name other : Name) (same : Bool) (value : json.Json) (r : Option json.Json) (slots : List Slot) (slot : Slot) → named key ≡ Some name
@@ -165,6 +163,11 @@ renamed key name other false value r slots slot some spelt_so size is shows befo
     get_or-set_other slots (place name) (place other) slot Missing apart in
     rw now before
 
+pub named_shows : (key : List ℕ) (value : json.Json) (before after : Members) (name : Name) (slot : Slot) → named key ≡ Some name → key ≡ spelt name
+    → length before.slots ≡ 19 → after.slots ≡ slice_set before.slots (place name) slot → Shows slot (Some value) → ShowOneMore key value before after
+named_shows key value before after name slot some spelt_so size set is_shown other r shows =
+    rw set (renamed key name other (bytes_eq key (spelt other)) value r before.slots slot some spelt_so size refl is_shown shows)
+
 pub takes_named : (depth : ℕ) (key : List ℕ) (old new : List Token) (before after : Members) (name : Name) (slot : Slot) → named key ≡ Some name → key ≡ spelt
     name
     → length before.slots ≡ 19 → after.slots ≡ slice_set before.slots (place name) slot → IsReadFrom depth old new slot → Takes depth key old new before after
@@ -173,8 +176,7 @@ takes_named depth key old new before after name slot some spelt_so size set read
       value = read.value;
       is = read.is;
       fits = read.fits;
-      shown = λ other r shows. rw set (renamed key name other (bytes_eq key (spelt other)) read.value r before.slots slot some spelt_so size refl read.shows
-          shows);
+      shown = named_shows key read.value before after name slot some spelt_so size set read.shows;
     }
 
 -- members before others
@@ -186,7 +188,7 @@ pub in_front-none : (ms : json.Members) → in_front ms json.no_members ≡ ms
 in_front-none json.no_members = refl
 in_front-none (json.member k j ms) = ap (json.member k j) (in_front-none ms)
 
-in_front-one : (ms : json.Members) (k : List ℕ) (j : json.Json) (rest : json.Members)
+pub in_front-one : (ms : json.Members) (k : List ℕ) (j : json.Json) (rest : json.Members)
     → in_front ms (json.member k j rest) ≡ in_front (in_front ms (json.member k j json.no_members)) rest
 in_front-one json.no_members k j rest = refl
 in_front-one (json.member l i ms) k j rest = ap (json.member l i) (in_front-one ms k j rest)

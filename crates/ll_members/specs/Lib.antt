@@ -2,3 +2,4 @@ pub mod Rights
 pub mod BothSets
 pub mod Walks
 pub mod Slots
+pub mod Plain

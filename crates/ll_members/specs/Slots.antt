@@ -129,13 +129,17 @@ pub record IsReadFrom (depth : ℕ) (old new : List Token) (slot : Slot) : Type 
   pub fits : is_in_range value ≡ true
   pub shows : Shows slot (Some value)
 
+-- a member more shows in the slot of its name
+abbrev pub ShowOneMore : List ℕ → json.Json → Members → Members → Type 0
+ShowOneMore key value before after = (name : Name) (r : Option json.Json) → Shows (slot_at before name) r
+    → Shows (slot_at after name) (later_or (if bytes_eq key (spelt name) then Some value else None) r)
+
 -- the slots after one member more
 pub record Takes (depth : ℕ) (key : List ℕ) (old new : List Token) (before after : Members) : Type 0 where
   pub value : json.Json
   pub is : json.value depth old ≡ Some (value, new)
   pub fits : is_in_range value ≡ true
-  pub shown : (name : Name) (r : Option json.Json) → Shows (slot_at before name) r
-      → Shows (slot_at after name) (later_or (if bytes_eq key (spelt name) then Some value else None) r)
+  pub shown : ShowOneMore key value before after
 
 -- each slot shows the last member of its name
 abbrev pub ShowMembers : Members → json.Members → Type 0

@@ -4,6 +4,7 @@
 
 mod members;
 mod names;
+mod plain;
 mod rights;
 mod row;
 mod slots;

@@ -11,6 +11,7 @@ ghost use Rattle.ll_members.specs.Slots.{folded, with_text, text_from, IsReadFro
 
 use crate::members::text_in;
 use crate::names::name_of;
+use crate::plain::scan_line;
 use crate::rights::Rights;
 use crate::row::{Members, Slot};
 use crate::walk::{skip_items, skip_members, skip_value};
@@ -155,7 +156,7 @@ fn take_value<'l>(reader: &mut Reader<'l>, members: &mut Members<'l>) -> Result<
 }
 
 /// Reads the members of the one JSON value that a line is.
-#[tactic(auto, using(crate::proofs::SlotLemmas::line_read, crate::proofs::SlotLemmas::line_fails, crate::proofs::SlotLemmas::line_goes_on, ll_lines::proofs::Values::no_text))]
+#[tactic(auto, using(crate::proofs::SlotLemmas::line_read, crate::proofs::SlotLemmas::line_fails, crate::proofs::SlotLemmas::line_goes_on, crate::proofs::PlainLemmas::line_scanned, ll_lines::proofs::Values::no_text))]
 pub fn read_members<'l>(line: &'l [u8], scratch: &'l mut Scratch) -> Result<Members<'l>, Cause>
     ensures { MatchResult result (λ members. IsLine line.now members)
         (λ cause. Fails cause (value_at line.now)) }
@@ -163,6 +164,10 @@ pub fn read_members<'l>(line: &'l [u8], scratch: &'l mut Scratch) -> Result<Memb
     let Ok(text) = from_utf8(line) else {
         return Err(Cause::Json);
     };
+    let mut plain: Members<'l> = Members::none();
+    if scan_line(text, &mut plain).is_some() {
+        return Ok(plain);
+    }
     let mut reader = Reader::new(text, scratch)?;
     let mut members: Members<'l> = Members::none();
     take_value(&mut reader, &mut members)?;
