@@ -1,17 +1,18 @@
 -- What stands plainly in a line is the printed form of a value, which reads back.
 use Rattle.std.proofs.Common.{◌≡◌, ℕ, zero, suc, ◌+◌, ◌<◌, ◌≤◌, ◌==◌, ◌&&◌, Bool, true, false, cond, not, List, [], ◌∷◌, ◌++◌, length, take, drop, get_or, fold, max, Option, Some, None, Ok, option_and_then}
 use Rattle.std.proofs.Common.{refl, sym, ap, ap₂, subst, ◌∙◌, arith, append-nil, append_assoc}
-use Rattle.std.specs.Prelude.{IsUtf8, codes, ok_or, is_some}
-use Rattle.std.specs.List.{prefix_len}
+use Rattle.std.specs.Prelude.{IsUtf8, codes, ok_or, is_some, nat_le, slice_index}
+use Rattle.std.specs.List.{list_all, prefix_len}
 use Rattle.std.specs.Char.{is_ascii_digit}
 use Rattle.std.proofs.lemmas.List.{take-append-drop, drop_all, nil_from_length}
+use Rattle.std.proofs.lemmas.List.Folds.{list_all-append}
 use Rattle.std.proofs.lemmas.List.Sums.{fold-append, fold_push}
-use Rattle.std.proofs.lemmas.Bool.{or_parts, not-true, eqb-true, eqb-false, ltb-false, leb-true, and_parts, ne_eqb}
+use Rattle.std.proofs.lemmas.Bool.{false_from_ne_true, not-true, eqb-true, eqb-false, ltb-false, leb-true, and_parts, ne_eqb}
 use denote.Ref.{Bor}
 use Rattle.json.specs.Token.{Token}
 use Rattle.json.specs.Json as json
 use Rattle.json.specs.Lex.{tokens}
-use Rattle.json.specs.Run.{is_plain}
+use Rattle.memchr.specs.Find.{NoneBefore, Passes, is_byte}
 use Rattle.json.specs.Word.{after_number}
 use Rattle.json.specs.Print.{IsNumber as IsNumeral}
 use Rattle.json.specs.Print.{escape, quoted, ends, print, print_from}
@@ -28,37 +29,53 @@ use Rattle.ll_lines.specs.Values.{parsed, data_of, is_in_range, are_in_range, ha
 use Rattle.ll_lines.proofs.Values.{in_range}
 use Rattle.ll_members.specs.BothSets.{no_rights, with_rights}
 use Rattle.ll_members.specs.Slots.{spelt, IsLine, ShowMembers, ShowOneMore, AreMissing, rights_of}
-use Rattle.ll_members.specs.Plain.{items_of, IsNumber, AreTexts, ReadsBack, ReadBack, IsValue, IsMember, IsObject}
+use Rattle.ll_members.specs.Plain.{is_unescaped, IsUnescaped, items_of, IsNumber, AreTexts, ReadsBack, ReadBack, IsValue, IsMember, IsObject}
 use Rattle.ll_members.specs.declared.rights.Rights.{Rights}
 use Rattle.ll_members.specs.declared.row.Members.{Members}
 use Rattle.ll_members.specs.declared.row.Slot.{Slot}
 use Rattle.ll_members.specs.declared.row.Slot.TheVariants.{Text, Number, Truth, Names}
 use Rattle.ll_members.proofs.SlotLemmas.{in_front, in_front-none, in_front-one, get-one_more}
 
--- plain bytes stand for themselves
+-- bytes that need no escape
 
-plain_byte : (x : ℕ) (plain : Bool) (n : ℕ) (xs : List ℕ) → is_plain x ≡ plain → escape (take n xs) ≡ take n xs
-    → escape (take (cond plain (1 + n) 0) (x ∷ xs)) ≡ take (cond plain (1 + n) 0) (x ∷ xs)
-plain_byte x false n xs is others = refl
-plain_byte x true n xs is others =
-    let parts = or_parts _ _ (not-true _ is) in
-    let tests = or_parts (x == 34) _ parts.0 in
-    let next : suc n ≡ 1 + n = omega arith in
-    ap (λ k. escape (take k (x ∷ xs))) (sym next)
-    ∙ ap (λ front. front ++ escape (take n xs)) (escape_byte_plain x (eqb-false x 34 tests.0) (eqb-false x 92 tests.1) (ltb-false x 32 parts.1))
-    ∙ ap (λ text. x ∷ text) others ∙ ap (λ k. take k (x ∷ xs)) next
+all_parts : (p : ℕ → Bool) (xs ys : List ℕ) → list_all p (xs ++ ys) ≡ true → list_all p ys ≡ true
+all_parts p xs ys all = (and_parts (list_all p xs) (list_all p ys) (sym (list_all-append p xs ys) ∙ all)).1
 
-plain : (xs : List ℕ) → escape (take (prefix_len is_plain xs) xs) ≡ take (prefix_len is_plain xs) xs
-plain [] = refl
-plain (x ∷ xs) = plain_byte x (is_plain x) (prefix_len is_plain xs) xs refl (plain xs)
+pub rest_unescaped : (line front rest : List ℕ) → line ≡ front ++ rest → IsUnescaped line → IsUnescaped rest
+rest_unescaped line front rest is all = all_parts is_unescaped front rest (ap (list_all is_unescaped) (sym is) ∙ all)
 
-pub text_is_quoted : (line inside text rest last : List ℕ) → line ≡ 34 ∷ inside → text ≡ take (prefix_len is_plain inside) inside
-    → rest ≡ drop (prefix_len is_plain inside) inside → rest ≡ 34 ∷ last → line ≡ quoted text ++ last
-text_is_quoted line inside text rest last is front back ends =
-    let n = prefix_len is_plain inside in
-    let whole : inside ≡ text ++ (34 ∷ last) = sym (take-append-drop n inside) ∙ ap (λ l. l ++ drop n inside) (sym front) ∙ ap (λ l. text ++ l) (sym back ∙ ends) in
-    let same : escape text ≡ text = ap escape front ∙ plain inside ∙ sym front in
+pub unescaped_behind : (line rest : List ℕ) (mark : ℕ) → line ≡ mark ∷ rest → IsUnescaped line → IsUnescaped rest
+unescaped_behind line rest mark is all = rest_unescaped line (mark ∷ []) rest is all
+
+-- no quote stands below the place
+abbrev NoQuote : List ℕ → ℕ → Type 0
+NoQuote bytes end = (k : ℕ) → k < end → (slice_index bytes k == 34) ≡ true → ⊥
+
+front_escaped : (bytes : List ℕ) (end : ℕ) → NoQuote bytes end → IsUnescaped bytes → escape (take end bytes) ≡ take end bytes
+front_escaped bytes zero none all = refl
+front_escaped [] (suc end) none all = refl
+front_escaped (b ∷ bytes) (suc end) none all =
+    let parts = and_parts (is_unescaped b) (list_all is_unescaped bytes) all in
+    let tests = and_parts (nat_le 32 b) (not (b == 92)) parts.0 in
+    let quote : b ≡ 34 → ⊥ = eqb-false b 34 (false_from_ne_true (b == 34) (none 0 (omega arith))) in
+    let slash : b ≡ 92 → ⊥ = eqb-false b 92 (not-true (b == 92) tests.1) in
+    ap (λ front. front ++ escape (take end bytes)) (escape_byte_plain b quote slash (leb-true 32 b tests.0))
+    ∙ ap (λ text. b ∷ text) (front_escaped bytes end (λ k lt. none (suc k) (omega arith)) parts.1)
+
+pub text_is_quoted : (line inside text rest last : List ℕ) (end : ℕ) → IsUnescaped line → line ≡ 34 ∷ inside
+    → NoneBefore (Passes (is_byte 34) inside) 0 (length inside) end → text ≡ take end inside → rest ≡ drop end inside → rest ≡ 34 ∷ last → line ≡ quoted text ++ last
+text_is_quoted line inside text rest last end all is none front back ends =
+    let whole : inside ≡ text ++ (34 ∷ last) =
+    sym (take-append-drop end inside) ∙ ap (λ l. l ++ drop end inside) (sym front) ∙ ap (λ l. text ++ l) (sym back ∙ ends) in
+    let same : escape text ≡ text =
+    ap escape front ∙ front_escaped inside end (λ k lt. none.before k (omega arith) lt) (unescaped_behind line inside 34 is all) ∙ sym front in
     is ∙ ap (λ l. 34 ∷ l) (whole ∙ ap (λ l. l ++ (34 ∷ last)) (sym same) ∙ sym (append_assoc (escape text) (34 ∷ []) last))
+
+pub unescaped_behind_member : (line rest : List ℕ) (before after : Members) → IsMember line before after rest → IsUnescaped line → IsUnescaped rest
+unescaped_behind_member line rest before after scan all =
+    let value = print (json_tokens scan.value) in
+    let behind_key = rest_unescaped line (quoted scan.key) (58 ∷ (value ++ rest)) scan.is all in
+    rest_unescaped (58 ∷ (value ++ rest)) (58 ∷ value) rest refl behind_key
 
 -- digits without a leading zero are a number
 

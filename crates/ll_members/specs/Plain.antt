@@ -1,5 +1,6 @@
 -- A line that is spelt plainly: its parts are the printed forms of JSON values.
-use Rattle.std.specs.Prelude.{◌≡◌, ◌≤◌, ℕ, List, [], ◌∷◌, ◌++◌, true, false, Some, fold, option_and_then, ⊤}
+use Rattle.std.specs.Prelude.{◌≡◌, ◌≤◌, ◌==◌, ◌&&◌, ℕ, nat_le, not, Bool, List, [], ◌∷◌, ◌++◌, true, false, Some, fold, option_and_then, ⊤}
+use Rattle.std.specs.List.{list_all}
 use Rattle.json.specs.Json as json
 use Rattle.json.specs.Print as printed
 use Rattle.json.specs.Print.{print, print_from, quoted}
@@ -12,6 +13,13 @@ use Rattle.ll_members.specs.Slots.{Shows, ShowMembers, ShowOneMore}
 use Rattle.ll_members.specs.declared.rights.Rights.{Rights}
 use Rattle.ll_members.specs.declared.row.Members.{Members}
 use Rattle.ll_members.specs.declared.row.Slot.{Slot}
+
+-- a byte that is neither a control character nor a backslash: in a text, only a quote has to be escaped then
+abbrev pub is_unescaped : ℕ → Bool
+is_unescaped byte = nat_le 32 byte && not (byte == 92)
+
+abbrev pub IsUnescaped : List ℕ → Type 0
+IsUnescaped line = list_all is_unescaped line ≡ true
 
 -- digits that are a number, and rest behind them
 pub record IsNumber (line : List ℕ) (number : ℕ) (rest : List ℕ) : Type 0 where

@@ -2,26 +2,27 @@
 //! values are texts, whole numbers, true, false, and lists of texts, and whose texts have no escapes.
 
 ghost use Rattle.std.specs.Prelude.{◌≡◌, ◌∷◌, ◌++◌, ◌<◌, ◌≤◌, length, slice_index, IfSome, IsTrue};
-ghost use Rattle.std.specs.List.{prefix_len};
+ghost use Rattle.std.specs.List.{list_all, prefix_len};
 ghost use Rattle.std.specs.Char.{is_ascii_digit};
-ghost use Rattle.json.specs.Run.{is_plain};
 ghost use Rattle.json.specs.Print.{quoted};
-ghost use Rattle.ll_members.specs.Plain.{IsNumber, AreTexts, IsValue, IsMember, IsObject};
+ghost use Rattle.ll_members.specs.Plain.{is_unescaped, IsUnescaped, IsNumber, AreTexts, IsValue, IsMember, IsObject};
 ghost use Rattle.ll_members.specs.Slots.{AreMissing};
 
 use crate::names::name_of;
 use crate::rights::Rights;
 use crate::row::{Members, Slot};
 use ll_lines::numbers::whole_number;
+use memchr::memchr;
 
-/// How many bytes stand in a text as they are, up to the first that does not.
-fn plain_count(bytes: &[u8]) -> usize
-    ensures { result ≡ prefix_len is_plain bytes.now }
+/// Whether no byte of a line is a control character or a backslash, so that only a quote can end a text.
+fn is_unescaped(line: &[u8]) -> bool
+    ensures { result ≡ list_all is_unescaped line.now }
 {
-    bytes
-        .iter()
-        .take_while(|byte| **byte >= b' ' && **byte != b'"' && **byte != b'\\')
-        .count()
+    let mut unescaped = true;
+    for byte in line {
+        unescaped &= *byte >= b' ' && *byte != b'\\';
+    }
+    unescaped
 }
 
 /// How many digits stand at the front.
@@ -49,10 +50,12 @@ fn behind_word<'l>(line: &'l str, word: &str) -> Option<&'l str>
 
 /// A text in quotes, and what stands behind it.
 fn scan_text(line: &str) -> Option<(&str, &str)>
+    requires { IsUnescaped line.now }
     ensures { IfSome result (λ scan. line.now ≡ quoted scan.0.now ++ scan.1.now) }
 {
     let inside = behind(line, '"')?;
-    let (text, rest) = inside.split_at_checked(plain_count(inside.as_bytes()))?;
+    let end = memchr(b'"', inside.as_bytes())?;
+    let (text, rest) = inside.split_at_checked(end)?;
     Some((text, behind(rest, '"')?))
 }
 
@@ -77,6 +80,7 @@ fn scan_number(line: &str) -> Option<(u64, &str)>
 
 /// What the texts of a list stand for as names of rights, and what stands behind the list.
 fn scan_rights(line: &str) -> Option<(Rights, &str)>
+    requires { IsUnescaped line.now }
     ensures { IfSome result (λ scan. AreTexts line.now scan.0 scan.1.now) }
 {
     if let Some(rest) = behind(line, ']') {
@@ -94,6 +98,7 @@ fn scan_rights(line: &str) -> Option<(Rights, &str)>
 
 /// A value as a slot, and what stands behind it.
 fn scan_value<'l>(line: &'l str) -> Option<(Slot<'l>, &'l str)>
+    requires { IsUnescaped line.now }
     ensures { IfSome result (λ scan. IsValue line.now scan.0 scan.1.now) }
 {
     match line.as_bytes().first()? {
@@ -116,6 +121,7 @@ fn scan_value<'l>(line: &'l str) -> Option<(Slot<'l>, &'l str)>
 
 /// Takes in a member, and answers what stands behind it.
 fn scan_member<'l>(line: &'l str, members: &mut Members<'l>) -> Option<&'l str>
+    requires { IsUnescaped line.now }
     ensures { IfSome result (λ rest. IsMember line.now members.old members.new rest.now) }
 {
     let (key, after) = scan_text(line)?;
@@ -132,6 +138,9 @@ pub(crate) fn scan_line<'l>(line: &'l str, members: &mut Members<'l>) -> Option<
     requires { AreMissing members.old }
     ensures { IfSome result (λ _. IsObject line.now members.new) }
 {
+    if !is_unescaped(line.as_bytes()) {
+        return None;
+    }
     let mut rest = scan_member(behind(line, '{')?, members)?;
     while let Some(others) = behind(rest, ',') {
         rest = scan_member(others, members)?;

@@ -164,12 +164,12 @@ pub fn read_members<'l>(line: &'l [u8], scratch: &'l mut Scratch) -> Result<Memb
     let Ok(text) = from_utf8(line) else {
         return Err(Cause::Json);
     };
-    let mut plain: Members<'l> = Members::none();
-    if scan_line(text, &mut plain).is_some() {
-        return Ok(plain);
+    let mut members: Members<'l> = Members::none();
+    if scan_line(text, &mut members).is_some() {
+        return Ok(members);
     }
     let mut reader = Reader::new(text, scratch)?;
-    let mut members: Members<'l> = Members::none();
+    members = Members::none();
     take_value(&mut reader, &mut members)?;
     match reader.next() {
         None => Ok(members),

@@ -1,6 +1,7 @@
 use Rattle.std.proofs.Common.{rules, ◌∷◌, true, false, ◌∙◌, ap}
+use Rattle.json.specs.Print.{quoted}
 use Rattle.ll_members.specs.BothSets.{no_rights}
-use Rattle.ll_members.proofs.PlainLemmas.{HasNamed, none_named, one_more_named, all_named}
+use Rattle.ll_members.proofs.PlainLemmas.{rest_unescaped, unescaped_behind, none_named, one_more_named, all_named}
 use Rattle.ll_members.proofs.plain.scan_rights.Goals as goal
 
 pub returns-in-Some : goal.returns-in-Some
@@ -13,6 +14,7 @@ loop-others-init c =
     let line = c.args.line.now in (
       rw (c.with-rights.ensures, c.none-2.ensures)
           (one_more_named false line line c.in_ok-name.name.now c.in_ok-name.rest.now no_rights (none_named line) c.in_ok-name.ensures),
+      rest_unescaped line (quoted c.in_ok-name.name.now) c.in_ok-name.rest.now c.in_ok-name.ensures c.requires,
       search rules,
     )
 
@@ -22,6 +24,8 @@ loop-others-preserved c =
       rw c.with-rights-in-Some-behind.ensures
           (one_more_named true c.args.line.now l.rest.now c.in_ok-name-2.name.now c.in_ok-name-2.after.now l.rights l.invariant.0
           (c.in-Some-behind.ensures ∙ ap (λ text. 44 ∷ text) c.in_ok-name-2.ensures)),
+      rest_unescaped c.in-Some-behind.others.now (quoted c.in_ok-name-2.name.now) c.in_ok-name-2.after.now c.in_ok-name-2.ensures
+          (unescaped_behind l.rest.now c.in-Some-behind.others.now 44 c.in-Some-behind.ensures l.invariant.1),
       search rules,
     )
 
