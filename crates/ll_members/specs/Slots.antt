@@ -46,16 +46,16 @@ unfoldable pub named : List ℕ → Option Name
 named key =
     if bytes_eq key (codes "op") then Some Op else (
     if bytes_eq key (codes "pid") then Some Pid else (
-    if bytes_eq key (codes "child") then Some Child else (
+    if bytes_eq key (codes "path") then Some Path else (
+    if bytes_eq key (codes "fd") then Some Fd else (
+    if bytes_eq key (codes "mode") then Some Mode else (
     if bytes_eq key (codes "rs") then Some Rs else (
     if bytes_eq key (codes "fs") then Some Fs else (
     if bytes_eq key (codes "net") then Some Net else (
-    if bytes_eq key (codes "path") then Some Path else (
+    if bytes_eq key (codes "port") then Some Port else (
+    if bytes_eq key (codes "child") then Some Child else (
     if bytes_eq key (codes "from") then Some From else (
     if bytes_eq key (codes "to") then Some To else (
-    if bytes_eq key (codes "port") then Some Port else (
-    if bytes_eq key (codes "fd") then Some Fd else (
-    if bytes_eq key (codes "mode") then Some Mode else (
     if bytes_eq key (codes "create") then Some Create else (
     if bytes_eq key (codes "trunc") then Some Trunc else (
     if bytes_eq key (codes "kind") then Some Kind else (

@@ -36,7 +36,7 @@ impl Name {
     }
 }
 
-/// The name that a key is.
+/// The name that a key is. The names that most records have are tried first.
 #[tactic(auto, unfolding(crate::specs::Slots::named, crate::specs::Slots::spelt))]
 pub(crate) fn name_of(key: &str) -> Option<Name>
     ensures named { result ≡ named key.now }
@@ -45,16 +45,16 @@ pub(crate) fn name_of(key: &str) -> Option<Name>
     match key {
         "op" => Some(Name::Op),
         "pid" => Some(Name::Pid),
-        "child" => Some(Name::Child),
+        "path" => Some(Name::Path),
+        "fd" => Some(Name::Fd),
+        "mode" => Some(Name::Mode),
         "rs" => Some(Name::Rs),
         "fs" => Some(Name::Fs),
         "net" => Some(Name::Net),
-        "path" => Some(Name::Path),
+        "port" => Some(Name::Port),
+        "child" => Some(Name::Child),
         "from" => Some(Name::From),
         "to" => Some(Name::To),
-        "port" => Some(Name::Port),
-        "fd" => Some(Name::Fd),
-        "mode" => Some(Name::Mode),
         "create" => Some(Name::Create),
         "trunc" => Some(Name::Trunc),
         "kind" => Some(Name::Kind),

@@ -49,6 +49,7 @@ fn behind_word<'l>(line: &'l str, word: &str) -> Option<&'l str>
 }
 
 /// A text in quotes, and what stands behind it.
+#[inline(always)]
 fn scan_text(line: &str) -> Option<(&str, &str)>
     requires { IsUnescaped line.now }
     ensures { IfSome result (λ scan. line.now ≡ quoted scan.0.now ++ scan.1.now) }

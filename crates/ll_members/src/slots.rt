@@ -155,8 +155,24 @@ fn take_value<'l>(reader: &mut Reader<'l>, members: &mut Members<'l>) -> Result<
     }
 }
 
+/// Reads the members of the one JSON value that a line is, token by token.
+#[inline(never)]
+#[tactic(auto, using(crate::proofs::SlotLemmas::line_read, crate::proofs::SlotLemmas::line_fails, crate::proofs::SlotLemmas::line_goes_on))]
+fn read_tokens<'l>(line: &'l str, scratch: &'l mut Scratch) -> Result<Members<'l>, Cause>
+    ensures { MatchResult result (λ members. IsLine line.now members)
+        (λ cause. Fails cause (value_at line.now)) }
+{
+    let mut reader = Reader::new(line, scratch)?;
+    let mut members: Members<'l> = Members::none();
+    take_value(&mut reader, &mut members)?;
+    match reader.next() {
+        None => Ok(members),
+        Some(_) => Err(Cause::Json),
+    }
+}
+
 /// Reads the members of the one JSON value that a line is.
-#[tactic(auto, using(crate::proofs::SlotLemmas::line_read, crate::proofs::SlotLemmas::line_fails, crate::proofs::SlotLemmas::line_goes_on, crate::proofs::PlainLemmas::line_scanned, ll_lines::proofs::Values::no_text))]
+#[tactic(auto, using(crate::proofs::PlainLemmas::line_scanned, ll_lines::proofs::Values::no_text))]
 pub fn read_members<'l>(line: &'l [u8], scratch: &'l mut Scratch) -> Result<Members<'l>, Cause>
     ensures { MatchResult result (λ members. IsLine line.now members)
         (λ cause. Fails cause (value_at line.now)) }
@@ -165,14 +181,8 @@ pub fn read_members<'l>(line: &'l [u8], scratch: &'l mut Scratch) -> Result<Memb
         return Err(Cause::Json);
     };
     let mut members: Members<'l> = Members::none();
-    if scan_line(text, &mut members).is_some() {
-        return Ok(members);
-    }
-    let mut reader = Reader::new(text, scratch)?;
-    members = Members::none();
-    take_value(&mut reader, &mut members)?;
-    match reader.next() {
-        None => Ok(members),
-        Some(_) => Err(Cause::Json),
+    match scan_line(text, &mut members) {
+        Some(()) => Ok(members),
+        None => read_tokens(text, scratch),
     }
 }
