@@ -1,12 +1,13 @@
 //! The scan of a line that is spelt plainly, as a printer of JSON writes it: one object without white space, whose
 //! values are texts, whole numbers, true, false, and lists of texts, and whose texts have no escapes.
 
-ghost use Rattle.std.specs.Prelude.{◌≡◌, ◌∷◌, ◌++◌, ◌<◌, ◌≤◌, length, slice_index, IfSome, IsTrue};
+ghost use Rattle.std.specs.Prelude.{◌≡◌, ◌∷◌, ◌++◌, ◌<◌, ◌≤◌, length, slice_index, IfSome, IsTrue, Some};
 ghost use Rattle.std.specs.List.{list_all, prefix_len};
 ghost use Rattle.std.specs.Char.{is_ascii_digit};
+ghost use Rattle.json.specs.Json.{Json};
 ghost use Rattle.json.specs.Print.{quoted};
 ghost use Rattle.ll_members.specs.Plain.{is_unescaped, IsUnescaped, IsNumber, AreTexts, IsValue, IsMember, IsObject};
-ghost use Rattle.ll_members.specs.Slots.{AreMissing};
+ghost use Rattle.ll_members.specs.Slots.{Shows, ShowOneMore, AreMissing};
 
 use crate::names::name_of;
 use crate::rights::Rights;
@@ -120,6 +121,17 @@ fn scan_value<'l>(line: &'l str) -> Option<(Slot<'l>, &'l str)>
     }
 }
 
+/// Keeps a value under the name that its key is, where it is one.
+#[tactic(auto, using(crate::proofs::SlotLemmas::unnamed_shows, crate::proofs::SlotLemmas::named_shows))]
+fn keep<'l>(members: &mut Members<'l>, key: &str, slot: Slot<'l>)
+    ensures { (value : Json) → Shows slot.entry (Some value)
+        → ShowOneMore key.now value members.old members.new }
+{
+    if let Some(name) = name_of(key) {
+        members.put(name, slot);
+    }
+}
+
 /// Takes in a member, and answers what stands behind it.
 fn scan_member<'l>(line: &'l str, members: &mut Members<'l>) -> Option<&'l str>
     requires { IsUnescaped line.now }
@@ -127,9 +139,7 @@ fn scan_member<'l>(line: &'l str, members: &mut Members<'l>) -> Option<&'l str>
 {
     let (key, after) = scan_text(line)?;
     let (slot, rest) = scan_value(behind(after, ':')?)?;
-    if let Some(name) = name_of(key) {
-        members.put(name, slot);
-    }
+    keep(members, key, slot);
     Some(rest)
 }
 

@@ -6,7 +6,7 @@ use ll_lines::lines::FilledLines;
 use ll_members::{
     Members, Name, flag_of, fs_of, net_of, number_of, read_members, text_of, truth_of,
 };
-use ll_rights::fs_of_name;
+use ll_rights::{Net, fs_of_name};
 use std::alloc::{AllocError, Global};
 use std::test::Fail;
 
@@ -110,5 +110,34 @@ fn members_of_a_line(rt: HostRuntime) -> Result<(), Fail> {
     let mut scratch = Scratch::new(rt.alloc());
     let members = read_members(MEMBERS, &mut scratch)?;
     assert!(rt; reads_numbers(&members) && reads_truths(&members) && reads_texts(&members));
+    Ok(())
+}
+
+/// A line as a printer writes it.
+const PLAIN: &[u8] =
+    b"{\"op\":\"a\",\"op\":\"\xc3\xa9\x7f\",\"nnp\":true,\"x\":[],\"fs\":[\"refer\",\"execute\"],\"net\":[],\"pid\":18446744073709551615,\"rs\":0,\"fd\":10,\"admin\":false}";
+
+fn reads_plain_numbers(members: &Members<'_>) -> bool {
+    number_of(members, Name::Pid) == Ok(u64::MAX)
+        && number_of(members, Name::Rs) == Ok(0)
+        && number_of(members, Name::Fd) == Ok(10)
+        && number_of(members, Name::Op) == Err(Cause::Field)
+}
+
+fn reads_plain_texts(members: &Members<'_>) -> bool {
+    text_of(members, Name::Op) == Ok("é\u{7f}")
+        && text_of(members, Name::Path) == Err(Cause::Field)
+        && fs_of(members) == Ok(fs_of_name("execute").union(fs_of_name("refer")))
+        && net_of(members) == Ok(Net::NONE)
+}
+
+#[test]
+fn members_of_a_plain_line(rt: HostRuntime) -> Result<(), Fail> {
+    let mut scratch = Scratch::new(rt.alloc());
+    let members = read_members(PLAIN, &mut scratch)?;
+    assert!(rt;
+        truth_of(&members, Name::Nnp) == Ok(true) && flag_of(&members, Name::Admin) == Ok(false)
+    );
+    assert!(rt; reads_plain_numbers(&members) && reads_plain_texts(&members));
     Ok(())
 }

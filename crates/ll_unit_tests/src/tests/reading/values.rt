@@ -7,7 +7,7 @@ use std::test::Fail;
 use std::thread::Threads;
 
 /// What follows the name of a member that nobody asks for, up to the end of the line, and whether the line reads.
-const SKIPPED: [(&[u8], bool); 42] = [
+const SKIPPED: [(&[u8], bool); 49] = [
     (b"null}", true),
     (b"[1,{\"y\":[true,\"a\"]}]}", true),
     (b"\"\\ud83d\\ude00\\n\\/\"}", true),
@@ -56,7 +56,16 @@ const SKIPPED: [(&[u8], bool); 42] = [
     // what a text escapes
     (b"\"\x01\"}", false),
     (b"\"\t\"}", false),
+    (b"\"\x1f\"}", false),
     (b"\"\\x\"}", false),
+    // what stands in a text as it is
+    (b"\" {[,:'\x7f\xc3\xa9\xe2\x82\xac\"}", true),
+    // what stands behind a value
+    (b"truex}", false),
+    (b"false\"y\":2}", false),
+    (b"\"a\"\"y\":2}", false),
+    (b"[\"a\"\"b\"]}", false),
+    (b"0 ,\t\"y\" :\r[ ] }\t", true),
 ];
 
 /// The fault of a file that ends with this member.
@@ -93,7 +102,7 @@ fn members_that_nobody_asks_for(rt: HostRuntime) -> Result<(), Fail> {
 }
 
 /// Lines of a trace, and the fault of each.
-const RECORDS: [(&[u8], Option<Cause>); 33] = [
+const RECORDS: [(&[u8], Option<Cause>); 38] = [
     (b"{\"op\":\"start\",\"pid\":1}", None),
     (b" {\t\"pid\" : 1 ,\"op\":\"start\" }\r", None),
     // the last of two members counts
@@ -123,6 +132,14 @@ const RECORDS: [(&[u8], Option<Cause>); 33] = [
     ),
     (b"{\"op\":\"start\",\"pid\":1,\"\":2}", None),
     (b"{op:\"start\",\"pid\":1}", Some(Cause::Json)),
+    (b"{\"op\" \"start\",\"pid\":1}", Some(Cause::Json)),
+    (b"{,\"op\":\"start\",\"pid\":1}", Some(Cause::Json)),
+    (b"{}", Some(Cause::Field)),
+    (b"{\"op\":\"start\",\"pid\":1,\"\xc3\xa9\x7f\":2}", None),
+    (
+        b"{\"op\":\"start\",\"pid\":1,\"\x1f\":2}",
+        Some(Cause::Json),
+    ),
     // numbers that are asked for
     (b"{\"op\":\"start\",\"pid\":0}", None),
     (b"{\"op\":\"start\",\"pid\":999999999999999999}", None),
