@@ -181,8 +181,8 @@ pub fn read_members<'l>(line: &'l [u8], scratch: &'l mut Scratch) -> Result<Memb
         return Err(Cause::Json);
     };
     let mut members: Members<'l> = Members::none();
-    match scan_line(text, &mut members) {
-        Some(()) => Ok(members),
-        None => read_tokens(text, scratch),
+    if scan_line(text, &mut members).is_some() {
+        return Ok(members);
     }
+    read_tokens(text, scratch)
 }
