@@ -1,5 +1,6 @@
 -- What stands plainly in a line is the printed form of a value, which reads back.
-use Rattle.std.proofs.Common.{◌≡◌, ℕ, zero, suc, ◌+◌, ◌<◌, ◌≤◌, ◌==◌, ◌&&◌, Bool, true, false, cond, not, List, [], ◌∷◌, ◌++◌, length, take, drop, get_or, fold, max, Option, Some, None, Ok, option_and_then}
+use Rattle.std.proofs.Common.{◌≡◌, ℕ, zero, suc, ◌+◌, ◌<◌, ◌≤◌, ◌==◌, Bool, true, false, cond, not}
+use Rattle.std.proofs.Common.{List, [], ◌∷◌, ◌++◌, length, take, drop, get_or, fold, Option, Some, None, Ok, option_and_then}
 use Rattle.std.proofs.Common.{refl, sym, ap, ap₂, subst, ◌∙◌, arith, append-nil, append_assoc}
 use Rattle.std.specs.Prelude.{IsUtf8, codes, ok_or, is_some, nat_le, slice_index}
 use Rattle.std.specs.List.{list_all, prefix_len}
@@ -7,7 +8,7 @@ use Rattle.std.specs.Char.{is_ascii_digit}
 use Rattle.std.proofs.lemmas.List.{take-append-drop, drop_all, nil_from_length}
 use Rattle.std.proofs.lemmas.List.Folds.{list_all-append}
 use Rattle.std.proofs.lemmas.List.Sums.{fold-append, fold_push}
-use Rattle.std.proofs.lemmas.Bool.{false_from_ne_true, not-true, eqb-true, eqb-false, ltb-false, leb-true, and_parts, ne_eqb}
+use Rattle.std.proofs.lemmas.Bool.{false_from_ne_true, not-true, eqb-true, eqb-false, leb-true, and_parts, ne_eqb}
 use denote.Ref.{Bor}
 use Rattle.json.specs.Token.{Token}
 use Rattle.json.specs.Json as json
@@ -24,8 +25,7 @@ use Rattle.serde_json.specs.Data.{Num}
 use Rattle.serde_json.specs.Find.{as_u64}
 use Rattle.serde_json.specs.Read.{number_of}
 use Rattle.ll_lines.specs.declared.fault.Cause.TheVariants.{Json}
-use Rattle.ll_lines.specs.Members.{value_at}
-use Rattle.ll_lines.specs.Values.{parsed, data_of, is_in_range, are_in_range, have_range}
+use Rattle.ll_lines.specs.Values.{parsed, data_of, are_in_range, have_range}
 use Rattle.ll_lines.proofs.Values.{in_range}
 use Rattle.ll_members.specs.BothSets.{no_rights, with_rights}
 use Rattle.ll_members.specs.Slots.{spelt, IsLine, ShowMembers, ShowOneMore, AreMissing, rights_of}
@@ -63,7 +63,8 @@ front_escaped (b ∷ bytes) (suc end) none all =
     ∙ ap (λ text. b ∷ text) (front_escaped bytes end (λ k lt. none (suc k) (omega arith)) parts.1)
 
 pub text_is_quoted : (line inside text rest last : List ℕ) (end : ℕ) → IsUnescaped line → line ≡ 34 ∷ inside
-    → NoneBefore (Passes (is_byte 34) inside) 0 (length inside) end → text ≡ take end inside → rest ≡ drop end inside → rest ≡ 34 ∷ last → line ≡ quoted text ++ last
+    → NoneBefore (Passes (is_byte 34) inside) 0 (length inside) end → text ≡ take end inside → rest ≡ drop end inside → rest ≡ 34 ∷ last
+    → line ≡ quoted text ++ last
 text_is_quoted line inside text rest last end all is none front back ends =
     let whole : inside ≡ text ++ (34 ∷ last) =
     sym (take-append-drop end inside) ∙ ap (λ l. l ++ drop end inside) (sym front) ∙ ap (λ l. text ++ l) (sym back ∙ ends) in

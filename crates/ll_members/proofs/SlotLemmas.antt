@@ -15,7 +15,8 @@ use Rattle.ll_lines.specs.Members.{value_at}
 use Rattle.ll_lines.specs.Values.{parsed, data_of, is_in_range, are_in_range, have_range}
 use Rattle.ll_members.specs.Walks.{behind, behind_value, behind_items, behind_members}
 use Rattle.ll_members.specs.BothSets.{no_rights}
-use Rattle.ll_members.specs.Slots.{spelt, named, place, slot_at, Shows, folded, IsReadFrom, AreReadFrom, ShowOneMore, Takes, IsValue, IsLine, AreMissing, Stands}
+use Rattle.ll_members.specs.Slots.{spelt, named, place, slot_at, Shows, folded}
+use Rattle.ll_members.specs.Slots.{IsReadFrom, AreReadFrom, ShowOneMore, Takes, IsValue, IsLine, AreMissing, Stands}
 use Rattle.ll_members.specs.declared.rights.Rights.{Rights}
 use Rattle.ll_members.specs.declared.row.Members.{Members}
 use Rattle.ll_members.specs.declared.row.Slot.{Slot}

@@ -1,4 +1,4 @@
-use Rattle.std.proofs.Common.{rules, true, false, refl, sym, ap, ◌≡◌, ◌∙◌}
+use Rattle.std.proofs.Common.{rules, true, false, refl, sym, ap, ◌∙◌}
 use Rattle.std.specs.Prelude.{codes}
 use Rattle.std.specs.List.{list_all}
 use Rattle.std.proofs.lemmas.Slice.Eq.{bytes_eq-Decides}
@@ -9,7 +9,8 @@ use Rattle.ll_members.proofs.plain.scan_line.Goals as goal
 pub loop-others-init : goal.loop-others-init
 loop-others-init c =
     let inside = c.in_ok-behind.field-0.now in
-    let unescaped : IsUnescaped c.args.line.now = ap (list_all is_unescaped) (sym c.as_bytes.ensures.value) ∙ sym c.is_unescaped.ensures ∙ c.if-not-is_unescaped.false in (
+    let unescaped : IsUnescaped c.args.line.now =
+    ap (list_all is_unescaped) (sym c.as_bytes.ensures.value) ∙ sym c.is_unescaped.ensures ∙ c.if-not-is_unescaped.false in (
       one_more_scanned false c.args.line.now inside inside c.in_ok-rest.rest.now c.args.members.now c.scan_member.new.members
           (none_scanned c.args.line.now inside c.args.members.now c.in_ok-behind.ensures c.requires) refl c.in_ok-rest.ensures,
       unescaped_behind_member inside c.in_ok-rest.rest.now c.args.members.now c.scan_member.new.members c.in_ok-rest.ensures

@@ -1,7 +1,6 @@
-use Rattle.std.proofs.Common.{◌≡◌, ◌++◌, length, take, refl, sym, ap, ◌∙◌, arith}
+use Rattle.std.proofs.Common.{◌≡◌, ◌++◌, length, take, refl, sym, ap, ◌∙◌}
 use Rattle.std.specs.List.{prefix_len}
 use Rattle.std.specs.Char.{is_ascii_digit}
-use Rattle.json.specs.Print.{IsNumber as IsNumeral}
 use Rattle.std.proofs.lemmas.List.{take-append-drop}
 use Rattle.ll_members.proofs.PlainLemmas.{all_digits, numeral}
 use Rattle.ll_members.proofs.plain.scan_number.Goals as goal

@@ -30,4 +30,6 @@ loop-others-preserved c =
     )
 
 pub returns : goal.returns
-returns c = all_named true c.args.line.now c.loop-others.rest.now c.in_ok-behind.field-0.now c.loop-others.rights c.loop-others.invariant.0 c.in_ok-behind.ensures
+returns c =
+    all_named true c.args.line.now c.loop-others.rest.now c.in_ok-behind.field-0.now c.loop-others.rights c.loop-others.invariant.0
+    c.in_ok-behind.ensures

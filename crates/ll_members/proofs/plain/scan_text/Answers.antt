@@ -1,4 +1,4 @@
-use Rattle.std.proofs.Common.{◌≡◌, length, ap, ◌∙◌}
+use Rattle.std.proofs.Common.{length}
 use Rattle.memchr.specs.Find.{NoneBefore, Passes, is_byte}
 use Rattle.ll_members.proofs.PlainLemmas.{text_is_quoted}
 use Rattle.ll_members.proofs.plain.scan_text.Goals as goal
