@@ -29,7 +29,7 @@ use Rattle.ll_lines.specs.Values.{parsed, data_of, are_in_range, have_range}
 use Rattle.ll_lines.proofs.Values.{in_range}
 use Rattle.ll_members.specs.BothSets.{no_rights, with_rights}
 use Rattle.ll_members.specs.Slots.{spelt, IsLine, ShowMembers, ShowOneMore, AreMissing, rights_of}
-use Rattle.ll_members.specs.Plain.{is_unescaped, IsUnescaped, items_of, IsNumber, AreTexts, ReadsBack, ReadBack, IsValue, IsMember, IsObject}
+use Rattle.ll_members.specs.Plain.{is_unescaped, IsUnescaped, items_of, BeginsWithNumber, BeginsWithTexts, ReadsBack, ReadBack, BeginsWithValue, BeginsWithMember, IsObject}
 use Rattle.ll_members.specs.declared.rights.Rights.{Rights}
 use Rattle.ll_members.specs.declared.row.Members.{Members}
 use Rattle.ll_members.specs.declared.row.Slot.{Slot}
@@ -72,7 +72,7 @@ text_is_quoted line inside text rest last end all is none front back ends =
     ap escape front ∙ front_escaped inside end (λ k lt. none.before k (omega arith) lt) (unescaped_behind line inside 34 is all) ∙ sym front in
     is ∙ ap (λ l. 34 ∷ l) (whole ∙ ap (λ l. l ++ (34 ∷ last)) (sym same) ∙ sym (append_assoc (escape text) (34 ∷ []) last))
 
-pub unescaped_behind_member : (line rest : List ℕ) (before after : Members) → IsMember line before after rest → IsUnescaped line → IsUnescaped rest
+pub unescaped_behind_member : (line rest : List ℕ) (before after : Members) → BeginsWithMember line before after rest → IsUnescaped line → IsUnescaped rest
 unescaped_behind_member line rest before after scan all =
     let value = print (json_tokens scan.value) in
     let behind_key = rest_unescaped line (quoted scan.key) (58 ∷ (value ++ rest)) scan.is all in
@@ -178,7 +178,7 @@ one_more_named c line rest s behind rights so_far is = record {
   named = ap (λ r. with_rights r s) so_far.named ∙ sym (fold_push with_rights no_rights so_far.texts s);
 }
 
-pub all_named : (c : Bool) (line rest last : List ℕ) (rights : Rights) → HasNamed c line rest rights → rest ≡ 93 ∷ last → AreTexts line rights last
+pub all_named : (c : Bool) (line rest last : List ℕ) (rights : Rights) → HasNamed c line rest rights → rest ≡ 93 ∷ last → BeginsWithTexts line rights last
 unfolding print_from
 all_named true line rest last rights so_far is = record {
   texts = so_far.texts;
@@ -209,7 +209,7 @@ texts_fit (s ∷ texts) = texts_fit texts
 
 -- each form of value
 
-pub text_scanned : (line rest : List ℕ) (text : Bor (List ℕ)) → line ≡ quoted text.now ++ rest → IsValue line (Text text) rest
+pub text_scanned : (line rest : List ℕ) (text : Bor (List ℕ)) → line ≡ quoted text.now ++ rest → BeginsWithValue line (Text text) rest
 unfolding print_from
 text_scanned line rest text is = record {
   value = json.string text.now;
@@ -222,7 +222,7 @@ in_range_by : (n : Option Num) (number : ℕ) → Some number ≡ option_and_the
 in_range_by None number e = absurd (let never = e in cc)
 in_range_by (Some n) number e = refl
 
-pub number_scanned : (line rest : List ℕ) (number : ℕ) → IsNumber line number rest → IsValue line (Number (Some number)) rest
+pub number_scanned : (line rest : List ℕ) (number : ℕ) → BeginsWithNumber line number rest → BeginsWithValue line (Number (Some number)) rest
 unfolding print_from
 number_scanned line rest number scan = record {
   value = json.number scan.digits;
@@ -231,7 +231,7 @@ number_scanned line rest number scan = record {
   shows = (scan.digits, refl, scan.value);
 }
 
-pub true_scanned : (line rest : List ℕ) → line ≡ codes "true" ++ rest → IsValue line (Truth true) rest
+pub true_scanned : (line rest : List ℕ) → line ≡ codes "true" ++ rest → BeginsWithValue line (Truth true) rest
 unfolding print_from
 true_scanned line rest is = record {
   value = json.boolean true;
@@ -240,7 +240,7 @@ true_scanned line rest is = record {
   shows = refl;
 }
 
-pub false_scanned : (line rest : List ℕ) → line ≡ codes "false" ++ rest → IsValue line (Truth false) rest
+pub false_scanned : (line rest : List ℕ) → line ≡ codes "false" ++ rest → BeginsWithValue line (Truth false) rest
 unfolding print_from
 false_scanned line rest is = record {
   value = json.boolean false;
@@ -249,7 +249,7 @@ false_scanned line rest is = record {
   shows = refl;
 }
 
-pub list_scanned : (line inside rest : List ℕ) (rights : Rights) → line ≡ 91 ∷ inside → AreTexts inside rights rest → IsValue line (Names (Some rights)) rest
+pub list_scanned : (line inside rest : List ℕ) (rights : Rights) → line ≡ 91 ∷ inside → BeginsWithTexts inside rights rest → BeginsWithValue line (Names (Some rights)) rest
 unfolding print_from
 list_scanned line inside rest rights is scan = record {
   value = json.array (items_of scan.texts);
@@ -261,7 +261,7 @@ list_scanned line inside rest rights is scan = record {
 -- a member
 
 pub member_scanned : (line after inside rest key : List ℕ) (slot : Slot) (before members : Members) → line ≡ quoted key ++ after → after ≡ 58 ∷ inside
-    → (scan : IsValue inside slot rest) → ShowOneMore key scan.value before members → IsMember line before members rest
+    → (scan : BeginsWithValue inside slot rest) → ShowOneMore key scan.value before members → BeginsWithMember line before members rest
 member_scanned line after inside rest key slot before members is colon scan shown = record {
   key = key;
   value = scan.value;
@@ -292,7 +292,7 @@ back_one_more json.no_members k j all one = (one, tt)
 back_one_more (json.member l i ms) k j all one = (all.0, back_one_more ms k j all.1 one)
 
 pub one_more_scanned : (c : Bool) (line rest next behind : List ℕ) (before members : Members) → HasScanned c line rest before → rest ≡ comma c ++ next
-    → IsMember next before members behind → HasScanned true line behind members
+    → BeginsWithMember next before members behind → HasScanned true line behind members
 one_more_scanned c line rest next behind before members so_far is scan =
     let k = scan.key in
     let j = scan.value in

@@ -1,4 +1,4 @@
--- A line that is spelt plainly: its parts are the printed forms of JSON values.
+-- A line that is spelt plainly: its parts are the printed forms of JSON values, and what stands behind each is its rest.
 use Rattle.std.specs.Prelude.{◌≡◌, ◌≤◌, ◌==◌, ◌&&◌, ℕ, nat_le, not, Bool, List, [], ◌∷◌, ◌++◌, true, false, Some, fold, option_and_then, ⊤}
 use Rattle.std.specs.List.{list_all}
 use Rattle.json.specs.Json as json
@@ -14,15 +14,16 @@ use Rattle.ll_members.specs.declared.rights.Rights.{Rights}
 use Rattle.ll_members.specs.declared.row.Members.{Members}
 use Rattle.ll_members.specs.declared.row.Slot.{Slot}
 
--- a byte that is neither a control character nor a backslash: in a text, only a quote has to be escaped then
+-- a byte that is neither a control character nor a backslash, so that a text has to escape it only if it is a quote
+-- Source: RFC 8259, section 7.
 abbrev pub is_unescaped : ℕ → Bool
 is_unescaped byte = nat_le 32 byte && not (byte == 92)
 
 abbrev pub IsUnescaped : List ℕ → Type 0
 IsUnescaped line = list_all is_unescaped line ≡ true
 
--- digits that are a number, and rest behind them
-pub record IsNumber (line : List ℕ) (number : ℕ) (rest : List ℕ) : Type 0 where
+-- digits that are a number
+pub record BeginsWithNumber (line : List ℕ) (number : ℕ) (rest : List ℕ) : Type 0 where
   pub digits : List ℕ
   pub is : line ≡ digits ++ rest
   pub valid : printed.IsNumber digits
@@ -33,8 +34,8 @@ abbrev pub items_of : List (List ℕ) → json.Items
 items_of [] = json.no_items
 items_of (text ∷ texts) = json.item (json.string text) (items_of texts)
 
--- a list of texts without its first bracket, and rest behind it
-pub record AreTexts (line : List ℕ) (rights : Rights) (rest : List ℕ) : Type 0 where
+-- a list of texts behind its first bracket, and the rights that the texts stand for as names
+pub record BeginsWithTexts (line : List ℕ) (rights : Rights) (rest : List ℕ) : Type 0 where
   pub texts : List (List ℕ)
   pub are : line ≡ print_from false (items_tokens (items_of texts)) ++ rest
   pub named : rights ≡ fold with_rights no_rights texts
@@ -49,15 +50,15 @@ abbrev pub ReadBack : json.Members → Type 0
 ReadBack json.no_members = ⊤
 ReadBack (json.member key value others) = ReadsBack value × ReadBack others
 
--- a value that a slot shows, and rest behind it
-pub record IsValue (line : List ℕ) (slot : Slot) (rest : List ℕ) : Type 0 where
+-- a value that a slot shows
+pub record BeginsWithValue (line : List ℕ) (slot : Slot) (rest : List ℕ) : Type 0 where
   pub value : json.Json
   pub is : line ≡ print (json_tokens value) ++ rest
   pub back : ReadsBack value
   pub shows : Shows slot (Some value)
 
--- a member, and rest behind it
-pub record IsMember (line : List ℕ) (before after : Members) (rest : List ℕ) : Type 0 where
+-- a member, which shows in the slot of its name
+pub record BeginsWithMember (line : List ℕ) (before after : Members) (rest : List ℕ) : Type 0 where
   pub key : List ℕ
   pub value : json.Json
   pub is : line ≡ quoted key ++ (58 ∷ (print (json_tokens value) ++ rest))

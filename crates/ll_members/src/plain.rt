@@ -6,7 +6,7 @@ ghost use Rattle.std.specs.List.{list_all, prefix_len};
 ghost use Rattle.std.specs.Char.{is_ascii_digit};
 ghost use Rattle.json.specs.Json.{Json};
 ghost use Rattle.json.specs.Print.{quoted};
-ghost use Rattle.ll_members.specs.Plain.{is_unescaped, IsUnescaped, IsNumber, AreTexts, IsValue, IsMember, IsObject};
+ghost use Rattle.ll_members.specs.Plain.{is_unescaped, IsUnescaped, BeginsWithNumber, BeginsWithTexts, BeginsWithValue, BeginsWithMember, IsObject};
 ghost use Rattle.ll_members.specs.Slots.{Shows, ShowOneMore, AreMissing};
 
 use crate::names::name_of;
@@ -74,7 +74,7 @@ fn are_number(digits: &[u8]) -> bool
 
 /// A whole number, and what stands behind it.
 fn scan_number(line: &str) -> Option<(u64, &str)>
-    ensures { IfSome result (λ scan. IsNumber line.now scan.0 scan.1.now) }
+    ensures { IfSome result (λ scan. BeginsWithNumber line.now scan.0 scan.1.now) }
 {
     let (text, rest) = line.split_at_checked(digit_count(line.as_bytes()))?;
     if !are_number(text.as_bytes()) {
@@ -86,7 +86,7 @@ fn scan_number(line: &str) -> Option<(u64, &str)>
 /// What the texts of a list stand for as names of rights, and what stands behind the list.
 fn scan_rights(line: &str) -> Option<(Rights, &str)>
     requires { IsUnescaped line.now }
-    ensures { IfSome result (λ scan. AreTexts line.now scan.0 scan.1.now) }
+    ensures { IfSome result (λ scan. BeginsWithTexts line.now scan.0 scan.1.now) }
 {
     if let Some(rest) = behind(line, ']') {
         return Some((Rights::none(), rest));
@@ -104,7 +104,7 @@ fn scan_rights(line: &str) -> Option<(Rights, &str)>
 /// A value as a slot, and what stands behind it.
 fn scan_value<'l>(line: &'l str) -> Option<(Slot<'l>, &'l str)>
     requires { IsUnescaped line.now }
-    ensures { IfSome result (λ scan. IsValue line.now scan.0 scan.1.now) }
+    ensures { IfSome result (λ scan. BeginsWithValue line.now scan.0 scan.1.now) }
 {
     match line.as_bytes().first()? {
         b'"' => {
@@ -138,7 +138,7 @@ fn keep<'l>(members: &mut Members<'l>, key: &str, slot: Slot<'l>)
 /// Takes in a member, and answers what stands behind it.
 fn scan_member<'l>(line: &'l str, members: &mut Members<'l>) -> Option<&'l str>
     requires { IsUnescaped line.now }
-    ensures { IfSome result (λ rest. IsMember line.now members.old members.new rest.now) }
+    ensures { IfSome result (λ rest. BeginsWithMember line.now members.old members.new rest.now) }
 {
     let (key, after) = scan_text(line)?;
     let (slot, rest) = scan_value(behind(after, ':')?)?;
