@@ -1,6 +1,6 @@
 //! A trace with the places in the tree that its records name.
 
-ghost use Rattle.std.specs.Prelude.{◌≡◌, IfOk, map};
+ghost use Rattle.std.specs.Prelude.{◌≡◌, ◌≤◌, IfOk, map};
 ghost use Rattle.ll_trace.specs.BestEffort.{records_at_best_effort};
 ghost use Rattle.ll_trace.specs.FirstPlaces.{AreFirstPlaces, first_place};
 
@@ -8,7 +8,9 @@ use crate::record::Record;
 use crate::trace::Trace;
 use ll_rights::Abi;
 use ll_tree::{Place, Tree};
+use rayon::prelude::*;
 use std::alloc::{AllocError, Global};
+use std::thread::Threads;
 
 /// A tree and a trace, with the place of each record's first path in the tree, so that the paths of records which
 /// are judged several times are looked up once.
@@ -29,6 +31,31 @@ impl Located {
             (λ located. located.places.items ≡ map (λ r. first_place tree r.op) trace) }
     {
         let places = places_of(alloc, &tree, trace.records())?;
+        Ok(Located {
+            tree,
+            trace,
+            places,
+        })
+    }
+
+    /// Looks up each record's first path as [`Located::of`] does, with at most this many threads, which look up parts
+    /// of the records at the same time; 0 counts as one, and one starts no thread.
+    pub fn of_by<R: Threads + Sync>(
+        rt: &R,
+        alloc: Global,
+        tree: Tree,
+        trace: Trace,
+        workers: usize,
+    ) -> Result<Located, AllocError>
+        ensures tree { IfOk result (λ located. located.tree ≡ tree) }
+        ensures trace { IfOk result (λ located. located.trace ≡ trace) }
+        ensures places { IfOk result
+            (λ located. located.places.items ≡ map (λ r. first_place tree r.op) trace) }
+    {
+        if workers <= 1 {
+            return Located::of(alloc, tree, trace);
+        }
+        let places = places_by(rt, alloc, &tree, trace.records(), workers)?;
         Ok(Located {
             tree,
             trace,
@@ -66,4 +93,27 @@ fn places_of(alloc: Global, tree: &Tree, records: &[Record]) -> Result<Vec<Place
         places.push(record.op.first_place(tree))?;
     }
     Ok(places)
+}
+
+/// The place of each record's first path, looked up by at most this many threads.
+fn places_by<R: Threads + Sync>(
+    rt: &R,
+    alloc: Global,
+    tree: &Tree,
+    records: &[Record],
+    workers: usize,
+) -> Result<Vec<Place>, AllocError>
+    requires { 1 ≤ workers }
+    ensures { IfOk result
+        (λ places. places.items ≡ map (λ r. first_place tree.now r.op) records.now) }
+{
+    records
+        .par_iter()
+        .map(
+            |record: &Record| -> Place
+                ensures { result ≡ first_place tree.entry.now record.now.op }
+            { record.op.first_place(tree) },
+        )
+        .with_min_len(records.len() / workers + 1)
+        .collect(rt, alloc)
 }
