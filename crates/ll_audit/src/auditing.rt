@@ -29,6 +29,14 @@ use std::thread::Threads;
 /// Landlock answers under a version of its interface. The report is the same for every number of
 /// workers, which is 1 to 64, and for every cut; they say only which threads judge. The gate is told
 /// of each job that a thread begins.
+///
+/// If `TREE` and `TRACE` are the bytes of both files:
+///
+/// ```
+/// let cut = Cut::Grain(0);
+/// let report = audit(&rt, rt.alloc(), TREE, TRACE, Abi::V4, 1, cut, &Idle)?;
+/// assert_eq!(rt; report.refused, 1);
+/// ```
 pub fn audit<R: Threads + Wait + Sync, G: Gate + Sync>(
     rt: &R,
     alloc: Global,
@@ -57,6 +65,20 @@ pub fn audit<R: Threads + Wait + Sync, G: Gate + Sync>(
 /// the lines of records, or refused records alone, or those whose answer differs between versions. The
 /// totals are those of all records. The report is written in the form that is asked for. Both files are read once,
 /// whatever the number of versions.
+///
+/// If `TREE` and `TRACE` are the bytes of both files:
+///
+/// ```
+/// let options = Options {
+///     abis: AbiRange::only(Abi::V2),
+///     effort: Effort::Best,
+///     shown: ALL_LINES,
+///     format: Format::Json,
+/// };
+/// let cut = Cut::Grain(0);
+/// let report = audit_with(&rt, rt.alloc(), TREE, TRACE, &options, 1, cut, &Idle)?;
+/// assert_eq!(rt; report.refused, 1);
+/// ```
 pub fn audit_with<R: Threads + Wait + Sync, G: Gate + Sync>(
     rt: &R,
     alloc: Global,

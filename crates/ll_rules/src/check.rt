@@ -26,6 +26,15 @@ pub(crate) fn layer_of(layers: &[Layer], id: LayerId) -> &Layer
 /// The layers of a domain that refuse a wanted right on an object: each layer that handles a wanted
 /// right and grants it neither on the object nor on a directory above it (landlock(7),
 /// "Landlock rules").
+///
+/// ```
+/// let mut rules = Ruleset::create(alloc, Abi::V4, Fs::READ_FILE, Net::NONE)?;
+/// rules.add_path(tree, tree.resolve("/etc"), Fs::READ_FILE)?;
+/// let layer = rules.freeze(alloc)?;
+/// let mut domain = Domain::new();
+/// domain.push(LayerId(0))?;
+/// Ok(check_path(tree, slice::from_ref(&layer), &domain, node, Fs::READ_FILE))
+/// ```
 pub fn check_path(
     tree: &Tree,
     layers: &[Layer],

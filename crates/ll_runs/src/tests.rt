@@ -1,5 +1,6 @@
 //! The tests, and what they share.
 
+mod examples;
 mod families;
 mod gates;
 mod options;

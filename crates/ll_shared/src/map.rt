@@ -22,6 +22,14 @@ use std::marker::Model;
 /// bits of keys aren't mixed first: a mixing that is known can be undone, and dense keys would lie further apart.
 ///
 /// A map takes memory by the entries that it has and not by those that it had: a fork goes with its last entry.
+///
+/// ```
+/// let mut map = SharedMap::new(rt.alloc());
+/// map.insert(3, 10)?;
+/// let copy = map.clone()?;
+/// map.insert(3, 11)?;
+/// assert_eq!(rt; (map.get(3), copy.get(3)), (Some(&11), Some(&10)));
+/// ```
 #[derive(Drop)]
 pub struct SharedMap<V> {
     alloc: Global,

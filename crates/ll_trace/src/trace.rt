@@ -43,6 +43,12 @@ impl Model for Trace {
 impl Trace {
     /// Reads a trace file: its records if no line has a fault, else the first fault of the first
     /// faulty line. If memory runs out, the fault is `Memory` at the line that was being read.
+    ///
+    /// ```
+    /// let lines = "{\"op\":\"start\",\"pid\":10}\n{\"op\":\"nnp\",\"pid\":10}\n";
+    /// let trace = Trace::read(rt.alloc(), lines.as_bytes())?;
+    /// assert_eq!(rt; trace.records().len(), 2);
+    /// ```
     #[tactic(auto, using(ll_lines::proofs::ReadingLemmas::good_from_reading, ll_lines::proofs::ReadingLemmas::bad_from_fault))]
     pub fn read(alloc: Global, bytes: &[u8]) -> Result<Trace, ReadFault>
         ensures good { IfOk result (λ trace. IsTrace bytes.now trace) }

@@ -87,6 +87,13 @@ impl Tree {
     ///
     /// A file that does not read is refused with the number of its first faulty line and the first
     /// fault of that line. If memory runs out, the line is the one that was being read.
+    ///
+    /// ```
+    /// let lines =
+    ///     "{\"path\":\"/etc\",\"kind\":\"dir\"}\n{\"path\":\"/etc/hosts\",\"kind\":\"reg\"}\n";
+    /// let tree = Tree::read(rt.alloc(), lines.as_bytes())?;
+    /// assert_eq!(rt; tree.nodes(), 3);
+    /// ```
     #[tactic(auto, using(crate::proofs::TreeLines::is_tree_of, crate::proofs::TreeLines::is_bad))]
     pub fn read(alloc: Global, bytes: &[u8]) -> Result<Tree, ReadFault>
         ensures ok { IfOk result (IsTreeOf bytes.now) }
