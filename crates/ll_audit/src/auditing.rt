@@ -244,7 +244,8 @@ fn text_by<R: Threads + Wait + Sync, G: Gate + Sync>(
     match options.abis.single() {
         Some(abi) => {
             let trace = taken(trace, options.effort, abi);
-            let case = Case::new(crew.alloc, tree, trace, abi)?;
+            let located = crew.located(tree, trace)?;
+            let case = Case::of_located(crew.alloc, located, abi)?;
             report_on(crew, &case, options.shown)
         }
         None => report_over(crew, tree, trace, options),

@@ -8,8 +8,9 @@ ghost use Rattle.ll_audit.specs.Causes.{IsWant};
 use crate::fault::Fault;
 use ll_pool::{Gate, collect_whole, run};
 use ll_process::{Answer, Case};
-use ll_trace::ProcessId;
-use std::alloc::Global;
+use ll_trace::{Located, ProcessId, Trace};
+use ll_tree::Tree;
+use std::alloc::{AllocError, Global};
 use std::sync::Wait;
 use std::thread::Threads;
 
@@ -24,6 +25,14 @@ pub(crate) struct Crew<'a, R, G> {
 }
 
 impl<'a, R: Threads + Wait + Sync, G: Gate + Sync> Crew<'a, R, G> {
+    /// A tree and a trace, with the place of each record's first path, which the workers look up.
+    pub(crate) fn located(&self, tree: Tree, trace: Trace) -> Result<Located, AllocError>
+        ensures tree { IfOk result (λ located. located.tree ≡ tree) }
+        ensures trace { IfOk result (λ located. located.trace ≡ trace) }
+    {
+        Located::of(self.alloc, tree, trace)
+    }
+
     /// The answers to all records of a case.
     pub(crate) fn answers(&self, case: &Case) -> Result<Vec<Answer>, Fault>
         requires { IsCrew self.now.workers }

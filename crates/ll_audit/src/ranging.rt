@@ -1,6 +1,7 @@
 //! An audit over several versions.
 
-ghost use Rattle.std.specs.Prelude.{◌≡◌, ◌∷◌, [], IfOk, IfErr, if◌then◌else◌, map};
+ghost use Rattle.std.specs.Prelude.{◌≡◌, ◌+◌, ◌∷◌, ◌<◌, ◌^◌, [], IfOk, IfErr, if◌then◌else◌, length, map};
+ghost use Rattle.ll_rights.specs.Abis.{number_of};
 ghost use Rattle.ll_options.specs.Crews.{IsCrew};
 ghost use Rattle.ll_options.specs.Versions.{is_in};
 ghost use Rattle.ll_semantics.specs.Worlds.{judged};
@@ -66,6 +67,29 @@ impl Audited {
         })
     }
 
+    /// Audits a tree and a trace under all versions that are asked for, for a report in this form.
+    fn of<R: Threads + Wait + Sync, G: Gate + Sync>(
+        crew: &Crew<'_, R, G>,
+        tree: Tree,
+        trace: Trace,
+        options: &Options,
+        format: Format,
+    ) -> Result<Audited, Fault>
+        requires { IsCrew crew.now.workers }
+        ensures findings { IfOk result
+            (λ all. all.findings.items ≡ findings format options.now tree trace) }
+        ensures few { IfOk result (λ all.
+            number_of options.now.abis.oldest + length all.findings.items < 2 ^ 64) }
+        ensures records { IfOk result (λ all. map about all.located.trace ≡ map about trace) }
+        ensures fault { IfErr result IsWant }
+    {
+        let none = Audited {
+            located: crew.located(tree, trace)?,
+            findings: Vec::new(crew.alloc),
+        };
+        none.under_all(crew, options, format)
+    }
+
     /// Audits under all versions that are asked for, the newest first, for a report in this form.
     fn under_all<R: Threads + Wait + Sync, G: Gate + Sync>(
         self,
@@ -129,19 +153,6 @@ fn in_front(finding: Finding, mut newer: Vec<Finding>) -> Result<Vec<Finding>, A
     Ok(newer)
 }
 
-/// A tree and a trace before any version was asked.
-fn before_all(alloc: Global, tree: Tree, trace: Trace) -> Result<Audited, AllocError>
-    ensures tree { IfOk result (λ none. none.located.tree ≡ tree) }
-    ensures trace { IfOk result (λ none. none.located.trace ≡ trace) }
-    ensures findings { IfOk result (λ none. none.findings.items ≡ []) }
-{
-    let located = Located::of(alloc, tree, trace)?;
-    Ok(Audited {
-        located,
-        findings: Vec::new(alloc),
-    })
-}
-
 /// The report over the versions that are asked for, as text.
 pub(crate) fn report_over<R: Threads + Wait + Sync, G: Gate + Sync>(
     crew: &Crew<'_, R, G>,
@@ -153,8 +164,7 @@ pub(crate) fn report_over<R: Threads + Wait + Sync, G: Gate + Sync>(
     ensures report { IfOk result (IsReportOver options.now tree trace) }
     ensures fault { IfErr result IsWant }
 {
-    let none = before_all(crew.alloc, tree, trace)?;
-    let all = none.under_all(crew, options, Format::Text)?;
+    let all = Audited::of(crew, tree, trace, options, Format::Text)?;
     let oldest = options.abis.oldest();
     let report = Report::over(
         crew.alloc,
@@ -177,8 +187,7 @@ pub(crate) fn report_in_json<R: Threads + Wait + Sync, G: Gate + Sync>(
     ensures report { IfOk result (IsReportInJson options.now tree trace) }
     ensures fault { IfErr result IsWant }
 {
-    let none = before_all(crew.alloc, tree, trace)?;
-    let all = none.under_all(crew, options, Format::Json)?;
+    let all = Audited::of(crew, tree, trace, options, Format::Json)?;
     let oldest = options.abis.oldest();
     let report = json_report(
         crew.alloc,

@@ -1,15 +1,12 @@
-use Rattle.std.proofs.Common.{◌≡◌, ◌∙◌, List, arith, ap, ap₂, length, map, subst, sym}
+use Rattle.std.proofs.Common.{◌≡◌, ◌∙◌, List, arith, ap, length, map, subst, sym}
 use Rattle.std.proofs.lemmas.List.{length-map}
-use Rattle.ll_options.specs.declared.format.Format.TheVariants.{Json}
 use Rattle.ll_rights.specs.Abis.{number_of}
-use Rattle.ll_options.proofs.Few.{small_number}
 use Rattle.ll_report.specs.Found.{Found}
 use Rattle.ll_json.specs.Records.{about}
 use Rattle.ll_json.specs.Reports.{kept_of}
 use Rattle.ll_json.specs.Versions.{HaveAll}
-use Rattle.ll_audit.specs.ShownReports.{findings, versions_by}
+use Rattle.ll_audit.specs.ShownReports.{versions_by}
 use Rattle.ll_audit.proofs.AsJson.{have_each, kept_found, same_report}
-use Rattle.ll_audit.proofs.VersionByVersion.{few_found}
 use Rattle.ll_audit.proofs.ranging.report_in_json.Goals as goal
 
 pub json_report-requires : goal.json_report-requires
@@ -18,9 +15,8 @@ json_report-requires g c =
       arith,
       c.number.ensures,
       ap number_of c.oldest-oldest.ensures.version,
-      small_number c.args.options.now.abis.oldest,
-      ap length (c.deref.ensures.value ∙ c.in_ok-all.ensures.findings),
-      few_found Json c.args.options.now c.in_ok-none.none.located.tree c.in_ok-none.none.located.trace,
+      ap length c.deref.ensures.value,
+      c.in_ok-all.ensures.few,
     )
 
 pub returns-clause-report : goal.returns-clause-report
@@ -30,10 +26,9 @@ returns-clause-report g c =
     let read = c.records.result.now in
     let same : c.deref.result.now ≡ kept_of options.shown c.args.tree versions =
     c.deref.ensures.value ∙ c.in_ok-all.ensures.findings
-    ∙ ap₂ (findings Json options) c.in_ok-none.ensures.tree c.in_ok-none.ensures.trace
     ∙ kept_found options c.args.tree c.args.trace in
     let told : map about read ≡ map about c.args.trace =
-    ap (map about) c.records.ensures.value ∙ c.in_ok-all.ensures.records ∙ ap (map about) c.in_ok-none.ensures.trace in
+    ap (map about) c.records.ensures.value ∙ c.in_ok-all.ensures.records in
     let many : length read ≡ length c.args.trace = omega (arith, ap length told, length-map read about, length-map c.args.trace about) in
     same_report options.shown c.args.tree (number_of options.abis.oldest) c.number.result versions read c.args.trace _ c.in_ok-report.report
     (c.number.ensures ∙ ap number_of c.oldest-oldest.ensures.version) told

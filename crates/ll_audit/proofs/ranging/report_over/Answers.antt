@@ -9,8 +9,7 @@ use Rattle.ll_json.specs.Records.{about}
 use Rattle.ll_options.specs.declared.format.Format.TheVariants.{Text}
 use Rattle.ll_audit.specs.ShownReports.{findings}
 use Rattle.ll_rights.specs.Abis.{number_of}
-use Rattle.ll_options.proofs.Few.{small_number}
-use Rattle.ll_audit.proofs.VersionByVersion.{few_found, same_told}
+use Rattle.ll_audit.proofs.VersionByVersion.{same_told}
 use Rattle.ll_audit.proofs.ranging.report_over.Goals as goal
 
 pub over-requires : goal.over-requires
@@ -19,9 +18,8 @@ over-requires g c =
       arith,
       c.number.ensures,
       ap number_of c.oldest-oldest.ensures.version,
-      small_number c.args.options.now.abis.oldest,
-      ap length (c.deref.ensures.value ∙ c.in_ok-all.ensures.findings),
-      few_found Text c.args.options.now c.in_ok-none.none.located.tree c.in_ok-none.none.located.trace,
+      ap length c.deref.ensures.value,
+      c.in_ok-all.ensures.few,
     )
 
 pub returns-clause-report : goal.returns-clause-report
@@ -30,11 +28,10 @@ returns-clause-report g c =
     let oldest : ℕ = number_of c.args.options.now.abis.oldest in
     let all : List Found = findings Text c.args.options.now c.args.tree c.args.trace in
     let same : c.deref.result.now ≡ all =
-    c.deref.ensures.value ∙ c.in_ok-all.ensures.findings
-    ∙ ap₂ (findings Text c.args.options.now) c.in_ok-none.ensures.tree c.in_ok-none.ensures.trace in
+    c.deref.ensures.value ∙ c.in_ok-all.ensures.findings in
     let told : map told_of c.records.result.now ≡ map told_of c.args.trace =
     same_told c.records.result.now c.args.trace
-    (ap (map about) c.records.ensures.value ∙ c.in_ok-all.ensures.records ∙ ap (map about) c.in_ok-none.ensures.trace) in
+    (ap (map about) c.records.ensures.value ∙ c.in_ok-all.ensures.records) in
     let many : length c.records.result.now ≡ length c.args.trace =
     omega (arith, ap length told, length-map c.records.result.now told_of, length-map c.args.trace told_of) in
     record {
