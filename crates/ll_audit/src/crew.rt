@@ -30,7 +30,7 @@ impl<'a, R: Threads + Wait + Sync, G: Gate + Sync> Crew<'a, R, G> {
         ensures tree { IfOk result (λ located. located.tree ≡ tree) }
         ensures trace { IfOk result (λ located. located.trace ≡ trace) }
     {
-        Located::of(self.alloc, tree, trace)
+        Located::of_by(self.rt, self.alloc, tree, trace, self.workers as usize)
     }
 
     /// The answers to all records of a case.
