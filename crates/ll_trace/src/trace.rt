@@ -105,6 +105,7 @@ impl Trace {
     }
 
     /// The records, in the order of the file.
+    #[tactic(auto, using(crate::proofs::Numbering::few_records))]
     pub fn records(&self) -> &[Record]
         ensures value { result.now ≡ self.now }
         ensures few { length self.now ≤ MOST_RECORDS }
@@ -115,6 +116,7 @@ impl Trace {
     }
 
     /// The number of processes of the trace.
+    #[tactic(auto, using(crate::proofs::Numbering::few_processes))]
     pub fn processes(&self) -> u32
         ensures count { result ≡ process_count self.now }
         ensures few { result ≤ MOST_PROCESSES }
