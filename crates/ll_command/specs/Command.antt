@@ -13,7 +13,7 @@ use Rattle.clap.specs.Words.{App, IsAmong, Kinds, Row, Rule, fault_of, first_of,
 use Rattle.clap.specs.Simple.{on_top}
 use Rattle.clap.specs.ValueTests.{is_unsigned_in}
 use Rattle.ll_rights.specs.declared.abi.Abi.{Abi}
-use Rattle.ll_rights.specs.Abis.{all_versions, number_of, version_of}
+use Rattle.ll_rights.specs.Abis.{all_versions, version_of}
 use Rattle.ll_options.specs.declared.format.Format.{Format}
 use Rattle.ll_options.specs.declared.format.Format.TheVariants.{Json, Text as Plain}
 use Rattle.ll_options.specs.declared.shown.Shown.{Shown}

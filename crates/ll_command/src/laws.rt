@@ -123,6 +123,7 @@ pub fn command_lines()
 {}
 
 /// A command line names a run exactly when it contains no fault.
+#[tactic(auto, using(crate::proofs::Faultless::just_without_fault))]
 pub fn words_without_a_fault_name_a_run()
     ensures { (words : List Text) → IsSome (request_of words) ↔ (faults words ≡ []) }
 {}

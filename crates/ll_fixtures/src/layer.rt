@@ -53,6 +53,7 @@ impl PlainLayer {
     }
 
     /// The rights that the rules on a node and on the directories above it grant.
+    #[tactic(auto, using(ll_rules::proofs::Climbs::nodes_above))]
     pub(crate) fn granted(&self, tree: &Tree, node: NodeId) -> Fs
         requires { IsNode tree.now node }
     {

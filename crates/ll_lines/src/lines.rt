@@ -62,6 +62,7 @@ impl<'a> FilledLines<'a> {
 
     /// The same lines in at most this many parts, each of about as many bytes, or in one part where the
     /// number is 0. The lines of every part keep their numbers.
+    #[tactic(auto, using(std::proofs::lemmas::Grind::common_steps))]
     pub fn in_parts(self, alloc: Global, most: usize) -> Result<Vec<FilledLines<'a>>, AllocError>
         ensures lines { IfOk result (λ parts. flat_map (λ part. part) parts.items ≡ self.entry) }
         ensures few { IfOk result (λ parts. length parts.items ≤ max most 1) }
@@ -125,6 +126,7 @@ impl<'a> Iterator for FilledLines<'a> {
 }
 
 /// The first line, without its line feed, and the bytes after it.
+#[tactic(auto, using(crate::proofs::LinesLemmas::cut_at, crate::proofs::LinesLemmas::uncut))]
 fn cut_line(bytes: &[u8]) -> (&[u8], &[u8])
     requires { 0 < length bytes.now }
     ensures cut { lines bytes.now ≡ result.0.now ∷ lines result.1.now }

@@ -3,8 +3,6 @@ use Rattle.std.proofs.Common.{◌≡◌, ℕ, ◌==◌, Bool, true, false, not, 
 use Rattle.std.specs.List.{list_any}
 use Rattle.std.proofs.lemmas.Bool.{eq-eqb}
 use Rattle.std.proofs.lemmas.List.Folds.{list_any-append}
-use Rattle.std.proofs.lemmas.Slice.Eq.{bytes_eq-Decides}
-use Rattle.std.specs.Prelude.{bytes_eq}
 use Rattle.ll_rights.specs.declared.fs.Fs.{Fs}
 use Rattle.ll_rights.specs.declared.net.Net.{Net}
 use Rattle.ll_rights.specs.Rights.{FsRight, refer, is_right}
@@ -20,6 +18,7 @@ use Rattle.ll_rules.specs.Layers.{handles, granted, granted_on_port}
 use Rattle.ll_rules.specs.Checks.{lacks, lacks_on_port}
 use Rattle.ll_rules.specs.Moves.{source_of, destination_of, kind_there, asked_of_source, asked_of_destination, lacks_one_of, denies}
 use Rattle.ll_rules.proofs.Booleans.{or_assoc, or_false, and_none}
+use Rattle.ll_rules.proofs.Climbs.{prefix-same}
 use Rattle.ll_semantics.specs.States.{Layer}
 use Rattle.ll_reasons.specs.Objections.{Objection, missing, closed, gained, mounting, kept, missing_rights, closed_rights, one_of, if_any, on_path, on_port}
 use Rattle.ll_reasons.specs.Objections.{on_directories}
@@ -168,11 +167,6 @@ covered layer objections path asked given =
     (λ right. rw (handles-satisfied objections layer right, granted-satisfied objections layer path right)
     (none_left (asked right) (handles layer right) (granted layer path right) (list_any (gives path right) objections) (given right)))
     files.all_rights
-
-pub prefix-same : (path : Path) → is_prefix path path ≡ true
-unfolding is_prefix
-prefix-same [] = refl
-prefix-same (name ∷ names) = and_from (bytes_eq name name) (is_prefix names names) ((bytes_eq-Decides name name).1 refl) (prefix-same names)
 
 gives-if_any : (rights : List FsRight) (there path : Path) (right : FsRight)
     → list_any (gives path right) (if_any rights (missing rights there)) ≡ (is_prefix there path && one_of rights right)

@@ -18,25 +18,15 @@ use Rattle.ll_rules.specs.declared.moves.How.TheVariants.{Rename, Exchange, Link
 use Rattle.ll_rules.specs.Layers.{handles, granted}
 use Rattle.ll_rules.specs.Moves.{source_of, destination_of, lacks_one_of, gains, other_gains, holds_back}
 use Rattle.ll_rules.proofs.Booleans.{or_false, and_none}
+use Rattle.ll_rules.proofs.Climbs.{prefix-same, prefix-trans}
 use Rattle.ll_semantics.specs.States.{Layer}
 use Rattle.ll_reasons.specs.Objections.{Objection, gained, gained_rights, one_of, if_any, on_path, on_gain, on_other_gain, on_crossing}
 use Rattle.ll_reasons.specs.Remedies.{all_satisfied}
 use Rattle.ll_reasons.proofs.Named.{same_right, rights_named}
 use Rattle.ll_reasons.proofs.Enough.{or_left, or_right, or_either, and_both, and_from, from_not, any_none, any_more, gives, granted-satisfied}
-use Rattle.ll_reasons.proofs.Enough.{handles-satisfied, covered, prefix-same, gives-on_path, given_there}
+use Rattle.ll_reasons.proofs.Enough.{handles-satisfied, covered, gives-on_path, given_there}
 
 -- ---- paths
-
-pub prefix-trans : (a b c : Path) → is_prefix a b ≡ true → is_prefix b c ≡ true → is_prefix a c ≡ true
-unfolding is_prefix
-prefix-trans [] b c ab bc = refl
-prefix-trans (x ∷ a) [] c ab bc = cc
-prefix-trans (x ∷ a) (y ∷ b) [] ab bc = cc
-prefix-trans (x ∷ a) (y ∷ b) (z ∷ c) ab bc =
-    let first = and_both (bytes_eq x y) (is_prefix a b) ab in
-    let second = and_both (bytes_eq y z) (is_prefix b c) bc in
-    and_from (bytes_eq x z) (is_prefix a c) ((bytes_eq-Decides x z).1 ((bytes_eq-Decides x y).0 first.0 ∙ (bytes_eq-Decides y z).0 second.0))
-    (prefix-trans a b c first.1 second.1)
 
 pub prefix-front : (path : Path) → is_prefix (front path) path ≡ true
 unfolding is_prefix front
@@ -142,13 +132,15 @@ module _ (layer : Layer) (kind : Kind) (object source destination : Path) (other
   d : Path → FsRight → Bool
   d path right = list_any (gives path right) others
 
+  all_four : (path : Path) (right : FsRight) → list_any (gives path right) all ≡ (((a path right || b path right) || c path right) || d path right)
+  unfolding a b c d
+  all_four path right =
+      any_four (gives path right) (on_path source (one_of (refer ∷ [])) layer) (on_path destination (one_of (refer ∷ [])) layer)
+      (on_gain kind object destination layer) others
+
   by_parts : (path : Path) (right : FsRight)
       → granted (all_satisfied layer all) path right ≡ ((((a path right || b path right) || c path right) || d path right) || granted layer path right)
-  unfolding a b c d
-  by_parts path right =
-      granted-satisfied all layer path right
-      ∙ ap (λ (t : Bool). t || granted layer path right) (any_four (gives path right) (on_path source (one_of (refer ∷ [])) layer)
-      (on_path destination (one_of (refer ∷ [])) layer) (on_gain kind object destination layer) others)
+  by_parts path right = granted-satisfied all layer path right ∙ ap (λ (t : Bool). t || granted layer path right) (all_four path right)
 
   by_a : (path : Path) (right : FsRight) → (a path right || granted layer path right) ≡ true → granted (all_satisfied layer all) path right ≡ true
   by_a path right holds = by_parts path right ∙ or_either (a path right) (granted layer path right) holds
@@ -181,20 +173,12 @@ module _ (layer : Layer) (kind : Kind) (object source destination : Path) (other
       (λ two. or_either (a path right) (b path right) two is_a is_b) is_c) is_d) is_old
 
   named_by_a : (path : Path) (right : FsRight) → a path right ≡ true → list_any (gives path right) all ≡ true
-  unfolding a
   named_by_a path right here =
-      any_four (gives path right) (on_path source (one_of (refer ∷ [])) layer) (on_path destination (one_of (refer ∷ [])) layer)
-      (on_gain kind object destination layer) others
-      ∙ or_left _ (list_any (gives path right) others) (or_left _ (list_any (gives path right) (on_gain kind object destination layer))
-      (or_left _ (list_any (gives path right) (on_path destination (one_of (refer ∷ [])) layer)) here))
+      all_four path right ∙ or_left _ (d path right) (or_left _ (c path right) (or_left (a path right) (b path right) here))
 
   named_by_b : (path : Path) (right : FsRight) → b path right ≡ true → list_any (gives path right) all ≡ true
-  unfolding b
   named_by_b path right here =
-      any_four (gives path right) (on_path source (one_of (refer ∷ [])) layer) (on_path destination (one_of (refer ∷ [])) layer)
-      (on_gain kind object destination layer) others
-      ∙ or_left _ (list_any (gives path right) others) (or_left _ (list_any (gives path right) (on_gain kind object destination layer))
-      (or_right (list_any (gives path right) (on_path source (one_of (refer ∷ [])) layer)) _ here))
+      all_four path right ∙ or_left _ (d path right) (or_left _ (c path right) (or_right (a path right) (b path right) here))
 
   pub source_enough : lacks_one_of (all_satisfied layer all) source (refer ∷ []) ≡ false
   unfolding a

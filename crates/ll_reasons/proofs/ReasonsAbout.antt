@@ -21,8 +21,9 @@ use Rattle.ll_reasons.specs.Reasons.{open_already, unopened, not_for_writing}
 use Rattle.ll_reasons.specs.Reasons.{spelt, or_above, ends_at, nowhere, no_object, unsuited, unmet, onto, moved_to, unrenamed, linked_to, unlinked, reason}
 use Rattle.ll_reasons.specs.CallNames.{descriptor_of, is_named, is_on_the_way, named_paths, paths_of, ruleset_number}
 use Rattle.ll_reasons.specs.ReasonsHold.{IsAbout}
-use Rattle.ll_reasons.proofs.Enough.{any_more, or_left, or_right, prefix-same}
-use Rattle.ll_reasons.proofs.Gains.{prefix-trans, prefix-front}
+use Rattle.ll_rules.proofs.Climbs.{prefix-same, prefix-trans}
+use Rattle.ll_reasons.proofs.Enough.{any_more, or_left, or_right}
+use Rattle.ll_reasons.proofs.Gains.{prefix-front}
 
 -- ---- lists of paths
 

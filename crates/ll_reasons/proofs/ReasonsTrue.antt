@@ -41,7 +41,8 @@ use Rattle.ll_reasons.specs.Made.{is_restrict}
 use Rattle.ll_reasons.specs.ReasonsHold.{paths_of, are_spelt, is_left_out, is_at_root, is_at_one, names_one_twice, is_regular, Holds, IsAbout, IsSo}
 use Rattle.ll_reasons.proofs.ReasonsAbout.{reason_about}
 use Rattle.ll_reasons.proofs.Enough.{and_both, or_left, or_right}
-use Rattle.ll_reasons.proofs.Gains.{prefix-trans, prefix-front}
+use Rattle.ll_rules.proofs.Climbs.{prefix-trans}
+use Rattle.ll_reasons.proofs.Gains.{prefix-front}
 use Rattle.ll_reasons.proofs.Shapes.{never_moot, can_refused_by, can_verdict, can_unless, can_ioctl_kept, can_add_port}
 
 -- ---- the tree

@@ -1,4 +1,4 @@
-//! What holds of the layers that an explanation names.
+//! What holds of the layers that an explanation names, and of a record without one.
 
 ghost use Rattle.std.specs.Prelude.{◌≡◌, ℕ, List, ◌∷◌, map, Some, slice_get};
 ghost use Rattle.ll_rights.specs.declared.abi.Abi.{Abi};
@@ -6,13 +6,16 @@ ghost use Rattle.ll_tree.specs.Trees.{Entry};
 ghost use Rattle.ll_rules.specs.declared.errno.Errno.{Errno};
 ghost use Rattle.ll_trace.specs.declared.record.Record.{Record};
 ghost use Rattle.ll_trace.specs.declared.op.Op.{Op};
-ghost use Rattle.ll_semantics.specs.declared.answer.Answer.TheVariants.{Refused};
+ghost use Rattle.ll_semantics.specs.declared.answer.Answer.TheVariants.{Allowed, Refused};
+ghost use Rattle.ll_semantics.specs.States.{Layer};
 ghost use Rattle.ll_semantics.specs.Worlds.{judged};
 ghost use Rattle.ll_reasons.specs.Objections.{Objection};
-ghost use Rattle.ll_reasons.specs.Explanations.{objections_to, domain_at, origins_at, objections, explained_at, answer_at};
+ghost use Rattle.ll_reasons.specs.Origins.{Origins};
+ghost use Rattle.ll_reasons.specs.Explanations.{objections_to, domain_at, origins_at, objections, explained, explained_at, answer_at, nothing};
 
 /// The layers that are explained are exactly those that refuse, in order: for every call of a process before the
 /// record at a place, and so for each record of a trace.
+#[tactic(auto, using(crate::proofs::Numbers::numbers_at, crate::proofs::Numbers::record_numbers))]
 pub fn refusing_layers_are_explained()
     ensures calls { (tree : List Entry) (abi : Abi) (records : List Record)
         (place process : ℕ) (op : Op)
@@ -30,4 +33,12 @@ pub fn refusing_layers_are_explained()
         × (explained_at tree abi records place r (Refused error (number ∷ numbers))
         ≡ objections said)
         × (map (λ one. one.0) said ≡ number ∷ numbers) }
+{}
+
+/// A record that is allowed has no explanation.
+#[tactic(auto, unfolding(crate::specs::Explanations::explained))]
+pub fn allowed_records_need_no_explanation()
+    ensures { (tree : List Entry) (abi : Abi) (records : List Record)
+        (domain : List Layer) (o : Origins) (op : Op)
+        → explained tree abi records domain o op Allowed ≡ nothing }
 {}

@@ -2,7 +2,6 @@
 //! laws that hold of them, and which reason the tree gives for a moot call.
 #![tactic(auto)]
 
-mod laws;
 mod layers;
 mod moves;
 mod objects;
@@ -13,8 +12,7 @@ mod remedies;
 mod why;
 mod worked;
 
-pub use laws::allowed_records_need_no_explanation;
-pub use layers::refusing_layers_are_explained;
+pub use layers::{allowed_records_need_no_explanation, refusing_layers_are_explained};
 pub use moves::{unlinked, unrenamed};
 pub use objects::{no_object, unmet};
 pub use origins::{

@@ -71,6 +71,7 @@ pub fn rulesets_come_from_their_creations()
 {}
 
 /// A descriptor's process has in front the layers that it was opened with: layer k then is layer k now.
+#[tactic(auto, using(crate::proofs::Grown::grown))]
 pub fn layers_keep_their_numbers()
     ensures { (tree : List Entry) (abi : Abi) (records : List Record) (place process fd : ℕ)
         → IfSome ((origins_at tree abi records place process).openings fd)

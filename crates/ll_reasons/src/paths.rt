@@ -8,7 +8,7 @@ ghost use Rattle.ll_reasons.specs.Meant.{path_in, path_named, text_named};
 ghost use Rattle.ll_reasons.specs.Reasons.{spelt};
 
 use crate::why::{NamedPath, Which};
-use ll_trace::{Op, still_without_a_path, wants_at_a_path};
+use ll_trace::{Op, changes_without_names, still_without_a_path, wants_at_a_path};
 use ll_tree::{NodeId, Tree, front_text};
 use std::marker::Model;
 
@@ -84,17 +84,9 @@ fn first_text(op: &Op) -> &str
         | Op::Rename { from: path, .. }
         | Op::Link { from: path, .. } => path.as_str(),
         still_without_a_path!()
-        | Op::Start { .. }
-        | Op::Fork { .. }
-        | Op::Nnp
+        | changes_without_names!()
         | Op::Create { .. }
-        | Op::CreateEmpty { .. }
-        | Op::AddPort { .. }
-        | Op::CloseRs { .. }
-        | Op::Restrict { .. }
-        | Op::Adopt { .. }
-        | Op::Dup { .. }
-        | Op::Close { .. } => "/",
+        | Op::AddPort { .. } => "/",
     }
 }
 
@@ -110,17 +102,9 @@ fn second_text(op: &Op) -> &str
         | still_without_a_path!()
         | Op::AddPath { .. }
         | Op::OpenFile { .. }
-        | Op::Start { .. }
-        | Op::Fork { .. }
-        | Op::Nnp
+        | changes_without_names!()
         | Op::Create { .. }
-        | Op::CreateEmpty { .. }
-        | Op::AddPort { .. }
-        | Op::CloseRs { .. }
-        | Op::Restrict { .. }
-        | Op::Adopt { .. }
-        | Op::Dup { .. }
-        | Op::Close { .. } => "/",
+        | Op::AddPort { .. } => "/",
     }
 }
 

@@ -15,6 +15,7 @@ ghost use Rattle.ll_reasons.specs.Explanations.{origins_at, state_at, answer_at,
 
 /// A moot call has a reason, and what this says holds of the tree, the call and the state of its process: for a tree
 /// that has a root, and a call whose paths are spelt as such.
+#[tactic(auto, using(crate::proofs::ReasonsTrue::reason_at))]
 pub fn reasons_hold()
     ensures { (tree : List Entry) (abi : Abi) (records : List Record) (place process : ℕ) (op : Op)
         (there : is_some (node_at tree []) ≡ true) (spelt : are_spelt op ≡ true)
@@ -24,6 +25,7 @@ pub fn reasons_hold()
 {}
 
 /// Where a call fails with an error that no layer gives, what the condition says of it holds.
+#[tactic(auto, using(crate::proofs::ConditionsTrue::condition_at))]
 pub fn conditions_hold()
     ensures { (tree : List Entry) (abi : Abi) (records : List Record) (place process : ℕ)
         (op : Op) (error : Errno)

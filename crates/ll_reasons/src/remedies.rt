@@ -51,6 +51,7 @@ pub fn granting_what_is_named_is_enough()
 
 /// In a domain, a layer that no longer lacks what is tested, in place of one that did, is not among the layers that
 /// refuse: whatever the test, so for paths, ports and moves.
+#[tactic(auto, using(crate::proofs::InDomain::not_refusing))]
 pub fn satisfied_layers_do_not_refuse()
     ensures { (test : Layer → Bool) (domain : List Layer) (place : ℕ) (layer : Layer)
         → test layer ≡ false

@@ -13,6 +13,7 @@ use Rattle.ll_tree.specs.declared.place.NodeId.{NodeId}
 use Rattle.ll_tree.specs.Trees.{Entry, IsNode, path_at}
 use Rattle.ll_tree.specs.TreeFacts.{IsTree}
 use Rattle.ll_tree.proofs.Positions.{is_root}
+use Rattle.ll_rules.proofs.Climbs.{prefix-same, prefix-trans}
 use Rattle.ll_rules.specs.InTree.{node, rule_on_path, AreInTree, all_in_tree}
 use Rattle.ll_rules.specs.Layers.{RulesOn}
 use Rattle.ll_rules.specs.Checks.{refusing, refusing_port}
@@ -53,22 +54,6 @@ by_layers P rules_of place (layer ∷ domain) each =
     (All-from_recursion (λ rule. P (place rule)) (rules_of layer) (unmapped P place (rules_of layer) first), by_layers P rules_of place domain rest)
 
 -- ---- prefixes
-
-prefix-same : (path : Path) → is_prefix path path ≡ true
-unfolding is_prefix
-prefix-same [] = refl
-prefix-same (name ∷ names) = and_from (bytes_eq name name) (is_prefix names names) ((bytes_eq-Decides name name).1 refl) (prefix-same names)
-
-prefix-trans : (a b c : Path) → is_prefix a b ≡ true → is_prefix b c ≡ true → is_prefix a c ≡ true
-unfolding is_prefix
-prefix-trans [] b c ab bc = refl
-prefix-trans (x ∷ a) [] c ab bc = cc
-prefix-trans (x ∷ a) (y ∷ b) [] ab bc = cc
-prefix-trans (x ∷ a) (y ∷ b) (z ∷ c) ab bc =
-    let first = and_parts (bytes_eq x y) (is_prefix a b) ab in
-    let second = and_parts (bytes_eq y z) (is_prefix b c) bc in
-    and_from (bytes_eq x z) (is_prefix a c) ((bytes_eq-Decides x z).1 ((bytes_eq-Decides x y).0 first.0 ∙ (bytes_eq-Decides y z).0 second.0))
-    (prefix-trans a b c first.1 second.1)
 
 -- two paths on the way to a third lie on one way
 one_way : (a b p : Path) → is_prefix a p ≡ true → is_prefix b p ≡ true → (is_prefix a b ≡ true) ⊎ (is_prefix b a ≡ true)

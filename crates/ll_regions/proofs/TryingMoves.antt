@@ -1,11 +1,11 @@
 -- One outline of each form and region, and moves with outlines of one form.
-use Rattle.std.proofs.Common.{◌≡◌, ℕ, zero, suc, ◌<◌, Bool, true, false, List, [], ◌∷◌, ◌++◌, map, length, get_or, refl, sym, subst, arith}
+use Rattle.std.proofs.Common.{◌≡◌, ℕ, zero, suc, ◌<◌, Bool, true, false, List, [], ◌∷◌, map, length, get_or, refl, sym, subst, arith}
 use Rattle.std.specs.Prelude.{Option, Some, None}
 use Rattle.std.specs.List.{Contains, flat_map}
 use Rattle.std.proofs.lemmas.List.Elements.{Contains-append_left, Contains-append_right}
 use Rattle.ll_rights.specs.declared.kind.Kind.{Kind}
 use Rattle.ll_rights.specs.declared.kind.Kind.TheVariants.{Dir, Reg, Sym, Char, Block, Fifo, Sock}
-use Rattle.ll_lines.specs.Paths.{Name, Path, front}
+use Rattle.ll_lines.specs.Paths.{Name, Path}
 use Rattle.ll_tree.specs.Trees.{Entry}
 use Rattle.ll_rules.specs.declared.moves.Move.{Move}
 use Rattle.ll_rules.specs.declared.moves.Target.{Target}
@@ -14,7 +14,7 @@ use Rattle.ll_rules.specs.declared.moves.How.{How}
 use Rattle.ll_rules.specs.declared.moves.How.TheVariants.{Rename, Exchange, Link}
 use Rattle.ll_rules.specs.Layers.{RulesOn}
 use Rattle.ll_rules.specs.Moves.{destination_of, kind_there, move_verdict}
-use Rattle.ll_regions.specs.Regions.{InOneRegion, paths_to_try, objects_to_try, IsUnruledName}
+use Rattle.ll_regions.specs.Regions.{InOneRegion, objects_to_try, IsUnruledName}
 use Rattle.ll_regions.specs.AlikeMoves.{path_there, AreAlike}
 use Rattle.ll_regions.specs.Outlines.{Outline, outline_of, comes_to, AreOfOneForm, all_kinds, all_there, targets_to_try}
 use Rattle.ll_regions.specs.Outlines.{to_targets, of_objects, in_one_or_two, onto_all, of_all_kinds, outlines_to_try}

@@ -101,3 +101,5 @@ pub net_is_lacking : (wanted handled granted : Net) → granted.0 < 2 ^ 32 → n
     ≡ network.is_lacking (network.has wanted) (network.has handled) (network.has granted)
 unfolding network.has network.some_right network.all_rights
 net_is_lacking wanted handled granted fits known = is_lacking net_table wanted.0 handled.0 granted.0 fits known
+
+pub ruleset sets_by_rights = (fs_has-only, fs_has-united, net_has-only, net_has-united)

@@ -75,3 +75,5 @@ unfolding network.has supported_net
 net_supported_lacking abi known set taken left same is_taken is_left =
     ap (λ bits. record { 0 = bits }) (is_left ∙ ap (bits_without set.0) is_taken
     ∙ supported-lacking net_table (knows_net abi) known.0 (same network.other) same set.0)
+
+pub ruleset supported_sets = (fs_has-supported, fs_supported-known, fs_supported-older, net_has-supported, net_supported-known, net_supported-older)

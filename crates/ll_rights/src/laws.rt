@@ -26,6 +26,7 @@ pub fn file_rights()
 {}
 
 /// A set of one right has that right alone, and a union has what either set has.
+#[tactic(auto, using(crate::proofs::Sets::sets_by_rights))]
 pub fn sets_by_rights()
     ensures only_fs { (right one : files.FsRight)
         → files.has (files.only one) right ≡ files.is_right right one }
@@ -40,6 +41,7 @@ pub fn sets_by_rights()
 /// What is supported of a set are the rights of it that the version knows, and the right of any other name. So a version
 /// that knows all named rights of a set leaves the set as it is, and an older version keeps as much of what a newer one
 /// left as of the whole.
+#[tactic(auto, using(crate::proofs::Supported::supported_sets))]
 pub fn supported_sets()
     ensures fs { (abi : Version) (set : FsSet) (right : files.FsRight)
         → files.has (supported_fs abi set) right

@@ -23,6 +23,7 @@ impl Tables {
     }
 
     /// The place of the ruleset that a process holds under a number.
+    #[tactic(auto, using(crate::proofs::Frozen::place_is))]
     pub(crate) fn place(&self, process: usize, number: u64) -> Option<usize>
         requires { process < length self.now.held.items }
         ensures { result ≡ held_by self.now.held.items process number }

@@ -3,7 +3,9 @@ use Rattle.std.proofs.Common.{◌≡◌, ℕ, ◌<◌, Bool, true, false, ◌&&�
 use Rattle.std.specs.Prelude.{All, Option, Some, None, IfSome, IfNone}
 use Rattle.std.specs.Str.{bytes_eq}
 use Rattle.std.specs.List.{list_any}
+use Rattle.std.proofs.lemmas.Bool.{and_parts, and_from}
 use Rattle.std.proofs.lemmas.List.Elements.{All-head, All-tail}
+use Rattle.std.proofs.lemmas.Slice.Eq.{bytes_eq-Decides}
 use Rattle.ll_rights.specs.declared.fs.Fs.{Fs}
 use Rattle.ll_rights.specs.Rights.{FsRight, has}
 use Rattle.ll_tree.specs.declared.place.NodeId.{NodeId}
@@ -16,6 +18,24 @@ use Rattle.ll_rules.specs.KeptLayers.{granted_on, granted_on_node}
 use Rattle.ll_rules.specs.InTree.{in_tree, rule_on_path, node, AreInTree}
 use Rattle.ll_rules.specs.WaysUp.{granted_above}
 use Rattle.ll_rules.proofs.Booleans.{or_false, and_or, or_and, list_any-agree, list_any-or, list_any-map}
+
+-- ---- prefixes
+
+pub prefix-same : (path : Path) → is_prefix path path ≡ true
+unfolding is_prefix
+prefix-same [] = refl
+prefix-same (name ∷ names) = and_from (bytes_eq name name) (is_prefix names names) ((bytes_eq-Decides name name).1 refl) (prefix-same names)
+
+pub prefix-trans : (a b c : Path) → is_prefix a b ≡ true → is_prefix b c ≡ true → is_prefix a c ≡ true
+unfolding is_prefix
+prefix-trans [] b c ab bc = refl
+prefix-trans (x ∷ a) [] c ab bc = cc
+prefix-trans (x ∷ a) (y ∷ b) [] ab bc = cc
+prefix-trans (x ∷ a) (y ∷ b) (z ∷ c) ab bc =
+    let first = and_parts (bytes_eq x y) (is_prefix a b) ab in
+    let second = and_parts (bytes_eq y z) (is_prefix b c) bc in
+    and_from (bytes_eq x z) (is_prefix a c) ((bytes_eq-Decides x z).1 ((bytes_eq-Decides x y).0 first.0 ∙ (bytes_eq-Decides y z).0 second.0))
+    (prefix-trans a b c first.1 second.1)
 
 is_prefix-root : (path : Path) → is_prefix path [] ≡ path_eq path []
 unfolding is_prefix path_eq

@@ -173,6 +173,11 @@ unfolding nodes_up parent_at
 nodes_up-step tree here None found below = omega arith
 nodes_up-step tree here (Some above) found below = omega (arith, nodes_up-front (path_at tree here) (path_at tree above) above tree below.is_front found)
 
+-- from a parent the way is shorter than from where a climb was before
+pub way_shorter : (tree : List Entry) (from : Option NodeId) (here : NodeId) (up : Option NodeId) → up ≡ parent_at tree here → IfSome up (StandsIn tree here)
+    → nodes_up tree (Some here) ≤ nodes_up tree from → nodes_up tree up < nodes_up tree from
+way_shorter tree from here up found below above = omega (arith, nodes_up-step tree here up found below)
+
 pub count_begins : (tree : List Entry) (here : NodeId) (layers start : ℕ)
     → start + layers * nodes_up tree (Some here) ≤ start + layers * (depth_at tree here + 1)
 unfolding nodes_up depth_at

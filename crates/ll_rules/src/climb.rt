@@ -21,6 +21,7 @@ use ll_rights::Fs;
 use ll_tree::NodeId;
 
 /// The rights that one layer handles, as the bits of a lane.
+#[tactic(auto, using(crate::proofs::LaneSets::known_bits))]
 fn handled_bits(layer: &Layer) -> u32
     ensures { (right : FsRight) → has (set_of result) right ≡ handles layer.now right }
 {
@@ -160,6 +161,7 @@ impl<'a> Stack<'a> {
     }
 
     /// Whether the lane of some layer holds a right.
+    #[tactic(auto, using(crate::proofs::LaneSets::nothing_in))]
     fn is_any_filled(&self, lanes: &[u32; MOST_LAYERS]) -> bool
         ensures exact { result
             ≡ list_any (λ bits. not (bits == 0)) (take (length self.now.ids.now) lanes.now) }

@@ -20,6 +20,7 @@ fn named_bits() -> u32
 }
 
 /// A set of rights as a lane, which keeps the rights that have a name.
+#[tactic(auto, using(crate::proofs::LaneSets::named_of))]
 pub(crate) fn bits_of(rights: Fs) -> u32
     ensures { (right : FsRight) → bit_of right < bit_of other
         → has (set_of result) right ≡ has rights right }
@@ -28,6 +29,7 @@ pub(crate) fn bits_of(rights: Fs) -> u32
 }
 
 /// Whether a lane holds a right.
+#[tactic(auto, using(crate::proofs::LaneSets::any_named))]
 pub(crate) fn is_any_in(lane: u32) -> bool
     ensures { result ≡ not (is_empty (set_of lane)) }
 {
@@ -42,6 +44,7 @@ pub(crate) fn no_rights() -> u32x16
 }
 
 /// Each lane without what is granted in it.
+#[tactic(auto, using(crate::proofs::LaneSets::lanes_without))]
 pub(crate) fn without(lanes: u32x16, granted: u32x16) -> u32x16
     ensures { (place : ℕ) (right : FsRight) → has (lane result place) right
         ≡ (has (lane lanes place) right && not (has (lane granted place) right)) }
@@ -50,6 +53,7 @@ pub(crate) fn without(lanes: u32x16, granted: u32x16) -> u32x16
 }
 
 /// The rights that are in either of two lanes.
+#[tactic(auto, using(crate::proofs::LaneSets::lanes_either))]
 pub(crate) fn either(first: u32x16, second: u32x16) -> u32x16
     ensures { (place : ℕ) (right : FsRight) → has (lane result place) right
         ≡ (has (lane first place) right || has (lane second place) right) }
@@ -75,6 +79,7 @@ fn places(lanes: u32x16) -> u16
 }
 
 /// The layers whose lanes hold a right.
+#[tactic(auto, using(crate::proofs::LaneSets::filled_places))]
 pub(crate) fn filled(lanes: u32x16) -> LayerSet
     ensures { result ≡ numbers_passing (is_filled lanes) }
 {

@@ -39,6 +39,7 @@ impl LayerSet {
     }
 
     /// Whether there is no layer in the set.
+    #[tactic(auto, using(crate::proofs::LayerNumbers::empty_kept, crate::proofs::LayerNumbers::numbers_again))]
     pub fn is_empty(self) -> bool
         ensures empty { result ≡ (length self == 0) }
         // The list of its numbers is the rising one.
@@ -59,6 +60,7 @@ impl LayerSet {
     }
 
     /// The layers that are in either set.
+    #[tactic(auto, using(crate::proofs::LayerNumbers::union_kept))]
     pub fn union(self, other: LayerSet) -> LayerSet
         ensures { result ≡ united_numbers self other }
     {
@@ -75,6 +77,7 @@ impl LayerSet {
     }
 
     /// The set with the layer of a number above all others added, if that layer `refuses`.
+    #[tactic(auto, using(crate::proofs::LayerNumbers::noted_by_shift))]
     pub(crate) fn noted(self, number: u32, refuses: bool) -> LayerSet
         requires within { number ≤ MOST_LAYERS }
         requires positive { 0 < number }

@@ -231,6 +231,7 @@ pub(crate) fn is_directory(kind: Kind) -> bool
 }
 
 /// Whether each of some rights applies to objects that aren't directories.
+#[tactic(auto, using(crate::proofs::RightSets::file_known, crate::proofs::RightSets::file_rights_by_test))]
 fn are_for_files(files: Fs) -> bool
     ensures { result ≡ are_file_rights files }
 {

@@ -62,6 +62,7 @@ impl<V: Copy> SharedMap<V> {
     }
 
     /// The value of a key, one step for each fork on the way.
+    #[tactic(auto, using(crate::proofs::Entries::get_found))]
     pub fn get(&self, key: u64) -> Option<&V>
         ensures { option_copied result ≡ finite.get self.now key }
     {

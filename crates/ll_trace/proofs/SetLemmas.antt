@@ -13,7 +13,7 @@ use Rattle.ll_lines.specs.declared.fault.Cause.{Cause}
 use Rattle.ll_lines.specs.Fault.{◌>>=◌}
 use Rattle.ll_lines.specs.Members.{text_in, fold_texts}
 use Rattle.ll_members.specs.Rights.{with_fs, with_net}
-use Rattle.ll_trace.specs.NameTexts.{text_of, texts_of}
+use Rattle.ll_trace.specs.SaidByName.{text_of, texts_of}
 
 -- what is put together of texts passes a test if it did at first or one of the texts makes it
 module _ {Whole : Type 0} (add : Whole → List ℕ → Whole) (passes : Whole → Bool) (makes : List ℕ → Bool) (step : (whole : Whole) (text : List ℕ)

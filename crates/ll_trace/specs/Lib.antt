@@ -1,6 +1,5 @@
 pub mod Forms
 pub mod Members
-pub mod NameTexts
 pub mod Operations
 pub mod Entries
 pub mod Records

@@ -1,7 +1,8 @@
--- By which word a line of a trace says its operation.
+-- What a line of a trace says by names: its operation, and the rights of a set.
 -- Source: docs/FORMATS.md, "The trace file".
-use Rattle.std.specs.Prelude.{◌≡◌, ℕ, List, Ok, codes}
-use Rattle.serde_json.specs.Data.{Data}
+use Rattle.std.specs.Prelude.{◌≡◌, ℕ, List, [], ◌∷◌, Ok, codes, unwrap_or}
+use Rattle.serde_json.specs.Data.{Data, Items, no_items, item}
+use Rattle.serde_json.specs.Find.{as_str}
 use Rattle.ll_lines.specs.Lines.{Line}
 use Rattle.ll_lines.specs.Members.{text_at, value_at}
 
@@ -10,6 +11,14 @@ pub record SaysOperation (line : Line) (word : List ℕ) : Type 0 where
   pub value : Data
   pub object : value_at line.bytes ≡ Ok value
   pub word_said : text_at (codes "op") value ≡ Ok word
+
+-- the texts of a list, for the law that a set has just the rights that its names stand for
+abbrev pub text_of : Data → List ℕ
+text_of value = unwrap_or (as_str value) []
+
+abbrev pub texts_of : Items → List (List ℕ)
+texts_of no_items = []
+texts_of (item value others) = text_of value ∷ texts_of others
 
 -- All that unfolds when the paths of an operation are looked at.
 unfoldable pub spelling : Unit {0}

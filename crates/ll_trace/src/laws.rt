@@ -13,12 +13,11 @@ ghost use Rattle.ll_lines.specs.Lines.{Line};
 ghost use Rattle.ll_lines.specs.Members.{fold_texts};
 ghost use Rattle.ll_lines.specs.OneWay.{ReadsInOneWay};
 ghost use Rattle.ll_members.specs.Rights.{with_fs, with_net};
-ghost use Rattle.ll_trace.specs.NameTexts.{texts_of};
 ghost use Rattle.ll_trace.specs.declared.record.ProcessId.{ProcessId};
 ghost use Rattle.ll_trace.specs.declared.record.Record.{Record};
 ghost use Rattle.ll_trace.specs.Entries.{Entry, entry_at, trace_file};
 ghost use Rattle.ll_trace.specs.Operations.{op_name};
-ghost use Rattle.ll_trace.specs.SaidByName.{SaysOperation};
+ghost use Rattle.ll_trace.specs.SaidByName.{SaysOperation, texts_of};
 ghost use Rattle.ll_trace.specs.RecordFacts.{ArePlaced};
 ghost use Rattle.ll_trace.specs.Records.{entry_of, records_after, IsTrace};
 ghost use Rattle.ll_trace.specs.Processes.{process_count, parent_of, forked_by, started_at, IsNumbered};
@@ -78,6 +77,7 @@ pub fn lines_say_operations_by_name()
 
 /// Best effort changes no record at a version that supports all rights that the records name. At an older version it
 /// makes the same from what a newer one left as from the records themselves.
+#[tactic(auto, using(crate::proofs::Versions::supported_by_version))]
 pub fn best_effort_by_version()
     ensures supported { (abi : Abi) (records : List Record)
         → All (λ r. IsSupported abi r.op) records

@@ -222,6 +222,7 @@ macro_rules! changes_nothing {
 }
 
 /// A pattern for the calls that change something, and name neither a path nor rights.
+#[macro_export]
 macro_rules! changes_without_names {
     () => {
         $crate::Op::CreateEmpty { .. }

@@ -112,6 +112,7 @@ impl Reader {
         self.owners.get(&pid).copied()
     }
 
+    #[tactic(auto, using(crate::proofs::KeptLemmas::is_running))]
     fn is_live(&self, pid: u64) -> bool
         requires { IsKept self.now }
         ensures { result ≡ is_live_in (past self.now) pid }

@@ -143,7 +143,7 @@ pub fn whole_traces()
 {}
 
 /// Calls of a program that goes by its kernel's version (landlock(7), "VERSIONS").
-#[tactic(auto, unfolding(crate::proofs::Versions::dropping_rights))]
+#[tactic(auto, using(crate::proofs::Versions::other_names_stay), unfolding(crate::proofs::Versions::dropping_rights))]
 pub fn calls_at_best_effort()
     ensures refer_is_of_2 { at_best_effort Abi.V1
         (Op.Create 3 (files.united (files.only files.execute) (files.only files.refer))

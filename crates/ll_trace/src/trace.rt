@@ -111,6 +111,7 @@ impl Trace {
     }
 
     /// The records, in the order of the file.
+    #[tactic(auto, using(crate::proofs::Numbering::few_records))]
     pub fn records(&self) -> &[Record]
         ensures value { result.now ≡ self.now }
         ensures few { length self.now ≤ MOST_RECORDS }
@@ -121,6 +122,7 @@ impl Trace {
     }
 
     /// The number of processes of the trace.
+    #[tactic(auto, using(crate::proofs::Numbering::few_processes))]
     pub fn processes(&self) -> u32
         ensures count { result ≡ process_count self.now }
         ensures few { result ≤ MOST_PROCESSES }

@@ -1,17 +1,23 @@
 -- What is at a number after changes.
-use Rattle.std.proofs.Common.{◌≡◌, ◌==◌, ◌+◌, ◌<◌, ℕ, List, [], ◌∷◌, ◌++◌, Option, get_or, length, refl, sym, take, add-one, subst, arith, ap, ◌∙◌, ◌≤◌}
+use Rattle.std.proofs.Common.{◌≡◌, ◌==◌, ◌+◌, ◌<◌, ℕ, List, [], ◌∷◌, ◌++◌, Option, None, get_or, length, refl, sym, take, add-one, subst, arith, ap, ◌∙◌, ◌≤◌}
 use Rattle.std.proofs.Common.{if◌then◌else◌}
 use Rattle.std.proofs.Math.Seq.{take-suc}
 use Rattle.std.proofs.lemmas.List.{take_all}
+use Rattle.std.specs.FinMap.{FinMap, empty, get, get-empty}
+use Rattle.std.specs.Ordering.{nat_cmp}
 use Rattle.ll_trails.specs.declared.openings.Change.{Change}
 use Rattle.ll_trails.specs.Opened.{latest}
 
+-- an empty map has nothing at any number
+pub nothing_there : (settled : FinMap nat_cmp ℕ) (fd : ℕ) → settled ≡ empty → get settled fd ≡ None
+nothing_there settled fd is = rw is (get-empty nat_cmp fd)
+
 -- one change more
-pub latest-push : (changes : List Change) (change : Change) (fd : ℕ) (before : Option ℕ)
+pub latest_push : (changes : List Change) (change : Change) (fd : ℕ) (before : Option ℕ)
     → latest (changes ++ change ∷ []) fd before ≡ (if change.fd == fd then change.opening else latest changes fd before)
 unfolding latest
-latest-push [] change fd before = refl
-latest-push (first ∷ changes) change fd before = latest-push changes change fd (if first.fd == fd then first.opening else before)
+latest_push [] change fd before = refl
+latest_push (first ∷ changes) change fd before = latest_push changes change fd (if first.fd == fd then first.opening else before)
 
 -- the next of some changes
 pub latest-next : (changes : List Change) (n : ℕ) (other : Change) (fd : ℕ) (before : Option ℕ) → n < length changes →
@@ -19,7 +25,7 @@ pub latest-next : (changes : List Change) (n : ℕ) (other : Change) (fd : ℕ) 
     ≡ (if (get_or changes n other).fd == fd then (get_or changes n other).opening else latest (take n changes) fd before)
 latest-next changes n other fd before within =
     let taken : take (n + 1) changes ≡ take n changes ++ get_or changes n other ∷ [] = rw add-one (take-suc changes n other within) in
-    rw taken (latest-push (take n changes) (get_or changes n other) fd before)
+    rw taken (latest_push (take n changes) (get_or changes n other) fd before)
 
 -- what is found after the next of some changes that are read
 pub found_next : (changes read : List Change) (n : ℕ) (other : Change) (fd : ℕ) (before found next : Option ℕ) → read ≡ changes → n < length read

@@ -50,6 +50,7 @@ fn settle_all(settled: &mut SharedMap<u32>, changes: &[Change]) -> Result<(), Al
 
 impl Openings {
     /// Nothing is open.
+    #[tactic(auto, using(crate::proofs::Waiting::nothing_there), unfolding(crate::specs::Opened::latest))]
     pub(crate) fn new(alloc: Global) -> Openings
         ensures { (fd : ℕ) → opened result fd ≡ None }
     {
@@ -73,6 +74,7 @@ impl Openings {
     }
 
     /// The map takes all changes that wait.
+    #[tactic(auto, unfolding(crate::specs::Opened::latest))]
     fn take_all(&mut self) -> Result<(), NoMemory>
         ensures same { OnOk result ((q : ℕ) → opened self.new q ≡ opened self.old q) }
         ensures none { OnOk result (self.new.waiting.items ≡ []) }
@@ -83,6 +85,7 @@ impl Openings {
     }
 
     /// Lets a change wait.
+    #[tactic(auto, using(crate::proofs::Waiting::latest_push))]
     fn wait(&mut self, change: Change) -> Result<(), AllocError>
         ensures { OnOk result ((q : ℕ)
             → opened self.new q ≡ (if change.fd == q then change.opening else opened self.old q)) }
@@ -104,6 +107,7 @@ impl Openings {
     }
 
     /// The same once more, for a child. It shares with this one what neither of them changes.
+    #[tactic(auto, unfolding(crate::specs::Opened::latest))]
     pub(crate) fn forked(&mut self) -> Result<Openings, NoMemory>
         ensures child { IfOk result (λ child. (q : ℕ) → opened child q ≡ opened self.old q) }
         ensures parent { OnOk result ((q : ℕ) → opened self.new q ≡ opened self.old q) }

@@ -5,7 +5,7 @@ use Rattle.ll_tree.specs.Trees.{IsNode}
 use Rattle.ll_rules.specs.Lanes.{set_of}
 use Rattle.ll_rules.proofs.Climbs.{nodes_above}
 use Rattle.ll_rules.proofs.LaneSets.{nothing_in, nothing_left}
-use Rattle.ll_rules.proofs.DomainLanes.{count_begins, nodes_up-step, left_begins, left_passed, left_goes_on, left_ends, left_nothing}
+use Rattle.ll_rules.proofs.DomainLanes.{count_begins, nodes_up-step, left_begins, left_passed, left_goes_on, left_ends, left_nothing, way_shorter}
 use Rattle.ll_rules.proofs.single_layer.SingleLayer.climb.Goals as goal
 
 pub returns-then-lane-eq0-clause-left : goal.returns-then-lane-eq0-clause-left
@@ -60,11 +60,9 @@ loop-here-preserved c =
     }
 
 pub loop-here-smaller : goal.loop-here-smaller
-loop-here-smaller c = omega (
-  arith,
-  nodes_up-step c.args.self.now.tree.now c.in-Some.here c.parent-cursor.result c.parent-cursor.ensures.exact c.parent-cursor.ensures.front,
-  rw c.in-Some.is at c.next_marked.ensures.above,
-)
+loop-here-smaller c =
+    way_shorter c.args.self.now.tree.now c.loop-here.cursor c.in-Some.here c.parent-cursor.result
+    c.parent-cursor.ensures.exact c.parent-cursor.ensures.front (rw c.in-Some.is at c.next_marked.ensures.above)
 
 pub returns-clause-left : goal.returns-clause-left
 returns-clause-left c = λ right.

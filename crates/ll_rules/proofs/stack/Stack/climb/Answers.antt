@@ -8,8 +8,8 @@ use Rattle.ll_rules.specs.Lanes.{lane}
 use Rattle.ll_rules.specs.WaysUp.{nodes_up}
 use Rattle.ll_rules.specs.Stacks.{stacked}
 use Rattle.ll_rules.proofs.Climbs.{nodes_above}
-use Rattle.ll_rules.proofs.DomainLanes.{count_begins, count_goes_on, few_look_ups, nodes_up-step, left_begins, left_passed, left_goes_on, left_ends}
-use Rattle.ll_rules.proofs.DomainLanes.{left_nothing, left_unasked, layer_in-past, stacked-within}
+use Rattle.ll_rules.proofs.DomainLanes.{count_begins, count_goes_on, few_look_ups, left_begins, left_passed, left_goes_on, left_ends}
+use Rattle.ll_rules.proofs.DomainLanes.{left_nothing, left_unasked, layer_in-past, stacked-within, way_shorter}
 use Rattle.ll_rules.proofs.stack.Stack.climb.Goals as goal
 
 -- of empty lanes nothing is left
@@ -85,11 +85,9 @@ loop-here-preserved c =
     }
 
 pub loop-here-smaller : goal.loop-here-smaller
-loop-here-smaller c = omega (
-  arith,
-  nodes_up-step c.args.self.now.tree.now c.in-Some.here c.parent-cursor.result c.parent-cursor.ensures.exact c.parent-cursor.ensures.front,
-  rw c.in-Some.is at c.next_marked.ensures.above,
-)
+loop-here-smaller c =
+    way_shorter c.args.self.now.tree.now c.loop-here.cursor c.in-Some.here c.parent-cursor.result
+    c.parent-cursor.ensures.exact c.parent-cursor.ensures.front (rw c.in-Some.is at c.next_marked.ensures.above)
 
 pub returns-clause-left : goal.returns-clause-left
 returns-clause-left c = λ place right.

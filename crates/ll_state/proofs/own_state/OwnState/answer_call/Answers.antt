@@ -21,16 +21,10 @@ restrict-requires g c =
     frozen_is_there g.ctx c.args.layers.now c.requires.0.same_layers c.args.op.now c.in-Frozen.layer
     (subst (λ (outcome : RulesetOutcome). OutcomeFits g.ctx c.args.op.now outcome) c.in-Frozen.is c.requires.1.1.0)
 
-pub returns-in-Frozen-clause-answer : goal.returns-in-Frozen-clause-answer
+pub returns-in-Frozen : goal.returns-in-Frozen
 unfolding OutcomeFits
-returns-in-Frozen-clause-answer g c =
+returns-in-Frozen g c =
     let fits = subst (λ (outcome : RulesetOutcome). OutcomeFits g.ctx c.args.op.now outcome) c.in-Frozen.is c.requires.1.1.0 in
-    (frozen_judged g.ctx c.args.layers.now c.requires.0.same_layers c.args.self.now c.restrict.new.self c.restrict.result c.requires.1.0
-    c.args.op.now c.in-Frozen.layer c.restrict.ensures fits).0
-
-pub returns-in-Frozen-clause-ok : goal.returns-in-Frozen-clause-ok
-unfolding OutcomeFits
-returns-in-Frozen-clause-ok g c =
-    let fits = subst (λ (outcome : RulesetOutcome). OutcomeFits g.ctx c.args.op.now outcome) c.in-Frozen.is c.requires.1.1.0 in
-    (frozen_judged g.ctx c.args.layers.now c.requires.0.same_layers c.args.self.now c.restrict.new.self c.restrict.result c.requires.1.0
-    c.args.op.now c.in-Frozen.layer c.restrict.ensures fits).1
+    let judged = frozen_judged g.ctx c.args.layers.now c.requires.0.same_layers c.args.self.now c.restrict.new.self c.restrict.result c.requires.1.0
+    c.args.op.now c.in-Frozen.layer c.restrict.ensures fits in
+    record { answer = judged.0; ok = judged.1; err = tt }
