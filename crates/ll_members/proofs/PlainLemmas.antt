@@ -29,7 +29,8 @@ use Rattle.ll_lines.specs.Values.{parsed, data_of, are_in_range, have_range}
 use Rattle.ll_lines.proofs.Values.{in_range}
 use Rattle.ll_members.specs.BothSets.{no_rights, with_rights}
 use Rattle.ll_members.specs.Slots.{spelt, IsLine, ShowMembers, ShowOneMore, AreMissing, rights_of}
-use Rattle.ll_members.specs.Plain.{is_unescaped, IsUnescaped, items_of, BeginsWithNumber, BeginsWithTexts, ReadsBack, ReadBack, BeginsWithValue, BeginsWithMember, IsObject}
+use Rattle.ll_members.specs.Plain.{is_unescaped, IsUnescaped, items_of, ReadsBack, ReadBack}
+use Rattle.ll_members.specs.Plain.{BeginsWithNumber, BeginsWithTexts, BeginsWithValue, BeginsWithMember, IsObject}
 use Rattle.ll_members.specs.declared.rights.Rights.{Rights}
 use Rattle.ll_members.specs.declared.row.Members.{Members}
 use Rattle.ll_members.specs.declared.row.Slot.{Slot}
@@ -249,7 +250,8 @@ false_scanned line rest is = record {
   shows = refl;
 }
 
-pub list_scanned : (line inside rest : List ℕ) (rights : Rights) → line ≡ 91 ∷ inside → BeginsWithTexts inside rights rest → BeginsWithValue line (Names (Some rights)) rest
+pub list_scanned : (line inside rest : List ℕ) (rights : Rights) → line ≡ 91 ∷ inside → BeginsWithTexts inside rights rest
+    → BeginsWithValue line (Names (Some rights)) rest
 unfolding print_from
 list_scanned line inside rest rights is scan = record {
   value = json.array (items_of scan.texts);
