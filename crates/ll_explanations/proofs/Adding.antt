@@ -1,7 +1,7 @@
 -- Objections that are added one after another, and what they mean layer by layer.
-use Rattle.std.proofs.Common.{◌≡◌, ◌∙◌, ℕ, suc, ◌+◌, ◌<◌, ◌≤◌, Bool, true, false, cond}
+use Rattle.std.proofs.Common.{◌≡◌, ◌∙◌, ℕ, ◌+◌, ◌<◌, ◌≤◌, Bool, true, false, cond}
 use Rattle.std.proofs.Common.{eqb, List, [], ◌∷◌, ◌++◌, map, refl, sym, ap, subst, append_assoc, arith}
-use Rattle.std.specs.Prelude.{All, Option, Some, None, option_map, option_to_list, slice_get, ◌-◌, ◌==◌}
+use Rattle.std.specs.Prelude.{All, slice_get, ◌-◌}
 use Rattle.std.proofs.lemmas.Bool.{ne_eqb, eq-eqb}
 use Rattle.std.proofs.lemmas.List.{append-nil, map-append}
 use Rattle.std.proofs.lemmas.List.Elements.{All-append, All-cons, All-head, All-nil, All-tail, All-weaker}
@@ -9,7 +9,6 @@ use Rattle.ll_tree.specs.Trees.{Entry}
 use Rattle.ll_reasons.specs.Objections.{Objection, of_layer}
 use Rattle.ll_explanations.specs.Adding.{Adds, IsOf}
 use Rattle.ll_explanations.specs.Meanings.{IsMade, by_layer, in_front, objection_in}
-use Rattle.ll_explanations.specs.declared.confinement.OneLayer.{OneLayer}
 use Rattle.ll_explanations.specs.declared.objection.LayerObjection.{LayerObjection}
 
 -- ---- of one layer
@@ -37,6 +36,10 @@ module _ (tree : List Entry) (layers : List ℕ) (number : ℕ) where
         ∙ ap (λ os. os ++ map (λ (said : LayerObjection). objection_in tree said.objection) two.more) one.means
         ∙ ap (λ os. first ++ os) two.means;
   }
+
+  pub adds_two : (old mid new : List LayerObjection) (first second one two : List Objection) → Adds tree layers number old mid first
+      → Adds tree layers number mid new second → first ≡ one → second ≡ two → Adds tree layers number old new (one ++ two)
+  adds_two old mid new first second one two some more is also = rw (← is, ← also) (adds_both old mid new first second some more)
 
   pub adds_as : (old new : List LayerObjection) (objections others : List Objection) → objections ≡ others → Adds tree layers number old new objections
       → Adds tree layers number old new others

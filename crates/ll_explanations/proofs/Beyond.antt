@@ -1,6 +1,6 @@
 -- The rights at fault, as the set that was worked out.
 use Rattle.std.proofs.Common.{◌≡◌, ◌∙◌, Bool, true, false, cond, List, [], ◌∷◌, refl, sym, ap}
-use Rattle.std.specs.Prelude.{filter, not, ◌&&◌, ◌||◌}
+use Rattle.std.specs.Prelude.{not, ◌&&◌, ◌||◌}
 use Rattle.std.specs.List.{list_all, list_any}
 use Rattle.std.proofs.lemmas.List.Elements.{filter_agree}
 use Rattle.ll_rights.specs.declared.fs.Fs.{Fs}
@@ -36,6 +36,10 @@ module _ (set rights whole : Fs) (same : (right : files.FsRight) → files.has s
   unfolding files.some_right files.every_right
   within_is = none_beyond (files.has set) (files.has rights) (files.has whole) same files.all_rights
 
+  -- and so by the test of the code
+  pub within_by : {empty b : Bool} → empty ≡ files.is_empty set → empty ≡ b → files.is_within rights whole ≡ b
+  within_by is test = sym within_is ∙ sym is ∙ test
+
 -- ---- for ports
 
 module _ (set rights whole : Net) (same : (right : network.NetRight) → network.has set right ≡ (network.has rights right && not (network.has whole right)))
@@ -47,6 +51,9 @@ module _ (set rights whole : Net) (same : (right : network.NetRight) → network
     pub ports_within_are : network.is_empty set ≡ network.is_within rights whole
     unfolding network.some_right network.every_right
     ports_within_are = none_beyond (network.has set) (network.has rights) (network.has whole) same network.all_rights
+
+    pub ports_within_by : {empty b : Bool} → empty ≡ network.is_empty set → empty ≡ b → network.is_within rights whole ≡ b
+    ports_within_by is test = sym ports_within_are ∙ sym is ∙ test
 
 no_port_right : (right : network.NetRight) → network.has network.no_right right ≡ false
 unfolding network.has

@@ -1,5 +1,5 @@
 -- What is said of a layer in a move.
-use Rattle.std.proofs.Common.{◌≡◌, ◌∙◌, ℕ, Bool, true, false, Bor, List, [], ◌∷◌, ◌++◌, refl, sym, ap, append_assoc, inl, inr, ◌⊎◌}
+use Rattle.std.proofs.Common.{◌≡◌, ◌∙◌, Bool, true, false, eqb, List, [], ◌∷◌, ◌++◌, refl, sym, ap, inl, inr, ◌⊎◌}
 use Rattle.std.specs.Prelude.{not, ◌&&◌, ◌||◌}
 use Rattle.std.proofs.lemmas.List.Elements.{filter_agree}
 use Rattle.std.proofs.lemmas.List.Folds.{list_any-append}
@@ -7,8 +7,9 @@ use Rattle.ll_rights.specs.declared.fs.Fs.{Fs}
 use Rattle.ll_rights.specs.Rights as files
 use Rattle.ll_rights.proofs.Sets.{fs_has-only, fs_has-united}
 use Rattle.ll_tree.specs.declared.place.NodeId.{NodeId}
-use Rattle.ll_lines.specs.Paths.{Path, front, path_eq}
+use Rattle.ll_lines.specs.Paths.{Path, path_eq}
 use Rattle.ll_tree.specs.Trees.{Entry, kind_at, path_at}
+use Rattle.ll_tree.proofs.Positions.{path_eq-nodes}
 use Rattle.ll_rules.specs.declared.moves.How.{How}
 use Rattle.ll_rules.specs.declared.moves.How.TheVariants.{Rename, Exchange, Link}
 use Rattle.ll_rules.specs.declared.moves.Move.{Move}
@@ -18,6 +19,8 @@ use Rattle.ll_rules.specs.Layers.{granted, handles}
 use Rattle.ll_rules.specs.Moves.{asked_of_destination, asked_of_source, destination_of, kind_there, source_of}
 use Rattle.ll_rules.proofs.Booleans.{or_false}
 use Rattle.ll_semantics.specs.States.{Layer}
+use Rattle.ll_explanations.specs.MoveRequests.{IsMoveRequest}
+use Rattle.ll_explanations.specs.declared.moved.MoveRequest.{MoveRequest}
 use Rattle.ll_reasons.specs.Objections.{Objection, if_any, missing, on_crossing, on_directories, on_gain, on_other_gain, on_path, one_of}
 
 refer_asked : (right : files.FsRight) → files.has (files.only files.refer) right ≡ one_of (files.refer ∷ []) right
@@ -89,9 +92,12 @@ module _ (layer : Layer) (tree : List Entry) (move : Move) where
       ∙ ap (λ os. on_path (source_of tree move) (one_of (files.refer ∷ [])) layer ++ on_path (destination_of tree move.target) (one_of (files.refer ∷ [])) layer
       ++ on_gain (kind_at tree move.moved) (path_at tree move.moved) (destination_of tree move.target) layer ++ os) other
 
--- paths that are the same are told apart or not as these
-pub same_eq : {a b one other : Path} {same : Bool} → a ≡ one → b ≡ other → path_eq a b ≡ same → path_eq one other ≡ same
-same_eq is also eq = rw (← is, ← also) eq
+-- the directories of a move are told apart or not as their nodes
+pub directories_eq : (tree : List Entry) (request : MoveRequest) {eq same : Bool} → IsMoveRequest tree request
+    → eq ≡ eqb request.destination.0 request.source.0 → eq ≡ same
+    → path_eq (source_of tree request.attempt) (destination_of tree request.attempt.target) ≡ same
+directories_eq tree request is by_nodes eq =
+    rw (← is.from, ← is.into) (sym (path_eq-nodes tree request.source request.destination is.is_tree is.source is.destination) ∙ sym by_nodes ∙ eq)
 
 -- ---- what the other object would gain
 

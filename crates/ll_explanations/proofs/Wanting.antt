@@ -10,7 +10,7 @@ use Rattle.ll_semantics.specs.declared.request.Wanted.{Wanted}
 use Rattle.ll_semantics.specs.Requests.{wanted}
 use Rattle.ll_reasons.specs.declared.why.Which.TheVariants.{First}
 use Rattle.ll_reasons.specs.Meant.{path_named, text_named}
-use Rattle.ll_reasons.specs.Reasons.{Reason, spelt, unmet}
+use Rattle.ll_reasons.specs.Reasons.{spelt, unmet}
 
 module _ (path : List ℕ) (want : Wanted) where
   abbrev given : List ℕ × Wanted

@@ -1,6 +1,5 @@
 pub mod Sets
 pub mod Lacked
-pub mod PortRights
 pub mod Confined
 pub mod Meanings
 pub mod Adding

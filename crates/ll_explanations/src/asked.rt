@@ -8,7 +8,7 @@ ghost use Rattle.ll_explanations.specs.Adding.{AddsOf};
 ghost use Rattle.ll_explanations.specs.Asking.{IsAsked, objected};
 ghost use Rattle.ll_explanations.specs.Confined.{rules_of, stacked};
 ghost use Rattle.ll_explanations.specs.Meanings.{IsMade, by_layer, objection_in};
-ghost use Rattle.ll_explanations.specs.PortRights.{IsOne};
+ghost use Rattle.ll_explanations.specs.Sets.{IsOne};
 
 use crate::confinement::{Confinement, OneLayer, made_by};
 use crate::missing::{Test, passing};
@@ -94,6 +94,7 @@ fn mounting(layer: &OneLayer) -> Option<Objection>
 }
 
 /// Adds an objection of a layer.
+#[tactic(auto, using(crate::proofs::Adding::adds_one))]
 fn push_one(
     all: &mut Vec<LayerObjection>,
     layer: &OneLayer,
@@ -111,6 +112,7 @@ fn push_one(
 }
 
 /// Adds an objection of a layer, if there is one.
+#[tactic(auto, using(crate::proofs::Adding::adds_none))]
 pub(crate) fn push_any(
     all: &mut Vec<LayerObjection>,
     layer: &OneLayer,

@@ -51,6 +51,7 @@ fn not_truncated(trail: &ProcessOrigins, fd: u64) -> Reason
 }
 
 /// Why what is at the first path of a call isn't what it wants there, if it wants something at one.
+#[tactic(auto, using(crate::proofs::Wanting::unmet_wanted))]
 fn reason_at_path(tree: &Tree, op: &Op) -> Option<Reason>
     ensures { option_map (reason_in op.now) result ≡ option_map
         (λ want. unmet tree.now (spelt want.0) (place tree.now want.0) want.1) (wanted op.now) }

@@ -1,8 +1,10 @@
 //! What one layer objects to in a rename or a link.
 
-ghost use Rattle.std.specs.Prelude.{◌≡◌, OnOk, option_map, option_to_list};
+ghost use Rattle.std.specs.Prelude.{◌≡◌, ◌++◌, OnOk, option_map, option_to_list};
+ghost use Rattle.ll_rights.specs.Rights.{has};
+ghost use Rattle.ll_tree.specs.Trees.{path_at};
 ghost use Rattle.ll_semantics.specs.Fits.{IsFitMove};
-ghost use Rattle.ll_reasons.specs.Objections.{on_crossing, on_directories, on_other_gain};
+ghost use Rattle.ll_reasons.specs.Objections.{on_crossing, on_directories, on_other_gain, on_path};
 ghost use Rattle.ll_explanations.specs.Adding.{AddsOf};
 ghost use Rattle.ll_explanations.specs.Confined.{rules_of};
 ghost use Rattle.ll_explanations.specs.MoveRequests.{IsMoveRequest};
@@ -64,6 +66,32 @@ fn gained_other(layer: &OneLayer, request: &MoveRequest) -> Option<Objection>
     }
 }
 
+/// Adds what a layer lacks of these rights on the directory that a move leaves, and of those on the directory that it
+/// enters.
+#[tactic(auto, using(crate::proofs::Adding::adds_two))]
+fn push_missing(
+    all: &mut Vec<LayerObjection>,
+    layer: &OneLayer,
+    request: &MoveRequest,
+    on_source: Fs,
+    on_destination: Fs,
+) -> Result<(), AllocError>
+    requires { IsMoveRequest layer.now.ctx.tree.now request.now }
+    ensures { OnOk result (AddsOf layer.now all.old.items all.new.items
+        (on_path (path_at layer.now.ctx.tree.now request.now.source)
+        (has on_source) (rules_of layer.now)
+        ++ on_path (path_at layer.now.ctx.tree.now request.now.destination)
+        (has on_destination) (rules_of layer.now))) }
+{
+    push_any(all, layer, missing(layer, request.source, on_source))?;
+    push_any(
+        all,
+        layer,
+        missing(layer, request.destination, on_destination),
+    )?;
+    Ok(())
+}
+
 /// Adds what a layer lacks of what a move asks of its two directories, in one objection if they are one.
 pub(crate) fn push_denied(
     all: &mut Vec<LayerObjection>,
@@ -79,12 +107,7 @@ pub(crate) fn push_denied(
         push_any(all, layer, missing(layer, request.source, asked))?;
         return Ok(());
     }
-    push_any(all, layer, missing(layer, request.source, request.leaving))?;
-    push_any(
-        all,
-        layer,
-        missing(layer, request.destination, request.entering),
-    )?;
+    push_missing(all, layer, request, request.leaving, request.entering)?;
     Ok(())
 }
 
@@ -99,8 +122,7 @@ pub(crate) fn push_held_back(
     ensures { OnOk result (AddsOf layer.now all.old.items all.new.items
         (on_crossing layer.now.ctx.tree.now request.now.attempt (rules_of layer.now))) }
 {
-    push_any(all, layer, missing(layer, request.source, Fs::REFER))?;
-    push_any(all, layer, missing(layer, request.destination, Fs::REFER))?;
+    push_missing(all, layer, request, Fs::REFER, Fs::REFER)?;
     push_any(
         all,
         layer,

@@ -31,6 +31,7 @@ fn pieces_of(alloc: Global, case: &Case) -> Result<Vec<Piece<'_>>, NoMemory>
 
 /// The answers to all records of a case, in their order, judged process by process on the caller's
 /// thread.
+#[tactic(auto, using(ll_trace::proofs::EachOnce::each_once_weighed))]
 pub fn judge_alone(alloc: Global, case: &Case) -> Result<Vec<Answer>, NoMemory>
     ensures { IfOk result (λ answers. answers.items
         ≡ judged case.now.tree case.now.abi case.now.records) }

@@ -119,6 +119,7 @@ pub(crate) type Queue<'c, N> = RuledArrayQueue<Job<'c>, Ledger, Fair<N>>;
 pub(crate) type QueuePass<'c> = Pass<Job<'c>, Ledger>;
 
 /// An empty queue, and the first pass to it.
+#[tactic(auto, using(crate::proofs::RuleSteps::begins))]
 pub(crate) fn open<'c, N: Naming>(alloc: Global) -> Result<(Queue<'c, N>, QueuePass<'c>), NoMemory>
     ensures queue { IfOk result (λ made. IsPassOf made.0 made.1) }
     ensures knows { IfOk result (λ made. view made.1 ≡ ledger N.case PARTS [] []) }

@@ -1,4 +1,4 @@
-use Rattle.std.proofs.Common.{◌∙◌, ◌+◌, refl, subst, ℕ, List, take}
+use Rattle.std.proofs.Common.{◌∙◌, ◌+◌, refl, subst, ℕ, List}
 use Rattle.ll_reasons.specs.Objections.{Objection, objecting_from}
 use Rattle.ll_explanations.specs.Asking.{objected}
 use Rattle.ll_explanations.proofs.Adding.{AreUpto, layer_more, none_yet}

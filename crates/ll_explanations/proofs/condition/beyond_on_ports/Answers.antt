@@ -1,6 +1,5 @@
-use Rattle.std.proofs.Common.{◌∙◌, ◌≡◌, ap, not, ◌&&◌}
+use Rattle.std.proofs.Common.{not, ◌&&◌}
 use Rattle.ll_rights.specs.NetRights as network
-use Rattle.ll_rights.specs.declared.net.Net.{Net}
 use Rattle.ll_explanations.proofs.Beyond.{passing_three}
 use Rattle.ll_explanations.proofs.condition.beyond_on_ports.Goals as goal
 

@@ -1,10 +1,9 @@
-use Rattle.std.proofs.Common.{◌≡◌, ◌∙◌, ap, sym, true, false}
+use Rattle.std.proofs.Common.{◌≡◌, ◌∙◌, ap}
 use Rattle.ll_rights.specs.declared.fs.TheConstants.Fs.{FILE}
-use Rattle.ll_rights.specs.Rights.{is_within}
 use Rattle.ll_reasons.specs.Conditions.{only_for_directories, unhandled, directory_rights}
 use Rattle.ll_explanations.specs.Meanings.{condition_in, path_of_rule}
 use Rattle.ll_explanations.specs.Sets.{rights_in}
-use Rattle.ll_explanations.proofs.Beyond.{beyond_is, within_is}
+use Rattle.ll_explanations.proofs.Beyond.{beyond_is, within_by}
 use Rattle.ll_explanations.proofs.RightPlaces.{is_file, directory_beyond}
 use Rattle.ll_explanations.proofs.condition.invalid_on_path.Goals as goal
 
@@ -12,15 +11,12 @@ pub returns-then-is_empty : goal.returns-then-is_empty
 unfolding condition_in
 returns-then-is_empty c op =
     let fs = c.args.fs in
-    let within : is_within fs c.args.whole ≡ true = sym (within_is c.beyond-unhandled.result fs c.args.whole c.beyond-unhandled.ensures)
-    ∙ sym c.is_empty.ensures ∙ c.if-is_empty.true in
     let rights : rights_in c.beyond.result ≡ directory_rights fs = beyond_is c.beyond.result fs FILE c.beyond.ensures ∙ directory_beyond fs FILE is_file in
-    rw within (ap (λ rs. only_for_directories rs (path_of_rule op)) rights)
+    rw (within_by c.beyond-unhandled.result fs c.args.whole c.beyond-unhandled.ensures c.is_empty.ensures c.if-is_empty.true)
+    (ap (λ rs. only_for_directories rs (path_of_rule op)) rights)
 
 pub returns-else-is_empty : goal.returns-else-is_empty
 unfolding condition_in
 returns-else-is_empty c op =
-    let fs = c.args.fs in
-    let within : is_within fs c.args.whole ≡ false = sym (within_is c.beyond-unhandled.result fs c.args.whole c.beyond-unhandled.ensures)
-    ∙ sym c.is_empty.ensures ∙ c.if-is_empty.false in
-    rw within (ap unhandled (beyond_is c.beyond-unhandled.result fs c.args.whole c.beyond-unhandled.ensures))
+    rw (within_by c.beyond-unhandled.result c.args.fs c.args.whole c.beyond-unhandled.ensures c.is_empty.ensures c.if-is_empty.false)
+    (ap unhandled (beyond_is c.beyond-unhandled.result c.args.fs c.args.whole c.beyond-unhandled.ensures))

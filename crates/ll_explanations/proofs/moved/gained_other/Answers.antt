@@ -1,4 +1,4 @@
-use Rattle.std.proofs.Common.{refl, inl, inr}
+use Rattle.std.proofs.Common.{refl}
 use Rattle.ll_explanations.proofs.Moving.{other_new, other_none, other_over}
 use Rattle.ll_explanations.specs.Confined.{rules_of}
 use Rattle.ll_explanations.proofs.moved.gained_other.Goals as goal

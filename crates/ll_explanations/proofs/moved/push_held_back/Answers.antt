@@ -1,3 +1,4 @@
+use Rattle.std.proofs.Common.{refl}
 use Rattle.ll_rights.specs.Rights.{only}
 use Rattle.ll_tree.specs.Trees.{path_at}
 use Rattle.ll_explanations.specs.Confined.{rules_of}
@@ -13,8 +14,6 @@ returns c =
     let p = c.args.request.now in
     adds_as tree layer.ctx.trail.now.layers.items layer.number _ _ _ _
     (crossing (rules_of layer) tree p.attempt _ _ _ _ (path_at tree p.source) (path_at tree p.destination) c.requires.from c.requires.into
-    c.missing.ensures c.missing-2.ensures c.gained.ensures c.gained_other.ensures)
+    refl refl c.gained.ensures c.gained_other.ensures)
     (adds_both tree layer.ctx.trail.now.layers.items layer.number _ _ _ _ _
-    (adds_both tree layer.ctx.trail.now.layers.items layer.number _ _ _ _ _
-    (adds_both tree layer.ctx.trail.now.layers.items layer.number _ _ _ _ _ c.in_ok-push_any.ensures c.in_ok-push_any-2.ensures) c.in_ok-push_any-3.ensures)
-    c.in_ok-push_any-4.ensures)
+    (adds_both tree layer.ctx.trail.now.layers.items layer.number _ _ _ _ _ c.in_ok-push_missing.ensures c.in_ok-push_any.ensures) c.in_ok-push_any-2.ensures)

@@ -124,6 +124,7 @@ fn roots_without_memory(rt: HostRuntime) -> Result<(), Fail> {
 }
 
 /// The job of process 1, and a hand with even numbers that holds the job of process 0.
+#[tactic(auto, using(crate::proofs::Ordering::left_of_case))]
 fn job_again(alloc: Global, case: &Case) -> Result<(Job<'_>, Keeper<'_>), Fail>
     ensures { IfOk result (λ both. AreJobsOf both.0.case.now both.1.jobs.items) }
 {

@@ -160,6 +160,7 @@ struct Both {
 }
 
 /// This many layers, at most sixteen.
+#[tactic(auto, using(ll_fixtures::proofs::AddingLayers::layer_pushed))]
 fn layers_of(
     alloc: Global,
     tree: &Tree,
