@@ -74,7 +74,8 @@ class Brief:
 
 @dataclass
 class Summary:
-    """The result of an audit; `missing` is what it could not judge, so that it can't say that all is well.
+    """The result of an audit; `missing` is what it could not judge, so that it can't say that all is well, `untraced`
+    which kinds of calls that a layer may refuse were not traced.
 
     Accepted refusals are separate, with how many calls there are of each. `untouched` are the warnings about rules on
     paths that the run never touched; `brief` has shorter forms of some warnings; `recordings` says, if several were
@@ -92,6 +93,7 @@ class Summary:
     warnings: dict[str, int] = field(default_factory=dict)
     unsaid: Counter[str] = field(default_factory=Counter)
     missing: tuple[str, ...] = ()
+    untraced: tuple[str, ...] = ()
     accepted: Counter[Accepted] = field(default_factory=Counter)
     untouched: set[str] = field(default_factory=set)
     brief: dict[str, Brief] = field(default_factory=dict)
@@ -207,8 +209,12 @@ class Summaries:
                 _warn(summary, text, times, _brief(told.record, None) if at.startswith("/") else None)
                 summary.untouched.add(text)
 
-    def done(self, unsaid: Counter[str], missing: Sequence[str] = ()) -> list[Summary]:
-        """The summaries, the oldest ABI first; `missing` is what no audit of the recording can judge."""
+    def done(
+        self, unsaid: Counter[str], missing: Sequence[str] = (), untraced: Sequence[str] = ()
+    ) -> list[Summary]:
+        """The summaries, the oldest ABI first; `missing` is what no audit of the recording can judge, `untraced` what
+        was not traced.
+        """
         for abi, summary in self._by_abi.items():
             summary.verdicts["allowed"] = summary.seen - summary.verdicts["refused"] - summary.verdicts["moot"]
             if not self._confines:
@@ -217,6 +223,7 @@ class Summaries:
                 _warn_of_many_moot(summary)
             summary.unsaid = unsaid
             summary.missing = tuple(missing)
+            summary.untraced = tuple(untraced)
         return list(self._by_abi.values())
 
 
@@ -330,6 +337,7 @@ def as_data(summary: Summary) -> dict[str, Any]:
         "warnings": [{"text": text, "times": times} for text, times in summary.warnings.items()],
         "unsaid": dict(summary.unsaid.most_common()),
         "not_judged": list(summary.missing),
+        "not_traced": list(summary.untraced),
     }
 
 

@@ -116,6 +116,7 @@ def united(each: Sequence[tuple[Member, Summary]]) -> Summary:
     found.warnings = {text: found.warnings[text] for text in told}
     found.untouched = idle
     found.missing = tuple(text for member, _ in each for text in member.of_several)
+    found.untraced = tuple(recording_notes([member for member, _ in each]))
     return found
 
 

@@ -495,8 +495,8 @@ class Data(unittest.TestCase):
         data = summary.as_data(summed([NNP, *LAYER, (READ, REFUSED), ({"op": "close", "fd": 9}, NOT_OPEN)]))
         self.assertEqual(
             sorted(data),
-            ["abi", "accepted", "allowed", "moot", "moot_because", "moot_path_calls", "not_judged", "path_calls", "records"]
-            + ["refusals", "refused", "unsaid", "warnings"],
+            ["abi", "accepted", "allowed", "moot", "moot_because", "moot_path_calls", "not_judged", "not_traced"]
+            + ["path_calls", "records", "refusals", "refused", "unsaid", "warnings"],
         )
         self.assertEqual((data["records"], data["allowed"], data["refused"], data["moot"]), (6, 4, 1, 1))
         self.assertEqual(

@@ -10,7 +10,7 @@ from pathlib import Path
 from typing import Any
 
 from landaudit_record import together
-from landaudit_record.finished import Converted, Finished, Size
+from landaudit_record.finished import READING_LINKS, Converted, Finished, Size
 from landaudit_record.summary import Accepted, Refusal, Summary
 
 from .recorded import PID, refused, write_lines
@@ -162,8 +162,9 @@ class Several(StandIn):
 
 
 class United(unittest.TestCase):
-    def member(self, name: str) -> together.Member:
-        return together.Member(name, Finished(Path(name), (), Counter(), Counter(), ended=True), None)
+    def member(self, name: str, *untraced: str) -> together.Member:
+        recording = Finished(Path(name), (), Counter(), Counter(), ended=True, untraced=untraced)
+        return together.Member(name, recording, None)
 
     def summary(self, *warnings: str, untouched: str) -> Summary:
         return Summary(5, warnings={text: 1 for text in (*warnings, untouched)}, untouched={untouched})
@@ -187,6 +188,11 @@ class United(unittest.TestCase):
         self.assertEqual((found.refusals[kind], found.recordings[kind]), ({"p": 3, "q": 3}, ["r1", "r2"]))
         self.assertEqual((found.records, found.path_calls, found.accepted[known]), (6, 7, 2))
         self.assertEqual(found.moot["why"].total(), 6)
+
+    def test_what_was_not_traced_is_told_once(self) -> None:
+        members = [self.member(name, READING_LINKS) for name in ("r1", "r2")]
+        found = together.united([(member, Summary(5)) for member in members])
+        self.assertEqual(found.untraced, ("readlink(2) into other processes is not recorded (run --readlink)",))
 
 
 if __name__ == "__main__":

@@ -103,7 +103,7 @@ def _summaries(member: Member, auditing: Auditing, abis: range) -> list[Summary]
     for step in [abis] if tried is None else tried.steps(abis, best_effort=auditing.best_effort):
         for walk in auditing.walks(step, tried):
             found.take(walk, step)
-    return found.done(member.recording.unsaid, member.recording.missing)
+    return found.done(member.recording.unsaid, member.recording.missing, list(member.recording.notes))
 
 
 def _print(each: Each, summaries: list[Summary], arguments: argparse.Namespace, notes: list[str]) -> None:
