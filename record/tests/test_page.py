@@ -11,7 +11,7 @@ from pathlib import Path
 from typing import Any
 
 from landaudit_record import by_abi, page, policies, summary
-from landaudit_record.explanations import Closed, Missing
+from landaudit_record.answers import Closed, Missing
 from landaudit_record.page import tree
 from landaudit_record.page.counting import Counts, Paths, asked
 from landaudit_record.page.markup import element

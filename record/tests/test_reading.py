@@ -19,15 +19,26 @@ from landaudit_record.problems import Problem
 from landaudit_record.reading import Told, Walk
 from landaudit_record.summary import Summaries
 
-from .recorded import failed, moot, over_range, refused, write_lines, write_report
+from .recorded import (
+    Object,
+    Said,
+    failed,
+    kept_on,
+    missing_on,
+    moot,
+    over_range,
+    refused,
+    write_lines,
+    write_report,
+)
 
 ABIS = range(1, 6)
-Call = tuple[Record, str]
+Call = tuple[Record, Said | list[Object]]
 #: How a trace is written: as landaudit-record does, with blanks everywhere, and with blanks before numbers alone.
 FORMS = COMPACT, BLANKS, HALF = ("compact", "blanks", "half")
 _NUMBER = re.compile(r'":([0-9])')
 READ = {"path": "/a/f", "fd": 3, "mode": "r", "kernel": "ok"}
-NOT_OPEN = moot("descriptor 3 is not open")
+NOT_OPEN = moot("unopened", fd=3)
 
 
 def op(name: str, pid: int = 1, **members: Any) -> Record:
@@ -53,7 +64,7 @@ class Written(unittest.TestCase):
             jsonl.write(trace, records)
         if form == HALF:
             trace.write_text(_NUMBER.sub(r'": \1', trace.read_text()))
-        write_report(report, records, [answer for _, answer in calls])
+        write_report(report, records, [answer for _, answer in calls], ABIS)
         return Walk(trace, report, ABIS)
 
     def told(self, *calls: Call) -> list[tuple[int, str, int, bool]]:
@@ -77,11 +88,11 @@ def _counted(kinds: list[tuple[int, str, int, bool]]) -> Counter[tuple[str, bool
 
 START = (op("start"), "allowed")
 RUN = (op("exec", path="/bin", call=1, kernel="ok"), "allowed")
-OPEN = (op("open", **READ), refused("read_file on /a/f"))
+OPEN = (op("open", **READ), refused(missing_on("/a/f", "read_file")))
 CLOSE = (op("close", fd=3), NOT_OPEN)
 MADE = {"path": "/a/p", "kind": "fifo", "kernel": "ok"}
-PIPE = (op("mknod", **MADE), refused("make_fifo on /a"))
-DIRECTORY = (op("mkdir", path="/a/d", kernel="ok"), refused("make_dir on /a"))
+PIPE = (op("mknod", **MADE), refused(missing_on("/a", "make_fifo")))
+DIRECTORY = (op("mkdir", path="/a/d", kernel="ok"), refused(missing_on("/a", "make_dir")))
 
 
 class Kinds(Written):
@@ -96,8 +107,8 @@ class Kinds(Written):
             (op("mknod", **{**MADE, "kind": "sock"}), PIPE[1]),
             (op("mknod", **{**MADE, "kernel": "EACCES"}), PIPE[1]),
             (op("mknod", **{**MADE, "shown": "/a/q"}), PIPE[1]),
-            (PIPE[0], refused("make_reg on /a")),
-            (PIPE[0], refused("make_fifo on /a", error="EXDEV")),
+            (PIPE[0], refused(missing_on("/a", "make_reg"))),
+            (PIPE[0], refused(missing_on("/a", "make_fifo"), error="EXDEV")),
         ]
         self.assertEqual([line for line, *_ in self.told(START, PIPE, *others, PIPE)], [2, 3, 4, 5, 6, 7])
 
@@ -130,7 +141,7 @@ class Programs(Written):
         self.assertEqual([program for _, program, *_ in self.told(START, RUN, kept, OPEN)], ["/kept"])
 
     def test_a_refused_program_runs_if_the_kernel_ran_it(self) -> None:
-        again = (RUN[0], refused("execute on /bin"))
+        again = (RUN[0], refused(missing_on("/bin", "execute")))
         self.assertEqual([program for _, program, *_ in self.told(START, again, OPEN)], ["-", "/bin"])
 
     def test_a_pid_that_is_used_again(self) -> None:
@@ -160,7 +171,7 @@ class Numbers(Written):
 
     def test_a_copy_is_missed_too(self) -> None:
         copy = (op("dup", fd=3, to=4), NOT_OPEN)
-        self.assertEqual(self.missed(OPEN, copy, (op("close", fd=4), moot("descriptor 4 is not open"))),
+        self.assertEqual(self.missed(OPEN, copy, (op("close", fd=4), moot("unopened", fd=4))),
                          [(2, False), (3, True), (4, True)])
 
     def test_a_child_misses_what_its_parent_misses(self) -> None:
@@ -171,7 +182,7 @@ class Numbers(Written):
         """It is closed within the call, so no child ever has it."""
         made_up = (op("open", **{**READ, "fd": 1_000_001}), OPEN[1])
         fork = (op("fork", child=2, call=1), "allowed")
-        closes = [(op("close", pid, fd=1_000_001), moot("descriptor 1000001 is not open")) for pid in (1, 2)]
+        closes = [(op("close", pid, fd=1_000_001), moot("unopened", fd=1000001)) for pid in (1, 2)]
         self.assertEqual(self.missed(made_up, fork, *closes), [(2, False), (4, True), (5, False)])
 
     def test_by_abi(self) -> None:
@@ -295,17 +306,18 @@ def _random_calls(chance: random.Random) -> Iterator[Call]:
         yield record, over_range(differing if chance.random() < 0.3 else dict.fromkeys(ABIS, answer))
 
 
-def _random_answer(chance: random.Random, record: Record) -> str:
+def _random_answer(chance: random.Random, record: Record) -> Said:
     """An answer that a record may have, or that it is allowed."""
-    answers = {
-        "open": (refused("read_file on /a/f"), refused("write_file on /b"), moot("/a/g~new~ is not in the tree")),
-        "exec": (refused("execute on /a/f"),),
-        "close": (moot("descriptor 3 is not open"), moot("descriptor 4 is not open")),
-        "ioctl": (moot("descriptor 3 is not open"), refused("ioctl_dev on /a/f, opened at line 1")),
-        "dup": (moot("descriptor 3 is not open"),),
-        "rename": (moot("/b is not in the tree"), refused("make_reg on /a")),
-        "mkdir": (refused("make_dir on /a"), moot("/b is in the tree already")),
-        "add_path": (moot("/b is not in the tree"), failed("EINVAL", "the ruleset does not handle read_file")),
+    answers: dict[str, tuple[Object, ...]] = {
+        "open": (refused(missing_on("/a/f", "read_file")), refused(missing_on("/b", "write_file")),
+                 moot("absent", path="/a/g~new~")),
+        "exec": (refused(missing_on("/a/f", "execute")),),
+        "close": (moot("unopened", fd=3), moot("unopened", fd=4)),
+        "ioctl": (moot("unopened", fd=3), refused(kept_on("/a/f", "ioctl_dev", 1))),
+        "dup": (moot("unopened", fd=3),),
+        "rename": (moot("absent", path="/b"), refused(missing_on("/a", "make_reg"))),
+        "mkdir": (refused(missing_on("/a", "make_dir")), moot("present", path="/b")),
+        "add_path": (moot("absent", path="/b"), failed("EINVAL", "unhandled", rights=["read_file"])),
     }.get(str(record["op"]), ())
     # An allowed close is of an open number, and nothing here says which numbers are open.
     return chance.choice(answers) if answers and (record["op"] == "close" or chance.random() < 0.6) else "allowed"

@@ -15,7 +15,7 @@ from typing import Any
 
 from landaudit_record import by_abi, cli
 from landaudit_record.commands import audit
-from landaudit_record.explanations import Closed, Gained, Kept, Missing, Mounting
+from landaudit_record.answers import Closed, Gained, Kept, Missing, Mounting
 from landaudit_record.landaudit import BUILT
 from landaudit_record.policy_commands import check
 from landaudit_record.recorder import converting

@@ -67,7 +67,7 @@ Each = Sequence[tuple[Member, list[Summary]]]
 
 
 def run(arguments: argparse.Namespace) -> int:
-    """Writes OUT/report.txt of each recording, and prints the summary of all.
+    """Writes OUT/report.jsonl of each recording, and prints the summary of all.
 
     The status is 1 if an ABI refuses a record, else 5 if not everything that a policy may refuse could be judged.
     """
