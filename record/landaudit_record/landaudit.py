@@ -10,7 +10,7 @@ import sys
 from collections.abc import Sequence
 from pathlib import Path
 
-from .problems import UNREADABLE, WANTING, Problem
+from .problems import UNREADABLE, USAGE, WANTING, Problem
 from .wording import span
 
 MOST_WORKERS = 64
@@ -67,7 +67,8 @@ class Run:
         if status in (0, 1):
             return status
         lines = said.decode(errors="replace").strip().splitlines() or [_ended(status)]
-        raise Problem(f"{lines[0]} ({self._about})", status if status in (UNREADABLE, WANTING) else WANTING)
+        others = ": use programs of one version" if status == USAGE else ""
+        raise Problem(f"{lines[0]}{others} ({self._about})", status if status in (UNREADABLE, WANTING) else WANTING)
 
     def stop(self) -> None:
         """Ends it, if it has not ended."""

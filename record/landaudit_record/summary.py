@@ -282,14 +282,12 @@ def _because(record: Record, answer: Answer, missed: bool) -> tuple[str, str]:
         return f"the call failed in the recording too: {kernel}", place_text(record)
     reason = answer.reason
     why = MISSED if reason.word == UNOPENED and missed else reason.why
-    return why, " -> ".join(shown_path(record, about) for about in reason.about or (_left_out(record),))
+    return why, " -> ".join(shown_path(record, about) for about in reason.about) or _left_out(record)
 
 
 def _left_out(record: Record) -> str:
     """What a rule that is left out is on, or the ruleset of a restriction that is left out."""
-    if record["op"] == "restrict":
-        return f"ruleset {record['rs']}"
-    return str(record["path"]) if "path" in record else f"port {record['port']}"
+    return f"ruleset {record['rs']}" if record["op"] == "restrict" else place_text(record)
 
 
 def _rule_text(origin: dict[str, Any], record: Record) -> str:

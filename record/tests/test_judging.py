@@ -137,6 +137,8 @@ class Judging(KeptLogs):
             "os.kill(os.getpid(), 9)": "landaudit was killed: is there enough memory?",
             "os.abort()": "landaudit was ended by SIGABRT",
             "os._exit(7)": "landaudit ended with status 7",
+            "print('error: unknown --json', file=sys.stderr), os._exit(2)":
+                "error: unknown --json: use programs of one version",
         }
         where = f"tree {self.recording}/tree-2.jsonl, trace {self.recording}/trace-2.jsonl"
         for does, told in faults.items():
