@@ -80,7 +80,8 @@ _COPIES = re.compile(rb'"fd":([0-9]+),"to":([0-9]+)')
 #: Operations on numbers, as the report has them.
 _OPEN, _CLOSE, _ADOPT, _DUP = (b'"op":"%b"' % op for op in (b"open", b"close", b"adopt", b"dup"))
 _ON_NUMBERS = frozenset({_OPEN, _CLOSE, _ADOPT, _DUP, b'"op":"ftruncate"', b'"op":"ioctl"'})
-_PID = b'"pid":'
+#: Where the number of the process begins in its member.
+_PID = len('"pid":')
 
 
 def judged(trace: Path, report: Path, abi: int) -> Iterator[Judged]:
@@ -169,7 +170,7 @@ class Walk:
                 self.path_calls += told.asked and to_do == _READ
                 yield told
             else:
-                self._follow_opening(said)
+                self._follow_opening(said, self._members(said))
 
     def kinds(self) -> Iterator[tuple[Told, int]]:
         """Records that are not allowed under all ABIs and those of the tried policy: of those that a summary counts as
@@ -236,8 +237,8 @@ class Walk:
         return record
 
     def _told(self, said: _Said, record: Record, standing: _Standing) -> Told:
-        number, _, _, answer, differs = said
-        found = reports.not_allowed(self._members(answer)[3]) if differs else ()
+        number, _, _, _, differs = said
+        found = reports.not_allowed(self._members(said)[3]) if differs else ()
         asked = record["op"] in PATH_CALLS and record.get("kernel") in ASKED_LANDLOCK
         program, missed, confined = standing
         return Told(number, record, found, program, asked, missed, confined)
@@ -253,13 +254,13 @@ class Walk:
 
     def _kind(self, said: _Said) -> _Kind | None:
         """Takes up what a record changes, and says of which kind it is if a summary counts it."""
-        number, line, to_do, answer, differs = said
-        members = self._members(answer)
+        _, line, to_do, _, differs = said
+        members = self._members(said)
         counts = differs or _POLICY in line
         if not counts and to_do < _STATE:
-            self._follow_opening(said)
+            self._follow_opening(said, members)
             return None
-        standing = None if to_do == _READ else self._standing(number, line, members, differs)
+        standing = None if to_do == _READ else self._standing(line, members, differs)
         if standing is None or (to_do >= _STATE and not self._changes(line, _pid(members))):
             told = self._taken_apart(said)
             self.path_calls += told.asked and to_do == _READ
@@ -268,26 +269,24 @@ class Walk:
         own = _OWN_OF_OPENING if members[2] == _OPEN else _OWN
         return (standing, own.sub(b"", line), members[3]) if counts else None
 
-    def _follow_opening(self, said: _Said) -> None:
+    def _follow_opening(self, said: _Said, members: list[bytes]) -> None:
         """Takes up that a number is opened that may have been missed."""
-        number, line, _, answer, _ = said
-        members = self._members(answer)
-        if self._processes.misses(_pid(members)) and self._standing(number, line, members, False) is None:
+        if self._processes.misses(_pid(members)) and self._standing(said[1], members, False) is None:
             self._taken_apart(said)
 
-    def _members(self, answer: bytes) -> list[bytes]:
+    def _members(self, said: _Said) -> list[bytes]:
         """The members of the report's line on a record: its number, process and operation, and the answers."""
-        members = reports.split(answer)
-        if len(members) < 4:
+        members = reports.split(said[3])
+        if members[0] != b'{"line":%d' % said[0] or len(members) < 4:
             raise _other(*self.files)
         return members
 
-    def _standing(self, number: int, line: bytes, members: list[bytes], differs: bool) -> _Standing | None:
+    def _standing(self, line: bytes, members: list[bytes], differs: bool) -> _Standing | None:
         """How a record's process stands before it, and takes up what the record does to numbers. It is not taken apart
         for that; None if it is not written as landaudit-record does.
         """
-        processes, (first, member, op, answers) = self._processes, members
-        if first != b'{"line":%d' % number or (member + b"," not in line and member + b"}" not in line):
+        processes, (_, member, op, answers) = self._processes, members
+        if member + b"," not in line and member + b"}" not in line:
             return None
         pid, missed = _pid(members), NOWHERE
         if op in _ON_NUMBERS:
@@ -321,7 +320,7 @@ class Walk:
 
 def _pid(members: list[bytes]) -> int:
     """The process of a record, from the members of the report's line."""
-    return int(members[1].removeprefix(_PID))
+    return int(members[1][_PID:])
 
 
 def _not_allowed(answers: bytes) -> frozenset[int]:

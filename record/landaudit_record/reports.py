@@ -60,8 +60,8 @@ def allowed_by_all(abis: range) -> bytes:
 
 
 def split(line: bytes) -> list[bytes]:
-    """The members of a record's line, each as it is printed: its number, process and operation, and the answers."""
-    return line.removesuffix(b"}\n").split(b",", 3)
+    """A record's line at its first commas: its number, process and operation, and the rest, which has the answers."""
+    return line.split(b",", 3)
 
 
 def rows(report: Path, abi: int) -> Iterator[Row]:
@@ -85,13 +85,13 @@ def numbers(report: Path) -> Iterator[int]:
 
 
 def not_allowed(answers: bytes) -> tuple[Answered, ...]:
-    """The answers that are not `allowed`, each with the ABIs that give it; from the member of a line that has all."""
+    """The answers that are not `allowed`, each with the ABIs that give it; from the rest of a line that has them."""
     with _reading(answers):
         return tuple((tuple(_abis(said)), _answer(said)) for said in _members(answers) if said["answer"] != ALLOWED)
 
 
 def abis_by_verdict(answers: bytes) -> Mapping[str, frozenset[int]]:
-    """The ABIs that give each answer, whatever their reasons are; from the member of a line that has all answers."""
+    """The ABIs that give each answer, whatever their reasons are; from the rest of a line that has the answers."""
     found: dict[str, frozenset[int]] = {verdict: frozenset() for verdict in (ALLOWED, MOOT, REFUSED)}
     with _reading(answers):
         for said in _members(answers):
@@ -110,8 +110,8 @@ def _reading(line: bytes) -> Iterator[None]:
 
 
 def _members(answers: bytes) -> list[Any]:
-    """The objects of the answers."""
-    found: list[Any] = json.loads(b"{%b}" % answers)["answers"]
+    """The objects of the answers, from the rest of a line, which also ends the line's object."""
+    found: list[Any] = json.loads(b"{" + answers)["answers"]
     return found
 
 

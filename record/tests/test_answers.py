@@ -32,7 +32,7 @@ AWKWARD = ("/x on /y", "/x; read_file on /y", "/{path}", '/"quoted"\\', "/line\n
 def answer(said: Object) -> Answer:
     """An answer that is read from its object."""
     text = json.dumps([{"abi": [5, 5], **said}], ensure_ascii=False, separators=(",", ":"))
-    ((abis, found),) = reports.not_allowed(b'"answers":' + text.encode())
+    ((abis, found),) = reports.not_allowed(b'"answers":%b}\n' % text.encode())
     assert abis == (5,)
     return found
 
