@@ -133,11 +133,15 @@ class Walk:
 
     The records at the beginning that only give processes once more what they had are walked over and not told.
     `records` and `path_calls` count what was walked over without them, the latter where Landlock was asked; `files` are
-    both.
+    both. With `only_refused` the report has the refused records alone: then moot ones are as those that are allowed,
+    and no opening is missed.
     """
 
-    def __init__(self, trace: Path, report: Path, abis: range, progress: Progress | None = None) -> None:
+    def __init__(
+        self, trace: Path, report: Path, abis: range, progress: Progress | None = None, *, only_refused: bool = False
+    ) -> None:
         self.files = trace, report
+        self._whole = not only_refused
         self._progress = progress
         self._allowed = reports.allowed_by_all(abis)
         self._offsets = array("Q", [0])
@@ -169,7 +173,7 @@ class Walk:
                 told = self._taken_apart(said)
                 self.path_calls += told.asked and to_do == _READ
                 yield told
-            else:
+            elif self._whole:
                 self._follow_opening(said, self._members(said))
 
     def kinds(self) -> Iterator[tuple[Told, int]]:
@@ -200,9 +204,9 @@ class Walk:
     def _lines(self) -> Iterator[_Said]:
         """Goes over both files, and gives what is told or changes what is kept. A long recording waits for this."""
         again, at, offset, processes, progress = True, 0, self._offsets.append, self._processes, self._progress
-        begins, allowed = _BEGINS.get, self._allowed
+        begins, allowed, whole = _BEGINS.get, self._allowed, self._whole
         with open(self.files[0], "rb") as lines, open(self.files[1], "rb") as report:
-            readline = report.readline
+            readline, shown = report.readline, None if whole else reports.Shown(report)
             for number, line in enumerate(lines, start=1):
                 at += len(line)
                 offset(at)
@@ -211,8 +215,8 @@ class Walk:
                     if not line.strip(_BLANKS):
                         continue
                     to_do = _READ
-                answer = readline()
-                differs = not answer.endswith(allowed)
+                answer = readline() if shown is None else shown.on(number)
+                differs = not answer.endswith(allowed) if whole else answer != b""
                 if again:
                     again = _AGAIN in line
                     if again:
@@ -225,16 +229,20 @@ class Walk:
                     progress.show(number, "answers read")
                 if differs or to_do >= _RULE or (to_do & _OPENS_NUMBER and processes.watched):
                     yield number, line, to_do, answer, differs
-            if not readline().startswith(reports.LAST):
+            if not (readline() if shown is None else shown.line).startswith(reports.LAST):
                 raise _other(*self.files)
 
     def _record(self, said: _Said) -> Record:
         number, line, _, answer, _ = said
         record = jsonl.read(self.files[0], number, line)
         pid = record.get("pid")
-        if type(pid) is not int or not answer.startswith(reports.head(number, pid)):
+        if type(pid) is not int or not (answer.startswith(reports.head(number, pid)) or self._left_out(answer)):
             raise _other(*self.files)
         return record
+
+    def _left_out(self, answer: bytes) -> bool:
+        """Whether the report leaves a record out."""
+        return not self._whole and not answer
 
     def _told(self, said: _Said, record: Record, standing: _Standing) -> Told:
         number, _, _, _, differs = said
@@ -249,7 +257,8 @@ class Walk:
         pid, fd = record["pid"], record.get("fd")
         missed = processes.missed(pid, fd) if isinstance(fd, int) else NOWHERE
         told = self._told(said, record, (processes.program(pid), missed, processes.confined(pid)))
-        processes.follow(told.line, record, frozenset(abi for abis, _ in told.answered for abi in abis))
+        not_allowed = frozenset(abi for abis, _ in told.answered for abi in abis) if self._whole else NOWHERE
+        processes.follow(told.line, record, not_allowed)
         return told
 
     def _kind(self, said: _Said) -> _Kind | None:

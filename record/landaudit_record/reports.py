@@ -10,7 +10,7 @@ import json
 from collections.abc import Iterator, Mapping
 from contextlib import contextmanager
 from pathlib import Path
-from typing import Any, NamedTuple
+from typing import Any, BinaryIO, NamedTuple
 
 from .answers import (
     ALLOWED,
@@ -35,6 +35,7 @@ from .problems import Problem
 
 #: How the last line begins.
 LAST = b'{"totals":'
+_BEGINS = b'{"line":'
 _VERDICT = b'"answer":"%b"'
 #: How the line of a record ends that a single ABI allows, and what is in the line of one that it refuses.
 ENDS_ALLOWED, HAS_REFUSED = _VERDICT % ALLOWED.encode() + b"}]}\n", _VERDICT % REFUSED.encode()
@@ -62,6 +63,27 @@ def allowed_by_all(abis: range) -> bytes:
 def split(line: bytes) -> list[bytes]:
     """A record's line at its first commas: its number, process and operation, and the rest, which has the answers."""
     return line.split(b",", 3)
+
+
+class Shown:
+    """The lines of a report that leaves out records, beside a walk over the records."""
+
+    def __init__(self, lines: BinaryIO) -> None:
+        self._lines = lines
+        self._next()
+
+    def _next(self) -> None:
+        self.line = self._lines.readline()
+        number = self.line.partition(b",")[0].removeprefix(_BEGINS)
+        self._number = int(number) if number.isdigit() else None
+
+    def on(self, number: int) -> bytes:
+        """The line on a record; nothing if the record is left out. Each number is greater than the one before."""
+        if number != self._number:
+            return b""
+        found = self.line
+        self._next()
+        return found
 
 
 def rows(report: Path, abi: int) -> Iterator[Row]:

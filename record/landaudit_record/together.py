@@ -95,9 +95,9 @@ def audits(members: Sequence[Member], program: Path, name: str, *, best_effort: 
 def walks(
     members: Sequence[Member], audits: Sequence[Auditing], abis: range, policy: Policy
 ) -> Iterator[tuple[int, Walk]]:
-    """Walks over the answers to all parts of all recordings under a policy, each with the recording's index."""
+    """Walks over what is refused in all parts of all recordings under a policy, each with the recording's index."""
     for index, (member, auditing) in enumerate(zip(members, audits)):
-        for walk in auditing.walks(abis, member.tried, policy):
+        for walk in auditing.walks(abis, member.tried, policy, only_refused=True):
             yield index, walk
 
 

@@ -125,12 +125,18 @@ def allow_all(words: Sequence[str]) -> None:
 
 
 def write_report(
-    path: Path, trace: Sequence[Record], answers: Sequence[Said | list[Object]], abis: range = alone(NEWEST_ABI)
+    path: Path,
+    trace: Sequence[Record],
+    answers: Sequence[Said | list[Object]],
+    abis: range = alone(NEWEST_ABI),
+    *,
+    only_refused: bool = False,
 ) -> Path:
-    """A report on a trace: the answers in its order, of all ABIs or those of each."""
+    """A report on a trace: the answers in its order, of all ABIs or those of each; or as with --refused."""
     with open(path, "w", encoding="utf-8", errors="surrogatepass", newline="\n") as out:
         for number, (record, said) in enumerate(zip(trace, answers, strict=True), start=1):
             each = said if isinstance(said, list) else over_range(dict.fromkeys(abis, at_its_line(trace, said)))
-            out.write(report_line(number, record, each))
+            if not only_refused or any(one["answer"] == "refused" for one in each):
+                out.write(report_line(number, record, each))
         out.write(last_line(len(trace), abis))
     return path

@@ -51,8 +51,9 @@ lines = [json.loads(line) for line in Path(trace).read_text().splitlines()]
 known = json.loads(Path({answers!r}).read_text())
 answers = {{abi: known.get(f"{{abi}}: {{len(lines)}}") or known[str(len(lines))] for abi in abis}}
 for number, record in enumerate(lines, start=1):
-    said = {{abi: at_its_line(lines, answers[abi][number - 1]) for abi in abis}}
-    sys.stdout.write(report_line(number, record, over_range(said)))
+    said = over_range({{abi: at_its_line(lines, answers[abi][number - 1]) for abi in abis}})
+    if "--refused" not in flags or any(one["answer"] == "refused" for one in said):
+        sys.stdout.write(report_line(number, record, said))
 sys.stdout.write(last_line(len(lines), abis))
 refused = [one for abi in abis for one in answers[abi] if one != "allowed" and one["answer"] == "refused"]
 sys.exit(1 if refused else 0)

@@ -54,7 +54,9 @@ class Written(unittest.TestCase):
         self.addCleanup(made.cleanup)
         self.folder = Path(made.name)
 
-    def walk(self, calls: Sequence[Call], form: str = COMPACT, number: int = 0) -> Walk:
+    def walk(
+        self, calls: Sequence[Call], form: str = COMPACT, number: int = 0, *, only_refused: bool = False
+    ) -> Walk:
         """A walk over some calls with their answers."""
         trace, report = (self.folder / f"{name}-{number}" for name in ("trace", "report"))
         records = [record for record, _ in calls]
@@ -64,8 +66,8 @@ class Written(unittest.TestCase):
             jsonl.write(trace, records)
         if form == HALF:
             trace.write_text(_NUMBER.sub(r'": \1', trace.read_text()))
-        write_report(report, records, [answer for _, answer in calls], ABIS)
-        return Walk(trace, report, ABIS)
+        write_report(report, records, [answer for _, answer in calls], ABIS, only_refused=only_refused)
+        return Walk(trace, report, ABIS, only_refused=only_refused)
 
     def told(self, *calls: Call) -> list[tuple[int, str, int, bool]]:
         """What is told of each kind, whichever way the trace is written: line, program, times, and whether an ABI
@@ -231,6 +233,39 @@ class Faults(Written):
             with self.subTest(why, form=form), self.assertRaisesRegex(Problem, "is not a report on"):
                 for _ in Walk(trace, report, ABIS).kinds():
                     pass
+
+
+class OnlyRefused(Written):
+    """Walks over reports of refused records alone."""
+
+    def test_what_is_refused_is_told_as_by_the_whole_report(self) -> None:
+        chance = random.Random(7)
+        for _ in range(25):
+            calls = list(_random_calls(chance))
+            for form in FORMS:
+                whole, some = (_refusals(self.walk(calls, form, only_refused=only)) for only in (False, True))
+                self.assertEqual(some, whole)
+                self.assertTrue(whole or len(calls) < 20)
+
+    def test_states_of_processes_are_told_and_moot_records_are_not(self) -> None:
+        fork = (op("fork", child=2, call=2), "allowed")
+        walk = self.walk([START, RUN, CLOSE, OPEN, fork, CLOSE], only_refused=True)
+        self.assertEqual([(told.line, bool(told.answered)) for told in walk],
+                         [(1, False), (2, False), (4, True), (5, False)])
+
+    def test_a_report_on_another_trace(self) -> None:
+        calls = [START, OPEN, CLOSE]
+        others = [START, (op("open", 2, **READ), OPEN[1])], [START, START, START, START, OPEN]
+        for said in others:
+            trace, report = self.walk(calls).files[0], self.walk(said, number=1, only_refused=True).files[1]
+            with self.subTest(said), self.assertRaisesRegex(Problem, "is not a report on"):
+                list(Walk(trace, report, ABIS, only_refused=True))
+
+
+def _refusals(walk: Walk) -> list[tuple[object, ...]]:
+    """What is told of refused records, and by which process."""
+    return [(told.line, told.record, told.program, told.confined, abis, answer)
+            for told in walk for abis, answer in told.answered if answer.refused]
 
 
 class AnyTrace(Written):

@@ -68,6 +68,21 @@ class Rows(Written):
         self.assertEqual(found.answer.reason.path, "/\u2028\u0085\r\x0c")
 
 
+class Some(Written):
+    """A report that leaves out records."""
+
+    def test_the_line_on_each_record_that_is_shown(self) -> None:
+        with open(self.report(), "rb") as lines:
+            shown = reports.Shown(lines)
+            self.assertEqual([shown.on(number) for number in range(1, 9)], [b""] * 5 + [*LINES[:2], b""])
+            self.assertEqual((shown.on(9), shown.line, shown.on(10)), (LINES[2], LINES[3], b""))
+
+    def test_nothing_is_shown(self) -> None:
+        with open(self.report(LINES[3].decode()), "rb") as lines:
+            shown = reports.Shown(lines)
+            self.assertEqual((shown.on(1), shown.line), (b"", LINES[3]))
+
+
 class Bytes(unittest.TestCase):
     """What is known of a line by its bytes."""
 

@@ -83,12 +83,13 @@ class Trying(StandIn):
 
     def test_audit_is_at_best_effort_and_as_recorded_if_that_is_wanted(self) -> None:
         none: list[str] = []
-        for command in (["audit", self.recording], ["suggest", self.recording, "--policy", self.policy]):
+        suggest = ["suggest", self.recording, "--policy", self.policy]
+        for command, more in (["audit", self.recording], ""), (suggest, " --refused"):
             for words, flags in (none, "3 --best-effort --explain"), (["--as-recorded"], "3 --explain"):
                 with self.subTest(command=command[0], words=words):
                     self.runs.unlink(missing_ok=True)
                     self.audited(*command, *words)
-                    self.assertEqual(set(self.ran()), {flags})
+                    self.assertEqual(set(self.ran()), {f"{flags}{more}"})
 
     def test_the_command_that_suggests_rules_judges_as_this_audit_did(self) -> None:
         _, out, _ = self.audited("audit", self.recording, "--policy", self.policy, "--as-recorded")
