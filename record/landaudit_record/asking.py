@@ -12,10 +12,9 @@ from dataclasses import dataclass
 from pathlib import Path
 from typing import Any
 
-from . import applying, explanations, fitting, jsonl, landaudit
-from .explanations import Objection
+from . import applying, fitting, jsonl, landaudit, reports
+from .answers import Answer
 from .jsonl import Record
-from .landaudit import Answer
 from .policies import Policy
 from .problems import Problem
 from .trees import ROOT, Tree
@@ -25,29 +24,6 @@ RULESET = 1
 """The number of each ruleset: it is closed before the next one is made."""
 
 FIRST_DESCRIPTOR = 3
-
-
-@dataclass(frozen=True)
-class Found:
-    """landaudit's answer to a question: the answer to its first record that is not allowed, else to its last."""
-
-    record: Record
-    answer: Answer
-
-    @property
-    def passes(self) -> bool:
-        """Whether the policy lets all of the question pass."""
-        return self.answer.verdict == "allowed"
-
-    @property
-    def objections(self) -> dict[int, tuple[Objection, ...]]:
-        """The objections of each layer that refuses, by the layer's number."""
-        return {it.layer: it.objections for it in explanations.refusing(self.record, self.answer)}
-
-    @property
-    def reason(self) -> str:
-        """Why Landlock is not asked, if it is not."""
-        return " ".join(self.answer.explanation)
 
 
 def opening(path: str, mode: str, **flags: bool) -> Record:
@@ -63,7 +39,7 @@ def under(policy: Policy, abi: int, tree: Tree) -> list[Record]:
 
 def ask(
     program: Path, abis: range, tree: Tree, confined: Sequence[Sequence[Record]], questions: Sequence[Sequence[Question]]
-) -> list[dict[int, list[Found]]]:
+) -> list[dict[int, list[Answer]]]:
     """What landaudit answers to the questions of each process, by ABI.
 
     Each process first confines itself by its own records; if the kernel would refuse one of these, that is a Problem.
@@ -74,13 +50,13 @@ def ask(
         jsonl.write(files.trace, _trace(confined, questions))
         landaudit.audit(program, abis, files.tree, files.trace, files.report, best_effort=True)
         by_abi = {abi: _answers(files, abi) for abi in abis}
-    found: list[dict[int, list[Found]]] = [{} for _ in confined]
+    found: list[dict[int, list[Answer]]] = [{} for _ in confined]
     for abi, answers in by_abi.items():
         for process, (own, asked) in enumerate(zip(confined, questions)):
             next(answers)
             for _ in own:
                 _see_rule(*next(answers))
-            found[process][abi] = [_decided([next(answers) for _ in question]) for question in asked]
+            found[process][abi] = [_decided([next(answers)[1] for _ in question]) for question in asked]
     return found
 
 
@@ -100,7 +76,7 @@ class _Files:
 
     @property
     def report(self) -> Path:
-        return self.folder / "report.txt"
+        return self.folder / "report.jsonl"
 
 
 def write_tree(file: Path, kinds: Mapping[str, str]) -> None:
@@ -122,7 +98,8 @@ def _trace(confined: Sequence[Sequence[Record]], questions: Sequence[Sequence[Qu
 def _answers(files: _Files, abi: int) -> Iterator[tuple[Record, Answer]]:
     """Each record with its answer at an ABI."""
     records = (record for _, record in jsonl.numbered(files.trace))
-    return iter(list(zip(records, landaudit.answers(files.report, abi), strict=True)))
+    answers = (row.answer for row in reports.rows(files.report, abi))
+    return iter(list(zip(records, answers, strict=True)))
 
 
 def _see_rule(record: Record, answer: Answer) -> None:
@@ -130,9 +107,9 @@ def _see_rule(record: Record, answer: Answer) -> None:
     if answer.refused:
         origin = record.get("policy", {})
         parts = [f"layer {origin['layer']}" if "layer" in origin else "the policy", *filter(None, [origin.get("rule")])]
-        raise Problem(f"{', '.join(parts)}: the kernel refuses it with {answer.error}: {' '.join(answer.explanation)}")
+        raise Problem(f"{', '.join(parts)}: the kernel refuses it with {answer.error}: {answer.condition}")
 
 
-def _decided(answers: Sequence[tuple[Record, Answer]]) -> Found:
+def _decided(answers: Sequence[Answer]) -> Answer:
     """The answer that decides a question: the first that is not allowed, or else the last."""
-    return Found(*next((it for it in answers if it[1].verdict != "allowed"), answers[-1]))
+    return next((answer for answer in answers if not answer.allowed), answers[-1])

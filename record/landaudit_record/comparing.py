@@ -13,6 +13,7 @@ from collections import Counter
 from collections.abc import Callable, Iterable, Iterator
 from dataclasses import dataclass, field
 
+from .answers import MOOT
 from .kernel_calls import RULESET_CALLS, Call, newer_rights
 from .jsonl import Record
 from .processes import shown
@@ -77,7 +78,7 @@ def agree(call: Call) -> bool:
     if answer.refused:
         return call.kernel == answer.error
     if call.op in RULESET_CALLS:
-        return call.kernel == OK and answer.verdict == "allowed"
+        return call.kernel == OK and answer.allowed
     if call.kernel == OK:
         return call.op not in PATH_CALLS or not call.partly_moot or _on_itself(call.record)
     return call.kernel not in errors_of_landlock(call.op)
@@ -227,7 +228,7 @@ def compare(calls: Iterable[Call], classes: Classes, tally: Tally) -> Iterator[D
     for call in calls:
         tally.calls += 1
         tally.by_op[call.op] += 1
-        tally.moot += call.answer.verdict == "moot"
+        tally.moot += call.answer.verdict == MOOT
         if agree(call):
             continue
         difference = Difference(call, classes.of(call))

@@ -5,9 +5,9 @@ from __future__ import annotations
 from collections.abc import Iterator
 from typing import Any
 
+from .answers import Answer
 from .comparing import Class, Difference, Tally
 from .kernel_calls import Call
-from .landaudit import Answer
 from .processes import shown
 from .reading import call_text
 
@@ -54,10 +54,10 @@ def place(call: Call) -> str:
 
 
 def told(answer: Answer) -> str:
-    """An answer as the report has it."""
+    """An answer as the text of a report has it."""
     if not answer.refused:
         return answer.verdict
-    return f"{answer.verdict} {answer.error} {','.join(map(str, answer.layers)) or '-'}"
+    return f"{answer.verdict} {answer.error} {','.join(str(layer.layer) for layer in answer.layers) or '-'}"
 
 
 def as_data(tally: Tally, abi: int) -> dict[str, Any]:
@@ -92,7 +92,7 @@ def difference_data(difference: Difference) -> dict[str, Any]:
         "place": place(call),
         "landaudit": call.answer.verdict,
         "error": call.answer.error,
-        "layers": list(call.answer.layers),
+        "layers": [layer.layer for layer in call.answer.layers],
         "kernel": call.kernel,
         "records": list(call.records),
     }

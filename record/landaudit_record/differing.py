@@ -9,13 +9,13 @@ both renames do (`moves_made_of_others`).
 from __future__ import annotations
 
 import json
-import re
 import tempfile
 from collections.abc import Iterable, Iterator, Sequence
 from dataclasses import dataclass, field
 from pathlib import Path
 
-from . import applying, asking, fitting, landaudit
+from . import applying, asking, fitting, landaudit, reports
+from .answers import ALLOWED, MOOT, REFUSED
 from .asking import RULESET
 from .fitting import FittedLayer, FittedPathRule
 from .jsonl import Record
@@ -36,7 +36,6 @@ PROCESSES = 4
 MOUNT = "mount"
 _MAKING = {"reg": "make_reg", "sym": "make_sym", "char": "make_char", "block": "make_block", "fifo": "make_fifo",
            "sock": "make_sock", "dir": "make_dir"}
-_ANSWER = re.compile(r"(?:([0-9]+)(?:-([0-9]+))? )?(allowed|moot|refused)")
 Abis = frozenset[int]
 _NONE: Abis = frozenset()
 
@@ -253,14 +252,14 @@ class _Asker:
 
     def _answered(self, questions: list[_Question]) -> Iterator[tuple[_Question, tuple[_Passes, _Passes]]]:
         """The answers to as many questions as one trace can have."""
-        trace, report = self.folder / "trace.jsonl", self.folder / "report.txt"
+        trace, report = self.folder / "trace.jsonl", self.folder / "report.jsonl"
         parts = [questions[first::PROCESSES] for first in range(PROCESSES)]
         jobs = [(own, part) for own in self.confined for part in parts]
         with open(trace, "w", encoding="utf-8") as out:
             for pid, (own, part) in enumerate(jobs, start=1):
                 out.writelines(_lines(pid, own, part))
         landaudit.audit(self.program, self.abis, self.tree, trace, report, best_effort=True, explain=False)
-        with open(report, encoding="utf-8") as lines:
+        with open(report, "rb") as lines:
             reader = _Reader(lines, self.abis)
             answers = [reader.process(own, part) for own, part in jobs]
         old, new = answers[:PROCESSES], answers[PROCESSES:]
@@ -282,10 +281,10 @@ def _lines(pid: int, own: Iterable[Record], questions: Iterable[_Question]) -> I
 class _Reader:
     """Reads a report line by line, process after process."""
 
-    def __init__(self, lines: Iterator[str], abis: range) -> None:
+    def __init__(self, lines: Iterator[bytes], abis: range) -> None:
         self._lines = lines
         self._all = frozenset(abis)
-        self._known: dict[str, _Answer] = {}
+        self._known: dict[bytes, _Answer] = {}
 
     def process(self, own: Sequence[Record], questions: Sequence[_Question]) -> list[_Passes]:
         """The ABIs at which each question of a process passes."""
@@ -309,19 +308,16 @@ class _Reader:
         return passes
 
     def _next(self) -> _Answer:
-        """The answer on the next line; equal lines share one answer."""
-        text = next(self._lines, "").partition(" ")[2].partition(" ")[2].partition(" ")[2]
-        known = self._known.get(text)
+        """The answer on the next line; lines that end alike share one answer."""
+        line = next(self._lines, reports.LAST)
+        if line.startswith(reports.LAST):
+            raise Problem("landaudit's report is cut: use landaudit and landaudit-policy of one version")
+        answers = reports.split(line)[-1]
+        known = self._known.get(answers)
         if known is None:
-            known = self._known[text] = self._read(text)
+            known = self._known[answers] = self._read(answers)
         return known
 
-    def _read(self, text: str) -> _Answer:
-        if not text:
-            raise Problem("landaudit's report is cut: use landaudit and landaudit-policy of one version")
-        found: dict[str, Abis] = {}
-        for first, last, verdict in _ANSWER.findall(text):
-            abis = frozenset(range(int(first), int(last or first) + 1)) if first else self._all
-            found[verdict] = found.get(verdict, _NONE) | abis
-        allowed = found.get("allowed", _NONE)
-        return _Answer(allowed, found.get("moot", _NONE), found.get("refused", _NONE), _Passes(self._all, allowed))
+    def _read(self, answers: bytes) -> _Answer:
+        found = reports.abis_by_verdict(answers)
+        return _Answer(found[ALLOWED], found[MOOT], found[REFUSED], _Passes(self._all, found[ALLOWED]))

@@ -17,7 +17,7 @@ from dataclasses import dataclass, field
 from pathlib import Path
 from typing import Any, NamedTuple
 
-from . import jsonl
+from . import jsonl, reports
 from .jsonl import Record
 from .problems import Problem
 from .processes import of_policy
@@ -103,15 +103,15 @@ class Distilling:
         self._by_pid: dict[int, _Process] = {}
 
     def follow(self, trace: Path, report: Path) -> None:
-        """Reads a trace with a report without explanations. Records that are refused or moot change nothing."""
+        """Reads a trace with a report on one ABI without explanations. What is refused or moot changes nothing."""
         with open(report, "rb") as answers:
             for number, record in jsonl.numbered(trace):
                 answer = next(answers, b"")
-                if not answer.startswith(b"%d %d " % (number, record["pid"])):
+                if not answer.startswith(reports.head(number, record["pid"])):
                     raise Problem(f"{report} is not a report on {trace}: use programs of one version")
-                if answer.endswith(b" allowed\n"):
+                if answer.endswith(reports.ENDS_ALLOWED):
                     self._take(record)
-                elif b" refused " in answer and (origin := of_policy(record)) is not None:
+                elif reports.HAS_REFUSED in answer and (origin := of_policy(record)) is not None:
                     raise _refused(record, origin)
         self._by_pid.clear()
 

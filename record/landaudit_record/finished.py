@@ -20,8 +20,8 @@ from .wording import counted
 
 CONVERTED = "converted.json"
 FORMAT = 1
-#: The files that each part has, with their endings; the last two are those of the last audit.
-OF_A_PART = {"tree": "jsonl", "trace": "jsonl", "tried": "jsonl", "report": "txt"}
+#: The files that each part has; the last two are those of the last audit.
+OF_A_PART = ("tree", "trace", "tried", "report")
 #: Kinds of calls that not every recording has: those that only look at an object, that read links, that send signals.
 LOOKING, READING_LINKS, SIGNALS = "looks", "readlink", "signals"
 _OLDER = (LOOKING, READING_LINKS, SIGNALS)
@@ -110,15 +110,14 @@ class Part:
         return self._file("report")
 
     def _file(self, name: str) -> Path:
-        ending = OF_A_PART[name]
-        return self.folder / (f"{name}.{ending}" if self.number is None else f"{name}-{self.number}.{ending}")
+        return self.folder / (f"{name}.jsonl" if self.number is None else f"{name}-{self.number}.jsonl")
 
 
 def files_of_parts(folder: Path) -> Iterator[Path]:
     """All files of parts in a folder."""
-    for name, ending in OF_A_PART.items():
-        yield from folder.glob(f"{name}.{ending}")
-        yield from folder.glob(f"{name}-[0-9]*.{ending}")
+    for name in OF_A_PART:
+        yield from folder.glob(f"{name}.jsonl")
+        yield from folder.glob(f"{name}-[0-9]*.jsonl")
 
 
 def numbered(folder: Path, parts: int) -> list[Part]:

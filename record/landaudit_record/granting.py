@@ -11,8 +11,8 @@ from dataclasses import dataclass, replace
 from pathlib import Path
 
 from . import asking
-from .asking import Found, Question
-from .explanations import Closed, Kept, Missing
+from .answers import Answer, Closed, Kept, Missing
+from .asking import Question
 from .policies import Layer, PathRule, Policy, PortRule
 from .rights import NEWEST_ABI, alone
 from .trees import Tree, upwards
@@ -91,9 +91,9 @@ def grants(program: Path, policy: Policy, tree: Tree, questions: Sequence[Questi
     return found
 
 
-def _lacking(answer: Found) -> set[tuple[str, str]]:
+def _lacking(answer: Answer) -> set[tuple[str, str]]:
     """The rights that a layer lacks, each with what it lacks it on."""
-    objections = [it for layer in answer.objections.values() for it in layer] if answer.answer.refused else []
+    objections = [it for layer in answer.layers for it in layer.objections]
     return {
         (right, str(it.port if isinstance(it, Closed) else it.path))
         for it in objections

@@ -13,7 +13,7 @@ from collections.abc import Iterable, Sequence
 from dataclasses import dataclass
 from typing import NamedTuple
 
-from .explanations import Closed, Gained, Kept, Missing, Objection
+from .answers import Closed, Gained, Kept, Missing, Objection
 from .rights import FILE_RIGHTS
 from .summary import Refusal
 from .trees import ROOT

@@ -7,8 +7,8 @@ from dataclasses import dataclass, replace
 from itertools import groupby
 from typing import Any
 
+from .answers import MOOT, Answer
 from .jsonl import Record
-from .landaudit import Answer
 from .processes import Layer
 from .reading import Judged
 from .rights import FS, NET
@@ -67,13 +67,13 @@ class Call:
     def answer(self) -> Answer:
         """landaudit's answer to the whole call: the first refusal, else an answer that allows it, else moot."""
         refused = next((answer for answer in self.answers if answer.refused), None)
-        allowed = next((answer for answer in self.answers if answer.verdict == "allowed"), None)
+        allowed = next((answer for answer in self.answers if answer.allowed), None)
         return refused or allowed or self.answers[0]
 
     @property
     def partly_moot(self) -> bool:
         """Whether some record is moot."""
-        return any(answer.verdict == "moot" for answer in self.answers)
+        return any(answer.verdict == MOOT for answer in self.answers)
 
     @property
     def confined(self) -> bool:
@@ -103,7 +103,7 @@ class _Apart:
         """Follows a record: a ruleset or a layer that only the kernel gave, and forks."""
         pid = record["pid"]
         by_kernel = self.of(pid)
-        kernel_alone = record.get("kernel") == "ok" and answer.verdict != "allowed"
+        kernel_alone = record.get("kernel") == "ok" and not answer.allowed
         match record["op"]:
             case "start" | "exit":
                 self._by_pid.pop(pid, None)

@@ -5,8 +5,8 @@ from __future__ import annotations
 from dataclasses import dataclass, field, replace
 from typing import Any
 
+from .answers import Answer
 from .jsonl import Record
-from .landaudit import Answer
 from .rights import Rights
 from .trees import ROOT
 
@@ -72,7 +72,7 @@ class Processes:
         pid = record["pid"]
         if record["op"] == "start":
             self._by_pid[pid] = Process()
-        elif answer.verdict == "allowed":
+        elif answer.allowed:
             self._change(self._by_pid[pid], record)
 
     def _change(self, process: Process, record: Record) -> None:

@@ -17,10 +17,10 @@ from functools import lru_cache
 from itertools import zip_longest
 from pathlib import Path
 
-from . import jsonl
+from . import jsonl, reports
+from .answers import MOOT, REFUSED, Answer, Answered, Refusing
 from .following import NOWHERE, Followed
 from .jsonl import Record
-from .landaudit import EXPLAINS, Answer, Answered, answered, answers, not_allowed
 from .problems import Problem
 from .processes import Process, Processes, shown
 from .recorder.progress import Progress
@@ -66,7 +66,6 @@ _LET_THROUGH = b'"kernel":"ok"}\n'
 _ASKED = tuple(f'{answer}"'.encode() for answer in ASKED_LANDLOCK if answer)
 _AGAIN = b'"again":true'
 _POLICY = b'"policy":'
-_EXPLAINS = EXPLAINS.encode()
 _BLANKS = b" \t\r\n"
 #: The commonest records that change what is kept, as landaudit-record writes them.
 _CHANGES = re.compile(
@@ -78,22 +77,23 @@ _OWN = re.compile(rb'"(?:pid|call)":[0-9]+,?')
 _OWN_OF_OPENING = re.compile(rb'"(?:pid|call|fd)":[0-9]+,?')
 _FD = re.compile(rb'"fd":([0-9]+)')
 _COPIES = re.compile(rb'"fd":([0-9]+),"to":([0-9]+)')
-_ON_NUMBERS = frozenset({b"open", b"close", b"adopt", b"dup", b"ftruncate", b"ioctl"})
+#: Operations on numbers, as the report has them.
+_OPEN, _CLOSE, _ADOPT, _DUP = (b'"op":"%b"' % op for op in (b"open", b"close", b"adopt", b"dup"))
+_ON_NUMBERS = frozenset({_OPEN, _CLOSE, _ADOPT, _DUP, b'"op":"ftruncate"', b'"op":"ioctl"'})
+#: Where the number of the process begins in its member.
+_PID = len('"pid":')
 
 
-def judged(trace: Path, report: Path, abi: int | None = None) -> Iterator[Judged]:
-    """Each record, its answer, and its process before the record. The process of a `start` is a new one.
-
-    From a report over several ABIs, the answers are those at the given ABI.
-    """
+def judged(trace: Path, report: Path, abi: int) -> Iterator[Judged]:
+    """Each record, its answer at an ABI, and its process before the record. The process of a `start` is a new one."""
     processes = Processes()
-    for found, answer in zip_longest(jsonl.numbered(trace), answers(report, abi)):
-        if found is None or answer is None or (found[0], found[1]["pid"]) != (answer.line, answer.pid):
+    for found, row in zip_longest(jsonl.numbered(trace), reports.rows(report, abi)):
+        if found is None or row is None or (found[0], found[1]["pid"]) != (row.line, row.pid):
             raise _other(trace, report)
         record = found[1]
         process = Process() if record["op"] == "start" else processes.of(record["pid"])
-        yield record, answer, process
-        processes.follow(record, answer)
+        yield record, row.answer, process
+        processes.follow(record, row.answer)
 
 
 def _other(trace: Path, report: Path) -> Problem:
@@ -119,12 +119,13 @@ class Told:
     confined: bool
 
 
-#: A line of a trace: its number, the line, what there is to do with it, its answer, and the lines that explain that.
-_Said = tuple[int, bytes, int, bytes, tuple[bytes, ...]]
+#: A line of a trace: its number, the line, what there is to do with it, the report's line on it, and whether some ABI
+#: does not allow it.
+_Said = tuple[int, bytes, int, bytes, bool]
 #: How the process of a record stands before it: see Told.program, Told.missed and Told.confined.
 _Standing = tuple[str | None, frozenset[int], bool]
-#: What records have in common that a summary counts as one: standing, members, answer and explanation.
-_Kind = tuple[_Standing, bytes, bytes, tuple[bytes, ...]]
+#: What records have in common that a summary counts as one: standing, members and answers.
+_Kind = tuple[_Standing, bytes, bytes]
 
 
 class Walk:
@@ -132,27 +133,31 @@ class Walk:
 
     The records at the beginning that only give processes once more what they had are walked over and not told.
     `records` and `path_calls` count what was walked over without them, the latter where Landlock was asked; `files` are
-    both.
+    both. With `only_refused` the report has the refused records alone: then moot ones are as those that are allowed,
+    and no opening is missed.
     """
 
-    def __init__(self, trace: Path, report: Path, abis: range, progress: Progress | None = None) -> None:
+    def __init__(
+        self, trace: Path, report: Path, abis: range, progress: Progress | None = None, *, only_refused: bool = False
+    ) -> None:
         self.files = trace, report
+        self._whole = not only_refused
         self._progress = progress
-        self._abis = abis
+        self._allowed = reports.allowed_by_all(abis)
         self._offsets = array("Q", [0])
         self._processes = Followed()
         self.records = 0
         self.path_calls = 0
-        self._not_allowed = lru_cache(1_024)(lambda answer: not_allowed(answer, abis))
+        self._not_allowed = lru_cache(1_024)(_not_allowed)
 
     @property
     def confines(self) -> bool:
         """Whether a process asked for a layer."""
         return self._processes.confines
 
-    def policy_of(self, line: int) -> int | None:
-        """The number in the tried policy of the layer that the `restrict` on a line made; None if it is no policy's."""
-        return self._processes.policy_of(line)
+    def policy_of(self, layer: Refusing) -> int | None:
+        """The number in the tried policy of a layer that refuses a record; None if it is no policy's."""
+        return None if layer.line is None else self._processes.policy_of(layer.line)
 
     def opened(self, line: int) -> str | None:
         """The path to show for what the record on a line opened."""
@@ -163,13 +168,13 @@ class Walk:
     def __iter__(self) -> Iterator[Told]:
         """Each record that is told."""
         for said in self._lines():
-            _, _, to_do, _, why = said
-            if why or to_do >= _RULE:
+            _, _, to_do, _, differs = said
+            if differs or to_do >= _RULE:
                 told = self._taken_apart(said)
                 self.path_calls += told.asked and to_do == _READ
                 yield told
-            else:
-                self._follow_opening(said)
+            elif self._whole:
+                self._follow_opening(said, self._members(said))
 
     def kinds(self) -> Iterator[tuple[Told, int]]:
         """Records that are not allowed under all ABIs and those of the tried policy: of those that a summary counts as
@@ -199,10 +204,9 @@ class Walk:
     def _lines(self) -> Iterator[_Said]:
         """Goes over both files, and gives what is told or changes what is kept. A long recording waits for this."""
         again, at, offset, processes, progress = True, 0, self._offsets.append, self._processes, self._progress
-        begins = _BEGINS.get
+        begins, allowed, whole = _BEGINS.get, self._allowed, self._whole
         with open(self.files[0], "rb") as lines, open(self.files[1], "rb") as report:
-            readline = report.readline
-            after = readline()
+            readline, shown = report.readline, None if whole else reports.Shown(report)
             for number, line in enumerate(lines, start=1):
                 at += len(line)
                 offset(at)
@@ -211,37 +215,38 @@ class Walk:
                     if not line.strip(_BLANKS):
                         continue
                     to_do = _READ
-                answer, after = after, readline()
-                why: tuple[bytes, ...] = ()
-                while after.startswith(_EXPLAINS):
-                    why = (*why, after)
-                    after = readline()
+                answer = readline() if shown is None else shown.on(number)
+                differs = not answer.endswith(allowed) if whole else answer != b""
                 if again:
                     again = _AGAIN in line
                     if again:
-                        self._taken_apart((number, line, to_do, answer, why))
+                        self._taken_apart((number, line, to_do, answer, differs))
                         continue
                 self.records += 1
                 if to_do & _ON_PATH and (line.endswith(_LET_THROUGH) or _asked(line)):
                     self.path_calls += 1
                 if not number % EVERY and progress is not None:
                     progress.show(number, "answers read")
-                if why or to_do >= _RULE or (to_do & _OPENS_NUMBER and processes.watched):
-                    yield number, line, to_do, answer, why
-        if not after.startswith(b"total "):
-            raise _other(*self.files)
+                if differs or to_do >= _RULE or (to_do & _OPENS_NUMBER and processes.watched):
+                    yield number, line, to_do, answer, differs
+            if not (readline() if shown is None else shown.line).startswith(reports.LAST):
+                raise _other(*self.files)
 
     def _record(self, said: _Said) -> Record:
         number, line, _, answer, _ = said
         record = jsonl.read(self.files[0], number, line)
         pid = record.get("pid")
-        if type(pid) is not int or not answer.startswith(b"%d %d " % (number, pid)):
+        if type(pid) is not int or not (answer.startswith(reports.head(number, pid)) or self._left_out(answer)):
             raise _other(*self.files)
         return record
 
+    def _left_out(self, answer: bytes) -> bool:
+        """Whether the report leaves a record out."""
+        return not self._whole and not answer
+
     def _told(self, said: _Said, record: Record, standing: _Standing) -> Told:
-        number, _, _, answer, why = said
-        found = answered(answer, why, self._abis) if why else ()
+        number, _, _, _, differs = said
+        found = reports.not_allowed(self._members(said)[3]) if differs else ()
         asked = record["op"] in PATH_CALLS and record.get("kernel") in ASKED_LANDLOCK
         program, missed, confined = standing
         return Told(number, record, found, program, asked, missed, confined)
@@ -252,58 +257,57 @@ class Walk:
         pid, fd = record["pid"], record.get("fd")
         missed = processes.missed(pid, fd) if isinstance(fd, int) else NOWHERE
         told = self._told(said, record, (processes.program(pid), missed, processes.confined(pid)))
-        processes.follow(told.line, record, frozenset(abi for abis, _ in told.answered for abi in abis))
+        not_allowed = frozenset(abi for abis, _ in told.answered for abi in abis) if self._whole else NOWHERE
+        processes.follow(told.line, record, not_allowed)
         return told
 
     def _kind(self, said: _Said) -> _Kind | None:
         """Takes up what a record changes, and says of which kind it is if a summary counts it."""
-        number, line, to_do, answer, why = said
-        words = self._words(answer)
-        counts = bool(why) or _POLICY in line
+        _, line, to_do, _, differs = said
+        members = self._members(said)
+        counts = differs or _POLICY in line
         if not counts and to_do < _STATE:
-            self._follow_opening(said)
+            self._follow_opening(said, members)
             return None
-        standing = None if to_do == _READ else self._standing(number, line, words, bool(why))
-        if standing is None or (to_do >= _STATE and not self._changes(line, int(words[1]))):
+        standing = None if to_do == _READ else self._standing(line, members, differs)
+        if standing is None or (to_do >= _STATE and not self._changes(line, _pid(members))):
             told = self._taken_apart(said)
             self.path_calls += told.asked and to_do == _READ
             counts = counts or "policy" in told.record
             standing = told.program, told.missed, told.confined
-        own = _OWN_OF_OPENING if words[2] == b"open" else _OWN
-        return (standing, own.sub(b"", line), words[3], why) if counts else None
+        own = _OWN_OF_OPENING if members[2] == _OPEN else _OWN
+        return (standing, own.sub(b"", line), members[3]) if counts else None
 
-    def _follow_opening(self, said: _Said) -> None:
+    def _follow_opening(self, said: _Said, members: list[bytes]) -> None:
         """Takes up that a number is opened that may have been missed."""
-        number, line, _, answer, _ = said
-        words = self._words(answer)
-        if self._processes.misses(int(words[1])) and self._standing(number, line, words, False) is None:
+        if self._processes.misses(_pid(members)) and self._standing(said[1], members, False) is None:
             self._taken_apart(said)
 
-    def _words(self, answer: bytes) -> list[bytes]:
-        """The line's number, the process, the operation, and what is answered."""
-        words = answer.split(b" ", 3)
-        if len(words) < 4:
+    def _members(self, said: _Said) -> list[bytes]:
+        """The members of the report's line on a record: its number, process and operation, and the answers."""
+        members = reports.split(said[3])
+        if members[0] != b'{"line":%d' % said[0] or len(members) < 4:
             raise _other(*self.files)
-        return words
+        return members
 
-    def _standing(self, number: int, line: bytes, words: list[bytes], explained: bool) -> _Standing | None:
+    def _standing(self, line: bytes, members: list[bytes], differs: bool) -> _Standing | None:
         """How a record's process stands before it, and takes up what the record does to numbers. It is not taken apart
         for that; None if it is not written as landaudit-record does.
         """
-        processes, op, member = self._processes, words[2], b'"pid":%b' % words[1]
-        if words[0] != b"%d" % number or (member + b"," not in line and member + b"}" not in line):
+        processes, (_, member, op, answers) = self._processes, members
+        if member + b"," not in line and member + b"}" not in line:
             return None
-        pid, missed = int(words[1]), NOWHERE
+        pid, missed = _pid(members), NOWHERE
         if op in _ON_NUMBERS:
-            found = (_COPIES if op == b"dup" else _FD).search(line)
+            found = (_COPIES if op == _DUP else _FD).search(line)
             if found is None:
                 return None
             missed = processes.missed(pid, int(found[1]))
-            if op == b"open":
-                processes.miss(pid, int(found[1]), self._not_allowed(words[3]) if explained else NOWHERE)
-            elif op == b"dup":
+            if op == _OPEN:
+                processes.miss(pid, int(found[1]), self._not_allowed(answers) if differs else NOWHERE)
+            elif op == _DUP:
                 processes.miss(pid, int(found[2]), missed)
-            elif op == b"close" or op == b"adopt":
+            elif op == _CLOSE or op == _ADOPT:
                 processes.miss(pid, int(found[1]), NOWHERE)
         return processes.program(pid), missed, processes.confined(pid)
 
@@ -323,15 +327,21 @@ class Walk:
         return True
 
 
+def _pid(members: list[bytes]) -> int:
+    """The process of a record, from the members of the report's line."""
+    return int(members[1][_PID:])
+
+
+def _not_allowed(answers: bytes) -> frozenset[int]:
+    """The ABIs that do not allow a record."""
+    found = reports.abis_by_verdict(answers)
+    return found[MOOT] | found[REFUSED]
+
+
 def _asked(line: bytes) -> bool:
     """Whether the kernel asked Landlock about a call that landaudit-record wrote, by the kernel's answer."""
     at = line.rfind(_KERNEL)
     return at < 0 or line.startswith(_ASKED, at + len(_KERNEL))
-
-
-def _not_given(told: Told) -> frozenset[int]:
-    """The ABIs at which an open was refused or moot."""
-    return frozenset(abi for abis, _ in told.answered for abi in abis)
 
 
 def call_text(record: Record) -> str:

@@ -7,9 +7,8 @@ from collections.abc import Callable, Iterable, Iterator, Mapping, Sequence, Set
 from dataclasses import dataclass, field, replace
 
 from . import processes, styling, wants, widening
-from .explanations import Closed, Gained, Kept, Missing, Objection, refusing
+from .answers import Answer, Closed, Gained, Kept, Missing, Objection
 from .jsonl import Record
-from .landaudit import Answer
 from .objects import Objects
 from .policies import Access, Layer, PathRule, Policy, PortRule, group_rules
 from .processes import of_policy
@@ -209,8 +208,8 @@ class _Look:
         if _fails_anyway(told):
             self._seen.failed[call_text(record)] += 1
             return
-        for layer in refusing(record, answer):
-            number = walk.policy_of(layer.line)
+        for layer in answer.layers:
+            number = walk.policy_of(layer)
             if number is None:
                 self._seen.of_program[call_text(record)] += 1
                 continue

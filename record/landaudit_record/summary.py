@@ -7,19 +7,16 @@ from collections.abc import Hashable, Iterable, Sequence
 from dataclasses import asdict, dataclass, field, replace
 from typing import Any
 
-from . import explanations
-from .explanations import Condition, Kept, Missing, Objection
+from . import answers
+from .answers import NOT_OPEN, UNOPENED, Answer, Condition, Kept, Missing, Objection
 from .jsonl import Record
-from .landaudit import Answer
 from .processes import of_policy, shown_path
 from .reading import ASKED_LANDLOCK, Place, Told, Walk, call_text, place_of, place_text
 
 #: The members of a record in which refused calls of one kind agree, besides their explanation.
 _TELLS = ("op", "path", "shown", "from", "to", "shown_to", "mode", "create", "trunc", "kind", "exchange", "port", "rs")
-#: What landaudit says about a rule or a ruleset that a program leaves out at an ABI that lacks all its rights.
-LEFT_OUT = ((explanations.LEFT_OUT,), (explanations.UNENFORCED,))
 #: Why a call on a descriptor is moot if the descriptor's open was not allowed.
-MISSED = f"{explanations.NOT_OPEN}, its opening was refused or moot"
+MISSED = f"{NOT_OPEN}, its opening was refused or moot"
 NO_LAYER = ("no process confines itself, so nothing is refused: try a policy by --policy, or record a program that "
             "confines itself")
 
@@ -74,7 +71,8 @@ class Brief:
 
 @dataclass
 class Summary:
-    """The result of an audit; `missing` is what it could not judge, so that it can't say that all is well.
+    """The result of an audit; `missing` is what it could not judge, so that it can't say that all is well, `untraced`
+    which kinds of calls that a layer may refuse were not traced.
 
     Accepted refusals are separate, with how many calls there are of each. `untouched` are the warnings about rules on
     paths that the run never touched; `brief` has shorter forms of some warnings; `recordings` says, if several were
@@ -92,6 +90,7 @@ class Summary:
     warnings: dict[str, int] = field(default_factory=dict)
     unsaid: Counter[str] = field(default_factory=Counter)
     missing: tuple[str, ...] = ()
+    untraced: tuple[str, ...] = ()
     accepted: Counter[Accepted] = field(default_factory=Counter)
     untouched: set[str] = field(default_factory=set)
     brief: dict[str, Brief] = field(default_factory=dict)
@@ -169,7 +168,7 @@ class Summaries:
             self._by_abi[abi].verdicts["refused"] += times
         if not answer.layers and self._warned(record, answer, abis, times):
             return
-        about = (*map(record.get, _TELLS), answer.error, answer.explanation)
+        about = (*map(record.get, _TELLS), answer, answer.opened)
         refusal = known.get(about)
         if refusal is None:
             known[about] = refusal = _refusal(walk, record, answer)
@@ -178,11 +177,10 @@ class Summaries:
 
     def _warned(self, record: Record, answer: Answer, abis: Iterable[int], times: int) -> bool:
         """Warns of a ruleset that is not made or not filled; says whether that is all to be said of the record."""
-        condition = explanations.condition(answer)
-        origin = of_policy(record)
+        condition, origin = answer.condition, of_policy(record)
         for abi in abis:
             if origin is not None:
-                text = f"{_rule_text(origin, record)} is refused with {answer.error}: {condition.text}"
+                text = f"{_rule_text(origin, record)} is refused with {answer.error}: {condition}"
                 _warn(self._by_abi[abi], text, times)
             elif record["op"] == "create":
                 text = (f"a ruleset of the program is refused at ABI {abi} with {answer.error}: "
@@ -207,8 +205,12 @@ class Summaries:
                 _warn(summary, text, times, _brief(told.record, None) if at.startswith("/") else None)
                 summary.untouched.add(text)
 
-    def done(self, unsaid: Counter[str], missing: Sequence[str] = ()) -> list[Summary]:
-        """The summaries, the oldest ABI first; `missing` is what no audit of the recording can judge."""
+    def done(
+        self, unsaid: Counter[str], missing: Sequence[str] = (), untraced: Sequence[str] = ()
+    ) -> list[Summary]:
+        """The summaries, the oldest ABI first; `missing` is what no audit of the recording can judge, `untraced` what
+        was not traced.
+        """
         for abi, summary in self._by_abi.items():
             summary.verdicts["allowed"] = summary.seen - summary.verdicts["refused"] - summary.verdicts["moot"]
             if not self._confines:
@@ -217,6 +219,7 @@ class Summaries:
                 _warn_of_many_moot(summary)
             summary.unsaid = unsaid
             summary.missing = tuple(missing)
+            summary.untraced = tuple(untraced)
         return list(self._by_abi.values())
 
 
@@ -236,22 +239,21 @@ def _told_of_rule(summary: Summary, record: Record, times: int) -> None:
 def _is_left_out(record: Record, answer: Answer) -> bool:
     """Whether a record of the policy is left out: the ABI has none of its rights, or the run makes its object."""
     origin = of_policy(record)
-    return origin is not None and ("made" in origin or answer.explanation in LEFT_OUT)
+    return origin is not None and ("made" in origin or answer.left_out)
 
 
 def _refusal(walk: Walk, record: Record, answer: Answer) -> Refusal:
     """The kind that a refused call is counted as."""
-    layers = explanations.refusing(record, answer) if answer.layers else ()
     told = tuple(
         RefusingLayer(
             layer.layer,
-            walk.policy_of(layer.line),
+            walk.policy_of(layer),
             tuple(_as_shown(objection, record, walk) for objection in layer.objections),
         )
-        for layer in layers
+        for layer in answer.layers
     )
     kept = next((one for layer in told for one in layer.objections if isinstance(one, Kept)), None)
-    condition = None if answer.layers else explanations.condition(answer).text
+    condition = None if answer.layers else str(answer.condition)
     place = place_text(record, None if kept is None else kept.path)
     return Refusal(call_text(record), place, answer.error or "-", told, condition)
 
@@ -259,8 +261,8 @@ def _refusal(walk: Walk, record: Record, answer: Answer) -> Refusal:
 def _without_ruleset(condition: Condition) -> str:
     """Why a program makes no ruleset, and the consequence."""
     if condition.of_abi:
-        return f"{condition.text}; a program must drop what the kernel does not have, or it runs without that layer"
-    return f"{condition.text}; the program runs without that layer"
+        return f"{condition}; a program must drop what the kernel does not have, or it runs without that layer"
+    return f"{condition}; the program runs without that layer"
 
 
 def _as_shown(objection: Objection, record: Record, walk: Walk) -> Objection:
@@ -276,12 +278,16 @@ def _as_shown(objection: Objection, record: Record, walk: Walk) -> Objection:
 def _because(record: Record, answer: Answer, missed: bool) -> tuple[str, str]:
     """Why a call is moot, and the path or number that the reason is about."""
     kernel = record.get("kernel")
-    if kernel not in ASKED_LANDLOCK and answer.explanation not in LEFT_OUT:
+    if kernel not in ASKED_LANDLOCK and not answer.left_out:
         return f"the call failed in the recording too: {kernel}", place_text(record)
-    reason = explanations.reason(record, answer)
-    not_opened = reason.why == explanations.NOT_OPEN and missed
-    why = MISSED if not_opened else reason.why
-    return why, " -> ".join(shown_path(record, at) for at in reason.at)
+    reason = answer.reason
+    why = MISSED if reason.word == UNOPENED and missed else reason.why
+    return why, " -> ".join(shown_path(record, about) for about in reason.about) or _left_out(record)
+
+
+def _left_out(record: Record) -> str:
+    """What a rule that is left out is on, or the ruleset of a restriction that is left out."""
+    return f"ruleset {record['rs']}" if record["op"] == "restrict" else place_text(record)
 
 
 def _rule_text(origin: dict[str, Any], record: Record) -> str:
@@ -330,6 +336,7 @@ def as_data(summary: Summary) -> dict[str, Any]:
         "warnings": [{"text": text, "times": times} for text, times in summary.warnings.items()],
         "unsaid": dict(summary.unsaid.most_common()),
         "not_judged": list(summary.missing),
+        "not_traced": list(summary.untraced),
     }
 
 
@@ -349,5 +356,5 @@ def _refusal_data(refusal: Refusal, programs: Counter[str], summary: Summary) ->
 
 
 def _layer_data(layer: RefusingLayer) -> dict[str, Any]:
-    objections = [explanations.as_data(objection) for objection in layer.objections]
+    objections = [answers.as_data(objection) for objection in layer.objections]
     return {"number": layer.number, "policy": layer.policy, "objections": objections}

@@ -8,9 +8,9 @@ from collections.abc import Callable, Iterator, Sequence
 from dataclasses import dataclass, replace
 from typing import TextIO
 
-from . import explanations, grouping, layout
+from . import grouping, layout
+from .answers import NOT_OPEN, Closed, Kept, Missing, Objection
 from .by_abi import Kind, Step
-from .explanations import Closed, Kept, Missing, Objection
 from .grouping import Group, Lacking
 from .layout import Cell, Column, Lack, plain, table, wide, words
 from .recorder.processes import FIRST_MADE_UP
@@ -30,7 +30,7 @@ _IN_WORDS = {
     "is not in the tree": "the recording has no such file",
     "is in the tree already": "it is there already",
     "is not a directory": "it is not a directory",
-    explanations.NOT_OPEN: "its file is not open",
+    NOT_OPEN: "its file is not open",
     MISSED: "its opening was refused or not asked",
 }
 _FAILED_TOO = "the call failed in the recording too: "

@@ -13,7 +13,7 @@ from dataclasses import dataclass, replace
 from itertools import chain
 from pathlib import Path, PurePosixPath
 
-from . import landaudit
+from . import landaudit, reports
 from .asking import FIRST_DESCRIPTOR, RULESET
 from .distilling import Domain, Enforced, Question, call_of, text
 from .jsonl import Record
@@ -248,16 +248,12 @@ class Tightening:
         """What is refused in a trace."""
         self._audits += 1
         with tempfile.TemporaryDirectory(prefix="landaudit-") as name:
-            file, report = Path(name, "trace.jsonl"), Path(name, "report.txt")
+            file, report = Path(name, "trace.jsonl"), Path(name, "report.jsonl")
             with open(file, "w", encoding="utf-8") as out:
                 out.writelines(trace.lines)
             landaudit.audit(self._program, alone(self._abi), trace.asked.tree, file, report,
                             best_effort=self._best_effort, explain=False, only_refused=True)
-            with open(report, encoding="utf-8") as lines:
-                for line in lines:
-                    number = line.partition(" ")[0]
-                    if number.isdigit() and (decided := trace.decided.get(int(number))) is not None:
-                        yield decided
+            yield from (trace.decided[number] for number in reports.numbers(report) if number in trace.decided)
 
 
 class _Trace:

@@ -95,9 +95,9 @@ def audits(members: Sequence[Member], program: Path, name: str, *, best_effort: 
 def walks(
     members: Sequence[Member], audits: Sequence[Auditing], abis: range, policy: Policy
 ) -> Iterator[tuple[int, Walk]]:
-    """Walks over the answers to all parts of all recordings under a policy, each with the recording's index."""
+    """Walks over what is refused in all parts of all recordings under a policy, each with the recording's index."""
     for index, (member, auditing) in enumerate(zip(members, audits)):
-        for walk in auditing.walks(abis, member.tried, policy):
+        for walk in auditing.walks(abis, member.tried, policy, only_refused=True):
             yield index, walk
 
 
@@ -116,6 +116,7 @@ def united(each: Sequence[tuple[Member, Summary]]) -> Summary:
     found.warnings = {text: found.warnings[text] for text in told}
     found.untouched = idle
     found.missing = tuple(text for member, _ in each for text in member.of_several)
+    found.untraced = tuple(recording_notes([member for member, _ in each]))
     return found
 
 

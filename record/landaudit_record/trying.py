@@ -147,23 +147,33 @@ class Auditing:
     status: int = 0
     _run: landaudit.Run | None = field(default=None, init=False)
 
-    def walks(self, abis: range, tried: Tried | None, policy: Policy | None = None) -> Iterator[Walk]:
+    def walks(
+        self, abis: range, tried: Tried | None, policy: Policy | None = None, *, only_refused: bool = False
+    ) -> Iterator[Walk]:
         """Judges each part at some ABIs, and yields a walk over its answers, as `judged` does."""
-        for files in self.judged(abis, tried, policy):
-            yield Walk(files.trace, files.report, abis, self.progress)
+        for files in self.judged(abis, tried, policy, only_refused=only_refused):
+            yield Walk(files.trace, files.report, abis, self.progress, only_refused=only_refused)
 
     def judged(
-        self, abis: range, tried: Tried | None, policy: Policy | None = None, *, explain: bool = True
+        self,
+        abis: range,
+        tried: Tried | None,
+        policy: Policy | None = None,
+        *,
+        explain: bool = True,
+        only_refused: bool = False,
     ) -> Iterator[Files]:
         """Judges each part at some ABIs, and gives its files. landaudit judges the next part meanwhile.
 
-        If a policy is tried, `policy` is one with other rules to try instead.
+        If a policy is tried, `policy` is one with other rules to try instead. With `only_refused` the report has the
+        refused records alone.
         """
         before: Files | None = None
         try:
             for own, files in self._files(abis, tried, policy):
                 ready = self._ready(before)
-                self._run = landaudit.start(self.program, abis, *files, best_effort=self.best_effort, explain=explain)
+                self._run = landaudit.start(self.program, abis, *files, best_effort=self.best_effort, explain=explain,
+                                            only_refused=only_refused)
                 yield from ready
                 self.progress.say(f"judging at ABI {span(abis)}{self._of_all(own)}")
                 before = files

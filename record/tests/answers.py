@@ -7,7 +7,7 @@ import tempfile
 from collections.abc import Iterator
 from pathlib import Path
 
-from landaudit_record import finished, landaudit, trying
+from landaudit_record import finished, landaudit, reports, trying
 from landaudit_record.finished import Finished
 from landaudit_record.policies import Policy
 from landaudit_record.problems import Problem
@@ -15,8 +15,8 @@ from landaudit_record.recorder.progress import Progress
 from landaudit_record.trying import Auditing
 
 ABIS = range(1, 6)
-_LINE = re.compile(rb"\(line \d+\)|opened at line \d+")
-_HEAD = re.compile(rb"\d+ ")
+#: The numbers of lines in a report. In a path quotes have a backslash before them, so none is in a path.
+_LINE = re.compile(rb'"(line|opened)":\d+')
 
 
 def wanting() -> str | None:
@@ -49,15 +49,9 @@ def answers(
 
 def _answers(trace: Path, report: Path) -> Iterator[bytes]:
     again = [b'"again":true' in line for line in trace.read_bytes().splitlines()]
-    shown = False
-    for line in report.read_bytes().splitlines():
-        if line.startswith(b"total "):
-            continue
-        if not line.startswith(b"    "):
-            shown = not again[int(line.split(b" ", 1)[0]) - 1]
-            line = _HEAD.sub(b"", line, count=1)
-        if shown:
-            yield _LINE.sub(b"(line)", line)
+    for number, line in zip(reports.numbers(report), report.read_bytes().split(b"\n")):
+        if not again[number - 1]:
+            yield _LINE.sub(rb'"\1"', line)
 
 
 def parts(folder: Path) -> int:

@@ -15,6 +15,7 @@ from __future__ import annotations
 import argparse
 import contextlib
 import io
+import json
 import random
 import re
 import sys
@@ -39,7 +40,6 @@ from tests.random_runs import Run  # noqa: E402
 
 ABIS = range(OLDEST_ABI, NEWEST_ABI + 1)
 TREES = 4
-_ANSWER = re.compile(r"(?:([0-9]+)(?:-([0-9]+))? )?(allowed|moot|refused)")
 _ROW = re.compile(r" *([0-9]+)  ([a-z_]+) +layer ([0-9]+), (path_beneath|net_port) ([0-9]+) .*")
 _REFUSED_RULE = re.compile(r"layer ([0-9]+), path_beneath ([0-9]+), parent (.*): the kernel refuses this rule, ")
 _TABLES = {"path_beneath": "path", "net_port": "port"}
@@ -64,20 +64,20 @@ class Answer:
 
 def judged(program: Path, folder: Path, kinds: Kinds, records: Sequence[Record], abis: range = ABIS) -> list[Answer]:
     """What landaudit answers to each record of a trace."""
-    tree, trace, report = folder / "tree.jsonl", folder / "trace.jsonl", folder / "report.txt"
+    tree, trace, report = folder / "tree.jsonl", folder / "trace.jsonl", folder / "report.jsonl"
     asking.write_tree(tree, kinds)
     jsonl.write(trace, records)
     landaudit.audit(program, abis, tree, trace, report, best_effort=True, explain=False)
     with open(report, encoding="utf-8") as lines:
-        return [_answer(next(lines), abis) for _ in records]
+        return [_answer(next(lines)) for _ in records]
 
 
-def _answer(line: str, abis: range) -> Answer:
+def _answer(line: str) -> Answer:
     """The answer on a line of a report."""
     found: dict[str, Abis] = {}
-    for first, last, verdict in _ANSWER.findall(line.split(" ", 3)[3]):
-        some = frozenset(range(int(first), int(last or first) + 1)) if first else frozenset(abis)
-        found[verdict] = found.get(verdict, frozenset()) | some
+    for said in json.loads(line)["answers"]:
+        first, last = said["abi"]
+        found[said["answer"]] = found.get(said["answer"], frozenset()) | frozenset(range(first, last + 1))
     return Answer(found.get("allowed", frozenset()), found.get("moot", frozenset()))
 
 

@@ -20,7 +20,7 @@ from pathlib import Path
 from typing import Any, ClassVar
 
 from landaudit_record import page
-from landaudit_record.explanations import Missing
+from landaudit_record.answers import Missing
 from landaudit_record.landaudit import BUILT
 from landaudit_record.page.counting import Paths
 from landaudit_record.reading import Place

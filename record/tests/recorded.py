@@ -1,4 +1,4 @@
-"""Small recordings and reports for tests, written by hand."""
+"""Small recordings and reports for tests, written by hand, by docs/FORMATS.md, "The report as JSON"."""
 
 from __future__ import annotations
 
@@ -9,9 +9,16 @@ from pathlib import Path
 from typing import Any
 
 from landaudit_record.jsonl import Record
-from landaudit_record.wording import span
+from landaudit_record.rights import NEWEST_ABI, alone
 
 PID = 10
+
+#: An object of a report.
+Object = dict[str, Any]
+#: What an ABI answers, without the ABI: its verdict alone, or with what belongs to it.
+Said = str | Object
+
+MOUNTING: Object = {"mounting": True}
 
 
 def write_lines(path: Path, objects: Iterable[Any]) -> Path:
@@ -25,51 +32,111 @@ def records(*calls: Record) -> list[Record]:
     return [{"op": "start", "pid": PID}, *({"pid": PID, **call} for call in calls)]
 
 
-def refused(*objections: str, error: str = "EACCES") -> str:
+def missing_on(path: str, *rights: str) -> Object:
+    """An objection: rights that are missing on a path."""
+    return {"missing": list(rights), "on": path}
+
+
+def kept_on(path: str, right: str, opened: int) -> Object:
+    """An objection: a right that was missing when a line opened a file."""
+    return {"missing": [right], "on": path, "opened": opened}
+
+
+def closed_on(port: int, *rights: str) -> Object:
+    """An objection: rights that no rule grants on a port."""
+    return {"closed": list(rights), "port": port}
+
+
+def gained(path: str, directory: str, *rights: str) -> Object:
+    """An objection: rights that an object would gain in a directory."""
+    return {"gains": list(rights), "object": path, "in": directory}
+
+
+def refused(*objections: Object | list[Object], error: str = "EACCES") -> Object:
     """An answer by which layers refuse, counted from 1, with what each objects to."""
-    numbers = range(1, len(objections) + 1)
-    lines = [f"    layer {number} (line {100 + number}): {one}" for number, one in zip(numbers, objections)]
-    return "\n".join([f"refused {error} {','.join(map(str, numbers))}", *lines])
+    layers = [
+        {"layer": number, "line": 100 + number, "objections": one if isinstance(one, list) else [one]}
+        for number, one in enumerate(objections, start=1)
+    ]
+    return {"answer": "refused", "error": error, "layers": layers}
 
 
-def at_its_line(trace: Sequence[Record], answer: str) -> str:
-    """An answer of `refused` in whose lines each layer is that of a trace's restrict, in their order."""
-    for number, line in enumerate((at for at, one in enumerate(trace, start=1) if one["op"] == "restrict"), start=1):
-        answer = answer.replace(f"(line {100 + number})", f"(line {line})")
-    return answer
+def unexplained(error: str, *layers: int) -> Object:
+    """A refusal of a report without explanations, by some layers or by the call itself."""
+    return {"answer": "refused", "error": error, "layers": [{"layer": layer} for layer in layers]}
 
 
-def failed(error: str, condition: str) -> str:
+def failed(error: str, condition: str, **about: Any) -> Object:
     """An answer by which a call fails by itself."""
-    return f"refused {error} -\n    {condition}"
+    return {"answer": "refused", "error": error, "layers": [], "why": {"condition": condition, **about}}
 
 
-def moot(reason: str) -> str:
+def moot(reason: str, **about: Any) -> Object:
     """An answer by which the policy is not asked."""
-    return f"moot\n    {reason}"
+    return {"answer": "moot", "why": {"reason": reason, **about}}
 
 
-def over_range(answers: Mapping[int, str]) -> str:
-    """What the ABIs of a range answer to a record, as one report has it: neighbours that say the same say it once."""
-    parts = {abi: answer.partition("\n") for abi, answer in answers.items()}
-    words = list(_together({abi: said for abi, (said, _, _) in parts.items()}))
-    lines = list(_together({abi: explanation for abi, (_, _, explanation) in parts.items()}))
-    answered = words[0][1] if len(words) == 1 else " ".join(f"{abis} {said}" for abis, said in words)
-    headed = [f"    abi {abis}:\n{said}" if len(lines) > 1 else said for abis, said in lines if said]
-    return "\n".join([answered, *headed])
+def at_its_line(trace: Sequence[Record], said: Said) -> Said:
+    """An answer of `refused` in which each layer is that of a trace's restrict, in their order."""
+    if isinstance(said, str) or "layers" not in said:
+        return said
+    made = [line for line, one in enumerate(trace, start=1) if one["op"] == "restrict"]
+    lines = {100 + number: line for number, line in enumerate(made, start=1)}
+    layers = [{**layer, "line": lines.get(layer["line"], layer["line"])} for layer in said["layers"] if "line" in layer]
+    return {**said, "layers": layers or said["layers"]}
 
 
-def _together(texts: Mapping[int, str]) -> Iterator[tuple[str, str]]:
-    """The texts of neighbouring ABIs, once for those that have the same."""
-    for text, abis in groupby(sorted(texts), key=texts.__getitem__):
+def over_range(answers: Mapping[int, Said]) -> list[Object]:
+    """What the ABIs of a range answer to a record: neighbours that say the same say it once."""
+    each = {abi: {"answer": said} if isinstance(said, str) else said for abi, said in answers.items()}
+    return list(_together(each))
+
+
+def _together(each: Mapping[int, Any]) -> Iterator[Object]:
+    for said, abis in groupby(sorted(each), key=each.__getitem__):
         some = list(abis)
-        yield span(range(some[0], some[-1] + 1)), text
+        yield {"abi": [some[0], some[-1]], **said}
 
 
-def write_report(path: Path, trace: Sequence[Record], answers: Sequence[str]) -> Path:
-    """A report on a trace: the answers in its order, each in the report's words, with the lines that explain it."""
-    answered = enumerate(zip(trace, answers, strict=True), start=1)
-    rows = [f"{number} {record['pid']} {record['op']} {at_its_line(trace, answer)}"
-            for number, (record, answer) in answered]
-    path.write_text("\n".join([*rows, f"total {len(rows)} allowed 0 refused 0 moot 0"]) + "\n")
+def report_line(number: int, record: Record, answers: list[Object]) -> str:
+    """A report's line on a record, as landaudit prints it."""
+    return compact({"line": number, "pid": record["pid"], "op": record["op"], "answers": answers})
+
+
+def last_line(records: int, abis: range) -> str:
+    """A report's last line, whose counts no test reads."""
+    totals = [{"abi": abi, "records": records, "allowed": 0, "refused": 0, "moot": 0} for abi in abis]
+    return compact({"totals": totals, "version": "0.2"})
+
+
+def compact(value: Object) -> str:
+    """A line as landaudit prints it."""
+    return json.dumps(value, ensure_ascii=False, separators=(",", ":")) + "\n"
+
+
+def allow_all(words: Sequence[str]) -> None:
+    """Prints the report of a landaudit that is called with some words and allows all that the trace has."""
+    oldest, _, newest = words[2].partition("-")
+    abis = range(int(oldest), int(newest or oldest) + 1)
+    lines = Path(words[-1]).read_text(encoding="utf-8").splitlines()
+    for number, line in enumerate(lines, start=1):
+        print(report_line(number, json.loads(line), over_range(dict.fromkeys(abis, "allowed"))), end="")
+    print(last_line(len(lines), abis), end="")
+
+
+def write_report(
+    path: Path,
+    trace: Sequence[Record],
+    answers: Sequence[Said | list[Object]],
+    abis: range = alone(NEWEST_ABI),
+    *,
+    only_refused: bool = False,
+) -> Path:
+    """A report on a trace: the answers in its order, of all ABIs or those of each; or as with --refused."""
+    with open(path, "w", encoding="utf-8", errors="surrogatepass", newline="\n") as out:
+        for number, (record, said) in enumerate(zip(trace, answers, strict=True), start=1):
+            each = said if isinstance(said, list) else over_range(dict.fromkeys(abis, at_its_line(trace, said)))
+            if not only_refused or any(one["answer"] == "refused" for one in each):
+                out.write(report_line(number, record, each))
+        out.write(last_line(len(trace), abis))
     return path

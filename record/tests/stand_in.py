@@ -13,7 +13,7 @@ from unittest import mock
 
 from landaudit_record import cli
 
-from .recorded import PID, moot, refused, write_lines
+from .recorded import PID, missing_on, moot, refused, write_lines
 
 #: How wide lines are where a test is not about that.
 WIDE = "1000"
@@ -39,9 +39,9 @@ LANDAUDIT = """#!/usr/bin/env python3
 import json, sys
 from pathlib import Path
 sys.path.insert(0, {record!r})
-from tests.recorded import at_its_line, over_range
-_, word, *flags, workers, number, tree, trace = sys.argv[1:]
-assert workers == "--workers" and int(number) > 0
+from tests.recorded import at_its_line, last_line, over_range, report_line
+_, word, as_json, *flags, workers, number, tree, trace = sys.argv[1:]
+assert as_json == "--json" and workers == "--workers" and int(number) > 0
 assert Path(tree).read_text()
 with open({runs!r}, "a") as runs:
     print(word, *flags, file=runs)
@@ -51,14 +51,15 @@ lines = [json.loads(line) for line in Path(trace).read_text().splitlines()]
 known = json.loads(Path({answers!r}).read_text())
 answers = {{abi: known.get(f"{{abi}}: {{len(lines)}}") or known[str(len(lines))] for abi in abis}}
 for number, record in enumerate(lines, start=1):
-    answer = over_range({{abi: answers[abi][number - 1] for abi in abis}})
-    print(number, record["pid"], record["op"], at_its_line(lines, answer))
-for abi in abis:
-    print("total", len(lines), *(["abi", abi] if len(abis) > 1 else []))
-sys.exit(1 if any("refused" in answer for abi in abis for answer in answers[abi]) else 0)
+    said = over_range({{abi: at_its_line(lines, answers[abi][number - 1]) for abi in abis}})
+    if "--refused" not in flags or any(one["answer"] == "refused" for one in said):
+        sys.stdout.write(report_line(number, record, said))
+sys.stdout.write(last_line(len(lines), abis))
+refused = [one for abi in abis for one in answers[abi] if one != "allowed" and one["answer"] == "refused"]
+sys.exit(1 if refused else 0)
 """
 RECORD = Path(__file__).resolve().parents[1]
-LEFT_OUT = moot("left out, as this ABI supports none of the rule's rights")
+LEFT_OUT = moot("unsupported")
 
 
 class StandIn(unittest.TestCase):
@@ -74,13 +75,14 @@ class StandIn(unittest.TestCase):
         write_lines(self.recording / "trace.jsonl", TRACE)
         self.policy = self.folder / "P.toml"
         self.policy.write_text(POLICY)
+        runs, writes = refused(missing_on("/bin", "execute")), refused(missing_on("/a", "write_file"))
         answers = {
             "3": ["allowed"] * 3,
-            "1: 7": ["allowed"] * 5 + [refused("execute on /bin"), "allowed"],
-            "2: 7": ["allowed"] * 6 + [refused("write_file on /a")],
-            "1: 8": ["allowed"] * 3 + [LEFT_OUT] + ["allowed"] * 2 + [refused("execute on /bin"), "allowed"],
-            "2: 8": ["allowed"] * 3 + [LEFT_OUT] + ["allowed"] * 3 + [refused("write_file on /a")],
-            "8": ["allowed"] * 7 + [refused("write_file on /a")],
+            "1: 7": ["allowed"] * 5 + [runs, "allowed"],
+            "2: 7": ["allowed"] * 6 + [writes],
+            "1: 8": ["allowed"] * 3 + [LEFT_OUT] + ["allowed"] * 2 + [runs, "allowed"],
+            "2: 8": ["allowed"] * 3 + [LEFT_OUT] + ["allowed"] * 3 + [writes],
+            "8": ["allowed"] * 7 + [writes],
             "9": ["allowed"] * 9,
         }
         (self.folder / "answers.json").write_text(json.dumps(answers))

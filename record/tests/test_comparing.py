@@ -5,7 +5,6 @@ The expected classes are those of docs/SEMANTICS.md, "Where a running kernel dif
 
 from __future__ import annotations
 
-import json
 import os
 import stat
 import tempfile
@@ -17,12 +16,16 @@ from landaudit_record import comparing, comparing_text
 from landaudit_record.comparing import Class, Classes, Difference, Tally
 from landaudit_record.kernel_calls import judged_calls
 from landaudit_record.reading import judged
+from landaudit_record.rights import alone
 from landaudit_record.trees import Tree
 
-Row = tuple[dict[str, Any], str]
+from .recorded import Said, unexplained, write_lines, write_report
+
+Row = tuple[dict[str, Any], Said]
 """A record without its pid, and landaudit's answer to it."""
 
 PID = 10
+BY_A_LAYER = unexplained("EACCES", 1)
 TREE = Tree(
     {
         "/": "dir",
@@ -51,14 +54,12 @@ def compared(rows: list[Row], abi: int = 5, standing: dict[str, os.stat_result] 
     begun: list[Row] = [({"op": "start"}, "allowed"), ({"op": "nnp"}, "allowed")]
     records = [({"pid": PID, **record}, answer) for record, answer in begun + rows]
     with tempfile.TemporaryDirectory() as folder:
-        trace, report = Path(folder) / "trace.jsonl", Path(folder) / "report.txt"
-        trace.write_text("".join(json.dumps(record) + "\n" for record, _ in records))
-        report.write_text(
-            "".join(f"{n} {it['pid']} {it['op']} {answer}\n" for n, (it, answer) in enumerate(records, start=1))
-        )
+        calls = [record for record, _ in records]
+        trace = write_lines(Path(folder, "trace.jsonl"), calls)
+        report = write_report(Path(folder, "report.jsonl"), calls, [answer for _, answer in records], alone(abi))
         tally = Tally()
         classes = Classes(TREE, abi, (standing or {}).get)
-        list(comparing.compare(judged_calls(judged(trace, report), abi), classes, tally))
+        list(comparing.compare(judged_calls(judged(trace, report, abi), abi), classes, tally))
     return tally
 
 
@@ -79,7 +80,7 @@ class Agreement(unittest.TestCase):
         self.assertEqual(tally.calls, 0)
 
     def test_calls_on_rulesets_count_everywhere_and_others_under_a_layer(self) -> None:
-        tally = compared(confined(["read_file"]) + [(opened("EACCES"), "refused EACCES 1")])
+        tally = compared(confined(["read_file"]) + [(opened("EACCES"), BY_A_LAYER)])
         self.assertEqual((tally.calls, tally.agreed), (3, 3))
         self.assertEqual(tally.by_op, {"create": 1, "restrict": 1, "open": 1})
 
@@ -94,7 +95,7 @@ class Agreement(unittest.TestCase):
     def test_the_error_must_be_the_same(self) -> None:
         for kernel in ("ok", "EXDEV", "ENOENT"):
             with self.subTest(kernel=kernel):
-                tally = compared(confined(["read_file"]) + [(opened(kernel), "refused EACCES 1")])
+                tally = compared(confined(["read_file"]) + [(opened(kernel), BY_A_LAYER)])
                 self.assertEqual(tally.differences, {Class.UNNAMED: 1})
 
     def test_what_the_kernel_refuses_for_another_reason_is_let_through_by_both(self) -> None:
@@ -113,7 +114,7 @@ class Agreement(unittest.TestCase):
         rows: list[Row] = [
             ({"op": "open", "path": "/a/f", "fd": 4, "mode": "r", **group}, "allowed"),
             ({"op": "exec", "path": "/a/f", **group}, "allowed"),
-            ({"op": "exec", "path": "/ld.so", "role": "interpreter", **group}, "refused EACCES 1"),
+            ({"op": "exec", "path": "/ld.so", "role": "interpreter", **group}, BY_A_LAYER),
             ({"op": "close", "fd": 4, "call": 9}, "allowed"),
         ]
         tally = compared(confined(["execute"]) + rows)
@@ -121,13 +122,13 @@ class Agreement(unittest.TestCase):
 
     def test_a_ruleset_call_must_have_the_same_outcome(self) -> None:
         refused = {"op": "create", "rs": 3, "fs": [], "call": 1, "kernel": "ENOMSG"}
-        self.assertEqual(compared([(refused, "refused ENOMSG -")]).agreed, 1)
-        self.assertEqual(compared([({**refused, "kernel": "EINVAL"}, "refused ENOMSG -")]).agreed, 0)
+        self.assertEqual(compared([(refused, unexplained("ENOMSG"))]).agreed, 1)
+        self.assertEqual(compared([({**refused, "kernel": "EINVAL"}, unexplained("ENOMSG"))]).agreed, 0)
         self.assertEqual(compared([({**refused, "kernel": "ENOMSG"}, "allowed")]).agreed, 0)
 
     def test_a_process_is_confined_too_where_the_kernel_alone_says_so(self) -> None:
         rows = confined(["read_file"])
-        rows[1] = (rows[1][0], "refused EPERM -")
+        rows[1] = (rows[1][0], unexplained("EPERM"))
         made = {"op": "mknod", "path": "/a/w", "kind": "char", "call": 10, "kernel": "EACCES"}
         tally = compared(rows + [(opened("EACCES"), "allowed"), (made, "allowed")])
         self.assertEqual((tally.calls, tally.differences), (4, {Class.UNNAMED: 3}))
@@ -143,7 +144,7 @@ class NamedClasses(unittest.TestCase):
     def test_rights_newer_than_the_abi(self) -> None:
         """Beside the create, all that comes of the ruleset differs."""
         rows = confined(["read_file", "truncate"])
-        rows = [(rows[0][0], "refused EINVAL -"), (rows[1][0], "refused EBADF -"), (opened("EACCES"), "allowed")]
+        rows = [(rows[0][0], unexplained("EINVAL")), (rows[1][0], unexplained("EBADF")), (opened("EACCES"), "allowed")]
         tally = compared(rows, abi=2)
         self.assertEqual((tally.calls, tally.differences, tally.unnamed), (3, {Class.NEWER: 3}, 0))
 
@@ -177,11 +178,11 @@ class NamedClasses(unittest.TestCase):
     def test_a_whiteout_written_as_a_device(self) -> None:
         for call in ({"op": "mknod", "path": "/a/w", "kind": "char"}, {"op": "rename", "from": "/a/c", "to": "/a/x"}):
             with self.subTest(call=call):
-                rows = confined(["make_char"]) + [({**call, "call": 9, "kernel": "ok"}, "refused EACCES 1")]
+                rows = confined(["make_char"]) + [({**call, "call": 9, "kernel": "ok"}, BY_A_LAYER)]
                 self.assert_class(Class.WHITEOUTS, rows)
 
     def test_an_ioctl_with_the_wrong_driver(self) -> None:
-        for driver, answer, kernel in ((True, "refused EACCES 1", "ok"), (False, "allowed", "EACCES")):
+        for driver, answer, kernel in ((True, BY_A_LAYER, "ok"), (False, "allowed", "EACCES")):
             with self.subTest(driver=driver):
                 call = {"op": "ioctl", "fd": 4, "driver": driver, "call": 9, "kernel": kernel}
                 self.assert_class(Class.IOCTL, confined(["ioctl_dev"]) + [(call, answer)])
@@ -210,7 +211,7 @@ class WrittenOut(unittest.TestCase):
     """The comparison as lines and as data."""
 
     def tally(self) -> Tally:
-        calls: list[Row] = [(opened("ok"), "refused EACCES 1"), ({**opened("ok"), "call": 10}, "allowed")]
+        calls: list[Row] = [(opened("ok"), BY_A_LAYER), ({**opened("ok"), "call": 10}, "allowed")]
         return compared(confined(["read_file"]) + calls)
 
     def test_lines(self) -> None:

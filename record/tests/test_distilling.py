@@ -11,7 +11,7 @@ from landaudit_record.distilling import Distilling, Question, text
 from landaudit_record.jsonl import Record
 from landaudit_record.problems import Problem
 
-from .recorded import write_lines
+from .recorded import unexplained, write_lines, write_report
 
 OF_POLICY: list[Record] = [
     {"op": "create", "rs": 1, "fs": ["read_file"], "net": [], "policy": {"layer": 1}},
@@ -34,11 +34,8 @@ class Distilled(unittest.TestCase):
         lines = [{"pid": 10, **record} for record in records]
         with tempfile.TemporaryDirectory() as folder:
             trace = write_lines(Path(folder, "trace.jsonl"), lines)
-            report = Path(folder, "report.txt")
-            said = ["refused EACCES 1" if at in refused else "allowed" for at in range(1, len(lines) + 1)]
-            numbered = enumerate(zip(lines, said), start=1)
-            rows = [f"{at} {line['pid']} {line['op']} {answer}" for at, (line, answer) in numbered]
-            report.write_text("\n".join([*rows, "total"]) + "\n")
+            said = [unexplained("EACCES", 1) if at in refused else "allowed" for at in range(1, len(lines) + 1)]
+            report = write_report(Path(folder, "report.jsonl"), lines, said)
             found = Distilling()
             found.follow(trace, report)
             return dict(found.questions)

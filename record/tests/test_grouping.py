@@ -7,7 +7,7 @@ from collections import Counter
 from collections.abc import Sequence
 
 from landaudit_record import grouping
-from landaudit_record.explanations import Closed, Kept, Missing, Objection
+from landaudit_record.answers import Closed, Kept, Missing, Objection
 from landaudit_record.summary import Refusal, RefusingLayer
 
 

@@ -24,8 +24,10 @@ from .kept_logs import KeptLogs
 RECORD = Path(__file__).resolve().parents[1]
 #: Says that it runs, does what a test has it do, and allows everything.
 ALLOWING = """#!{python}
-import json, os, sys, time
+import os, sys, time
 from pathlib import Path
+sys.path.insert(0, {record!r})
+from tests.recorded import allow_all
 trace = Path(sys.argv[-1])
 with open({started!r}, "a") as started:
     print(os.getpid(), trace.name, file=started)
@@ -33,10 +35,7 @@ def wait_for(path):
     while not Path(path).exists():
         time.sleep(0.01)
 {does}
-lines = trace.read_text().splitlines()
-for number, record in enumerate(map(json.loads, lines), start=1):
-    print(number, record["pid"], record["op"], "allowed")
-print("total", len(lines))
+allow_all(sys.argv)
 """
 #: Longer than any of these tests may take.
 LONG = 60
@@ -63,7 +62,8 @@ class Judging(KeptLogs):
 
     def landaudit(self, does: str = "") -> str:
         """A landaudit that does something before it answers."""
-        self.program.write_text(ALLOWING.format(python=sys.executable, started=str(self.started), does=does))
+        words = {"python": sys.executable, "record": str(RECORD), "started": str(self.started), "does": does}
+        self.program.write_text(ALLOWING.format(**words))
         self.program.chmod(0o755)
         return str(self.program)
 
@@ -137,6 +137,8 @@ class Judging(KeptLogs):
             "os.kill(os.getpid(), 9)": "landaudit was killed: is there enough memory?",
             "os.abort()": "landaudit was ended by SIGABRT",
             "os._exit(7)": "landaudit ended with status 7",
+            "print('error: unknown --json', file=sys.stderr), os._exit(2)":
+                "error: unknown --json: use programs of one version",
         }
         where = f"tree {self.recording}/tree-2.jsonl, trace {self.recording}/trace-2.jsonl"
         for does, told in faults.items():

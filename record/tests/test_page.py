@@ -11,7 +11,7 @@ from pathlib import Path
 from typing import Any
 
 from landaudit_record import by_abi, page, policies, summary
-from landaudit_record.explanations import Closed, Missing
+from landaudit_record.answers import Closed, Missing
 from landaudit_record.page import tree
 from landaudit_record.page.counting import Counts, Paths, asked
 from landaudit_record.page.markup import element
@@ -82,6 +82,7 @@ def three() -> list[Summary]:
     for one in (older, middle, newer):
         one.unsaid = Counter({"a call with no words": 4, "another <class>": 1})
         one.missing = ("2 calls could not be recorded",)
+        one.untraced = ("readlink(2) is not recorded",)
         one.accepted = Counter({Accepted("ioctl", "/dev/null", "shells ask"): one.abi})
         one.verdicts["refused"] += one.abi
     return [older, middle, newer]
@@ -158,6 +159,15 @@ class Data(unittest.TestCase):
         (alarm,) = self.page.all("p", "alarm")
         self.assertEqual(alarm.text(4), f"Not all is judged. {self.data(4)['not_judged'][0]}")
 
+    def test_what_was_not_traced(self) -> None:
+        wanted = [f"{text}." for text in self.data(4)["not_traced"]]
+        self.assertEqual([one.text(4) for one in self.page.all("p", "untraced")], wanted)
+
+    def test_a_page_says_that_no_traced_call_is_left_out(self) -> None:
+        text = made([summed(5, {})]).text(5)
+        self.assertIn("Of the calls that were traced, none is left out.", text)
+        self.assertNotIn("Of the calls that were traced", self.page.text(4))
+
     def test_warnings_are_those_of_the_chosen_abi(self) -> None:
         (warnings,) = self.page.all("ul", "warnings")
         self.assertEqual(warnings.text(2), "a ruleset is refused (2 times)")
@@ -182,7 +192,7 @@ class Hostile(unittest.TestCase):
         found.warnings = dict.fromkeys(HOSTILE, 1)
         found.moot = {f"{name} why": Counter({name: 1}) for name in HOSTILE}
         found.unsaid = Counter(HOSTILE)
-        found.missing = HOSTILE
+        found.missing = found.untraced = HOSTILE
         found.accepted = Counter({Accepted("open r", name, name): 1 for name in HOSTILE})
         calls: Counter[Place] = Counter({(f"/a/{name}",): 1 for name in HOSTILE})
         found.not_allowed["refused"] = calls

@@ -19,15 +19,26 @@ from landaudit_record.problems import Problem
 from landaudit_record.reading import Told, Walk
 from landaudit_record.summary import Summaries
 
-from .recorded import failed, moot, over_range, refused, write_lines, write_report
+from .recorded import (
+    Object,
+    Said,
+    failed,
+    kept_on,
+    missing_on,
+    moot,
+    over_range,
+    refused,
+    write_lines,
+    write_report,
+)
 
 ABIS = range(1, 6)
-Call = tuple[Record, str]
+Call = tuple[Record, Said | list[Object]]
 #: How a trace is written: as landaudit-record does, with blanks everywhere, and with blanks before numbers alone.
 FORMS = COMPACT, BLANKS, HALF = ("compact", "blanks", "half")
 _NUMBER = re.compile(r'":([0-9])')
 READ = {"path": "/a/f", "fd": 3, "mode": "r", "kernel": "ok"}
-NOT_OPEN = moot("descriptor 3 is not open")
+NOT_OPEN = moot("unopened", fd=3)
 
 
 def op(name: str, pid: int = 1, **members: Any) -> Record:
@@ -43,7 +54,9 @@ class Written(unittest.TestCase):
         self.addCleanup(made.cleanup)
         self.folder = Path(made.name)
 
-    def walk(self, calls: Sequence[Call], form: str = COMPACT, number: int = 0) -> Walk:
+    def walk(
+        self, calls: Sequence[Call], form: str = COMPACT, number: int = 0, *, only_refused: bool = False
+    ) -> Walk:
         """A walk over some calls with their answers."""
         trace, report = (self.folder / f"{name}-{number}" for name in ("trace", "report"))
         records = [record for record, _ in calls]
@@ -53,8 +66,8 @@ class Written(unittest.TestCase):
             jsonl.write(trace, records)
         if form == HALF:
             trace.write_text(_NUMBER.sub(r'": \1', trace.read_text()))
-        write_report(report, records, [answer for _, answer in calls])
-        return Walk(trace, report, ABIS)
+        write_report(report, records, [answer for _, answer in calls], ABIS, only_refused=only_refused)
+        return Walk(trace, report, ABIS, only_refused=only_refused)
 
     def told(self, *calls: Call) -> list[tuple[int, str, int, bool]]:
         """What is told of each kind, whichever way the trace is written: line, program, times, and whether an ABI
@@ -77,11 +90,11 @@ def _counted(kinds: list[tuple[int, str, int, bool]]) -> Counter[tuple[str, bool
 
 START = (op("start"), "allowed")
 RUN = (op("exec", path="/bin", call=1, kernel="ok"), "allowed")
-OPEN = (op("open", **READ), refused("read_file on /a/f"))
+OPEN = (op("open", **READ), refused(missing_on("/a/f", "read_file")))
 CLOSE = (op("close", fd=3), NOT_OPEN)
 MADE = {"path": "/a/p", "kind": "fifo", "kernel": "ok"}
-PIPE = (op("mknod", **MADE), refused("make_fifo on /a"))
-DIRECTORY = (op("mkdir", path="/a/d", kernel="ok"), refused("make_dir on /a"))
+PIPE = (op("mknod", **MADE), refused(missing_on("/a", "make_fifo")))
+DIRECTORY = (op("mkdir", path="/a/d", kernel="ok"), refused(missing_on("/a", "make_dir")))
 
 
 class Kinds(Written):
@@ -96,8 +109,8 @@ class Kinds(Written):
             (op("mknod", **{**MADE, "kind": "sock"}), PIPE[1]),
             (op("mknod", **{**MADE, "kernel": "EACCES"}), PIPE[1]),
             (op("mknod", **{**MADE, "shown": "/a/q"}), PIPE[1]),
-            (PIPE[0], refused("make_reg on /a")),
-            (PIPE[0], refused("make_fifo on /a", error="EXDEV")),
+            (PIPE[0], refused(missing_on("/a", "make_reg"))),
+            (PIPE[0], refused(missing_on("/a", "make_fifo"), error="EXDEV")),
         ]
         self.assertEqual([line for line, *_ in self.told(START, PIPE, *others, PIPE)], [2, 3, 4, 5, 6, 7])
 
@@ -130,7 +143,7 @@ class Programs(Written):
         self.assertEqual([program for _, program, *_ in self.told(START, RUN, kept, OPEN)], ["/kept"])
 
     def test_a_refused_program_runs_if_the_kernel_ran_it(self) -> None:
-        again = (RUN[0], refused("execute on /bin"))
+        again = (RUN[0], refused(missing_on("/bin", "execute")))
         self.assertEqual([program for _, program, *_ in self.told(START, again, OPEN)], ["-", "/bin"])
 
     def test_a_pid_that_is_used_again(self) -> None:
@@ -160,7 +173,7 @@ class Numbers(Written):
 
     def test_a_copy_is_missed_too(self) -> None:
         copy = (op("dup", fd=3, to=4), NOT_OPEN)
-        self.assertEqual(self.missed(OPEN, copy, (op("close", fd=4), moot("descriptor 4 is not open"))),
+        self.assertEqual(self.missed(OPEN, copy, (op("close", fd=4), moot("unopened", fd=4))),
                          [(2, False), (3, True), (4, True)])
 
     def test_a_child_misses_what_its_parent_misses(self) -> None:
@@ -171,7 +184,7 @@ class Numbers(Written):
         """It is closed within the call, so no child ever has it."""
         made_up = (op("open", **{**READ, "fd": 1_000_001}), OPEN[1])
         fork = (op("fork", child=2, call=1), "allowed")
-        closes = [(op("close", pid, fd=1_000_001), moot("descriptor 1000001 is not open")) for pid in (1, 2)]
+        closes = [(op("close", pid, fd=1_000_001), moot("unopened", fd=1000001)) for pid in (1, 2)]
         self.assertEqual(self.missed(made_up, fork, *closes), [(2, False), (4, True), (5, False)])
 
     def test_by_abi(self) -> None:
@@ -220,6 +233,39 @@ class Faults(Written):
             with self.subTest(why, form=form), self.assertRaisesRegex(Problem, "is not a report on"):
                 for _ in Walk(trace, report, ABIS).kinds():
                     pass
+
+
+class OnlyRefused(Written):
+    """Walks over reports of refused records alone."""
+
+    def test_what_is_refused_is_told_as_by_the_whole_report(self) -> None:
+        chance = random.Random(7)
+        for _ in range(25):
+            calls = list(_random_calls(chance))
+            for form in FORMS:
+                whole, some = (_refusals(self.walk(calls, form, only_refused=only)) for only in (False, True))
+                self.assertEqual(some, whole)
+                self.assertTrue(whole or len(calls) < 20)
+
+    def test_states_of_processes_are_told_and_moot_records_are_not(self) -> None:
+        fork = (op("fork", child=2, call=2), "allowed")
+        walk = self.walk([START, RUN, CLOSE, OPEN, fork, CLOSE], only_refused=True)
+        self.assertEqual([(told.line, bool(told.answered)) for told in walk],
+                         [(1, False), (2, False), (4, True), (5, False)])
+
+    def test_a_report_on_another_trace(self) -> None:
+        calls = [START, OPEN, CLOSE]
+        others = [START, (op("open", 2, **READ), OPEN[1])], [START, START, START, START, OPEN]
+        for said in others:
+            trace, report = self.walk(calls).files[0], self.walk(said, number=1, only_refused=True).files[1]
+            with self.subTest(said), self.assertRaisesRegex(Problem, "is not a report on"):
+                list(Walk(trace, report, ABIS, only_refused=True))
+
+
+def _refusals(walk: Walk) -> list[tuple[object, ...]]:
+    """What is told of refused records, and by which process."""
+    return [(told.line, told.record, told.program, told.confined, abis, answer)
+            for told in walk for abis, answer in told.answered if answer.refused]
 
 
 class AnyTrace(Written):
@@ -295,17 +341,18 @@ def _random_calls(chance: random.Random) -> Iterator[Call]:
         yield record, over_range(differing if chance.random() < 0.3 else dict.fromkeys(ABIS, answer))
 
 
-def _random_answer(chance: random.Random, record: Record) -> str:
+def _random_answer(chance: random.Random, record: Record) -> Said:
     """An answer that a record may have, or that it is allowed."""
-    answers = {
-        "open": (refused("read_file on /a/f"), refused("write_file on /b"), moot("/a/g~new~ is not in the tree")),
-        "exec": (refused("execute on /a/f"),),
-        "close": (moot("descriptor 3 is not open"), moot("descriptor 4 is not open")),
-        "ioctl": (moot("descriptor 3 is not open"), refused("ioctl_dev on /a/f, opened at line 1")),
-        "dup": (moot("descriptor 3 is not open"),),
-        "rename": (moot("/b is not in the tree"), refused("make_reg on /a")),
-        "mkdir": (refused("make_dir on /a"), moot("/b is in the tree already")),
-        "add_path": (moot("/b is not in the tree"), failed("EINVAL", "the ruleset does not handle read_file")),
+    answers: dict[str, tuple[Object, ...]] = {
+        "open": (refused(missing_on("/a/f", "read_file")), refused(missing_on("/b", "write_file")),
+                 moot("absent", path="/a/g~new~")),
+        "exec": (refused(missing_on("/a/f", "execute")),),
+        "close": (moot("unopened", fd=3), moot("unopened", fd=4)),
+        "ioctl": (moot("unopened", fd=3), refused(kept_on("/a/f", "ioctl_dev", 1))),
+        "dup": (moot("unopened", fd=3),),
+        "rename": (moot("absent", path="/b"), refused(missing_on("/a", "make_reg"))),
+        "mkdir": (refused(missing_on("/a", "make_dir")), moot("present", path="/b")),
+        "add_path": (moot("absent", path="/b"), failed("EINVAL", "unhandled", rights=["read_file"])),
     }.get(str(record["op"]), ())
     # An allowed close is of an open number, and nothing here says which numbers are open.
     return chance.choice(answers) if answers and (record["op"] == "close" or chance.random() < 0.6) else "allowed"

@@ -1,114 +1,116 @@
-"""What landaudit is asked, and what its report over several ABIs says of each."""
+"""Reports as JSON: what is read of their lines, over one ABI and over several."""
 
 from __future__ import annotations
 
+import json
 import tempfile
 import unittest
 from pathlib import Path
 
-from landaudit_record import landaudit
-from landaudit_record.landaudit import Answer
+from landaudit_record import reports
+from landaudit_record.answers import Answer, Condition, Missing, Reason, Refusing
 from landaudit_record.problems import Problem
+from landaudit_record.reports import Row
 from landaudit_record.rights import alone
 from landaudit_record.wording import span
 
-from .recorded import over_range
-
-# By the rules of docs/FORMATS.md.
-REPORT = """6 10 close allowed
-7 10 open 1-2 allowed 3-5 refused EACCES 1
-    abi 3-5:
-    layer 1 (line 5): truncate on /b/g
-8 10 rename 1 refused EXDEV 1 2-3 allowed 4 moot 5 refused EACCES 1,2
-    abi 1:
-    layer 1 (line 5): refer on /a; refer on /b
-    abi 4:
-    /none is not in the tree
-    abi 5:
-    layer 1 (line 5): make_reg on /b
-    layer 2 (line 6): make_reg on /b
-9 10 rename refused EXDEV 1
-    abi 1:
-    layer 1 (line 5): refer on /a; refer on /b
-    abi 2-5:
-    layer 1 (line 5): refer on /a
-10 10 restrict refused EBADF -
-    ruleset 3 is not held
-11 10 restrict 1-4 refused EBADF - 5 refused EPERM -
-    abi 1-4:
-    ruleset 3 is not held
-    abi 5:
-    the process has neither no_new_privs nor CAP_SYS_ADMIN
-total 11 abi 1 allowed 8 refused 3 moot 0
-total 11 abi 2 allowed 9 refused 2 moot 0
+#: By docs/FORMATS.md, "The report as JSON", and its example.
+REPORT = """\
+{"line":6,"pid":300,"op":"close","answers":[{"abi":[1,5],"answer":"allowed"}]}
+{"line":7,"pid":300,"op":"rename","answers":[{"abi":[1,1],"answer":"refused","error":"EXDEV","layers":[\
+{"layer":1,"line":6,"objections":[{"missing":["refer"],"on":"/build/tmp"},{"missing":["refer"],"on":"/build/bin"}]}]},{"abi":[2,5],\
+"answer":"allowed"}]}
+{"line":9,"pid":301,"op":"open","answers":[{"abi":[1,4],"answer":"moot","why":{"reason":"absent","path":"/none"}},\
+{"abi":[5,5],"answer":"refused","error":"EBADF","layers":[],"why":{"condition":"unheld","rs":3}}]}
+{"totals":[{"abi":1,"records":9,"allowed":7,"refused":1,"moot":1}],"version":"0.2"}
 """
+LINES = REPORT.encode().splitlines(keepends=True)
+AT_BOTH = (Refusing(1, 6, (Missing(("refer",), "/build/tmp"), Missing(("refer",), "/build/bin"))),)
+PLAIN, ABSENT = Answer("allowed"), Answer("moot", why=Reason("absent", path="/none"))
 
 
-class Ranges(unittest.TestCase):
-    def setUp(self) -> None:
-        made = tempfile.TemporaryDirectory()
-        self.addCleanup(made.cleanup)
-        self.folder = Path(made.name)
+class Written(unittest.TestCase):
+    """Reports in a folder."""
 
-    def answers(self, abi: int | None, text: str = REPORT) -> list[Answer]:
-        """The answers of a report at an ABI."""
-        report = self.folder / "report.txt"
-        report.write_text(text, encoding="utf-8")
-        return list(landaudit.answers(report, abi))
+    def report(self, text: str = REPORT) -> Path:
+        folder = self.enterContext(tempfile.TemporaryDirectory())
+        path = Path(folder, "report.jsonl")
+        path.write_text(text, encoding="utf-8", newline="\n")
+        return path
 
+
+class Rows(Written):
     def test_each_abi_has_its_own_answers(self) -> None:
-        one, both = (1,), (1, 2)
-        expected = {
-            1: [("allowed", None, ()), ("allowed", None, ()), ("refused", "EXDEV", one)],
-            2: [("allowed", None, ()), ("allowed", None, ()), ("allowed", None, ())],
-            3: [("allowed", None, ()), ("refused", "EACCES", one), ("allowed", None, ())],
-            4: [("allowed", None, ()), ("refused", "EACCES", one), ("moot", None, ())],
-            5: [("allowed", None, ()), ("refused", "EACCES", one), ("refused", "EACCES", both)],
-        }
-        for abi, first in expected.items():
+        moved = Answer("refused", "EXDEV", AT_BOTH)
+        closed = Answer("refused", "EBADF", why=Condition("unheld", rs=3))
+        for abi, second, third in ((1, moved, ABSENT), (2, PLAIN, ABSENT), (4, PLAIN, ABSENT), (5, PLAIN, closed)):
             with self.subTest(abi):
-                found = [(one.verdict, one.error, one.layers) for one in self.answers(abi)]
-                last = ("refused", "EPERM" if abi == 5 else "EBADF", ())
-                self.assertEqual(found, [*first, ("refused", "EXDEV", one), ("refused", "EBADF", ()), last])
-
-    def test_each_abi_has_its_own_reasons(self) -> None:
-        cut = "layer 1 (line 5): truncate on /b/g"
-        at_both, at_source = "layer 1 (line 5): refer on /a; refer on /b", "layer 1 (line 5): refer on /a"
-        expected = {
-            1: [(), (), (at_both,), (at_both,)],
-            2: [(), (), (), (at_source,)],
-            4: [(), (cut,), ("/none is not in the tree",), (at_source,)],
-            5: [(), (cut,), ("layer 1 (line 5): make_reg on /b", "layer 2 (line 6): make_reg on /b"), (at_source,)],
-        }
-        for abi, first in expected.items():
-            with self.subTest(abi):
-                found = [one.explanation for one in self.answers(abi)]
-                self.assertEqual(found[:4], first)
-                self.assertEqual(found[4], ("ruleset 3 is not held",))
-
-    def test_what_all_abis_say_needs_none_named(self) -> None:
-        line = "9 10 open refused EACCES 1\n    layer 1 (line 5): read_file on /b/g\ntotal 9\n"
-        expected = Answer(9, 10, "open", "refused", "EACCES", (1,), ("layer 1 (line 5): read_file on /b/g",))
-        for abi in (None, 1, 5):
-            self.assertEqual(self.answers(abi, line), [expected])
+                found = list(reports.rows(self.report(), abi))
+                self.assertEqual(found, [Row(6, 300, PLAIN), Row(7, 300, second), Row(9, 301, third)])
 
     def test_an_abi_that_the_report_has_not(self) -> None:
-        for abi, shown in (6, "at ABI 6"), (None, "without an ABI"):
-            with self.subTest(abi), self.assertRaises(Problem) as fault:
-                self.answers(abi)
-            self.assertIn(f"'7 10 open 1-2 allowed 3-5 refused EACCES 1' can't be read {shown}", str(fault.exception))
+        with self.assertRaisesRegex(Problem, "can't be read at '{\"line\":6"):
+            list(reports.rows(self.report(), 6))
 
-    def test_what_is_put_together_is_taken_apart(self) -> None:
-        """What the tests of the subcommands write is what is read here."""
-        both = "refused EACCES 1,2"
-        said = ["allowed", "moot\n    /none is not in the tree", f"{both}\n    a\n    b", both]
-        for number in range(len(said) ** 3):
-            answered = {abi: said[number // len(said) ** (abi - 1) % len(said)] for abi in (1, 2, 3)}
-            text = f"1 10 open {over_range(answered)}\n"
-            for abi, answer in answered.items():
-                with self.subTest(text, abi=abi):
-                    (expected,) = self.answers(None, f"1 10 open {answer}\n")
-                    self.assertEqual(self.answers(abi, text), [expected])
+    def test_the_numbers_of_the_records_that_are_shown(self) -> None:
+        self.assertEqual(list(reports.numbers(self.report())), [6, 7, 9])
+
+    def test_a_text_is_no_report(self) -> None:
+        for text in ("1 10 start allowed\n", "[]\n", '{"line":1}\n', '{"line":1,"pid":1,"op":"exit","answers":{}}\n'):
+            with self.subTest(text), self.assertRaisesRegex(Problem, "use programs of one version"):
+                list(reports.rows(self.report(text), 5))
+
+    def test_a_line_ends_at_a_line_feed_alone(self) -> None:
+        said = {"line": 1, "pid": 2, "op": "open", "answers": [
+            {"abi": [5, 5], "answer": "moot", "why": {"reason": "absent", "path": "/\u2028\u0085\r\x0c"}}]}
+        text = json.dumps(said, ensure_ascii=False, separators=(",", ":"))
+        (found,) = reports.rows(self.report(f"{text}\n"), 5)
+        self.assertEqual(found.answer.reason.path, "/\u2028\u0085\r\x0c")
+
+
+class Some(Written):
+    """A report that leaves out records."""
+
+    def test_the_line_on_each_record_that_is_shown(self) -> None:
+        with open(self.report(), "rb") as lines:
+            shown = reports.Shown(lines)
+            self.assertEqual([shown.on(number) for number in range(1, 9)], [b""] * 5 + [*LINES[:2], b""])
+            self.assertEqual((shown.on(9), shown.line, shown.on(10)), (LINES[2], LINES[3], b""))
+
+    def test_nothing_is_shown(self) -> None:
+        with open(self.report(LINES[3].decode()), "rb") as lines:
+            shown = reports.Shown(lines)
+            self.assertEqual((shown.on(1), shown.line), (b"", LINES[3]))
+
+
+class Bytes(unittest.TestCase):
+    """What is known of a line by its bytes."""
+
+    def test_where_a_line_begins_and_how_it_ends(self) -> None:
+        self.assertTrue(LINES[0].startswith(reports.head(6, 300)))
+        self.assertFalse(LINES[0].startswith(reports.head(6, 30)))
+        self.assertTrue(LINES[-1].startswith(reports.LAST))
+        ends = reports.allowed_by_all(range(1, 6))
+        self.assertEqual([line.endswith(ends) for line in LINES], [True, False, False, False])
+        self.assertFalse(LINES[0].endswith(reports.allowed_by_all(range(2, 6))))
+
+    def test_of_one_abi(self) -> None:
+        line = b'{"line":6,"pid":300,"op":"close","answers":[{"abi":[3,3],"answer":"%b"}]}\n'
+        self.assertTrue((line % b"allowed").endswith(reports.allowed_by_all(alone(3))))
+        self.assertTrue((line % b"allowed").endswith(reports.ENDS_ALLOWED))
+        self.assertFalse((line % b"moot").endswith(reports.ENDS_ALLOWED))
+        self.assertIn(reports.HAS_REFUSED, line % b"refused")
+
+    def test_the_members_of_a_line(self) -> None:
+        *first, answers = reports.split(LINES[2])
+        self.assertEqual(first, [b'{"line":9', b'"pid":301', b'"op":"open"'])
+        closed = Answer("refused", "EBADF", why=Condition("unheld", rs=3))
+        self.assertEqual(reports.not_allowed(answers), (((1, 2, 3, 4), ABSENT), ((5,), closed)))
+        self.assertEqual(reports.not_allowed(reports.split(LINES[0])[3]), ())
+
+    def test_the_abis_of_each_answer(self) -> None:
+        found = reports.abis_by_verdict(reports.split(LINES[2])[3])
+        self.assertEqual(found, {"allowed": frozenset(), "moot": {1, 2, 3, 4}, "refused": {5}})
 
 
 class Words(unittest.TestCase):

@@ -15,7 +15,7 @@ from typing import Any
 
 from landaudit_record import by_abi, cli
 from landaudit_record.commands import audit
-from landaudit_record.explanations import Closed, Gained, Kept, Missing, Mounting
+from landaudit_record.answers import Closed, Gained, Kept, Missing, Mounting
 from landaudit_record.landaudit import BUILT
 from landaudit_record.policy_commands import check
 from landaudit_record.recorder import converting
@@ -218,6 +218,7 @@ def a_summary(abi: int, names: Sequence[str]) -> Summary:
     found.accepted[Accepted("ioctl", "/dev/null", "")] = 1
     found.moot["is not in the tree"] = Counter({"/c": 1})
     found.warnings, found.unsaid, found.missing = {f"warning {abi}": 1}, Counter({"a class": 2}), ("2 calls",)
+    found.untraced = ("readlink(2) is not recorded",)
     return found
 
 
@@ -269,6 +270,7 @@ SPOILED_AUDITS: dict[str, Spoil] = {
     "a port past the last one": lambda data: data["refusals"][0]["layers"][0]["objections"][1].update(port=65536),
     "no ABIs": lambda data: data.update(abis=[]),
     "a list that is none": lambda data: data.update(not_judged=None),
+    "a text that is none": lambda data: data.update(not_traced=[1]),
 }
 SPOILED_CHECKS: dict[str, Spoil] = {
     "another version": lambda data: data.update(format=2),

@@ -18,7 +18,21 @@ from landaudit_record.suggesting import Recorded, Suggestion, suggest, with_rule
 from landaudit_record.trees import Tree
 from landaudit_record.wants import Rule
 
-from .recorded import failed, moot, records, refused, write_lines, write_report
+from .recorded import (
+    MOUNTING,
+    Object,
+    Said,
+    closed_on,
+    failed,
+    gained,
+    kept_on,
+    missing_on,
+    moot,
+    records,
+    refused,
+    write_lines,
+    write_report,
+)
 
 TREE = Tree(
     {
@@ -50,7 +64,7 @@ TREE = Tree(
 DENY = '[[layer]]\nhandled_access_fs = ["all"]\nhandled_access_net = ["all"]\n'
 EVERYTHING = list(FS.since)
 
-Call = tuple[Record, str]
+Call = tuple[Record, Said]
 NONE: Counter[str] = Counter()
 
 
@@ -93,8 +107,8 @@ def suggested_of(
         for index, calls in enumerate(next(audits, [])):
             trace = records({"op": "nnp", "policy": {}}, *(record for record, _ in calls))
             with tempfile.TemporaryDirectory() as folder:
-                answers = ["allowed", "allowed", *(answer for _, answer in calls)]
-                report = write_report(Path(folder, "report.txt"), trace, answers)
+                answers: list[Said | list[Object]] = ["allowed", "allowed", *(answer for _, answer in calls)]
+                report = write_report(Path(folder, "report.jsonl"), trace, answers, alone(abi))
                 yield index, Walk(write_lines(Path(folder, "trace.jsonl"), trace), report, alone(abi))
 
     return suggest(recorded, to or policy(), abi, audit)
@@ -106,28 +120,28 @@ def rules(*calls: Call) -> list[tuple[object, list[str], int]]:
     return [(rule.place, sorted(rule.rights), rule.calls) for rule in found.rules.get(1, [])]
 
 
-def reading(path: str, call: int = 1) -> Call:
+def reading(path: str, call: int = 1) -> tuple[Record, Object]:
     """A refused opening of a file for reading."""
-    return opened(path, call=call), refused(f"read_file on {path}")
+    return opened(path, call=call), refused(missing_on(path, "read_file"))
 
 
 def listing(path: str, call: int = 1) -> Call:
     """A refused opening of a directory."""
-    return opened(path, call=call), refused(f"read_dir on {path}")
+    return opened(path, call=call), refused(missing_on(path, "read_dir"))
 
 
 class Paths(unittest.TestCase):
     def test_what_is_missing_is_granted_where_it_is_missing(self) -> None:
-        call = (opened("/a/f", "rw", trunc=True), refused("write_file, read_file, truncate on /a/f"))
+        call = (opened("/a/f", "rw", trunc=True), refused(missing_on("/a/f", "write_file", "read_file", "truncate")))
         self.assertEqual(rules(call), [("/a/f", ["read_file", "truncate", "write_file"], 1)])
-        self.assertEqual(rules((call[0], refused("write_file on /a/f"))), [("/a/f", ["write_file"], 1)])
+        self.assertEqual(rules((call[0], refused(missing_on("/a/f", "write_file")))), [("/a/f", ["write_file"], 1)])
 
     def test_records_of_one_call_count_once(self) -> None:
-        run = ({"op": "exec", "path": "/a/f", "call": 1, "kernel": "ok"}, refused("execute on /a/f"))
+        run = ({"op": "exec", "path": "/a/f", "call": 1, "kernel": "ok"}, refused(missing_on("/a/f", "execute")))
         self.assertEqual(rules(reading("/a/f"), run, reading("/a/f", 2)), [("/a/f", ["execute", "read_file"], 2)])
 
     def test_records_without_a_number_count_each(self) -> None:
-        call = ({"op": "open", "path": "/a/f", "fd": 5, "mode": "r"}, refused("read_file on /a/f"))
+        call = ({"op": "open", "path": "/a/f", "fd": 5, "mode": "r"}, refused(missing_on("/a/f", "read_file")))
         self.assertEqual(rules(call, call), [("/a/f", ["read_file"], 2)])
 
     def test_several_files_of_a_directory_have_a_rule_each(self) -> None:
@@ -138,7 +152,8 @@ class Paths(unittest.TestCase):
 
     def test_what_a_directory_has_for_another_reason_is_not_granted_again(self) -> None:
         """What the run makes can have no rule of its own, so its directory has one, which holds for all in it."""
-        found = rules(reading("/a/made/t"), reading("/a/f", 2), (opened("/a/g", "w", 3), refused("write_file on /a/g")))
+        written = opened("/a/g", "w", 3), refused(missing_on("/a/g", "write_file"))
+        found = rules(reading("/a/made/t"), reading("/a/f", 2), written)
         self.assertEqual(found, [("/a", ["read_file"], 2), ("/a/g", ["write_file"], 1)])
 
     def test_directories_are_not_joined(self) -> None:
@@ -149,7 +164,8 @@ class Paths(unittest.TestCase):
 
     def test_new_objects_ask_their_directory(self) -> None:
         make = opened("/a/~new~", "w", create=True, shown="/a/n")
-        self.assertEqual(rules((make, refused("write_file, make_reg on /a"))), [("/a", ["make_reg", "write_file"], 1)])
+        answer = refused(missing_on("/a", "write_file", "make_reg"))
+        self.assertEqual(rules((make, answer)), [("/a", ["make_reg", "write_file"], 1)])
 
     def test_what_the_run_makes_is_granted_on_the_directory_that_was_there(self) -> None:
         self.assertEqual(rules(reading("/a/made/t", 2)), [("/a", ["read_file"], 1)])
@@ -182,9 +198,9 @@ class Remarks(unittest.TestCase):
                          [("(for what the run makes there: made, made/t)",)])
 
     def test_what_a_call_is_to_make(self) -> None:
-        make = (opened("/a/~new~", "w", create=True, shown="/a/n"), refused("write_file, make_reg on /a"))
+        make = (opened("/a/~new~", "w", create=True, shown="/a/n"), refused(missing_on("/a", "write_file", "make_reg")))
         move = ({"op": "rename", "from": "/a/f", "to": "/b/~new~", "shown_to": "/b/m", "call": 2, "kernel": "ok"},
-                refused("remove_file on /a; make_reg on /b"))
+                refused([missing_on("/a", "remove_file"), missing_on("/b", "make_reg")]))
         told = [f"(for what the run makes there: {name})" for name in ("n", "m")]
         self.assertEqual(self.remarks(make, move), [(text,) for text in told])
 
@@ -196,7 +212,7 @@ class Remarks(unittest.TestCase):
 
     def test_a_link(self) -> None:
         move = ({"op": "rename", "from": "/a/link", "to": "/b/~new~", "call": 1, "kernel": "ok"},
-                refused("/a/link would gain execute in /b", error="EXDEV"))
+                refused(gained("/a/link", "/b", "execute"), error="EXDEV"))
         self.assertEqual(self.remarks(move), [("(for the link /a/link, since a rule follows it)",)])
 
     def test_names_that_are_made_up(self) -> None:
@@ -206,7 +222,7 @@ class Remarks(unittest.TestCase):
 
     def test_names_beneath_a_made_up_one(self) -> None:
         make = (opened("/a/x.Ab3dEf/~new~", "w", create=True, shown="/a/x.Ab3dEf/n"),
-                refused("make_reg on /a/x.Ab3dEf"))
+                refused(missing_on("/a/x.Ab3dEf", "make_reg")))
         tree = Tree({**TREE.kinds, "/a/x.Ab3dEf": "dir"}, made={*TREE.made, "/a/x.Ab3dEf"})
         (rule,) = suggested([*layer(), make], recorded=Recorded(tree)).rules[1]
         told = "(for names that differ in each run, as x.Ab3dEf, x.Ab3dEf/n)"
@@ -219,7 +235,7 @@ class Remarks(unittest.TestCase):
         self.assertEqual((rule.place, rule.remarks), ("/a/x.Ab3dEf/f", (told,)))
 
     def test_a_warning(self) -> None:
-        make = (opened("/~new~", "w", create=True, shown="/n"), refused("make_reg on /"))
+        make = (opened("/~new~", "w", create=True, shown="/n"), refused(missing_on("/", "make_reg")))
         told = ("(for what the run makes there: /n)", "warning: make_reg on everything that there is")
         self.assertEqual(self.remarks(make), [told])
 
@@ -237,7 +253,7 @@ class SeveralRecordings(unittest.TestCase):
         """The second run is in the folder that the first left: before the first, no rule could be on the file."""
         first = Recorded(Tree({"/": "dir", "/w": "dir", "/w/out": "reg"}, made={"/w/out"}))
         second = Recorded(Tree({"/": "dir", "/w": "dir", "/w/out": "reg"}))
-        make = (opened("/w/~new~", "w", create=True, shown="/w/out"), refused("make_reg on /w"))
+        make = (opened("/w/~new~", "w", create=True, shown="/w/out"), refused(missing_on("/w", "make_reg")))
         found = suggested_of([first, second], [[*layer(), make], [*layer(), reading("/w/out")]])
         self.assertEqual([(rule.place, rule.rights) for rule in found.rules[1]], [("/w", {"make_reg", "read_file"})])
 
@@ -259,7 +275,8 @@ class SeveralRecordings(unittest.TestCase):
 class TheRunAfter(unittest.TestCase):
     """A file that the run makes and cuts is there in the run after, where opening it asks for truncate."""
 
-    MAKE = opened("/a/~new~", "w", create=True, trunc=True, shown="/a/n"), refused("write_file, make_reg on /a")
+    MAKE = (opened("/a/~new~", "w", create=True, trunc=True, shown="/a/n"),
+            refused(missing_on("/a", "write_file", "make_reg")))
 
     def rights(self, handled: str = '["all"]', abi: int = 5, cut: frozenset[str] = frozenset({"/a/n"})) -> set[str]:
         to = policy(f"[[layer]]\nhandled_access_fs = {handled}\n")
@@ -300,8 +317,8 @@ class FailedAnyway(unittest.TestCase):
         for kernel, places in (("EACCES", ["/a/f"]), ("EROFS", [])):
             with self.subTest(kernel):
                 record, answer = reading("/a/f")
-                by_second = answer.replace("layer 1 ", "layer 2 ").replace("EACCES 1", "EACCES 2")
-                by_second = by_second.replace("(line 101)", "(line 102)")
+                (layer_of_policy,) = answer["layers"]
+                by_second = {**answer, "layers": [{**layer_of_policy, "layer": 2, "line": 102}]}
                 found = suggested([*layer(None), *layer(), ({**record, "kernel": kernel}, by_second)])
                 self.assertEqual([rule.place for rule in found.rules.get(1, [])], places)
 
@@ -313,39 +330,40 @@ class Descriptors(unittest.TestCase):
     CUT = {"op": "ftruncate", "fd": 5, "call": 2}
 
     def test_what_a_file_lacked_when_it_was_opened_is_granted_on_it(self) -> None:
-        cut = (self.CUT, refused("truncate on /a/f, opened at line 6"))
+        cut = (self.CUT, refused(kept_on("/a/f", "truncate", 6)))
         self.assertEqual(rules((opened("/a/f", "w"), "allowed"), cut), [("/a/f", ["truncate"], 1)])
-        ask = ({"op": "ioctl", "fd": 5, "driver": True, "call": 2}, refused("ioctl_dev on /tty, opened at line 6"))
+        ask = ({"op": "ioctl", "fd": 5, "driver": True, "call": 2}, refused(kept_on("/tty", "ioctl_dev", 6)))
         self.assertEqual(rules((opened("/tty"), "allowed"), ask), [("/tty", ["ioctl_dev"], 1)])
 
     def test_and_on_the_directory_of_a_new_file(self) -> None:
-        cut = (self.CUT, refused("truncate on /a/~new~, opened at line 6"))
+        cut = (self.CUT, refused(kept_on("/a/~new~", "truncate", 6)))
         make = (opened("/a/~new~", "w", create=True, shown="/a/n"), "allowed")
         self.assertEqual(rules(make, cut), [("/a", ["truncate"], 1)])
 
 
 class Moves(unittest.TestCase):
     MOVE = {"op": "rename", "from": "/a/f", "to": "/b/~new~", "shown_to": "/b/n", "call": 1, "kernel": "ok"}
-    REFER = refused("refer on /a; refer on /b", error="EXDEV")
+    REFER = refused([missing_on("/a", "refer"), missing_on("/b", "refer")], error="EXDEV")
 
     def test_eacces_asks_to_remove_and_to_make(self) -> None:
-        found = rules((self.MOVE, refused("remove_file on /a; make_reg on /b")))
+        found = rules((self.MOVE, refused([missing_on("/a", "remove_file"), missing_on("/b", "make_reg")])))
         self.assertEqual(found, [("/a", ["remove_file"], 1), ("/b", ["make_reg"], 1)])
 
     def test_exdev_asks_for_refer_on_both_directories(self) -> None:
         self.assertEqual(rules((self.MOVE, self.REFER)), [("/a", ["refer"], 1), ("/b", ["refer"], 1)])
 
     def test_what_would_be_gained_is_granted_on_the_object(self) -> None:
-        gain = refused("/a/f would gain execute in /b", error="EXDEV")
+        gain = refused(gained("/a/f", "/b", "execute"), error="EXDEV")
         self.assertEqual(rules((self.MOVE, gain)), [("/a/f", ["execute"], 1)])
 
     def test_for_a_symbolic_link_on_its_directory(self) -> None:
-        gain = refused("/a/link would gain execute in /b", error="EXDEV")
+        gain = refused(gained("/a/link", "/b", "execute"), error="EXDEV")
         self.assertEqual(rules(({**self.MOVE, "from": "/a/link"}, gain)), [("/a", ["execute"], 1)])
 
     def test_refer_is_unknown_to_abi_1(self) -> None:
         """Each layer with rights for files handles it there too, and no rule can grant it."""
-        for refusal in (self.REFER, refused("refer on /a; refer on /b; /a/f would gain execute in /b", error="EXDEV")):
+        both = [missing_on("/a", "refer"), missing_on("/b", "refer"), gained("/a/f", "/b", "execute")]
+        for refusal in (self.REFER, refused(both, error="EXDEV")):
             with self.subTest(refusal=refusal):
                 found = suggested([*layer(1, ["execute"]), (self.MOVE, refusal)], abi=1)
                 self.assertEqual((found.rules, found.unmended), ({}, {"rename": 1}))
@@ -361,17 +379,17 @@ class Moves(unittest.TestCase):
 
 class Ports(unittest.TestCase):
     def test_ports_that_lack_the_same_are_one_rule(self) -> None:
-        calls = [({"op": op, "port": port, "call": call}, refused(f"{op}_tcp on port {port}")) for call, (op, port) in
+        calls = [({"op": op, "port": port, "call": call}, refused(closed_on(port, f"{op}_tcp"))) for call, (op, port) in
                  enumerate((("connect", 443), ("connect", 80), ("bind", 8080), ("connect", 80)), start=1)]
         self.assertEqual(rules(*calls), [((80, 443), ["connect_tcp"], 3), ((8080,), ["bind_tcp"], 1)])
 
 
-MOUNT = ({"op": "mount"}, refused("it handles rights for files", error="EPERM"))
+MOUNT = ({"op": "mount"}, refused(MOUNTING, error="EPERM"))
 
 
 class Layers(unittest.TestCase):
     def test_each_layer_lacks_its_own(self) -> None:
-        both = (opened("/a/f", "rw"), refused("read_file on /a/f", "write_file on /a/f"))
+        both = (opened("/a/f", "rw"), refused(missing_on("/a/f", "read_file"), missing_on("/a/f", "write_file")))
         found = suggested([*layer(1), *layer(2), both], to=policy(DENY + DENY))
         reads, writes = (Rule("/a/f", frozenset({right}), 1) for right in ("read_file", "write_file"))
         self.assertEqual(found.rules, {1: [reads], 2: [writes]})
@@ -386,7 +404,7 @@ class Layers(unittest.TestCase):
         self.assertEqual(rules(*child), [("/a/f", ["read_file"], 1)])
 
     def test_a_call_that_fails_by_itself_is_no_layers(self) -> None:
-        create = ({"op": "create", "rs": 4, "fs": ["refer"]}, failed("EINVAL", "ABI 1 does not know refer"))
+        create = ({"op": "create", "rs": 4, "fs": ["refer"]}, failed("EINVAL", "unknown", abi=1, rights=["refer"]))
         found = suggested([*layer(), create, reading("/a/f")], abi=1)
         self.assertEqual((found.unmended, found.of_program), ({}, {}))
         self.assertEqual(found.rules, {1: [Rule("/a/f", frozenset({"read_file"}), 1)]})
@@ -399,14 +417,14 @@ class Layers(unittest.TestCase):
 class Rounds(unittest.TestCase):
     def test_what_stood_behind_a_refusal_is_asked_for_too(self) -> None:
         cut, opening = {"op": "ftruncate", "fd": 5, "call": 2}, opened("/a/f", "w")
-        first = [*layer(), (opening, refused("write_file on /a/f")), (cut, moot("descriptor 5 is not open"))]
-        second = [*layer(), (opening, "allowed"), (cut, refused("truncate on /a/f, opened at line 6"))]
+        first = [*layer(), (opening, refused(missing_on("/a/f", "write_file"))), (cut, moot("unopened", fd=5))]
+        second = [*layer(), (opening, "allowed"), (cut, refused(kept_on("/a/f", "truncate", 6)))]
         found = suggested(first, second)
         self.assertEqual(found.rules, {1: [Rule("/a/f", frozenset({"write_file", "truncate"}), 2)]})
         self.assertEqual((found.rounds, found.finished), (3, True))
 
     def test_nothing_refused_suggests_nothing(self) -> None:
-        found = suggested([*layer(), (opened("/none"), moot("/none is not in the tree"))])
+        found = suggested([*layer(), (opened("/none"), moot("absent", path="/none"))])
         self.assertEqual((found.rules, found.rounds, found.finished), ({}, 1, True))
 
     def test_it_comes_to_an_end(self) -> None:
@@ -417,7 +435,7 @@ class Rounds(unittest.TestCase):
 
 class Text(unittest.TestCase):
     def test_what_is_printed_pastes_into_the_policy(self) -> None:
-        connect = ({"op": "connect", "port": 80, "call": 2}, refused("connect_tcp on port 80"))
+        connect = ({"op": "connect", "port": 80, "call": 2}, refused(closed_on(80, "connect_tcp")))
         found = suggested([*layer(), reading("/a/f"), connect])
         written = "\n".join(suggestion_text.lines(found, policy()))
         read = policy(DENY + written)

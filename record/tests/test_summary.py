@@ -15,15 +15,28 @@ from pathlib import Path
 from unittest import mock
 
 from landaudit_record import layout, summary, summary_text
+from landaudit_record.answers import Missing
 from landaudit_record.jsonl import Record
 from landaudit_record.problems import Problem
 from landaudit_record.reading import Walk, judged
-from landaudit_record.rights import FS, alone
-from landaudit_record.explanations import Missing
+from landaudit_record.rights import FS, NEWEST_ABI, alone
 from landaudit_record.summary import RefusingLayer, Summary
 from landaudit_record.summary_text import Beside, Style
 
-from .recorded import PID, failed, moot, records, refused, write_lines, write_report
+from .recorded import (
+    Object,
+    Said,
+    closed_on,
+    failed,
+    gained,
+    kept_on,
+    missing_on,
+    moot,
+    records,
+    refused,
+    write_lines,
+    write_report,
+)
 
 NNP = ({"op": "nnp"}, "allowed")
 LAYER = [
@@ -34,10 +47,10 @@ OWN = [({"op": "create", "rs": 4, "fs": ["read_file"]}, "allowed"), ({"op": "res
 RUN = ({"op": "exec", "path": "/bin", "kernel": "ok"}, "allowed")
 READ = {"op": "open", "path": "/a/f", "fd": 5, "mode": "r", "kernel": "ok"}
 
-REFUSED = refused("read_file on /a/f")
-NOT_OPEN = moot("descriptor 9 is not open")
+REFUSED = refused(missing_on("/a/f", "read_file"))
+NOT_OPEN = moot("unopened", fd=9)
 
-Call = tuple[Record, str]
+Call = tuple[Record, Said]
 
 
 def summed(
@@ -47,7 +60,8 @@ def summed(
     trace = records(*(record for record, _ in calls))
     with tempfile.TemporaryDirectory() as name:
         folder = Path(name)
-        report = write_report(folder / "report.txt", trace, ["allowed", *(answer for _, answer in calls)])
+        said: list[Said | list[Object]] = ["allowed", *(answer for _, answer in calls)]
+        report = write_report(folder / "report.jsonl", trace, said, alone(abi))
         found = summary.Summaries(alone(abi), tried=tried)
         found.take(Walk(write_lines(folder / "trace.jsonl", trace), report, alone(abi)), alone(abi))
         (one,) = found.done(unsaid or Counter(), [])
@@ -66,13 +80,13 @@ def text(found: Summary, coloured: bool = False, width: int = 80, beside: Beside
 
 class Refusals(unittest.TestCase):
     def test_like_refusals_are_one_row_and_the_most_frequent_comes_first(self) -> None:
-        write = ({**READ, "mode": "w"}, refused("write_file on /a/f"))
+        write = ({**READ, "mode": "w"}, refused(missing_on("/a/f", "write_file")))
         found = summed([NNP, *LAYER, RUN, write, (READ, REFUSED), (READ, REFUSED)])
         rows = [(row["times"], row["call"], row["place"], row["error"]) for row in summary.as_data(found)["refusals"]]
         self.assertEqual(rows, [(2, "open r", "/a/f", "EACCES"), (1, "open w", "/a/f", "EACCES")])
 
     def test_a_row_names_the_program_and_the_layers(self) -> None:
-        both = (READ, refused("read_file on /a/f", "read_file on /a/f"))
+        both = (READ, refused(missing_on("/a/f", "read_file"), missing_on("/a/f", "read_file")))
         found = summed([NNP, *LAYER, *OWN, both, RUN, both])
         (row,) = summary.as_data(found)["refusals"]
         self.assertEqual(row["programs"], {"-": 1, "/bin": 1})
@@ -82,7 +96,7 @@ class Refusals(unittest.TestCase):
     def test_a_child_runs_its_parents_program_until_its_own(self) -> None:
         fork = ({"op": "fork", "child": 11}, "allowed")
         child = [({**READ, "pid": 11}, REFUSED), ({**RUN[0], "pid": 11, "path": "/a/f"}, "allowed"),
-                 ({**READ, "pid": 11, "path": "/bin"}, refused("read_file on /bin"))]
+                 ({**READ, "pid": 11, "path": "/bin"}, refused(missing_on("/bin", "read_file")))]
         found = summed([NNP, *LAYER, RUN, fork, *child])
         programs = {row["place"]: row["programs"] for row in summary.as_data(found)["refusals"]}
         self.assertEqual(programs, {"/a/f": {"/bin": 1}, "/bin": {"/a/f": 1}})
@@ -96,23 +110,23 @@ class Refusals(unittest.TestCase):
     def test_a_made_up_name_is_shown_as_the_real_one(self) -> None:
         made = {"op": "rename", "from": "/a/f", "to": "/b/~new~", "shown_to": "/b/f", "kernel": "ok"}
         opened = {**READ, "path": "/a/~new~", "shown": "/a/n", "create": True, "mode": "w"}
-        found = summed([NNP, *LAYER, (made, refused("refer on /a; refer on /b", error="EXDEV")),
-                        (opened, refused("write_file, make_reg on /a"))])
+        found = summed([NNP, *LAYER, (made, refused([missing_on("/a", "refer"), missing_on("/b", "refer")], error="EXDEV")),
+                        (opened, refused(missing_on("/a", "write_file", "make_reg")))])
         rows = [(row["call"], row["place"]) for row in summary.as_data(found)["refusals"]]
         self.assertEqual(rows, [("rename", "/a/f -> /b/f"), ("open w create", "/a/n")])
 
     def test_a_call_on_a_descriptor_names_its_file(self) -> None:
         opened = ({**READ, "mode": "w"}, "allowed")
         dup = ({"op": "dup", "fd": 5, "to": 6}, "allowed")
-        cut = ({"op": "ftruncate", "fd": 6}, refused("truncate on /a/f, opened at line 5"))
+        cut = ({"op": "ftruncate", "fd": 6}, refused(kept_on("/a/f", "truncate", 5)))
         found = summed([NNP, *LAYER, opened, dup, cut])
         self.assertEqual(summary.as_data(found)["refusals"][0]["place"], "/a/f")
 
     def test_ports_exchanges_and_kinds(self) -> None:
         exchange = {"op": "rename", "from": "/a/f", "to": "/bin", "exchange": True}
-        found = summed([NNP, *LAYER, ({"op": "bind", "port": 80}, refused("bind_tcp on port 80")),
-                        (exchange, refused("remove_file, make_reg on /a")),
-                        ({"op": "mknod", "path": "/a/n", "kind": "fifo"}, refused("make_fifo on /a"))])
+        found = summed([NNP, *LAYER, ({"op": "bind", "port": 80}, refused(closed_on(80, "bind_tcp"))),
+                        (exchange, refused(missing_on("/a", "remove_file", "make_reg"))),
+                        ({"op": "mknod", "path": "/a/n", "kind": "fifo"}, refused(missing_on("/a", "make_fifo")))])
         rows = [(row["call"], row["place"]) for row in summary.as_data(found)["refusals"]]
         self.assertEqual(rows, [("bind", "port 80"), ("exchange", "/a/f -> /bin"), ("mknod fifo", "/a/n")])
 
@@ -129,53 +143,56 @@ class Whys(unittest.TestCase):
     def test_rights_alone_where_they_are_missing_on_the_place_itself(self) -> None:
         self.assertEqual(self.why((READ, REFUSED)), "read_file")
         own = {**READ, "path": "/a/~f~", "shown": "/a/f"}
-        self.assertEqual(self.why((own, refused("read_file on /a/~f~"))), "read_file")
-        connect = ({"op": "connect", "port": 443}, refused("connect_tcp on port 443"))
+        self.assertEqual(self.why((own, refused(missing_on("/a/~f~", "read_file")))), "read_file")
+        connect = ({"op": "connect", "port": 443}, refused(closed_on(443, "connect_tcp")))
         self.assertEqual(self.why(connect), "connect_tcp")
 
     def test_with_the_path_where_they_are_missing_elsewhere(self) -> None:
         make = {**READ, "path": "/a/~new~", "shown": "/a/n", "create": True}
-        self.assertEqual(self.why((make, refused("read_file, make_reg on /a"))), "read_file, make_reg on /a")
+        said = refused(missing_on("/a", "read_file", "make_reg"))
+        self.assertEqual(self.why((make, said)), "read_file, make_reg on /a")
         move = {"op": "rename", "from": "/a/f", "to": "/b/f"}
-        for said in ("remove_file on /a; make_reg on /b", "/a/f would gain execute in /b"):
-            self.assertEqual(self.why((move, refused(said))), said)
+        for said, objections in (
+            ("remove_file on /a; make_reg on /b", [missing_on("/a", "remove_file"), missing_on("/b", "make_reg")]),
+            ("/a/f would gain execute in /b", [gained("/a/f", "/b", "execute")]),
+        ):
+            self.assertEqual(self.why((move, refused(objections))), said)
 
     def test_what_was_missing_at_an_opening_is_one_kind_whatever_line_that_stood_on(self) -> None:
         opened, close = ({**READ, "mode": "w"}, "allowed"), ({"op": "close", "fd": 5}, "allowed")
         cut, calls = {"op": "ftruncate", "fd": 5}, list[Call]()
         for line in (5, 8):
-            calls += [opened, (cut, refused(f"truncate on /a/f, opened at line {line}")), close]
+            calls += [opened, (cut, refused(kept_on("/a/f", "truncate", line))), close]
         self.assertEqual(self.why(*calls), "truncate when it was opened")
         (row,) = summary.as_data(summed([NNP, *LAYER, *calls]))["refusals"]
         self.assertEqual(row["times"], 2)
 
     def test_a_file_that_the_opening_made_has_its_real_name(self) -> None:
         made = ({**READ, "path": "/a/~new~", "shown": "/a/n", "mode": "w", "create": True}, "allowed")
-        cut = ({"op": "ftruncate", "fd": 5}, refused("truncate on /a/~new~, opened at line 5"))
+        cut = ({"op": "ftruncate", "fd": 5}, refused(kept_on("/a/~new~", "truncate", 5)))
         (row,) = summary.as_data(summed([NNP, *LAYER, made, cut]))["refusals"]
         kept = {"text": "truncate on /a/n, opened at line 5", "rights": ("truncate",), "path": "/a/n", "opened": 5}
         self.assertEqual(row["layers"][0]["objections"], [kept])
 
     def test_each_layer_by_its_name_where_they_object_to_different_things(self) -> None:
-        both = (READ, refused("read_file on /a/f", "write_file, read_file on /a/f"))
+        both = (READ, refused(missing_on("/a/f", "read_file"), missing_on("/a/f", "write_file", "read_file")))
         self.assertEqual(self.why(*OWN, both), "policy's 1: read_file; program's 2: write_file, read_file")
-        alike = (READ, refused("read_file on /a/f", "read_file on /a/f"))
+        alike = (READ, refused(missing_on("/a/f", "read_file"), missing_on("/a/f", "read_file")))
         self.assertEqual(self.why(*OWN, alike), "read_file")
 
     def test_the_condition_of_a_call_that_fails_by_itself(self) -> None:
-        restrict = ({"op": "restrict", "rs": 9}, failed("EBADF", "ruleset 9 is not held"))
+        restrict = ({"op": "restrict", "rs": 9}, failed("EBADF", "unheld", rs=9))
         self.assertEqual(self.why(restrict), "ruleset 9 is not held")
         (row,) = summary.as_data(summed([NNP, restrict]))["refusals"]
         self.assertEqual((row["condition"], row["layers"]), ("ruleset 9 is not held", []))
 
     def test_objections_as_data(self) -> None:
         move = {"op": "rename", "from": "/a/f", "to": "/b/f"}
-        said = "refer on /a; /a/f would gain execute in /b"
-        (row,) = summary.as_data(summed([NNP, *LAYER, (move, refused(said, error="EXDEV"))]))["refusals"]
-        gained = {"path": "/a/f", "rights": ("execute",), "directory": "/b"}
+        said = refused([missing_on("/a", "refer"), gained("/a/f", "/b", "execute")], error="EXDEV")
+        (row,) = summary.as_data(summed([NNP, *LAYER, (move, said)]))["refusals"]
         self.assertEqual(row["layers"], [{"number": 1, "policy": 1, "objections": [
             {"text": "refer on /a", "rights": ("refer",), "path": "/a"},
-            {"text": "/a/f would gain execute in /b", **gained},
+            {"text": "/a/f would gain execute in /b", "path": "/a/f", "rights": ("execute",), "directory": "/b"},
         ]}])
         self.assertIsNone(row["condition"])
 
@@ -185,21 +202,21 @@ class Moots(unittest.TestCase):
         return {row["why"]: row["at"] for row in summary.as_data(summed([NNP, *LAYER, *calls]))["moot_because"]}
 
     def test_reasons_are_landaudits_and_name_where_they_show(self) -> None:
-        missing = ({**READ, "path": "/none/f"}, moot("/none is not in the tree"))
+        missing = ({**READ, "path": "/none/f"}, moot("absent", path="/none"))
         self.assertEqual(self.reasons(missing), {"is not in the tree": {"/none": 1}})
         self.assertEqual(self.reasons(({"op": "close", "fd": 9}, NOT_OPEN)), {"is not open": {"descriptor 9": 1}})
-        make = ({"op": "mkdir", "path": "/a"}, moot("/a is in the tree already"))
+        make = ({"op": "mkdir", "path": "/a"}, moot("present", path="/a"))
         self.assertEqual(self.reasons(make), {"is in the tree already": {"/a": 1}})
         beneath = ({"op": "rename", "from": "/a", "to": "/a/~new~", "shown_to": "/a/n"},
-                   moot("/a would go beneath itself, to /a/~new~"))
+                   moot("beneath_itself", **{"from": "/a", "to": "/a/~new~"}))
         self.assertEqual(self.reasons(beneath), {"would go beneath itself": {"/a -> /a/n": 1}})
 
     def test_a_made_up_name_is_shown_as_the_real_one(self) -> None:
-        missing = ({**READ, "path": "/a/~new~", "shown": "/a/n"}, moot("/a/~new~ is not in the tree"))
+        missing = ({**READ, "path": "/a/~new~", "shown": "/a/n"}, moot("absent", path="/a/~new~"))
         self.assertEqual(self.reasons(missing), {"is not in the tree": {"/a/n": 1}})
 
     def test_a_number_stays_closed_when_its_opening_was_refused(self) -> None:
-        close = ({"op": "close", "fd": 5}, moot("descriptor 5 is not open"))
+        close = ({"op": "close", "fd": 5}, moot("unopened", fd=5))
         why = "is not open, its opening was refused or moot"
         self.assertEqual(self.reasons((READ, REFUSED), close), {why: {"descriptor 5": 1}})
         adopt = ({"op": "adopt", "fd": 5, "kind": "other"}, "allowed")
@@ -208,43 +225,44 @@ class Moots(unittest.TestCase):
 
     def test_a_rule_of_the_program_that_is_left_out(self) -> None:
         said = "left out, as this ABI supports none of the rule's rights"
-        rules = [({"op": "add_path", "rs": 4, "path": "/a", "shown": "/a/n", "kernel": "ok"}, moot(said)),
-                 ({"op": "add_port", "rs": 4, "port": 443, "kernel": "ok"}, moot(said)),
-                 ({"op": "add_port", "rs": 4, "port": 80, "kernel": "EINVAL"}, moot(said))]
+        rules = [({"op": "add_path", "rs": 4, "path": "/a", "shown": "/a/n", "kernel": "ok"}, moot("unsupported")),
+                 ({"op": "add_port", "rs": 4, "port": 443, "kernel": "ok"}, moot("unsupported")),
+                 ({"op": "add_port", "rs": 4, "port": 80, "kernel": "EINVAL"}, moot("unsupported"))]
         self.assertEqual(self.reasons(*rules), {said: {"/a/n": 1, "port 443": 1, "port 80": 1}})
         self.assertEqual(summed([NNP, *LAYER, *rules]).warnings, {})
 
     def test_a_rule_of_the_policy_that_is_left_out_is_not_there(self) -> None:
-        left_out = (rule("/a", "truncate"), moot("left out, as this ABI supports none of the rule's rights"))
+        left_out = (rule("/a", "truncate"), moot("unsupported"))
         found = summed([NNP, *LAYER, left_out])
         self.assertEqual((found.records, found.moot, found.warnings), (4, {}, {}))
 
     def test_what_failed_by_itself_says_so(self) -> None:
         missing = {**READ, "path": "/a/~new~", "shown": "/a/none", "kernel": "ENOENT"}
         why = "the call failed in the recording too: ENOENT"
-        found = self.reasons((missing, moot("/a/~new~ is not in the tree")))
+        found = self.reasons((missing, moot("absent", path="/a/~new~")))
         self.assertEqual(found, {why: {"/a/none": 1}})
 
 
 class Warnings(unittest.TestCase):
-    ABSENT = ({**READ, "path": "/none"}, moot("/none is not in the tree"))
+    ABSENT = ({**READ, "path": "/none"}, moot("absent", path="/none"))
 
     def warnings(self, *calls: Call, abi: int = 5) -> list[str]:
         return list(summed([NNP, LAYER[0], *calls], abi).warnings)
 
     def test_a_rule_whose_parent_is_not_listed(self) -> None:
-        (said,) = self.warnings((rule("/none", "read_file", parent="/bin/none"), moot("/none is not in the tree")))
+        (said,) = self.warnings((rule("/none", "read_file", parent="/bin/none"), moot("absent", path="/none")))
         self.assertIn("policy: layer 1, path_beneath 1, parent /bin/none is moot: /none is not in the tree;", said)
 
     def test_a_rule_that_is_refused(self) -> None:
         condition = "/a/f is not a directory, and only directories have read_dir"
-        (said,) = self.warnings((rule("/a/f", "read_file", "read_dir"), failed("EINVAL", condition)))
+        answer = failed("EINVAL", "only_for_directories", rights=["read_dir"], path="/a/f")
+        (said,) = self.warnings((rule("/a/f", "read_file", "read_dir"), answer))
         self.assertEqual(said, f"policy: layer 1, path_beneath 1, parent /a/f is refused with EINVAL: {condition}")
 
     def test_a_rule_on_what_the_run_makes(self) -> None:
         added = rule("/a/made", "read_file")
         added |= {"path": "/~new~", "policy": {**added["policy"], "made": "/a"}}
-        found = summed([(added, moot("/~new~ is not in the tree"))], tried=True)
+        found = summed([(added, moot("absent", path="/~new~"))], tried=True)
         (said,) = found.warnings
         self.assertIn("path_beneath 1, parent /a/made: the run makes it itself", said)
         self.assertIn("grant it on /a", said)
@@ -259,12 +277,13 @@ class Warnings(unittest.TestCase):
 
     def test_a_ruleset_of_the_program_that_an_older_abi_refuses(self) -> None:
         condition = "ABI 1 does not know refer"
-        create = ({"op": "create", "rs": 4, "fs": ["read_file", "refer"]}, failed("EINVAL", condition))
+        answer = failed("EINVAL", "unknown", abi=1, rights=["refer"])
+        create = ({"op": "create", "rs": 4, "fs": ["read_file", "refer"]}, answer)
         (said,) = self.warnings(create, abi=1)
         self.assertIn(f"a ruleset of the program is refused at ABI 1 with EINVAL: {condition}; a program must", said)
 
     def test_a_ruleset_of_the_program_that_every_abi_refuses(self) -> None:
-        (said,) = self.warnings(({"op": "create", "rs": 4}, failed("ENOMSG", "no right is named")))
+        (said,) = self.warnings(({"op": "create", "rs": 4}, failed("ENOMSG", "rightless")))
         self.assertIn("with ENOMSG: no right is named; the program runs without that layer", said)
 
     def test_a_recording_in_which_nothing_asks_for_a_layer(self) -> None:
@@ -309,13 +328,14 @@ class Text(unittest.TestCase):
         self.assertEqual(summary.as_data(self.found)["unsaid"], {"splice": 2, "scopes": 1})
 
     def test_a_path_cannot_speak_to_the_terminal(self) -> None:
-        found = summed([NNP, *LAYER, ({**READ, "path": "/a/\x1b[2J\n", "create": True, "mode": "w"},
-                                      refused(r"write_file on /a/\u001b[2J\n"))])
+        path = "/a/\x1b[2J\n"
+        opened = {**READ, "path": path, "create": True, "mode": "w"}
+        found = summed([NNP, *LAYER, (opened, refused(missing_on(path, "write_file")))])
         self.assertNotIn("\x1b", text(found))
         self.assertIn(r"/a/\x1b[2J\n", text(found))
 
     def test_up_to_twenty_kinds_are_told_one_by_one_and_more_in_groups(self) -> None:
-        many = [({"op": "bind", "port": port}, refused(f"bind_tcp on port {port}")) for port in range(21)]
+        many = [({"op": "bind", "port": port}, refused(closed_on(port, "bind_tcp"))) for port in range(21)]
         self.assertIn("refused, the most frequent first (20 kinds)", text(summed([NNP, *LAYER, *many[:20]])))
         lines = text(summed([NNP, *LAYER, *many])).splitlines()
         self.assertIn("refused: 21 kinds in 1 group, the earliest first, then the most frequent", lines)
@@ -329,8 +349,8 @@ class Text(unittest.TestCase):
         """Each of 25 moves has rights of its own; 20 groups are shown and 5 are not."""
         some = [right for right in FS.since if right.startswith(("make_", "remove_"))]
         pairs = [(one, other) for one in some for other in some if one != other][:25]
-        moves = [({"op": "rename", "from": "/a/f", "to": "/b/f"}, refused(f"{one} on /a; {other} on /b"))
-                 for one, other in pairs]
+        both = ([missing_on("/a", one), missing_on("/b", other)] for one, other in pairs)
+        moves = [({"op": "rename", "from": "/a/f", "to": "/b/f"}, refused(objections)) for objections in both]
         told = text(summed([NNP, *LAYER, *moves]))
         self.assertIn("refused: 25 kinds in 25 groups", told)
         self.assertIn("  --all lists 5 more groups and each kind by itself", told)
@@ -348,7 +368,7 @@ class Text(unittest.TestCase):
 
     def test_numbers_of_descriptors_that_no_program_had_are_not_told(self) -> None:
         """1,000,001 is the first number that a recording makes up; 1,000,000 is a program's own."""
-        closed = [({"op": "close", "fd": fd}, moot(f"descriptor {fd} is not open")) for fd in (1_000_001, 1_000_000)]
+        closed = [({"op": "close", "fd": fd}, moot("unopened", fd=fd)) for fd in (1_000_001, 1_000_000)]
         told = text(summed([NNP, *LAYER, *closed]))
         self.assertNotIn("1000001", told)
         self.assertIn("      2  its file is not open  descriptor 1000000", told.splitlines())
@@ -356,10 +376,10 @@ class Text(unittest.TestCase):
         self.assertIn("      1  its file is not open  -", alone.splitlines())
 
     def test_why_a_call_is_not_asked_is_said_in_words(self) -> None:
-        absent = ({**READ, "path": "/none"}, moot("/none is not in the tree"))
-        tried = ({**READ, "path": "/none", "kernel": "ENOENT"}, moot("/none is not in the tree"))
-        made = ({"op": "mkdir", "path": "/a"}, moot("/a is in the tree already"))
-        closed = [(READ, REFUSED), ({"op": "close", "fd": 5}, moot("descriptor 5 is not open"))]
+        absent = ({**READ, "path": "/none"}, moot("absent", path="/none"))
+        tried = ({**READ, "path": "/none", "kernel": "ENOENT"}, moot("absent", path="/none"))
+        made = ({"op": "mkdir", "path": "/a"}, moot("present", path="/a"))
+        closed = [(READ, REFUSED), ({"op": "close", "fd": 5}, moot("unopened", fd=5))]
         lines = text(summed([NNP, *LAYER, absent, absent, tried, made, *closed])).splitlines()
         start = lines.index("not asked (moot), and why")
         self.assertEqual(lines[start + 1:start + 6], [
@@ -390,7 +410,7 @@ class ShortWarnings(unittest.TestCase):
         return [line for line in lines if line.startswith("warning:")]
 
     def unused(self, parent: str) -> Call:
-        return rule(parent, "read_file"), moot(f"{parent} is not in the tree")
+        return rule(parent, "read_file"), moot("absent", path=parent)
 
     def test_a_rule_that_the_run_never_used_by_whether_its_path_is_here(self) -> None:
         with tempfile.TemporaryDirectory() as here:
@@ -416,7 +436,7 @@ class ShortWarnings(unittest.TestCase):
         made, replaced = rule("/a/made", "read_file"), rule("/a/conf", "read_file")
         made |= {"path": "/~new~", "policy": {**made["policy"], "made": "/a"}}
         replaced["policy"]["replaced"] = "/a"
-        self.assertEqual(self.told((made, moot("/~new~ is not in the tree")), (replaced, "allowed")), [
+        self.assertEqual(self.told((made, moot("absent", path="/~new~")), (replaced, "allowed")), [
             "warning: /a/made: the run makes it: grant it on /a",
             "warning: /a/conf: the run puts another there: grant it on /a",
         ])
@@ -435,10 +455,9 @@ class Narrow(unittest.TestCase):
     def summary(self) -> Summary:
         calls: list[Call] = []
         for name in self.NAMES:
-            written = json.dumps(name)[1:-1]
-            calls += [({**READ, "path": name}, refused(f"read_file on {written}")),
-                      ({"op": "mkdir", "path": name}, moot(f"{written} is in the tree already")),
-                      (rule(name, "read_file"), moot(f"{written} is not in the tree"))]
+            calls += [({**READ, "path": name}, refused(missing_on(name, "read_file"))),
+                      ({"op": "mkdir", "path": name}, moot("present", path=name)),
+                      (rule(name, "read_file"), moot("absent", path=name))]
         return summed([NNP, *LAYER, RUN, *calls], unsaid=Counter({name: 1 for name in self.NAMES}))
 
     def test_no_line_is_too_wide_and_why_is_seen(self) -> None:
@@ -495,8 +514,8 @@ class Data(unittest.TestCase):
         data = summary.as_data(summed([NNP, *LAYER, (READ, REFUSED), ({"op": "close", "fd": 9}, NOT_OPEN)]))
         self.assertEqual(
             sorted(data),
-            ["abi", "accepted", "allowed", "moot", "moot_because", "moot_path_calls", "not_judged", "path_calls", "records"]
-            + ["refusals", "refused", "unsaid", "warnings"],
+            ["abi", "accepted", "allowed", "moot", "moot_because", "moot_path_calls", "not_judged", "not_traced"]
+            + ["path_calls", "records", "refusals", "refused", "unsaid", "warnings"],
         )
         self.assertEqual((data["records"], data["allowed"], data["refused"], data["moot"]), (6, 4, 1, 1))
         self.assertEqual(
@@ -509,13 +528,12 @@ class Data(unittest.TestCase):
 class Joining(unittest.TestCase):
     def test_a_report_on_another_trace(self) -> None:
         trace = records({"op": "nnp"})
-        for rows in (["1 10 start allowed"], ["1 10 start allowed", "2 11 nnp allowed"],
-                     ["1 10 start allowed", f"2 {PID} nnp allowed", f"3 {PID} nnp allowed"]):
-            with self.subTest(rows=rows), tempfile.TemporaryDirectory() as folder:
-                report = Path(folder, "report.txt")
-                report.write_text("\n".join(rows) + "\n")
+        start, nnp = trace
+        for said in ([start], [start, {**nnp, "pid": 11}], [start, nnp, nnp]):
+            with self.subTest(said), tempfile.TemporaryDirectory() as folder:
+                report = write_report(Path(folder, "report.jsonl"), said, ["allowed"] * len(said))
                 with self.assertRaisesRegex(Problem, "is not a report on"):
-                    list(judged(write_lines(Path(folder, "trace.jsonl"), trace), report))
+                    list(judged(write_lines(Path(folder, "trace.jsonl"), trace), report, NEWEST_ABI))
 
 
 if __name__ == "__main__":

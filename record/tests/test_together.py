@@ -10,10 +10,11 @@ from pathlib import Path
 from typing import Any
 
 from landaudit_record import together
-from landaudit_record.finished import Converted, Finished, Size
+from landaudit_record.finished import READING_LINKS, Converted, Finished, Size
+from landaudit_record.rights import alone
 from landaudit_record.summary import Accepted, Refusal, Summary
 
-from .recorded import PID, refused, write_lines
+from .recorded import PID, last_line, missing_on, refused, write_lines
 from .stand_in import TRACE, StandIn
 
 #: Two records more than the first recording has, of which the policy refuses the last.
@@ -23,6 +24,7 @@ SECOND = [
     {"op": "truncate", "pid": PID, "path": "/a", "call": 4, "kernel": "ok"},
 ]
 ALLOWED = ["allowed"]
+WRITES = refused(missing_on("/a", "write_file"))
 
 
 class Several(StandIn):
@@ -34,7 +36,7 @@ class Several(StandIn):
         write_lines(self.second / "trace.jsonl", SECOND)
         self.answer({
             "5": ALLOWED * 5,
-            "10": ALLOWED * 7 + [refused("write_file on /a"), "allowed", refused("write_file on /a")],
+            "10": ALLOWED * 7 + [WRITES, "allowed", WRITES],
             "11": ALLOWED * 11,
         })
 
@@ -73,7 +75,7 @@ class Several(StandIn):
     def test_each_keeps_its_own_report(self) -> None:
         self.both("audit", "--policy", self.policy)
         for folder, records in ((self.recording, 8), (self.second, 10)):
-            self.assertIn(f"\ntotal {records}", (folder / "report.txt").read_text())
+            self.assertTrue((folder / "report.jsonl").read_text().endswith("\n" + last_line(records, alone(3))))
             self.assertEqual(len((folder / "tried.jsonl").read_text().splitlines()), records)
 
     def test_data_has_all_together_and_each_by_itself(self) -> None:
@@ -122,7 +124,7 @@ class Several(StandIn):
         self.assertIn("3 refused (1 accepted)", out)
 
     def test_suggest_takes_what_each_of_them_lacks(self) -> None:
-        self.answer({"10": ALLOWED * 9 + [refused("truncate on /a")]})
+        self.answer({"10": ALLOWED * 9 + [refused(missing_on("/a", "truncate"))]})
         status, out, _ = self.both("suggest", "--policy", self.policy)
         self.assertEqual(status, 0)
         rule = '[[layer.path_beneath]]\nallowed_access = ["write_file", "truncate"]\nparent = "/a"\n'
@@ -162,8 +164,9 @@ class Several(StandIn):
 
 
 class United(unittest.TestCase):
-    def member(self, name: str) -> together.Member:
-        return together.Member(name, Finished(Path(name), (), Counter(), Counter(), ended=True), None)
+    def member(self, name: str, *untraced: str) -> together.Member:
+        recording = Finished(Path(name), (), Counter(), Counter(), ended=True, untraced=untraced)
+        return together.Member(name, recording, None)
 
     def summary(self, *warnings: str, untouched: str) -> Summary:
         return Summary(5, warnings={text: 1 for text in (*warnings, untouched)}, untouched={untouched})
@@ -187,6 +190,11 @@ class United(unittest.TestCase):
         self.assertEqual((found.refusals[kind], found.recordings[kind]), ({"p": 3, "q": 3}, ["r1", "r2"]))
         self.assertEqual((found.records, found.path_calls, found.accepted[known]), (6, 7, 2))
         self.assertEqual(found.moot["why"].total(), 6)
+
+    def test_what_was_not_traced_is_told_once(self) -> None:
+        members = [self.member(name, READING_LINKS) for name in ("r1", "r2")]
+        found = together.united([(member, Summary(5)) for member in members])
+        self.assertEqual(found.untraced, ("readlink(2) into other processes is not recorded (run --readlink)",))
 
 
 if __name__ == "__main__":

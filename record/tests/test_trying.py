@@ -10,10 +10,20 @@ from pathlib import Path
 from typing import Any
 from unittest import mock
 
+from landaudit_record import options
 from landaudit_record.jsonl import Record
 
 from . import pages
-from .recorded import PID, failed, refused, write_lines
+from .recorded import (
+    PID,
+    failed,
+    last_line,
+    missing_on,
+    over_range,
+    refused,
+    report_line,
+    write_lines,
+)
 from .stand_in import OLDER_OPS, OPS, POLICY, TRACE, TREE, StandIn
 
 
@@ -53,7 +63,8 @@ class Trying(StandIn):
         status, out, _ = self.audited("audit", self.recording)
         self.assertEqual(status, 0)
         self.assertIn("3 records: 3 allowed, 0 refused, 0 not asked (moot)", out)
-        self.assertEqual((self.recording / "report.txt").read_text().splitlines()[0], f"1 {PID} start allowed")
+        first = (self.recording / "report.jsonl").read_text().splitlines()[0]
+        self.assertEqual(first, report_line(1, TRACE[0], over_range({3: "allowed"})).rstrip())
 
     def test_audit_of_a_policy(self) -> None:
         status, out, _ = self.audited("audit", self.recording, "--policy", self.policy)
@@ -72,12 +83,13 @@ class Trying(StandIn):
 
     def test_audit_is_at_best_effort_and_as_recorded_if_that_is_wanted(self) -> None:
         none: list[str] = []
-        for command in (["audit", self.recording], ["suggest", self.recording, "--policy", self.policy]):
+        suggest = ["suggest", self.recording, "--policy", self.policy]
+        for command, more in (["audit", self.recording], ""), (suggest, " --refused"):
             for words, flags in (none, "3 --best-effort --explain"), (["--as-recorded"], "3 --explain"):
                 with self.subTest(command=command[0], words=words):
                     self.runs.unlink(missing_ok=True)
                     self.audited(*command, *words)
-                    self.assertEqual(set(self.ran()), {flags})
+                    self.assertEqual(set(self.ran()), {f"{flags}{more}"})
 
     def test_the_command_that_suggests_rules_judges_as_this_audit_did(self) -> None:
         _, out, _ = self.audited("audit", self.recording, "--policy", self.policy, "--as-recorded")
@@ -86,7 +98,7 @@ class Trying(StandIn):
 
     def test_compare_judges_what_was_recorded(self) -> None:
         self.audited("compare", self.recording)
-        self.assertEqual(self.ran(), ["3 --explain"])
+        self.assertEqual(self.ran(), ["3"])
 
     def test_audit_is_at_all_abis_if_none_is_named(self) -> None:
         status, out, _ = self.audited("audit", self.recording, abi=None)
@@ -189,7 +201,7 @@ class Trying(StandIn):
                 self.assertEqual((status, errors), (4, f"landaudit-record: {file}: {why}\n"))
                 self.assertIn("3 records: 3 allowed", out)
         left = {path.name for path in self.folder.rglob("*")} - {path.name for path in before}
-        self.assertEqual(left, {"runs", "report.txt"})
+        self.assertEqual(left, {"runs", "report.jsonl"})
 
     def test_a_page_takes_the_place_of_the_one_before_it_whole_or_not_at_all(self) -> None:
         file = self.folder / "page.html"
@@ -231,8 +243,8 @@ class Trying(StandIn):
         self.assertEqual((status, self.ran()), (0, ["1-3 --best-effort --explain", "4-5 --best-effort --explain"]))
         rows = [row.split() for row in self.table(out)[1:]]
         self.assertEqual(rows, [[str(abi), "4" if abi < 4 else "7", "0", "0"] for abi in range(1, 6)])
-        report = (self.recording / "report.txt").read_text()
-        self.assertTrue(report.endswith("\ntotal 7 abi 4\ntotal 7 abi 5\n"), report)
+        report = (self.recording / "report.jsonl").read_text()
+        self.assertTrue(report.endswith("\n" + last_line(7, range(4, 6))), report)
 
     def test_the_files_of_a_range_are_those_of_its_newest_abi(self) -> None:
         for abi, ops in ("1-3", OPS), ("1-2", OLDER_OPS):
@@ -240,13 +252,13 @@ class Trying(StandIn):
                 self.audited("audit", self.recording, "--policy", self.policy, abi=abi)
                 tried = (self.recording / "tried.jsonl").read_text().splitlines()
                 self.assertEqual([json.loads(line)["op"] for line in tried], ops)
-                report = (self.recording / "report.txt").read_text()
-                self.assertIn(f"\ntotal {len(ops)} abi {abi[-1]}\n", report)
+                report = (self.recording / "report.jsonl").read_text()
+                self.assertTrue(report.endswith("\n" + last_line(len(ops), options.abis(abi))), report)
         names = sorted(path.name for path in self.recording.iterdir())
-        self.assertEqual(names, ["report.txt", "trace.jsonl", "tree.jsonl", "tried.jsonl"])
+        self.assertEqual(names, ["report.jsonl", "trace.jsonl", "tree.jsonl", "tried.jsonl"])
 
     def test_the_status_of_a_range_is_1_if_an_abi_refuses_something(self) -> None:
-        answers = {"3": ["allowed"] * 3, "2: 3": ["allowed"] * 2 + [failed("EBADF", "ruleset 9 is not held")]}
+        answers = {"3": ["allowed"] * 3, "2: 3": ["allowed"] * 2 + [failed("EBADF", "unheld", rs=9)]}
         (self.folder / "answers.json").write_text(json.dumps(answers))
         for abi, status in ("1", 0), ("1-3", 1), ("2-3", 1), ("3-5", 0), ("2", 1):
             with self.subTest(abi):
@@ -341,7 +353,7 @@ parent = ["/none", "/a"]
                                  for fd, path in ((4, "/etc/passwd"), (5, "/etc/group"))]
         write_lines(self.recording / "trace.jsonl", [*TRACE, *reading])
         self.policy.write_text('[[layer]]\nhandled_access_fs = ["read_file"]\n')
-        lacking = [refused(f"read_file on {record['path']}") for record in reading]
+        lacking = [refused(missing_on(f"{record['path']}", "read_file")) for record in reading]
         answers = {"9": ["allowed"] * 7 + lacking, "11": ["allowed"] * 11}
         (self.folder / "answers.json").write_text(json.dumps(answers))
         for style, rules, wanted in (("base", 1, 'include = ["nameservice"]'), ("exact", 2, 'parent = "/etc/group"')):

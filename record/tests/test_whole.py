@@ -28,12 +28,11 @@ from .stories import names
 
 RECORD = Path(__file__).resolve().parents[1]
 #: Answers that all is allowed.
-ALLOWS = """#!/usr/bin/env python3
-import json, sys
-lines = [json.loads(line) for line in open(sys.argv[-1])]
-for number, record in enumerate(lines, start=1):
-    print(number, record["pid"], record["op"], "allowed")
-print("total", len(lines))
+ALLOWS = f"""#!/usr/bin/env python3
+import sys
+sys.path.insert(0, {str(RECORD)!r})
+from tests.recorded import allow_all
+allow_all(sys.argv)
 """
 
 
@@ -170,7 +169,7 @@ class Whole(KeptLogs):
         self.assertEqual(data["not_judged"], ["2 calls that a policy may refuse could not be recorded: io_uring (2)"])
 
     def test_calls_that_were_not_traced_stand_beside_each_audit(self) -> None:
-        said = "note: readlink(2) into other processes is not recorded (run --readlink)\n"
+        said = "readlink(2) into other processes is not recorded (run --readlink)"
         about = json.loads((self.recording / recordings.ABOUT).read_text())
         for readlink in (False, True):
             with self.subTest(readlink=readlink):
@@ -178,7 +177,8 @@ class Whole(KeptLogs):
                 (self.recording / recordings.ABOUT).write_text(said_of_it)
                 self.convert_it()
                 status, out, _ = self.audited()
-                self.assertEqual((status, said in out), (0, not readlink))
+                self.assertEqual((status, f"note: {said}\n" in out), (0, not readlink))
+                self.assertEqual(json.loads(self.audited("--json")[1])["not_traced"], [] if readlink else [said])
 
     def test_a_policy_with_scopes_is_told_of_calls_that_they_may_refuse(self) -> None:
         policy = Path(self._folder.name) / "policy.toml"

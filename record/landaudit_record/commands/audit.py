@@ -67,7 +67,7 @@ Each = Sequence[tuple[Member, list[Summary]]]
 
 
 def run(arguments: argparse.Namespace) -> int:
-    """Writes OUT/report.txt of each recording, and prints the summary of all.
+    """Writes OUT/report.jsonl of each recording, and prints the summary of all.
 
     The status is 1 if an ABI refuses a record, else 5 if not everything that a policy may refuse could be judged.
     """
@@ -103,7 +103,7 @@ def _summaries(member: Member, auditing: Auditing, abis: range) -> list[Summary]
     for step in [abis] if tried is None else tried.steps(abis, best_effort=auditing.best_effort):
         for walk in auditing.walks(step, tried):
             found.take(walk, step)
-    return found.done(member.recording.unsaid, member.recording.missing)
+    return found.done(member.recording.unsaid, member.recording.missing, list(member.recording.notes))
 
 
 def _print(each: Each, summaries: list[Summary], arguments: argparse.Namespace, notes: list[str]) -> None:

@@ -58,10 +58,10 @@ def _differences(
 ) -> Iterator[Difference]:
     """The calls that differ, part by part, while all calls are counted."""
     classes = Classes(trees.read(*(part.tree for part in recording.parts)), abi, _stat_of)
-    report = folder / "report.txt"
+    report = folder / "report.jsonl"
     for part in recording.parts:
-        landaudit.audit(program, alone(abi), part.tree, part.trace, report, best_effort=False)
-        yield from comparing.compare(judged_calls(judged(part.trace, report), abi), classes, tally)
+        landaudit.audit(program, alone(abi), part.tree, part.trace, report, best_effort=False, explain=False)
+        yield from comparing.compare(judged_calls(judged(part.trace, report, abi), abi), classes, tally)
 
 
 def _keep(differences: Iterable[Difference], file: Path | None) -> None:

@@ -261,9 +261,10 @@ def _rule(abis: Sequence[int], layer: str, rule: str, place: str, rights: str, c
 
 
 def unsaid(summary: Summary) -> Markup:
-    """The calls that were not recorded, which no number counts."""
+    """The kinds of calls that were not traced, and the traced calls that were not recorded, which no number counts."""
+    untraced = [paragraph(named(f"{told}."), kind="untraced") for told in summary.untraced]
     if not summary.unsaid:
-        return paragraph("The recording left out nothing that it knows of.")
+        return together((*untraced, paragraph("Of the calls that were traced, none is left out.")))
     rows = (row(f"{times:,}", named(name)) for name, times in summary.unsaid.most_common())
     told = paragraph("Calls that the recording can't show, by class. None of the numbers above counts them.")
-    return together((told, table("unsaid", ("times", "class"), rows)))
+    return together((*untraced, told, table("unsaid", ("times", "class"), rows)))

@@ -10,10 +10,9 @@ from dataclasses import asdict, dataclass, replace
 from pathlib import Path
 from typing import Any
 
-from .. import asking, cases, explanations, granting, landaudit, policies, tap
-from ..asking import Found
+from .. import answers, asking, cases, granting, landaudit, policies, tap
+from ..answers import MOOT, Answer, Kept, Objection
 from ..cases import Case
-from ..explanations import Kept, Objection
 from ..granting import Grant
 from ..options import add_landaudit, add_policy
 from ..policies import Policy
@@ -102,19 +101,19 @@ class _Outcome:
     """A case with landaudit's answer at each of its ABIs, and the rules that grant something of the call."""
 
     case: Case
-    answers: dict[int, Found]
+    answers: dict[int, Answer]
     grants: Sequence[Grant]
 
     @property
     def holds(self) -> bool:
         """Whether each answer is the one that the case wants."""
-        return all(found.passes != self.case.refused for found in self.answers.values())
+        return all(found.allowed != self.case.refused for found in self.answers.values())
 
     def about(self) -> dict[str, str | Sequence[str]]:
         """The answer at each ABI, with the rules that grant the call, or the layers that refuse it and why."""
         about: dict[str, str | Sequence[str]] = {}
         for abis, found in _together(self.answers):
-            about[f"abi {span(abis)}"] = list(_refusing(found)) if found.answer.refused else "allowed"
+            about[f"abi {span(abis)}"] = list(_refusing(found)) if found.refused else found.verdict
         if self.passes_somewhere:
             about["rules"] = [str(grant) for grant in self.grants] or "no layer handles what the call asks"
         return about
@@ -122,7 +121,7 @@ class _Outcome:
     @property
     def passes_somewhere(self) -> bool:
         """Whether an ABI lets the call pass."""
-        return any(found.passes for found in self.answers.values())
+        return any(found.allowed for found in self.answers.values())
 
     def data(self) -> dict[str, Any]:
         """The same as data for programs."""
@@ -146,28 +145,27 @@ def _outcomes(program: Path, policy: Policy, given: cases.Cases) -> Iterator[_Ou
     for number, case in enumerate(given.cases):
         answers = {abi: by_abi[abi][number] for abi in case.abis}
         for found in answers.values():
-            if found.answer.verdict == "moot":
+            if found.verdict == MOOT:
                 raise Problem(f"{given.path}: {case.text}: Landlock is not asked: {found.reason}")
         yield _Outcome(case, answers, grants[number])
 
 
-def _together(answers: dict[int, Found]) -> Iterator[tuple[range, Found]]:
+def _together(answers: dict[int, Answer]) -> Iterator[tuple[range, Answer]]:
     """Groups neighbouring ABIs with the same answer."""
     first: int | None = None
     for abi, found in answers.items():
         if first is None:
             first = abi
         following = answers.get(abi + 1)
-        if following is None or (following.passes, list(_refusing(following))) != (found.passes, list(_refusing(found))):
+        if following is None or (following.allowed, list(_refusing(following))) != (found.allowed, list(_refusing(found))):
             yield range(first, abi + 1), found
             first = None
 
 
-def _refusing(found: Found) -> Iterator[str]:
+def _refusing(found: Answer) -> Iterator[str]:
     """What each layer objects to."""
-    if found.answer.refused:
-        for layer, objections in found.objections.items():
-            yield f"layer {layer}: {'; '.join(map(_text, objections))}"
+    for layer in found.layers:
+        yield f"layer {layer.layer}: {'; '.join(map(_text, layer.objections))}"
 
 
 def _text(objection: Objection) -> str:
@@ -177,20 +175,19 @@ def _text(objection: Objection) -> str:
     return str(objection)
 
 
-def _answer_data(abi: int, found: Found) -> dict[str, Any]:
+def _answer_data(abi: int, found: Answer) -> dict[str, Any]:
     """What an ABI answers, as data: the error and the layers of a call that is refused."""
-    layers = found.objections.items() if found.answer.refused else ()
     return {
         "abi": abi,
-        "answer": found.answer.verdict,
-        "error": found.answer.error,
-        "layers": [{"number": number, "objections": [_objection_data(it) for it in objections]}
-                   for number, objections in layers],
+        "answer": found.verdict,
+        "error": found.error,
+        "layers": [{"number": layer.layer, "objections": [_objection_data(it) for it in layer.objections]}
+                   for layer in found.layers],
     }
 
 
 def _objection_data(objection: Objection) -> dict[str, Any]:
     """An objection as data, by the same text."""
-    data = {**explanations.as_data(objection), "text": _text(objection)}
+    data = {**answers.as_data(objection), "text": _text(objection)}
     data.pop("opened", None)
     return data

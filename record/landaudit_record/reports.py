@@ -1,0 +1,202 @@
+"""Reads landaudit's report: docs/FORMATS.md, "The report as JSON".
+
+Each line is an object, without spaces and with its members in one order. So what most lines say is known by their
+bytes, and only the others are taken apart.
+"""
+
+from __future__ import annotations
+
+import json
+from collections.abc import Iterator, Mapping
+from contextlib import contextmanager
+from pathlib import Path
+from typing import Any, BinaryIO, NamedTuple
+
+from .answers import (
+    ALLOWED,
+    CONDITIONS,
+    KINDS,
+    MOOT,
+    REASONS,
+    REFUSED,
+    Answer,
+    Answered,
+    Closed,
+    Condition,
+    Gained,
+    Kept,
+    Missing,
+    Mounting,
+    Objection,
+    Reason,
+    Refusing,
+)
+from .problems import Problem
+
+#: How the last line begins.
+LAST = b'{"totals":'
+_BEGINS = b'{"line":'
+_VERDICT = b'"answer":"%b"'
+#: How the line of a record ends that a single ABI allows, and what is in the line of one that it refuses.
+ENDS_ALLOWED, HAS_REFUSED = _VERDICT % ALLOWED.encode() + b"}]}\n", _VERDICT % REFUSED.encode()
+_PLAIN = Answer(ALLOWED)
+
+
+class Row(NamedTuple):
+    """What a report says of a record at one ABI: the record's line, its process, and the answer."""
+
+    line: int
+    pid: int
+    answer: Answer
+
+
+def head(line: int, pid: int) -> bytes:
+    """How the line of a record begins."""
+    return b'{"line":%d,"pid":%d,' % (line, pid)
+
+
+def allowed_by_all(abis: range) -> bytes:
+    """How the line of a record ends that all ABIs of a range allow."""
+    return b'"answers":[{"abi":[%d,%d],' % (abis[0], abis[-1]) + ENDS_ALLOWED
+
+
+def split(line: bytes) -> list[bytes]:
+    """A record's line at its first commas: its number, process and operation, and the rest, which has the answers."""
+    return line.split(b",", 3)
+
+
+class Shown:
+    """The lines of a report that leaves out records, beside a walk over the records."""
+
+    def __init__(self, lines: BinaryIO) -> None:
+        self._lines = lines
+        self._next()
+
+    def _next(self) -> None:
+        self.line = self._lines.readline()
+        number = self.line.partition(b",")[0].removeprefix(_BEGINS)
+        self._number = int(number) if number.isdigit() else None
+
+    def on(self, number: int) -> bytes:
+        """The line on a record; nothing if the record is left out. Each number is greater than the one before."""
+        if number != self._number:
+            return b""
+        found = self.line
+        self._next()
+        return found
+
+
+def rows(report: Path, abi: int) -> Iterator[Row]:
+    """The answers of an ABI, in the order of the report."""
+    with open(report, "rb") as lines:
+        for line in lines:
+            if line.startswith(LAST):
+                return
+            with _reading(line):
+                said = json.loads(line)
+                yield Row(said["line"], said["pid"], _at(abi, said["answers"]))
+
+
+def numbers(report: Path) -> Iterator[int]:
+    """The numbers of the records that a report shows."""
+    with open(report, "rb") as lines:
+        for line in lines:
+            if not line.startswith(LAST):
+                with _reading(line):
+                    yield int(json.loads(line)["line"])
+
+
+def not_allowed(answers: bytes) -> tuple[Answered, ...]:
+    """The answers that are not `allowed`, each with the ABIs that give it; from the rest of a line that has them."""
+    with _reading(answers):
+        return tuple((tuple(_abis(said)), _answer(said)) for said in _members(answers) if said["answer"] != ALLOWED)
+
+
+def abis_by_verdict(answers: bytes) -> Mapping[str, frozenset[int]]:
+    """The ABIs that give each answer, whatever their reasons are; from the rest of a line that has the answers."""
+    found: dict[str, frozenset[int]] = {verdict: frozenset() for verdict in (ALLOWED, MOOT, REFUSED)}
+    with _reading(answers):
+        for said in _members(answers):
+            found[said["answer"]] |= frozenset(_abis(said))
+    return found
+
+
+@contextmanager
+def _reading(line: bytes) -> Iterator[None]:
+    """What landaudit does not write is a Problem."""
+    try:
+        yield
+    except (ValueError, LookupError, TypeError) as error:
+        shown = repr(line.decode(errors="replace").strip())
+        raise Problem(f"landaudit's report can't be read at {shown}: use programs of one version") from error
+
+
+def _members(answers: bytes) -> list[Any]:
+    """The objects of the answers, from the rest of a line, which also ends the line's object."""
+    found: list[Any] = json.loads(b"{" + answers)["answers"]
+    return found
+
+
+def _abis(said: Mapping[str, Any]) -> range:
+    oldest, newest = said["abi"]
+    return range(oldest, newest + 1)
+
+
+def _at(abi: int, answers: list[Any]) -> Answer:
+    """What an ABI answers."""
+    for said in answers:
+        if abi in _abis(said):
+            return _answer(said)
+    raise LookupError(abi)
+
+
+def _answer(said: Mapping[str, Any]) -> Answer:
+    """An answer, from its object."""
+    match said:
+        case {"answer": "allowed"}:
+            return _PLAIN
+        case {"answer": "moot"}:
+            return Answer(MOOT, why=_reason(said["why"]) if "why" in said else None)
+        case {"answer": "refused", "error": str(error), "layers": [*layers]}:
+            why = _condition(said["why"]) if "why" in said else None
+            return Answer(REFUSED, error, tuple(map(_layer, layers)), why)
+    raise ValueError("no answer")
+
+
+def _layer(said: Mapping[str, Any]) -> Refusing:
+    """A layer that refuses, with all that it objects to if landaudit was asked why."""
+    return Refusing(said["layer"], said.get("line"), tuple(map(_objection, said.get("objections", ()))))
+
+
+def _objection(said: Mapping[str, Any]) -> Objection:
+    """What a layer objects to, from its object."""
+    match said:
+        case {"missing": [str(right)], "on": str(path), "opened": int(line)}:
+            return Kept((right,), path, line)
+        case {"missing": [*rights], "on": str(path)}:
+            return Missing(tuple(rights), path)
+        case {"closed": [*rights], "port": int(port)}:
+            return Closed(tuple(rights), port)
+        case {"gains": [*rights], "object": str(path), "in": str(directory)}:
+            return Gained(path, tuple(rights), directory)
+        case {"mounting": True}:
+            return Mounting()
+    raise ValueError("no objection")
+
+
+def _condition(said: Mapping[str, Any]) -> Condition:
+    """A condition, from its object; what a word is about are the members of the same names."""
+    about = dict(said)
+    word, rights = about.pop("condition"), tuple(about.pop("rights", ()))
+    if word not in CONDITIONS:
+        raise ValueError("no condition")
+    return Condition(word, rights=rights, **about)
+
+
+def _reason(said: Mapping[str, Any]) -> Reason:
+    """A reason, from its object; of a move, the object that moves is `from` there."""
+    about = dict(said)
+    word, moved = about.pop("reason"), about.pop("from", None)
+    if word not in REASONS or about.get("kind", "reg") not in KINDS:
+        raise ValueError("no reason")
+    return Reason(word, moved=moved, **about)
