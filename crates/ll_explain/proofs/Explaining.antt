@@ -1,5 +1,5 @@
 -- The text of a record's explanation, by the value that was worked out.
-use Rattle.std.proofs.Common.{◌≡◌, ◌∙◌, ℕ, List, [], ◌++◌, Option, Some, None, refl, sym, ap}
+use Rattle.std.proofs.Common.{◌≡◌, ◌∙◌, ℕ, Option, Some, sym, ap}
 use Rattle.std.specs.Prelude.{slice_get}
 use Rattle.ll_trace.specs.declared.record.Record.{Record}
 use Rattle.ll_semantics.specs.declared.answer.Answer.{Answer}
