@@ -69,3 +69,10 @@ held_whole bytes few =
     let counted : room ≡ min (0 + length bytes) most_counted = ap (λ (b : Buffered). b.count) (added 0 0 [] bytes (grind arith) (grind arith)) in
     ap (λ (b : Buffered). b.held) (added room 0 [] bytes (grind arith) (grind arith))
     ∙ take_all room bytes (omega (arith, counted, few))
+
+-- the same, of buffers that were found to be so
+pub held_as_measured : (bytes : List ℕ) (measured text : Buffered) (room : ℕ) → measured ≡ adding (blank 0) bytes → room ≡ measured.count → room < most_counted
+    → text ≡ adding (blank room) bytes → text.held ≡ bytes
+held_as_measured bytes measured text room is_measured is_room few is_text =
+    let counted : room ≡ (adding (blank 0) bytes).count = is_room ∙ ap (λ (b : Buffered). b.count) is_measured in
+    ap (λ (b : Buffered). b.held) is_text ∙ ap (λ (n : ℕ). (adding (blank n) bytes).held) counted ∙ held_whole bytes (omega (arith, counted, few))

@@ -15,3 +15,4 @@ pub use explanation::{push_explanation, push_text, text_of};
 pub use laws::worked_words;
 pub use objections::{line_at, line_made, text_at};
 pub use rights::word_for;
+pub use words::{push_number, push_words};

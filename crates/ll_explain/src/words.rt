@@ -11,14 +11,14 @@ use crate::buffer::TextBuffer;
 use itoa::Buffer;
 
 /// Adds words.
-pub(crate) fn push_words(text: &mut TextBuffer, words: &str)
+pub fn push_words(text: &mut TextBuffer, words: &str)
     ensures { text.new ≡ adding text.old words.now }
 {
     text.put(words.as_bytes());
 }
 
 /// Adds a number in decimal digits.
-pub(crate) fn push_number(text: &mut TextBuffer, number: u64)
+pub fn push_number(text: &mut TextBuffer, number: u64)
     ensures { text.new ≡ adding text.old (decimal number) }
 {
     let mut buffer = Buffer::new();

@@ -1,8 +1,9 @@
 pub mod Names
 pub mod Report
+pub mod Phrases
 pub mod Lines
 pub mod Shown
-pub mod ShownSoFar
+pub mod Blocks
 pub mod Texts
 pub mod Found
 pub mod Alike

@@ -6,6 +6,7 @@ mod blocks;
 mod found;
 mod laws;
 mod names;
+mod phrases;
 mod report;
 mod rows;
 mod spans;
