@@ -76,3 +76,16 @@ pub held_as_measured : (bytes : List ℕ) (measured text : Buffered) (room : ℕ
 held_as_measured bytes measured text room is_measured is_room few is_text =
     let counted : room ≡ (adding (blank 0) bytes).count = is_room ∙ ap (λ (b : Buffered). b.count) is_measured in
     ap (λ (b : Buffered). b.held) is_text ∙ ap (λ (n : ℕ). (adding (blank n) bytes).held) counted ∙ held_whole bytes (omega (arith, counted, few))
+
+-- what is held, and the room, whatever is counted
+pub held_added : (buffer : Buffered) (bytes : List ℕ) → length buffer.held ≤ buffer.room → (adding buffer bytes).held ≡ take buffer.room (buffer.held ++ bytes)
+unfolding adding with_byte
+held_added buffer [] fits = sym (ap (take buffer.room) (append-nil buffer.held) ∙ take_all buffer.room buffer.held fits)
+held_added buffer (byte ∷ bytes) fits =
+    held_added (with_byte buffer byte) bytes (omega (arith, length-take buffer.room (buffer.held ++ byte ∷ [])))
+    ∙ take_again buffer.room (buffer.held ++ byte ∷ []) bytes ∙ ap (take buffer.room) (append_assoc buffer.held (byte ∷ []) bytes)
+
+pub room_added : (buffer : Buffered) (bytes : List ℕ) → (adding buffer bytes).room ≡ buffer.room
+unfolding adding with_byte
+room_added buffer [] = refl
+room_added buffer (byte ∷ bytes) = room_added (with_byte buffer byte) bytes

@@ -1,6 +1,6 @@
 //! A buffer of fixed size for texts.
 
-ghost use Rattle.std.specs.Prelude.{◌≡◌, ◌<◌, ◌^◌, IfOk, OnOk};
+ghost use Rattle.std.specs.Prelude.{◌≡◌, ◌<◌, ◌≤◌, ◌^◌, IfOk, OnOk, length};
 ghost use Rattle.ll_explain.specs.Buffers.{adding, blank};
 
 use std::alloc::{AllocError, Global};
@@ -53,6 +53,13 @@ impl TextBuffer {
         }
     }
 
+    /// How many bytes it can hold.
+    pub fn room(&self) -> usize
+        ensures { result ≡ self.now.room }
+    {
+        self.room
+    }
+
     /// How many bytes were added.
     pub fn count(&self) -> usize
         ensures { result ≡ self.now.count }
@@ -62,7 +69,8 @@ impl TextBuffer {
 
     /// The bytes that are held.
     pub fn held(&self) -> &[u8]
-        ensures { result.now ≡ self.now.held }
+        ensures bytes { result.now ≡ self.now.held }
+        ensures within { length self.now.held ≤ self.now.room }
     {
         &self.bytes
     }

@@ -4,6 +4,10 @@ pub mod Phrases
 pub mod Lines
 pub mod Shown
 pub mod Blocks
+pub mod Writing
+pub mod TextReports
+pub mod Longest
+pub mod Pages
 pub mod Texts
 pub mod Found
 pub mod Alike

@@ -11,7 +11,9 @@ mod report;
 mod rows;
 mod spans;
 mod telling;
+mod text_report;
 mod texts;
+mod writing;
 
 pub use found::Finding;
 pub use laws::{empty_report, spans_give_back_what_was_said};
@@ -20,3 +22,5 @@ pub use names::error_name;
 pub use report::{Report, Totals};
 pub use rows::{is_left_out, refused_under_some};
 pub use telling::{InWords, Telling};
+pub use text_report::TextReport;
+pub use writing::{write_texts, write_whole};

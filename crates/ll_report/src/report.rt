@@ -138,7 +138,7 @@ fn push_counts(text: &mut TextBuffer, allowed: u64, refused: u64, moot: u64)
 }
 
 /// Adds the last line.
-fn push_total(text: &mut TextBuffer, all: u64, allowed: u64, refused: u64, moot: u64)
+pub(crate) fn push_total(text: &mut TextBuffer, all: u64, allowed: u64, refused: u64, moot: u64)
     ensures { text.new ≡ adding text.old (total_text all allowed refused moot) }
 {
     push_words(text, "total ");

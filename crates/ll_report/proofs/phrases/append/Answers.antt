@@ -8,7 +8,7 @@ pub returns : goal.returns
 returns c =
     let bytes : List ℕ = phrase_text c.args.phrase.now in
     c.in_ok-extend_from_slice.ensures.items
-    ∙ ap (λ t. c.args.text.now.items ++ t) (c.held.ensures
+    ∙ ap (λ t. c.args.text.now.items ++ t) (c.held.ensures.bytes
     ∙ held_as_measured bytes c.push_phrase.new.text c.push_phrase-2.new.text c.count.result
     (c.push_phrase.ensures ∙ ap (λ (b : Buffered). adding b bytes) c.measure-measure.ensures) c.count.ensures
     (omega (arith, c.in_ok-buffer.ensures.small))

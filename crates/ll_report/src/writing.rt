@@ -4,13 +4,13 @@ ghost use Rattle.std.specs.Prelude.{◌≡◌, OnOk};
 ghost use Rattle.std.specs.Io.{WritesAtMost};
 ghost use Rattle.std.specs.Io.KnownBytes.{Appends, WriteAppends};
 ghost use Rattle.std.specs.List.{flat_map};
-ghost use Rattle.ll_endings.specs.Outcomes.{AppendsBeginning};
+ghost use Rattle.ll_report.specs.Writing.{AppendsBeginning};
 
 use std::io;
 use std::io::{ErrorKind, Write};
 
 /// Writes all bytes, and sends them on. Where that fails a beginning of them was written.
-pub(crate) fn write_whole<O: Write>(out: &mut O, bytes: &[u8]) -> io::Result<()>
+pub fn write_whole<O: Write>(out: &mut O, bytes: &[u8]) -> io::Result<()>
     ensures whole { OnOk result (Appends (O.contents out.old) (O.contents out.new) bytes.now) }
     ensures beginning { AppendsBeginning (O.contents out.old) (O.contents out.new) bytes.now }
 {
@@ -19,7 +19,7 @@ pub(crate) fn write_whole<O: Write>(out: &mut O, bytes: &[u8]) -> io::Result<()>
 }
 
 /// Writes texts, one behind the other. Where that fails a beginning of all of them was written.
-pub(crate) fn write_texts<O: Write>(out: &mut O, texts: &[&str]) -> io::Result<()>
+pub fn write_texts<O: Write>(out: &mut O, texts: &[&str]) -> io::Result<()>
     ensures whole { OnOk result (Appends (O.contents out.old) (O.contents out.new)
         (flat_map (λ text. text.now) texts.now)) }
     ensures beginning { AppendsBeginning (O.contents out.old) (O.contents out.new)
@@ -33,7 +33,7 @@ pub(crate) fn write_texts<O: Write>(out: &mut O, texts: &[&str]) -> io::Result<(
 
 /// Writes all bytes, as `write_all` does. That promises nothing of what was written before a write
 /// failed.
-fn write_bytes<O: Write>(out: &mut O, bytes: &[u8]) -> io::Result<()>
+pub(crate) fn write_bytes<O: Write>(out: &mut O, bytes: &[u8]) -> io::Result<()>
     ensures whole { OnOk result (Appends (O.contents out.old) (O.contents out.new) bytes.now) }
     ensures beginning { AppendsBeginning (O.contents out.old) (O.contents out.new) bytes.now }
 {

@@ -1,7 +1,7 @@
 use Rattle.std.proofs.Common.{◌++◌, ◌+◌, ◌∙◌, ℕ, List, Bor, ap, append_assoc, sym, drop, take}
 use Rattle.std.proofs.KnownBytes.{Appends-trans}
-use Rattle.ll_endings.proofs.Beginnings.{beginning, further, text_of, text_next}
-use Rattle.ll_endings.proofs.writing.write_texts.Goals as goal
+use Rattle.ll_report.proofs.Beginnings.{beginning, further, text_of, text_next}
+use Rattle.ll_report.proofs.writing.write_texts.Goals as goal
 
 pub returns-in_err-write_bytes-clause-beginning : goal.returns-in_err-write_bytes-clause-beginning
 returns-in_err-write_bytes-clause-beginning g c =

@@ -7,7 +7,7 @@ use Rattle.std.proofs.Math.Seq.{drop-cons}
 use Rattle.std.proofs.Math.Seq.{take-append_seam}
 use Rattle.std.proofs.lemmas.List.{take_rest}
 use Rattle.std.specs.Io.KnownBytes.{Appends}
-use Rattle.ll_endings.specs.Outcomes.{AppendsBeginning}
+use Rattle.ll_report.specs.Writing.{AppendsBeginning}
 
 -- what is done is a beginning of all
 pub beginning : (old new : Option (List ℕ)) (all done rest : List ℕ) → all ≡ done ++ rest → Appends old new done → AppendsBeginning old new all
@@ -29,15 +29,6 @@ further all done next rest count split =
     ∙ ap (λ l. done ++ (l ++ rest)) (sym (take-append-drop count next))
     ∙ ap (λ l. done ++ l) (append_assoc (take count next) (drop count next) rest)
     ∙ sym (append_assoc done (take count next) (drop count next ++ rest))
-
--- the texts of a line, one behind the other
-pub line_of_two : (first second : List ℕ) → codes "landaudit: " ++ (first ++ (second ++ codes "\n")) ≡ codes "landaudit: " ++ (first ++ second) ++ codes "\n"
-line_of_two first second = simp append_assoc refl
-
-pub line_of_words : (file line cause : List ℕ)
-    → codes "landaudit: " ++ (file ++ (codes " line " ++ (line ++ (codes ": " ++ (cause ++ codes "\n")))))
-    ≡ codes "landaudit: " ++ (file ++ codes " line " ++ line ++ codes ": " ++ cause) ++ codes "\n"
-line_of_words file line cause = simp append_assoc refl
 
 -- texts, one behind the other
 abbrev pub text_of : List (Bor (List ℕ)) → List ℕ

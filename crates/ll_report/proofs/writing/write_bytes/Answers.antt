@@ -1,7 +1,7 @@
 use Rattle.std.proofs.Common.{◌++◌, take}
 use Rattle.std.proofs.KnownBytes.{Appends-kept, Appends-trans}
-use Rattle.ll_endings.proofs.Beginnings.{beginning, moves_on}
-use Rattle.ll_endings.proofs.writing.write_bytes.Goals as goal
+use Rattle.ll_report.proofs.Beginnings.{beginning, moves_on}
+use Rattle.ll_report.proofs.writing.write_bytes.Goals as goal
 
 pub returns-then-is_empty-clause-beginning : goal.returns-then-is_empty-clause-beginning
 returns-then-is_empty-clause-beginning g c =
