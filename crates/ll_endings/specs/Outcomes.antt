@@ -1,19 +1,16 @@
 -- How a run ends: its status, what it writes to standard output, and the line on standard error.
 -- Source: docs/FORMATS.md, "Statuses" and "Faults of a run".
-use Rattle.std.specs.Prelude.{◌≡◌, ◌⊎◌, ℕ, List, Option, take}
+use Rattle.std.specs.Prelude.{◌≡◌, ◌⊎◌, ℕ, List, Option}
 use Rattle.std.specs.Bool.{OnTrue}
 use Rattle.std.specs.Io.KnownBytes.{Appends}
 use Rattle.ll_report.specs.Report.{report_status}
+pub use Rattle.ll_report.specs.Writing.{AppendsBeginning}
 use Rattle.ll_endings.specs.declared.outcome.Outcome.{Outcome}
 use Rattle.ll_endings.specs.declared.outcome.Outcome.TheVariants as outcome
 use Rattle.ll_endings.specs.declared.lines.Failure.{Failure}
 use Rattle.ll_endings.specs.declared.lines.Failure.TheVariants.{Unwritten}
 use Rattle.ll_endings.specs.declared.outcome.Ending.{Ending}
 use Rattle.ll_endings.specs.FaultLines.{failure_line, failure_status}
-
--- known bytes grow by a beginning of these bytes, which may be none or all of them
-abbrev pub AppendsBeginning : Option (List ℕ) → Option (List ℕ) → List ℕ → Type 0
-AppendsBeginning old new bytes = (count : ℕ) × Appends old new (take count bytes)
 
 -- A failure has its status, and its line was appended to the lines on standard error, if it could be told, and else a
 -- beginning of it.

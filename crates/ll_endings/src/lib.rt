@@ -3,7 +3,6 @@
 
 mod lines;
 mod outcome;
-mod writing;
 
 pub use lines::Failure;
 pub use outcome::{Ending, Outcome};

@@ -5,9 +5,9 @@ ghost use Rattle.std.specs.Io.KnownBytes.{Appends};
 ghost use Rattle.ll_endings.specs.FaultLines.{cause_name, failure_line, failure_status, place_text};
 ghost use Rattle.ll_endings.specs.Outcomes.{AppendsBeginning};
 
-use crate::writing::write_texts;
 use itoa::Buffer;
 use ll_lines::{Cause, ReadFault};
+use ll_report::write_texts;
 use std::io;
 use std::io::Write;
 

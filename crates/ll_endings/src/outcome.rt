@@ -4,9 +4,8 @@ ghost use Rattle.std.specs.Prelude.{◌≡◌};
 ghost use Rattle.ll_endings.specs.Outcomes.{Complains, EndsWith};
 
 use crate::lines::Failure;
-use crate::writing::write_whole;
 use ll_command::{Message, Misuse};
-use ll_report::Report;
+use ll_report::{Report, write_whole};
 use std::io;
 use std::io::Write;
 

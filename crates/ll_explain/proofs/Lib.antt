@@ -1,3 +1,5 @@
+pub mod PlainTexts
+pub mod Buffering
 pub mod Listing
 pub mod Appending
 pub mod NodeTexts

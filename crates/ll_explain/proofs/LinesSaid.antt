@@ -1,7 +1,7 @@
 -- The lines of objections that are said one after another are those of the layers.
 use Rattle.std.proofs.Common.{◌≡◌, ◌∙◌, ℕ, ◌+◌, ◌<◌, ◌≤◌, Bool, true, false, cond, eqb, List, [], ◌∷◌, ◌++◌, length, map, drop, get_or, codes, refl, sym, ap}
 use Rattle.std.proofs.Common.{append_assoc, arith}
-use Rattle.std.specs.Prelude.{All, ◌==◌, ◌-◌, slice_get}
+use Rattle.std.specs.Prelude.{All}
 use Rattle.std.specs.List.{flat_map}
 use Rattle.std.proofs.lemmas.Bool.{ne_eqb}
 use Rattle.std.proofs.lemmas.List.{drop_all, drop_more}
@@ -11,7 +11,9 @@ use Rattle.ll_trace.specs.declared.record.Record.{Record}
 use Rattle.ll_reasons.specs.Objections.{Objection}
 use Rattle.ll_explanations.specs.Meanings.{IsMade, by_layer, in_front, objection_in}
 use Rattle.ll_explanations.specs.declared.objection.LayerObjection.{LayerObjection}
+use Rattle.ll_explain.specs.Buffers.{Buffered, adding}
 use Rattle.ll_explain.specs.Lines.{ending, head_of, next_text, opening}
+use Rattle.ll_explain.proofs.Buffering.{goes_on}
 use Rattle.ll_explain.specs.Words.{behind, joined, layer_head, layer_text, objection_text}
 
 module _ (tree : List Entry) (records : List Record) where
@@ -20,20 +22,19 @@ module _ (tree : List Entry) (records : List Record) where
   left before [] = ending before
   left before (one ∷ more) = next_text tree records before one ++ left one.layer more
 
-  pub left_next : (text after whole : List ℕ) (before : ℕ) (all : List LayerObjection) (k : ℕ) (one : LayerObjection) →
-      k < length all → one ≡ get_or all k one →
-      text ++ left before (drop k all) ≡ whole → after ≡ text ++ next_text tree records before one → after ++ left one.layer (drop (k + 1) all) ≡ whole
+  pub left_next : (text after whole : Buffered) (before : ℕ) (all : List LayerObjection) (k : ℕ) (one : LayerObjection) →
+      k < length all → one ≡ get_or all k one → adding text (left before (drop k all)) ≡ whole → after ≡ adding text (next_text tree records before one)
+      → adding after (left one.layer (drop (k + 1) all)) ≡ whole
   unfolding left
   left_next text after whole before all k one there is so_far written =
-      let rest = left one.layer (drop (k + 1) all) in
-      ap (λ t. t ++ rest) written ∙ append_assoc text (next_text tree records before one) rest
-      ∙ ap (λ t. text ++ t) (sym (ap (left before) (drop_more all k one there ∙ ap (λ y. y ∷ drop (k + 1) all) (sym is)))) ∙ so_far
+      goes_on text after whole (next_text tree records before one) (left one.layer (drop (k + 1) all))
+      (ap (adding text) (sym (ap (left before) (drop_more all k one there ∙ ap (λ y. y ∷ drop (k + 1) all) (sym is)))) ∙ so_far) written
 
-  pub left_none : (text after whole : List ℕ) (before : ℕ) (all : List LayerObjection) (k : ℕ) → length all ≤ k → text ++ left before (drop k all) ≡ whole
-      → after ≡ text ++ ending before → after ≡ whole
+  pub left_none : (text after whole : Buffered) (before : ℕ) (all : List LayerObjection) (k : ℕ) → length all ≤ k
+      → adding text (left before (drop k all)) ≡ whole → after ≡ adding text (ending before) → after ≡ whole
   unfolding left
   left_none text after whole before all k end so_far written =
-      written ∙ ap (λ t. text ++ t) (sym (ap (left before) (drop_all k all end))) ∙ so_far
+      written ∙ ap (adding text) (sym (ap (left before) (drop_all k all end))) ∙ so_far
 
   module _ (layers : List ℕ) where
     abbrev Groups : Type 0

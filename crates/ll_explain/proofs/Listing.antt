@@ -1,9 +1,11 @@
 -- Texts of the items of a list that pass a test, written one after another.
-use Rattle.std.proofs.Common.{◌≡◌, ◌∙◌, ℕ, ◌+◌, ◌<◌, ◌≤◌, Bool, true, false, cond, List, [], ◌∷◌, ◌++◌, length, map, drop, get_or, refl, sym, ap, append_assoc}
-use Rattle.std.specs.Prelude.{filter, not}
+use Rattle.std.proofs.Common.{◌≡◌, ◌∙◌, ℕ, ◌+◌, ◌<◌, ◌≤◌, Bool, true, false, cond, List, [], ◌∷◌, ◌++◌, length, map, drop, get_or, refl, sym, ap}
+use Rattle.std.specs.Prelude.{filter}
 use Rattle.std.specs.List.{flat_map}
-use Rattle.std.proofs.lemmas.List.{append-nil, drop_all, drop_more}
+use Rattle.std.proofs.lemmas.List.{drop_all, drop_more}
+use Rattle.ll_explain.specs.Buffers.{Buffered, adding}
 use Rattle.ll_explain.specs.Words.{behind, joined}
+use Rattle.ll_explain.proofs.Buffering.{adding_nothing, goes_on}
 
 -- nothing is written yet
 abbrev pub is_none_yet : {A : Type 0} → List A → Bool
@@ -31,20 +33,20 @@ module _ {X : Type 0} (test : X → Bool) (text_of : X → List ℕ) (separator 
   next items k x there is = drop_more items k x there ∙ ap (λ y. y ∷ drop (k + 1) items) (sym is)
 
   -- one text more is written
-  pub written_with : (text after whole : List ℕ) (first : Bool) (items : List X) (k : ℕ) (x : X) → k < length items → x ≡ get_or items k x → test x ≡ true →
-      text ++ left first (drop k items) ≡ whole → after ≡ text ++ cond first (text_of x) (behind separator (text_of x))
-      → after ++ left false (drop (k + 1) items) ≡ whole
+  pub written_with : (text after whole : Buffered) (first : Bool) (items : List X) (k : ℕ) (x : X) → k < length items → x ≡ get_or items k x → test x ≡ true →
+      adding text (left first (drop k items)) ≡ whole → after ≡ adding text (cond first (text_of x) (behind separator (text_of x)))
+      → adding after (left false (drop (k + 1) items)) ≡ whole
   written_with text after whole first items k x there is passes so_far written =
       let more = cond first (text_of x) (behind separator (text_of x)) in
       let rest = left false (drop (k + 1) items) in
-      ap (λ t. t ++ rest) written ∙ append_assoc text more rest
-      ∙ ap (λ t. text ++ t) (sym (ap (left first) (next items k x there is) ∙ passed first x (drop (k + 1) items) passes)) ∙ so_far
+      goes_on text after whole more rest
+      (ap (adding text) (sym (ap (left first) (next items k x there is) ∙ passed first x (drop (k + 1) items) passes)) ∙ so_far) written
 
   -- an item fails the test
-  pub written_without : (text whole : List ℕ) (first : Bool) (items : List X) (k : ℕ) (x : X) → k < length items → x ≡ get_or items k x → test x ≡ false →
-      text ++ left first (drop k items) ≡ whole → text ++ left first (drop (k + 1) items) ≡ whole
+  pub written_without : (text whole : Buffered) (first : Bool) (items : List X) (k : ℕ) (x : X) → k < length items → x ≡ get_or items k x → test x ≡ false →
+      adding text (left first (drop k items)) ≡ whole → adding text (left first (drop (k + 1) items)) ≡ whole
   written_without text whole first items k x there is fails so_far =
-      ap (λ t. text ++ t) (sym (ap (left first) (next items k x there is) ∙ failed first x (drop (k + 1) items) fails)) ∙ so_far
+      ap (adding text) (sym (ap (left first) (next items k x there is) ∙ failed first x (drop (k + 1) items) fails)) ∙ so_far
 
   none_left : (first : Bool) → left first [] ≡ []
   unfolding left joined
@@ -52,9 +54,9 @@ module _ {X : Type 0} (test : X → Bool) (text_of : X → List ℕ) (separator 
   none_left false = refl
 
   -- all is written
-  pub written_all : (start text : List ℕ) (first : Bool) (items : List X) (k : ℕ) → length items ≤ k
-      → text ++ left first (drop k items) ≡ start ++ left true items →
-      text ≡ start ++ joined separator (map text_of (filter test items))
+  pub written_all : (start text : Buffered) (first : Bool) (items : List X) (k : ℕ) → length items ≤ k
+      → adding text (left first (drop k items)) ≡ adding start (left true items) →
+      text ≡ adding start (joined separator (map text_of (filter test items)))
   unfolding left
   written_all start text first items k end is =
-      sym (append-nil text) ∙ ap (λ t. text ++ t) (sym (ap (left first) (drop_all k items end) ∙ none_left first)) ∙ is
+      adding_nothing text ∙ ap (adding text) (sym (ap (left first) (drop_all k items end) ∙ none_left first)) ∙ is

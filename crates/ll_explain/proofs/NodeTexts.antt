@@ -1,5 +1,5 @@
 -- The text of what is no node of the tree.
-use Rattle.std.proofs.Common.{◌≡◌, ◌≤◌, ℕ, List, [], ◌∷◌, length, sym, ap}
+use Rattle.std.proofs.Common.{◌≡◌, ◌≤◌, List, [], ◌∷◌, length, sym, ap}
 use Rattle.std.proofs.Math.ListN.{get_or-eq_default}
 use Rattle.ll_lines.specs.PathTexts.{text_of}
 use Rattle.ll_tree.specs.Trees.{Entry, path_at, root}

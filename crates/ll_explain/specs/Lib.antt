@@ -2,3 +2,5 @@ pub mod Words
 pub mod Tables
 pub mod Lines
 pub mod Explained
+pub mod Buffers
+pub mod Plain

@@ -1,99 +1,89 @@
 //! The words for calls that fail by no layer.
 
-ghost use Rattle.std.specs.Prelude.{◌≡◌, ◌++◌, OnOk, codes, decimal};
+ghost use Rattle.std.specs.Prelude.{◌≡◌, ◌++◌, codes, decimal};
 ghost use Rattle.json.specs.Print.{escape};
 ghost use Rattle.ll_rights.specs.Abis.{number_of};
 ghost use Rattle.ll_explanations.specs.Meanings.{condition_in, path_of_rule};
 ghost use Rattle.ll_explanations.specs.Sets.{port_rights_in, rights_in};
+ghost use Rattle.ll_explain.specs.Buffers.{adding};
 ghost use Rattle.ll_explain.specs.Words.{condition_text, port_rights_text, rights_text, unknown_text};
 
+use crate::buffer::TextBuffer;
 use crate::rights::{push_port_rights, push_rights};
-use crate::words::{Added, push_escaped, push_numbered, push_words};
+use crate::words::{push_escaped, push_numbered, push_words};
 use ll_explanations::Condition;
 use ll_rights::{Abi, Fs, Net};
 use ll_trace::Op;
 
 /// Adds the rights that a version doesn't know, which has some: if none of those for files is, it is one for ports.
-fn push_unknown_rights(text: &mut Vec<u8>, rights: Fs) -> Added
-    ensures { OnOk result (text.new.items ≡ text.old.items ++ unknown_text (rights_in rights)) }
+fn push_unknown_rights(text: &mut TextBuffer, rights: Fs)
+    ensures { text.new ≡ adding text.old (unknown_text (rights_in rights)) }
 {
     if rights.is_empty() {
-        push_words(text, "a right for ports")?;
-        return Ok(());
+        push_words(text, "a right for ports");
+    } else {
+        push_rights(text, rights);
     }
-    push_rights(text, rights)?;
-    Ok(())
 }
 
 /// Says which rights a version doesn't know.
-fn push_unknown(text: &mut Vec<u8>, abi: Abi, rights: Fs) -> Added
-    ensures { OnOk result (text.new.items ≡ text.old.items
-        ++ (codes "ABI " ++ decimal (number_of abi) ++ codes " does not know "
-        ++ unknown_text (rights_in rights))) }
+fn push_unknown(text: &mut TextBuffer, abi: Abi, rights: Fs)
+    ensures { text.new ≡ adding text.old (codes "ABI " ++ decimal (number_of abi) ++ codes " does not know "
+        ++ unknown_text (rights_in rights)) }
 {
-    push_numbered(text, "ABI ", abi.number(), " does not know ")?;
-    push_unknown_rights(text, rights)?;
-    Ok(())
+    push_numbered(text, "ABI ", abi.number(), " does not know ");
+    push_unknown_rights(text, rights);
 }
 
 /// Says that a version has no rules for ports.
-fn push_portless(text: &mut Vec<u8>, abi: Abi) -> Added
-    ensures { OnOk result (text.new.items ≡ text.old.items
-        ++ (codes "ABI " ++ decimal (number_of abi) ++ codes " has no rules for ports")) }
+fn push_portless(text: &mut TextBuffer, abi: Abi)
+    ensures { text.new ≡ adding text.old (codes "ABI " ++ decimal (number_of abi) ++ codes " has no rules for ports") }
 {
     push_numbered(text, "ABI ", abi.number(), " has no rules for ports")
 }
 
 /// Says which rights for files a ruleset doesn't handle.
-#[tactic(auto, using(crate::proofs::Appending::appended_2))]
-fn push_unhandled(text: &mut Vec<u8>, rights: Fs) -> Added
-    ensures { OnOk result (text.new.items ≡ text.old.items
-        ++ (codes "the ruleset does not handle " ++ rights_text (rights_in rights))) }
+fn push_unhandled(text: &mut TextBuffer, rights: Fs)
+    ensures { text.new ≡ adding text.old (codes "the ruleset does not handle " ++ rights_text (rights_in rights)) }
 {
-    push_words(text, "the ruleset does not handle ")?;
-    push_rights(text, rights)?;
-    Ok(())
+    push_words(text, "the ruleset does not handle ");
+    push_rights(text, rights);
 }
 
 /// Says which rights for ports a ruleset doesn't handle.
-#[tactic(auto, using(crate::proofs::Appending::appended_2))]
-fn push_unhandled_on_ports(text: &mut Vec<u8>, rights: Net) -> Added
-    ensures { OnOk result (text.new.items ≡ text.old.items
-        ++ (codes "the ruleset does not handle " ++ port_rights_text (port_rights_in rights))) }
+fn push_unhandled_on_ports(text: &mut TextBuffer, rights: Net)
+    ensures { text.new ≡ adding text.old (codes "the ruleset does not handle " ++ port_rights_text (port_rights_in rights)) }
 {
-    push_words(text, "the ruleset does not handle ")?;
-    push_port_rights(text, rights)?;
-    Ok(())
+    push_words(text, "the ruleset does not handle ");
+    push_port_rights(text, rights);
 }
 
 /// Adds the path of the call, if it adds a rule for one.
-fn push_path_of_rule(text: &mut Vec<u8>, op: &Op) -> Added
-    ensures { OnOk result (text.new.items ≡ text.old.items ++ escape (path_of_rule op.now)) }
+#[tactic(auto, using(crate::proofs::Buffering::adding_nothing))]
+fn push_path_of_rule(text: &mut TextBuffer, op: &Op)
+    ensures { text.new ≡ adding text.old (escape (path_of_rule op.now)) }
 {
     match op {
         Op::AddPath { path, .. } => push_escaped(text, path.as_str()),
-        _ => Ok(()),
+        _ => {}
     }
 }
 
 /// Says which rights are for directories, where the path is that of something else.
 #[tactic(auto, using(crate::proofs::Appending::appended_3))]
-fn push_only_for_directories(text: &mut Vec<u8>, op: &Op, rights: Fs) -> Added
-    ensures { OnOk result (text.new.items ≡ text.old.items
-        ++ (escape (path_of_rule op.now) ++ codes " is not a directory, and only directories have "
-        ++ rights_text (rights_in rights))) }
+fn push_only_for_directories(text: &mut TextBuffer, op: &Op, rights: Fs)
+    ensures { text.new ≡ adding text.old (escape (path_of_rule op.now) ++ codes " is not a directory, and only directories have "
+        ++ rights_text (rights_in rights)) }
 {
-    push_path_of_rule(text, op)?;
-    push_words(text, " is not a directory, and only directories have ")?;
-    push_rights(text, rights)?;
-    Ok(())
+    push_path_of_rule(text, op);
+    push_words(text, " is not a directory, and only directories have ");
+    push_rights(text, rights);
 }
 
 /// Says why a call fails by no layer.
 #[tactic(auto, unfolding(ll_explanations::specs::Meanings::condition_in, crate::specs::Words::condition_text))]
-pub(crate) fn push_condition(text: &mut Vec<u8>, op: &Op, condition: &Condition) -> Added
-    ensures { OnOk result (text.new.items
-        ≡ text.old.items ++ condition_text (condition_in op.now condition.now)) }
+pub(crate) fn push_condition(text: &mut TextBuffer, op: &Op, condition: &Condition)
+    ensures { text.new ≡ adding text.old (condition_text (condition_in op.now condition.now)) }
 {
     match condition {
         Condition::Unknown(abi, rights) => push_unknown(text, *abi, *rights),

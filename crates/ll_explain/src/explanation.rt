@@ -1,16 +1,18 @@
 //! The text of explanations.
 
-ghost use Rattle.std.specs.Prelude.{◌≡◌, ◌++◌, ℕ, List, OnOk};
+ghost use Rattle.std.specs.Prelude.{◌≡◌, ◌++◌, ℕ, List, IfOk, OnOk};
 ghost use Rattle.ll_trails.specs.CaseTrails.{AreTrailsAt, IsAnswerAt};
 ghost use Rattle.ll_explanations.specs.Meanings.{AreMade, condition_in, explanation_in};
 ghost use Rattle.ll_reasons.specs.Meant.{reason_in};
+ghost use Rattle.ll_explain.specs.Buffers.{adding};
 ghost use Rattle.ll_explain.specs.Explained.{text_at};
 ghost use Rattle.ll_explain.specs.Words.{alone, condition_text, explanation_text, reason_text};
 
+use crate::buffer::TextBuffer;
 use crate::conditions::push_condition;
 use crate::objections::push_lines;
 use crate::reasons::push_reason;
-use crate::words::{Added, push_words};
+use crate::words::push_words;
 use ll_explanations::{Condition, Explanation, explain};
 use ll_process::Case;
 use ll_reasons::Reason;
@@ -19,53 +21,63 @@ use ll_semantics::Answer;
 use ll_trace::{Op, Record};
 use ll_trails::TraceOrigins;
 use ll_tree::Tree;
-use std::alloc::Global;
+use std::alloc::{AllocError, Global};
 
 /// Adds the line of a condition.
-#[tactic(auto, using(crate::proofs::Appending::appended_3))]
-fn push_failure(text: &mut Vec<u8>, op: &Op, condition: &Condition) -> Added
-    ensures { OnOk result (text.new.items
-        ≡ text.old.items ++ alone (condition_text (condition_in op.now condition.now))) }
+fn push_failure(text: &mut TextBuffer, op: &Op, condition: &Condition)
+    ensures { text.new ≡ adding text.old (alone (condition_text (condition_in op.now condition.now))) }
 {
-    push_words(text, "    ")?;
-    push_condition(text, op, condition)?;
-    push_words(text, "\n")?;
-    Ok(())
+    push_words(text, "    ");
+    push_condition(text, op, condition);
+    push_words(text, "\n");
 }
 
 /// Adds the line of a reason.
-#[tactic(auto, using(crate::proofs::Appending::appended_3))]
-fn push_mootness(text: &mut Vec<u8>, op: &Op, reason: &Reason) -> Added
-    ensures { OnOk result (text.new.items
-        ≡ text.old.items ++ alone (reason_text (reason_in op.now reason.now))) }
+fn push_mootness(text: &mut TextBuffer, op: &Op, reason: &Reason)
+    ensures { text.new ≡ adding text.old (alone (reason_text (reason_in op.now reason.now))) }
 {
-    push_words(text, "    ")?;
-    push_reason(text, op, reason)?;
-    push_words(text, "\n")?;
-    Ok(())
+    push_words(text, "    ");
+    push_reason(text, op, reason);
+    push_words(text, "\n");
 }
 
 /// Adds the text of an explanation of a record's call: nothing where it is allowed, else lines that begin with four
 /// spaces. The tree and the records are those of the case that was explained.
-#[tactic(auto, unfolding(crate::specs::Words::explanation_text, ll_explanations::specs::Meanings::explanation_in))]
+#[tactic(auto, using(crate::proofs::Buffering::adding_nothing), unfolding(crate::specs::Words::explanation_text, ll_explanations::specs::Meanings::explanation_in))]
 pub fn push_text(
-    text: &mut Vec<u8>,
+    text: &mut TextBuffer,
     tree: &Tree,
     records: &[Record],
     op: &Op,
     explanation: &Explanation,
-) -> Result<(), NoMemory>
-    ensures { OnOk result ((layers : List ℕ) → AreMade layers explanation.now → text.new.items
-        ≡ text.old.items
-        ++ explanation_text records.now layers (explanation_in tree.now op.now explanation.now)) }
+)
+    ensures { (layers : List ℕ) → AreMade layers explanation.now → text.new
+        ≡ adding text.old (explanation_text records.now layers (explanation_in tree.now op.now explanation.now)) }
 {
     match explanation {
         Explanation::Nothing | Explanation::Mootness(None) => {}
-        Explanation::Objections(all) => push_lines(text, tree, records, all)?,
-        Explanation::Failure(condition) => push_failure(text, op, condition)?,
-        Explanation::Mootness(Some(reason)) => push_mootness(text, op, reason)?,
+        Explanation::Objections(all) => push_lines(text, tree, records, all),
+        Explanation::Failure(condition) => push_failure(text, op, condition),
+        Explanation::Mootness(Some(reason)) => push_mootness(text, op, reason),
     }
-    Ok(())
+}
+
+/// The text of an explanation of a record's call, in a vector of just its length.
+pub fn text_of(
+    alloc: Global,
+    tree: &Tree,
+    records: &[Record],
+    op: &Op,
+    explanation: &Explanation,
+) -> Result<Vec<u8>, AllocError>
+    ensures { IfOk result (λ text. (layers : List ℕ) → AreMade layers explanation.now → text.items
+        ≡ explanation_text records.now layers (explanation_in tree.now op.now explanation.now)) }
+{
+    let mut measure = TextBuffer::measure(alloc);
+    push_text(&mut measure, tree, records, op, explanation);
+    let mut text = TextBuffer::new(alloc, measure.count())?;
+    push_text(&mut text, tree, records, op, explanation);
+    Ok(text.into_bytes())
 }
 
 /// Adds the explanation of the record at a place of a case, by its answer and by where all that its process has comes
@@ -86,6 +98,7 @@ pub fn push_explanation(
     let explanation = explain(alloc, case, trails, place, answer)?;
     let records = case.trace().records();
     let op = &records[place].op;
-    push_text(text, case.tree(), records, op, &explanation)?;
+    let explained = text_of(alloc, case.tree(), records, op, &explanation)?;
+    text.extend_from_slice(&explained)?;
     Ok(())
 }

@@ -1,6 +1,6 @@
 //! The lines on what layers object to.
 
-ghost use Rattle.std.specs.Prelude.{◌≡◌, ◌++◌, All, ℕ, List, OnOk, codes, decimal, option_and_then, slice_get};
+ghost use Rattle.std.specs.Prelude.{◌≡◌, ◌++◌, All, ℕ, List, codes, decimal, option_and_then, slice_get};
 ghost use Rattle.std.specs.List.{flat_map};
 ghost use Rattle.json.specs.Print.{escape};
 ghost use Rattle.ll_lines.specs.PathTexts.{text_of};
@@ -9,11 +9,13 @@ ghost use Rattle.ll_rights.specs.Rights.{name_of};
 ghost use Rattle.ll_tree.specs.Trees.{path_at};
 ghost use Rattle.ll_explanations.specs.Meanings.{IsMade, by_layer, objection_in};
 ghost use Rattle.ll_explanations.specs.Sets.{port_rights_in, rights_in};
+ghost use Rattle.ll_explain.specs.Buffers.{adding};
 ghost use Rattle.ll_explain.specs.Lines.{ending, head_of, next_text, opening};
 ghost use Rattle.ll_explain.specs.Words.{layer_text, line_of, objection_text, path_opened, path_text, port_rights_text, rights_text, word_for};
 
+use crate::buffer::TextBuffer;
 use crate::rights::{push_port_rights, push_rights, word_for};
-use crate::words::{Added, push_escaped, push_number, push_numbered, push_words};
+use crate::words::{push_escaped, push_number, push_numbered, push_words};
 use ll_explanations::{LayerObjection, Objection};
 use ll_rights::{Fs, FsRight, Net};
 use ll_trace::{Op, Record};
@@ -32,67 +34,54 @@ pub fn text_at(tree: &Tree, node: NodeId) -> &str
 
 /// Adds the path of a node.
 #[tactic(auto, unfolding(crate::specs::Words::path_text))]
-fn push_node(text: &mut Vec<u8>, tree: &Tree, node: NodeId) -> Added
-    ensures { OnOk result (text.new.items ≡ text.old.items ++ path_text (path_at tree.now node)) }
+fn push_node(text: &mut TextBuffer, tree: &Tree, node: NodeId)
+    ensures { text.new ≡ adding text.old (path_text (path_at tree.now node)) }
 {
     push_escaped(text, text_at(tree, node))
 }
 
 /// Adds names of rights, and the node on which they are missing.
 #[tactic(auto, using(crate::proofs::Appending::appended_3))]
-fn push_missing(text: &mut Vec<u8>, tree: &Tree, rights: Fs, node: NodeId) -> Added
-    ensures { OnOk result (text.new.items ≡ text.old.items
-        ++ (rights_text (rights_in rights) ++ codes " on " ++ path_text (path_at tree.now node))) }
+fn push_missing(text: &mut TextBuffer, tree: &Tree, rights: Fs, node: NodeId)
+    ensures { text.new ≡ adding text.old (rights_text (rights_in rights) ++ codes " on " ++ path_text (path_at tree.now node)) }
 {
-    push_rights(text, rights)?;
-    push_words(text, " on ")?;
-    push_node(text, tree, node)?;
-    Ok(())
+    push_rights(text, rights);
+    push_words(text, " on ");
+    push_node(text, tree, node);
 }
 
 /// Adds names of rights, and the port on which they are missing.
 #[tactic(auto, using(crate::proofs::Appending::appended_3))]
-fn push_closed(text: &mut Vec<u8>, rights: Net, port: u16) -> Added
-    ensures { OnOk result (text.new.items ≡ text.old.items
-        ++ (port_rights_text (port_rights_in rights) ++ codes " on port " ++ decimal port)) }
+fn push_closed(text: &mut TextBuffer, rights: Net, port: u16)
+    ensures { text.new ≡ adding text.old (port_rights_text (port_rights_in rights) ++ codes " on port " ++ decimal port) }
 {
-    push_port_rights(text, rights)?;
-    push_words(text, " on port ")?;
-    push_number(text, port as u64)?;
-    Ok(())
+    push_port_rights(text, rights);
+    push_words(text, " on port ");
+    push_number(text, port as u64);
 }
 
 /// Says which rights an object would gain in a directory.
-fn push_gained(
-    text: &mut Vec<u8>,
-    tree: &Tree,
-    object: NodeId,
-    rights: Fs,
-    directory: NodeId,
-) -> Added
-    ensures { OnOk result (text.new.items ≡ text.old.items
-        ++ (path_text (path_at tree.now object) ++ codes " would gain "
-        ++ rights_text (rights_in rights) ++ codes " in " ++ path_text (path_at tree.now directory))) }
+fn push_gained(text: &mut TextBuffer, tree: &Tree, object: NodeId, rights: Fs, directory: NodeId)
+    ensures { text.new ≡ adding text.old (path_text (path_at tree.now object) ++ codes " would gain "
+        ++ rights_text (rights_in rights) ++ codes " in " ++ path_text (path_at tree.now directory)) }
 {
-    push_node(text, tree, object)?;
-    push_words(text, " would gain ")?;
-    push_rights(text, rights)?;
-    push_words(text, " in ")?;
-    push_node(text, tree, directory)?;
-    Ok(())
+    push_node(text, tree, object);
+    push_words(text, " would gain ");
+    push_rights(text, rights);
+    push_words(text, " in ");
+    push_node(text, tree, directory);
 }
 
-/// Adds the path that the record at a place opens, if it opens one.
+/// The path that the record at a place opens, which is empty if it opens none.
 #[tactic(auto, unfolding(crate::specs::Words::path_opened))]
-fn push_path_opened(text: &mut Vec<u8>, records: &[Record], place: u32) -> Added
-    ensures { OnOk result (text.new.items
-        ≡ text.old.items ++ escape (path_opened (slice_get records.now place))) }
+fn path_opened(records: &[Record], place: u32) -> &str
+    ensures { result.now ≡ path_opened (slice_get records.now place) }
 {
     match records.get(place as usize) {
-        None => Ok(()),
+        None => "",
         Some(record) => match &record.op {
-            Op::OpenFile { path, .. } => push_escaped(text, path.as_str()),
-            _ => Ok(()),
+            Op::OpenFile { path, .. } => path.as_str(),
+            _ => "",
         },
     }
 }
@@ -108,30 +97,22 @@ pub fn line_at(records: &[Record], place: u32) -> u64
 }
 
 /// Says which right was missing on which path, and where it was opened.
-fn push_kept(text: &mut Vec<u8>, records: &[Record], right: FsRight, opened: u32) -> Added
-    ensures { OnOk result (text.new.items ≡ text.old.items
-        ++ (word_for (name_of (fs_right right)) ++ codes " on "
+fn push_kept(text: &mut TextBuffer, records: &[Record], right: FsRight, opened: u32)
+    ensures { text.new ≡ adding text.old (word_for (name_of (fs_right right)) ++ codes " on "
         ++ escape (path_opened (slice_get records.now opened)) ++ codes ", opened at line "
-        ++ decimal (line_of (slice_get records.now opened)))) }
+        ++ decimal (line_of (slice_get records.now opened))) }
 {
-    push_words(text, word_for(right.name()))?;
-    push_words(text, " on ")?;
-    push_path_opened(text, records, opened)?;
-    push_words(text, ", opened at line ")?;
-    push_number(text, line_at(records, opened))?;
-    Ok(())
+    push_words(text, word_for(right.name()));
+    push_words(text, " on ");
+    push_escaped(text, path_opened(records, opened));
+    push_words(text, ", opened at line ");
+    push_number(text, line_at(records, opened));
 }
 
 /// Says what is objected to.
 #[tactic(auto, unfolding(crate::specs::Words::objection_text))]
-fn push_objection(
-    text: &mut Vec<u8>,
-    tree: &Tree,
-    records: &[Record],
-    objection: &Objection,
-) -> Added
-    ensures { OnOk result (text.new.items ≡ text.old.items
-        ++ objection_text records.now (objection_in tree.now objection.now)) }
+fn push_objection(text: &mut TextBuffer, tree: &Tree, records: &[Record], objection: &Objection)
+    ensures { text.new ≡ adding text.old (objection_text records.now (objection_in tree.now objection.now)) }
 {
     match objection {
         Objection::Missing { rights, node } => push_missing(text, tree, *rights, *node),
@@ -157,71 +138,66 @@ pub fn line_made(records: &[Record], made: Option<u32>) -> u64
 }
 
 /// Begins the line of a layer, which says where the layer comes from.
-fn push_head(text: &mut Vec<u8>, records: &[Record], layer: u64, made: Option<u32>) -> Added
-    ensures { OnOk result (text.new.items ≡ text.old.items ++ head_of records.now layer made) }
+fn push_head(text: &mut TextBuffer, records: &[Record], layer: u64, made: Option<u32>)
+    ensures { text.new ≡ adding text.old (head_of records.now layer made) }
 {
-    push_numbered(text, "    layer ", layer, " (line ")?;
-    push_number(text, line_made(records, made))?;
-    push_words(text, "): ")?;
-    Ok(())
+    push_numbered(text, "    layer ", layer, " (line ");
+    push_number(text, line_made(records, made));
+    push_words(text, "): ");
 }
 
 /// Ends the line of the layer before, if there is one.
-#[tactic(auto, unfolding(crate::specs::Lines::ending))]
-fn push_ending(text: &mut Vec<u8>, before: u64) -> Added
-    ensures { OnOk result (text.new.items ≡ text.old.items ++ ending before) }
+#[tactic(auto, using(crate::proofs::Buffering::adding_nothing), unfolding(crate::specs::Lines::ending))]
+fn push_ending(text: &mut TextBuffer, before: u64)
+    ensures { text.new ≡ adding text.old (ending before) }
 {
-    if before == 0 {
-        return Ok(());
+    if before > 0 {
+        push_words(text, "\n");
     }
-    push_words(text, "\n")
 }
 
 /// Goes on behind an objection of the same layer, or begins the line of the next layer.
-#[tactic(auto, unfolding(crate::specs::Lines::opening))]
-fn push_opening(text: &mut Vec<u8>, records: &[Record], before: u64, one: &LayerObjection) -> Added
-    ensures { OnOk result (text.new.items ≡ text.old.items ++ opening records.now before one.now) }
+#[tactic(auto, using(crate::proofs::Appending::appended_2), unfolding(crate::specs::Lines::opening))]
+fn push_opening(text: &mut TextBuffer, records: &[Record], before: u64, one: &LayerObjection)
+    ensures { text.new ≡ adding text.old (opening records.now before one.now) }
 {
     if one.layer == before {
-        return push_words(text, "; ");
+        push_words(text, "; ");
+    } else {
+        push_ending(text, before);
+        push_head(text, records, one.layer, one.made);
     }
-    push_ending(text, before)?;
-    push_head(text, records, one.layer, one.made)?;
-    Ok(())
 }
 
 /// Says one objection behind those before it.
-#[tactic(auto, unfolding(crate::specs::Lines::next_text))]
+#[tactic(auto, using(crate::proofs::Appending::appended_2), unfolding(crate::specs::Lines::next_text))]
 fn push_next(
-    text: &mut Vec<u8>,
+    text: &mut TextBuffer,
     tree: &Tree,
     records: &[Record],
     before: u64,
     one: &LayerObjection,
-) -> Added
-    ensures { OnOk result (text.new.items
-        ≡ text.old.items ++ next_text tree.now records.now before one.now) }
+)
+    ensures { text.new ≡ adding text.old (next_text tree.now records.now before one.now) }
 {
-    push_opening(text, records, before, one)?;
-    push_objection(text, tree, records, &one.objection)?;
-    Ok(())
+    push_opening(text, records, before, one);
+    push_objection(text, tree, records, &one.objection);
 }
 
 /// Adds the lines of all layers that object.
 pub(crate) fn push_lines(
-    text: &mut Vec<u8>,
+    text: &mut TextBuffer,
     tree: &Tree,
     records: &[Record],
     all: &[LayerObjection],
-) -> Added
-    ensures { OnOk result ((layers : List ℕ) → All (IsMade layers) all.now → text.new.items
-        ≡ text.old.items ++ flat_map (layer_text records.now layers) (by_layer tree.now all.now)) }
+)
+    ensures { (layers : List ℕ) → All (IsMade layers) all.now → text.new
+        ≡ adding text.old (flat_map (layer_text records.now layers) (by_layer tree.now all.now)) }
 {
     let mut before = 0;
     for one in all {
-        push_next(text, tree, records, before, one)?;
+        push_next(text, tree, records, before, one);
         before = one.layer;
     }
-    push_ending(text, before)?;
-    Ok(())
+    push_ending(text, before);
 }

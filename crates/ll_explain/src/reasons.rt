@@ -1,59 +1,57 @@
 //! The words for calls that the policy isn't asked about.
 
-ghost use Rattle.std.specs.Prelude.{◌≡◌, ◌++◌, IsTrue, OnOk, codes, is_some};
+ghost use Rattle.std.specs.Prelude.{◌≡◌, ◌++◌, IsTrue, codes, is_some};
 ghost use Rattle.ll_lines.specs.Paths.{path_of};
 ghost use Rattle.ll_reasons.specs.declared.why.Which.TheVariants.{First, Second};
 ghost use Rattle.ll_reasons.specs.Meant.{path_in, path_named, reason_in};
 ghost use Rattle.ll_reasons.specs.Reasons.{of_kind, spelt};
+ghost use Rattle.ll_explain.specs.Buffers.{adding};
 ghost use Rattle.ll_explain.specs.Words.{path_text, reason_text};
 
-use crate::words::{Added, push_escaped, push_numbered, push_words};
+use crate::buffer::TextBuffer;
+use crate::words::{push_escaped, push_numbered, push_words};
 use ll_reasons::{NamedPath, Reason, Which, text_above, text_of};
 use ll_rights::Kind;
 use ll_trace::Op;
 
 /// Adds a path.
 #[tactic(auto, using(crate::proofs::PathsSpelt::path_text_spelt))]
-fn push_path(text: &mut Vec<u8>, path: &str) -> Added
+fn push_path(text: &mut TextBuffer, path: &str)
     requires { IsTrue (is_some (path_of path.now)) }
-    ensures { OnOk result (text.new.items ≡ text.old.items ++ path_text (spelt path.now)) }
+    ensures { text.new ≡ adding text.old (path_text (spelt path.now)) }
 {
     push_escaped(text, path)
 }
 
 /// Adds a path that a call names.
-fn push_which(text: &mut Vec<u8>, op: &Op, which: Which) -> Added
-    ensures { OnOk result (text.new.items
-        ≡ text.old.items ++ path_text (path_named op.now which)) }
+fn push_which(text: &mut TextBuffer, op: &Op, which: Which)
+    ensures { text.new ≡ adding text.old (path_text (path_named op.now which)) }
 {
     push_path(text, text_of(op, which))
 }
 
 /// Adds a path that a call names, or one above it, and what is said of it.
-fn push_named(text: &mut Vec<u8>, op: &Op, named: NamedPath, said: &str) -> Added
-    ensures { OnOk result (text.new.items
-        ≡ text.old.items ++ (path_text (path_in op.now named) ++ said.now)) }
+#[tactic(auto, using(crate::proofs::Appending::appended_2))]
+fn push_named(text: &mut TextBuffer, op: &Op, named: NamedPath, said: &str)
+    ensures { text.new ≡ adding text.old (path_text (path_in op.now named) ++ said.now) }
 {
-    push_path(text, text_above(op, named))?;
-    push_words(text, said)?;
-    Ok(())
+    push_path(text, text_above(op, named));
+    push_words(text, said);
 }
 
 /// Adds a path that a call names and what is said of it.
-fn push_said(text: &mut Vec<u8>, op: &Op, which: Which, said: &str) -> Added
-    ensures { OnOk result (text.new.items
-        ≡ text.old.items ++ (path_text (path_named op.now which) ++ said.now)) }
+#[tactic(auto, using(crate::proofs::Appending::appended_2))]
+fn push_said(text: &mut TextBuffer, op: &Op, which: Which, said: &str)
+    ensures { text.new ≡ adding text.old (path_text (path_named op.now which) ++ said.now) }
 {
-    push_which(text, op, which)?;
-    push_words(text, said)?;
-    Ok(())
+    push_which(text, op, which);
+    push_words(text, said);
 }
 
 /// Says of what kind the object of the first path is.
 #[tactic(auto, unfolding(crate::specs::Words::reason_text))]
-fn push_kind(text: &mut Vec<u8>, op: &Op, kind: Kind) -> Added
-    ensures { OnOk result (text.new.items
-        ≡ text.old.items ++ reason_text (of_kind (path_named op.now First) kind)) }
+fn push_kind(text: &mut TextBuffer, op: &Op, kind: Kind)
+    ensures { text.new ≡ adding text.old (reason_text (of_kind (path_named op.now First) kind)) }
 {
     match kind {
         Kind::Dir => push_said(text, op, Which::First, " is a directory"),
@@ -67,35 +65,30 @@ fn push_kind(text: &mut Vec<u8>, op: &Op, kind: Kind) -> Added
 }
 
 /// Adds the two paths of a call, and what is said before, between and behind them.
-fn push_both(text: &mut Vec<u8>, op: &Op, between: &str, said: &str) -> Added
-    ensures { OnOk result (text.new.items ≡ text.old.items
-        ++ (path_text (path_named op.now First) ++ between.now
-        ++ path_text (path_named op.now Second) ++ said.now)) }
+fn push_both(text: &mut TextBuffer, op: &Op, between: &str, said: &str)
+    ensures { text.new ≡ adding text.old (path_text (path_named op.now First) ++ between.now
+        ++ path_text (path_named op.now Second) ++ said.now) }
 {
-    push_said(text, op, Which::First, between)?;
-    push_said(text, op, Which::Second, said)?;
-    Ok(())
+    push_said(text, op, Which::First, between);
+    push_said(text, op, Which::Second, said);
 }
 
 /// Says that a directory and something else would take one another's place.
-fn push_mixed(text: &mut Vec<u8>, op: &Op) -> Added
-    ensures { OnOk result (text.new.items ≡ text.old.items
-        ++ (codes "one of " ++ path_text (path_named op.now First) ++ codes " and "
-        ++ path_text (path_named op.now Second) ++ codes " is a directory, the other is not")) }
+fn push_mixed(text: &mut TextBuffer, op: &Op)
+    ensures { text.new ≡ adding text.old (codes "one of " ++ path_text (path_named op.now First) ++ codes " and "
+        ++ path_text (path_named op.now Second) ++ codes " is a directory, the other is not") }
 {
-    push_words(text, "one of ")?;
-    push_which(text, op, Which::First)?;
-    push_words(text, " and ")?;
-    push_which(text, op, Which::Second)?;
-    push_words(text, " is a directory, the other is not")?;
-    Ok(())
+    push_words(text, "one of ");
+    push_which(text, op, Which::First);
+    push_words(text, " and ");
+    push_which(text, op, Which::Second);
+    push_words(text, " is a directory, the other is not");
 }
 
 /// Says why the policy isn't asked.
 #[tactic(auto, unfolding(ll_reasons::specs::Meant::reason_in, crate::specs::Words::reason_text))]
-pub(crate) fn push_reason(text: &mut Vec<u8>, op: &Op, reason: &Reason) -> Added
-    ensures { OnOk result (text.new.items
-        ≡ text.old.items ++ reason_text (reason_in op.now reason.now)) }
+pub(crate) fn push_reason(text: &mut TextBuffer, op: &Op, reason: &Reason)
+    ensures { text.new ≡ adding text.old (reason_text (reason_in op.now reason.now)) }
 {
     match reason {
         Reason::Absent(named) => push_named(text, op, *named, " is not in the tree"),

@@ -1,14 +1,16 @@
 //! The names of the rights of a set, for files and for ports alike.
 
-ghost use Rattle.std.specs.Prelude.{◌≡◌, ◌++◌, ℕ, Bool, List, OnOk, codes, filter, map, if◌then◌else◌};
+ghost use Rattle.std.specs.Prelude.{◌≡◌, ◌++◌, ℕ, Bool, List, codes, filter, map, if◌then◌else◌};
 ghost use Rattle.ll_rights.specs.CodeRights.{fs_right, net_right};
 ghost use Rattle.ll_rights.specs.Rights as files;
 ghost use Rattle.ll_rights.specs.NetRights as network;
 ghost use Rattle.ll_explanations.specs.Sets.{port_rights_in, rights_in};
+ghost use Rattle.ll_explain.specs.Buffers.{adding};
 ghost use Rattle.ll_explain.specs.Tables.{listed_alike};
 ghost use Rattle.ll_explain.specs.Words.{behind, listed, port_rights_text, rights_text, word_for};
 
-use crate::words::{Added, push_words};
+use crate::buffer::TextBuffer;
+use crate::words::push_words;
 use ll_rights::{Fs, FsRight, Net, NetRight};
 
 /// A set of access rights, for files or for ports.
@@ -106,44 +108,42 @@ pub fn word_for(name: &str) -> &str
 }
 
 /// Adds a name, behind a comma if it isn't the first.
-#[tactic(auto, unfolding(crate::specs::Words::behind))]
-fn push_name(text: &mut Vec<u8>, name: &str, is_first: bool) -> Added
-    ensures { OnOk result (text.new.items
-        ≡ text.old.items ++ (if is_first then name.now else behind (codes ", ") name.now)) }
+fn push_name(text: &mut TextBuffer, name: &str, is_first: bool)
+    ensures { text.new ≡ adding text.old (if is_first then name.now else behind (codes ", ") name.now) }
 {
-    if !is_first {
-        text.extend_from_slice(b", ")?;
+    if is_first {
+        push_words(text, name);
+    } else {
+        push_words(text, ", ");
+        push_words(text, name);
     }
-    text.extend_from_slice(name.as_bytes())
 }
 
 /// Adds the names of the rights of a set, in the order of the table.
-fn push_names<S: RightSet>(text: &mut Vec<u8>, rights: S) -> Added
-    ensures { OnOk result (text.new.items ≡ text.old.items ++ S.text rights) }
+fn push_names<S: RightSet>(text: &mut TextBuffer, rights: S)
+    ensures { text.new ≡ adding text.old (S.text rights) }
 {
     let mut is_first = true;
     for right in S::all() {
         if rights.has(*right) {
-            push_name(text, word_for(S::name(*right)), is_first)?;
+            push_name(text, word_for(S::name(*right)), is_first);
             is_first = false;
         }
     }
-    Ok(())
 }
 
 /// Adds the names of the rights for files of a set.
 #[tactic(auto, unfolding(ll_explanations::specs::Sets::rights_in))]
-pub(crate) fn push_rights(text: &mut Vec<u8>, rights: Fs) -> Added
-    ensures { OnOk result (text.new.items ≡ text.old.items ++ rights_text (rights_in rights)) }
+pub(crate) fn push_rights(text: &mut TextBuffer, rights: Fs)
+    ensures { text.new ≡ adding text.old (rights_text (rights_in rights)) }
 {
     push_names(text, rights)
 }
 
 /// Adds the names of the rights for ports of a set.
 #[tactic(auto, unfolding(ll_explanations::specs::Sets::port_rights_in))]
-pub(crate) fn push_port_rights(text: &mut Vec<u8>, rights: Net) -> Added
-    ensures { OnOk result (text.new.items
-        ≡ text.old.items ++ port_rights_text (port_rights_in rights)) }
+pub(crate) fn push_port_rights(text: &mut TextBuffer, rights: Net)
+    ensures { text.new ≡ adding text.old (port_rights_text (port_rights_in rights)) }
 {
     push_names(text, rights)
 }

@@ -1,28 +1,28 @@
 //! The words of explanations.
 
-ghost use Rattle.std.specs.Prelude.{◌≡◌, ◌++◌, ◌<◌, OnOk, decimal};
+ghost use Rattle.std.specs.Prelude.{◌≡◌, ◌++◌, ◌<◌, decimal};
 ghost use Rattle.json.specs.Print.{escape, escape_byte, escape_letter};
 ghost use Rattle.std.specs.Char.{digit_char};
+ghost use Rattle.std.specs.List.{list_all};
+ghost use Rattle.ll_explain.specs.Buffers.{adding};
+ghost use Rattle.ll_explain.specs.Plain.{is_plain};
 
+use crate::buffer::TextBuffer;
 use itoa::Buffer;
-use std::alloc::AllocError;
-
-/// What adding to a text gives: nothing, or that memory ran out.
-pub(crate) type Added = Result<(), AllocError>;
 
 /// Adds words.
-pub(crate) fn push_words(text: &mut Vec<u8>, words: &str) -> Added
-    ensures { OnOk result (text.new.items ≡ text.old.items ++ words.now) }
+pub fn push_words(text: &mut TextBuffer, words: &str)
+    ensures { text.new ≡ adding text.old words.now }
 {
-    text.extend_from_slice(words.as_bytes())
+    text.put(words.as_bytes());
 }
 
 /// Adds a number in decimal digits.
-pub(crate) fn push_number(text: &mut Vec<u8>, number: u64) -> Added
-    ensures { OnOk result (text.new.items ≡ text.old.items ++ decimal number) }
+pub fn push_number(text: &mut TextBuffer, number: u64)
+    ensures { text.new ≡ adding text.old (decimal number) }
 {
     let mut buffer = Buffer::new();
-    text.extend_from_slice(buffer.format(number).as_bytes())
+    text.put(buffer.format(number).as_bytes());
 }
 
 /// The letter of the short escape of a byte, or 0 where it has none.
@@ -54,36 +54,60 @@ fn digit(number: u8) -> u8
 
 /// Adds a byte as it is in a JSON text.
 #[tactic(auto, unfolding(json::specs::Print::escape_byte))]
-fn push_escaped_byte(text: &mut Vec<u8>, byte: u8) -> Added
-    ensures { OnOk result (text.new.items ≡ text.old.items ++ escape_byte byte) }
+fn push_escaped_byte(text: &mut TextBuffer, byte: u8)
+    ensures { text.new ≡ adding text.old (escape_byte byte) }
 {
     let letter = escape_letter(byte);
     if letter > 0 {
-        text.extend_from_slice(&[b'\\', letter])?;
+        text.put(&[b'\\', letter]);
     } else if byte < 32 {
-        text.extend_from_slice(&[b'\\', b'u', b'0', b'0', digit(byte / 16), digit(byte % 16)])?;
+        text.put(&[b'\\', b'u', b'0', b'0', digit(byte / 16), digit(byte % 16)]);
     } else {
-        text.push(byte)?;
+        text.put(&[byte]);
     }
-    Ok(())
 }
 
-/// Adds a path, escaped as JSON escapes texts.
-pub(crate) fn push_escaped(text: &mut Vec<u8>, path: &str) -> Added
-    ensures { OnOk result (text.new.items ≡ text.old.items ++ escape path.now) }
+/// Whether a byte is in a JSON text as it is.
+fn is_plain(byte: u8) -> bool
+    ensures { result ≡ is_plain byte }
+{
+    escape_letter(byte) == 0 && byte >= 32
+}
+
+/// Whether a text is in a JSON text as it is.
+fn are_plain(bytes: &[u8]) -> bool
+    ensures { result ≡ list_all is_plain bytes.now }
+{
+    bytes.iter().all(|byte| is_plain(*byte))
+}
+
+/// Adds a path byte after byte, escaped as JSON escapes texts.
+fn push_each_escaped(text: &mut TextBuffer, path: &str)
+    ensures { text.new ≡ adding text.old (escape path.now) }
 {
     for byte in path.bytes() {
-        push_escaped_byte(text, byte)?;
+        push_escaped_byte(text, byte);
     }
-    Ok(())
+}
+
+/// Adds a path, escaped as JSON escapes texts: at once where no byte of it is escaped, as in most paths.
+#[tactic(auto, using(crate::proofs::PlainTexts::escape_plain))]
+pub(crate) fn push_escaped(text: &mut TextBuffer, path: &str)
+    ensures { text.new ≡ adding text.old (escape path.now) }
+{
+    if are_plain(path.as_bytes()) {
+        push_words(text, path);
+    } else {
+        push_each_escaped(text, path);
+    }
 }
 
 /// Adds a number between two texts.
-pub(crate) fn push_numbered(text: &mut Vec<u8>, before: &str, number: u64, after: &str) -> Added
-    ensures { OnOk result (text.new.items
-        ≡ text.old.items ++ (before.now ++ decimal number ++ after.now)) }
+#[tactic(auto, using(crate::proofs::Appending::appended_3))]
+pub(crate) fn push_numbered(text: &mut TextBuffer, before: &str, number: u64, after: &str)
+    ensures { text.new ≡ adding text.old (before.now ++ decimal number ++ after.now) }
 {
-    text.extend_from_slice(before.as_bytes())?;
-    push_number(text, number)?;
-    text.extend_from_slice(after.as_bytes())
+    text.put(before.as_bytes());
+    push_number(text, number);
+    text.put(after.as_bytes());
 }

@@ -1,5 +1,5 @@
 -- What is shown of records, from a place on.
-use Rattle.std.proofs.Common.{◌≡◌, ◌∙◌, ℕ, ◌+◌, ◌<◌, ◌≤◌, List, [], ◌∷◌, ◌++◌, length, drop, get_or, refl, sym, ap, ap₂, append_assoc, append-nil, arith}
+use Rattle.std.proofs.Common.{◌≡◌, ◌∙◌, ℕ, ◌+◌, ◌<◌, ◌≤◌, List, [], ◌∷◌, ◌++◌, length, drop, get_or, refl, sym, ap, ap₂, append-nil, arith}
 use Rattle.std.proofs.Math.Seq.{drop-length}
 use Rattle.std.specs.List.{flat_map}
 use Rattle.ll_trace.specs.declared.record.Record.{Record}
@@ -21,31 +21,26 @@ unfolding blocks_from
 blocks_from-nil shown explained k = refl
 
 module _ (shown : Shown) (explained : ℕ → List ℕ) (records : List Record) (answers : List Answer) where
+  -- what is shown of the records from a place on
+  abbrev pub left : ℕ → List ℕ
+  left k = blocks_from shown explained k (lines_of (drop k records) (drop k answers))
+
   -- one more record is shown
-  pub one_more : (k : ℕ) (one : Record) (answer : Answer) (before after whole : List ℕ) → k < length records → length answers ≡ length records
-      → one ≡ get_or records k one → answer ≡ get_or answers k answer
-      → before ++ blocks_from shown explained k (lines_of (drop k records) (drop k answers)) ≡ whole
-      → after ≡ before ++ block_text shown (line_of one answer) (explained k)
-      → after ++ blocks_from shown explained (k + 1) (lines_of (drop (k + 1) records) (drop (k + 1) answers)) ≡ whole
-  one_more k one answer before after whole below lengths is_of is_answer so_far is =
+  pub left_next : (k : ℕ) (one : Record) (answer : Answer) → k < length records → length answers ≡ length records → one ≡ get_or records k one
+      → answer ≡ get_or answers k answer → left k ≡ block_text shown (line_of one answer) (explained k) ++ left (k + 1)
+  left_next k one answer below lengths is_of is_answer =
       let others : List ReportLine = lines_of (drop (k + 1) records) (drop (k + 1) answers) in
-      let this : ReportLine = line_of one answer in
-      let next : lines_of (drop k records) (drop k answers) ≡ this ∷ others =
+      let next : lines_of (drop k records) (drop k answers) ≡ line_of one answer ∷ others =
       lines_of-next records answers k one answer below (omega (arith, below, lengths)) ∙ ap₂ (λ r a. line_of r a ∷ others) (sym is_of) (sym is_answer) in
-      let block : List ℕ = block_text shown this (explained k) in
-      ap (λ text. text ++ blocks_from shown explained (k + 1) others) is
-      ∙ (append_assoc before block (blocks_from shown explained (k + 1) others)
-      ∙ (ap (λ text. before ++ text) (sym (ap (blocks_from shown explained k) next ∙ blocks_from-next shown explained k this others)) ∙ so_far))
+      ap (blocks_from shown explained k) next ∙ blocks_from-next shown explained k (line_of one answer) others
 
   -- all records are shown
-  pub all_written : (k : ℕ) (text whole : List ℕ) → length records ≤ k → k ≤ length records
-      → text ++ blocks_from shown explained k (lines_of (drop k records) (drop k answers)) ≡ whole → text ≡ whole
-  all_written k text whole at_least at_most written =
+  pub left_none : (k : ℕ) → length records ≤ k → k ≤ length records → left k ≡ []
+  left_none k at_least at_most =
       let end : k ≡ length records = omega (arith, at_least, at_most) in
       let none : drop k records ≡ [] = ap (λ n. drop n records) end ∙ drop-length records in
       let no_lines : lines_of (drop k records) (drop k answers) ≡ [] = ap (λ rs. lines_of rs (drop k answers)) none ∙ lines_of-nil (drop k answers) in
-      sym (append-nil text)
-      ∙ (sym (ap (λ rest. text ++ rest) (ap (blocks_from shown explained k) no_lines ∙ blocks_from-nil shown explained k)) ∙ written)
+      ap (blocks_from shown explained k) no_lines ∙ blocks_from-nil shown explained k
 
 -- all lines without explanations are the report
 pub all_lines : (explained : ℕ → List ℕ) (place : ℕ) (lines : List ReportLine) → blocks_from ALL_LINES explained place lines ≡ flat_map line_text lines

@@ -6,6 +6,8 @@ use Rattle.std.proofs.lemmas.List.{append-nil}
 use Rattle.std.proofs.lemmas.Bool.{ne_eqb, true≢false}
 use Rattle.ll_rules.specs.declared.domain.TheConstants.{MOST_LAYERS}
 use Rattle.ll_rules.specs.LayerNumbers.{is_among, numbers_passing, passing_upto}
+use Rattle.ll_explain.specs.Buffers.{Buffered, adding}
+use Rattle.ll_explain.proofs.Buffering.{adding_both}
 use Rattle.ll_report.specs.Report.{layers_text, listed_layers, next_layer_text}
 
 -- the layers up to a number
@@ -52,19 +54,19 @@ is_none_yet-push [] layer = refl
 is_none_yet-push (first ∷ more) layer = refl
 
 -- the text and the flag after a number that is among the layers
-pub written_among : (layers : List ℕ) (number : ℕ) (start text after : List ℕ) (is_first : Bool) → 0 < number
+pub written_among : (layers : List ℕ) (number : ℕ) (start text after : Buffered) (is_first : Bool) → 0 < number
     → is_among number layers ≡ true
-    → text ≡ start ++ listed_layers (layers_upto layers (number - 1)) → is_first ≡ is_none_yet (layers_upto layers (number - 1))
-    → after ≡ text ++ cond is_first (decimal number) (next_layer_text number)
-    → (after ≡ start ++ listed_layers (layers_upto layers (number + 1 - 1))) × (false ≡ is_none_yet (layers_upto layers (number + 1 - 1)))
+    → text ≡ adding start (listed_layers (layers_upto layers (number - 1))) → is_first ≡ is_none_yet (layers_upto layers (number - 1))
+    → after ≡ adding text (cond is_first (decimal number) (next_layer_text number))
+    → (after ≡ adding start (listed_layers (layers_upto layers (number + 1 - 1)))) × (false ≡ is_none_yet (layers_upto layers (number + 1 - 1)))
 written_among layers number start text after is_first pos among so_far first is =
     let upto = layers_upto layers (number - 1) in
     let next : layers_upto layers (number + 1 - 1) ≡ upto ++ number ∷ [] =
     layers_upto-next layers number pos ∙ ap (λ b. upto ++ cond b (number ∷ []) []) among in
     let more : List ℕ = cond (is_none_yet upto) (decimal number) (next_layer_text number) in (
-      is ∙ (ap (λ b. text ++ cond b (decimal number) (next_layer_text number)) first
-          ∙ (ap (λ t. t ++ more) so_far ∙ (append_assoc start (listed_layers upto) more
-          ∙ ap (λ t. start ++ t) (sym (ap listed_layers next ∙ listed_layers-push upto number))))),
+      is ∙ (ap (λ b. adding text (cond b (decimal number) (next_layer_text number))) first
+          ∙ (ap (λ t. adding t more) so_far ∙ (adding_both start (listed_layers upto) more
+          ∙ ap (adding start) (sym (ap listed_layers next ∙ listed_layers-push upto number))))),
       sym (ap is_none_yet next ∙ is_none_yet-push upto number),
     )
 

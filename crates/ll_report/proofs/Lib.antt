@@ -1,6 +1,8 @@
 pub mod LayerText
 pub mod LinesLeft
 pub mod Explaining
+pub mod Beginnings
+pub mod Paging
 pub mod BlocksLeft
 pub mod SpansLeft
 pub mod SpansWhole

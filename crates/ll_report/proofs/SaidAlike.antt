@@ -73,6 +73,14 @@ left_out_alike shown founds place answer are = rw (
 ) refl
 
 -- a text, a line behind it and what is behind the line, taken together in another way
+-- four texts are appended one after another
+pub four_appended : (start first second third fourth a b c d : List ℕ) → first ≡ start ++ a → second ≡ first ++ b → third ≡ second ++ c → fourth ≡ third ++ d
+    → fourth ≡ start ++ (a ++ b ++ c ++ d)
+four_appended start first second third fourth a b c d is_first is_second is_third is_fourth =
+    is_fourth ∙ ap (λ (text : List ℕ). text ++ d) (is_third ∙ ap (λ (text : List ℕ). text ++ c) (is_second ∙ ap (λ (text : List ℕ). text ++ b) is_first))
+    ∙ append_assoc ((start ++ a) ++ b) c d ∙ append_assoc (start ++ a) b (c ++ d) ∙ append_assoc start a (b ++ (c ++ d))
+    ∙ ap (λ (text : List ℕ). start ++ text) (sym (append_assoc (a ++ b) c d ∙ append_assoc a b (c ++ d)))
+
 joined : (before told blank verdict end behind : List ℕ)
     → (before ++ (told ++ blank ++ verdict ++ end)) ++ behind ≡ before ++ (told ++ (blank ++ verdict) ++ end ++ behind)
 joined before told blank verdict end behind =

@@ -1,8 +1,13 @@
 pub mod Names
 pub mod Report
+pub mod Phrases
 pub mod Lines
 pub mod Shown
-pub mod ShownSoFar
+pub mod Blocks
+pub mod Writing
+pub mod TextReports
+pub mod Longest
+pub mod Pages
 pub mod Texts
 pub mod Found
 pub mod Alike

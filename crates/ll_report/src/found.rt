@@ -6,7 +6,7 @@ ghost use Rattle.ll_semantics.specs.Worlds.{judged};
 ghost use Rattle.ll_report.specs.Found.{answer_at, explanation_at, found_by};
 ghost use Rattle.ll_report.specs.Rows.{said_by};
 
-use crate::report::push_verdict;
+use crate::phrases::{Phrase, append};
 use crate::spans::Form;
 use crate::telling::Telling;
 use crate::texts::Texts;
@@ -93,7 +93,7 @@ impl Finding {
     {
         let mut text = Vec::new(alloc);
         match form {
-            Form::Answers => push_verdict(&mut text, &self.answer(place))?,
+            Form::Answers => append(alloc, &mut text, &Phrase::Verdict(&self.answer(place)))?,
             Form::Explanations => text.extend_from_slice(self.explanation(place))?,
         }
         Ok(text)

@@ -2,15 +2,16 @@
 
 ghost use Rattle.std.specs.Prelude.{◌≡◌, ◌++◌, ◌∷◌, [], IfOk, OnOk, codes, count_by, decimal, length, if◌then◌else◌};
 ghost use Rattle.ll_semantics.specs.Worlds.{judged};
+ghost use Rattle.ll_explain.specs.Buffers.{adding};
 ghost use Rattle.ll_report.specs.Shown.{IsShownReportOn};
 ghost use Rattle.ll_report.specs.Lines.{line_of, verdict_of};
 ghost use Rattle.ll_report.specs.Report as words;
 ghost use Rattle.ll_report.specs.Report.{counts_text, head_text, layers_text, line_text, next_layer_text, record_text, refused, report_status, total_text, verdict_text};
 ghost use Rattle.ll_report.specs.Names as spec;
 
-use crate::blocks::push_blocks;
+use crate::blocks::{Blocks, explanations_of};
 use crate::names::error_name;
-use itoa::Buffer;
+use ll_explain::{TextBuffer, push_number, push_words};
 use ll_options::Shown;
 use ll_process::{Answer, Case};
 use ll_rules::{Errno, LayerSet, MOST_LAYERS, NoMemory};
@@ -37,12 +38,22 @@ impl Report {
         requires { answers.now ≡ judged case.now.tree case.now.abi case.now.records }
         ensures { IfOk result (IsShownReportOn shown case.now.tree case.now.abi case.now.records) }
     {
-        let mut bytes = Vec::new(alloc);
-        push_blocks(alloc, &mut bytes, case, answers, shown)?;
+        let explanations = explanations_of(alloc, case, answers, shown)?;
+        let blocks = Blocks {
+            case,
+            answers,
+            explanations: &explanations,
+            shown,
+        };
         let totals = Totals::of(answers);
-        totals.push_to(&mut bytes)?;
+        let mut measure = TextBuffer::measure(alloc);
+        blocks.push_to(&mut measure);
+        totals.push_to(&mut measure);
+        let mut text = TextBuffer::new(alloc, measure.count())?;
+        blocks.push_to(&mut text);
+        totals.push_to(&mut text);
         Ok(Report {
-            bytes,
+            bytes: text.into_bytes(),
             refused: totals.refused,
         })
     }
@@ -55,137 +66,104 @@ impl Report {
     }
 }
 
-/// Adds a number in decimal digits.
-pub(crate) fn push_number(text: &mut Vec<u8>, number: u64) -> Result<(), AllocError>
-    ensures { OnOk result (text.new.items ≡ text.old.items ++ decimal number) }
-{
-    let mut buffer = Buffer::new();
-    text.extend_from_slice(buffer.format(number).as_bytes())
-}
-
 /// Adds which record a line is about.
-pub(crate) fn push_record(
-    text: &mut Vec<u8>,
-    line: u64,
-    pid: u64,
-    op: &str,
-) -> Result<(), AllocError>
-    ensures { OnOk result (text.new.items ≡ text.old.items ++ record_text line pid op.now) }
+pub(crate) fn push_record(text: &mut TextBuffer, line: u64, pid: u64, op: &str)
+    ensures { text.new ≡ adding text.old (record_text line pid op.now) }
 {
-    push_number(text, line)?;
-    text.push(b' ')?;
-    push_number(text, pid)?;
-    text.push(b' ')?;
-    text.extend_from_slice(op.as_bytes())
+    push_number(text, line);
+    push_words(text, " ");
+    push_number(text, pid);
+    push_words(text, " ");
+    push_words(text, op);
 }
 
 /// Adds what comes before a verdict.
-pub(crate) fn push_head(text: &mut Vec<u8>, line: u64, pid: u64, op: &str) -> Result<(), AllocError>
-    ensures { OnOk result (text.new.items ≡ text.old.items ++ head_text line pid op.now) }
+fn push_head(text: &mut TextBuffer, line: u64, pid: u64, op: &str)
+    ensures { text.new ≡ adding text.old (head_text line pid op.now) }
 {
-    push_record(text, line, pid, op)?;
-    text.push(b' ')?;
-    Ok(())
+    push_record(text, line, pid, op);
+    push_words(text, " ");
 }
 
 /// Adds the numbers of layers, separated by commas, or a hyphen where there are none.
-fn push_layers(text: &mut Vec<u8>, layers: LayerSet) -> Result<(), AllocError>
-    ensures { OnOk result (text.new.items ≡ text.old.items ++ layers_text layers) }
+fn push_layers(text: &mut TextBuffer, layers: LayerSet)
+    ensures { text.new ≡ adding text.old (layers_text layers) }
 {
     if layers.is_empty() {
-        text.push(b'-')?;
-        return Ok(());
+        push_words(text, "-");
+        return;
     }
     let mut is_first = true;
     for number in 1..MOST_LAYERS as u32 + 1 {
         if layers.has(number) {
-            push_layer(text, number, is_first)?;
+            push_layer(text, number, is_first);
             is_first = false;
         }
     }
-    Ok(())
 }
 
 /// Adds a refusal, with its error and its layers.
-pub(crate) fn push_refusal(
-    text: &mut Vec<u8>,
-    error: Errno,
-    layers: LayerSet,
-) -> Result<(), AllocError>
-    ensures { OnOk result (text.new.items
-        ≡ text.old.items ++ verdict_text (refused (spec.error_name error) layers)) }
+fn push_refusal(text: &mut TextBuffer, error: Errno, layers: LayerSet)
+    ensures { text.new ≡ adding text.old (verdict_text (refused (spec.error_name error) layers)) }
 {
-    text.extend_from_slice(b"refused ")?;
-    text.extend_from_slice(error_name(error).as_bytes())?;
-    text.push(b' ')?;
-    push_layers(text, layers)
+    push_words(text, "refused ");
+    push_words(text, error_name(error));
+    push_words(text, " ");
+    push_layers(text, layers);
 }
 
 /// Adds the number of a layer, behind a comma if it isn't the first.
-fn push_layer(text: &mut Vec<u8>, number: u32, is_first: bool) -> Result<(), AllocError>
-    ensures { OnOk result (text.new.items ≡ text.old.items
-        ++ (if is_first then decimal number else next_layer_text number)) }
+fn push_layer(text: &mut TextBuffer, number: u32, is_first: bool)
+    ensures { text.new ≡ adding text.old (if is_first then decimal number else next_layer_text number) }
 {
-    if !is_first {
-        text.push(b',')?;
+    if is_first {
+        push_number(text, u64::from(number));
+    } else {
+        push_words(text, ",");
+        push_number(text, u64::from(number));
     }
-    push_number(text, u64::from(number))
 }
 
 /// Adds how many records are answered in each way.
-fn push_counts(text: &mut Vec<u8>, allowed: u64, refused: u64, moot: u64) -> Result<(), AllocError>
-    ensures { OnOk result (text.new.items ≡ text.old.items ++ counts_text allowed refused moot) }
+fn push_counts(text: &mut TextBuffer, allowed: u64, refused: u64, moot: u64)
+    ensures { text.new ≡ adding text.old (counts_text allowed refused moot) }
 {
-    text.extend_from_slice(b" allowed ")?;
-    push_number(text, allowed)?;
-    text.extend_from_slice(b" refused ")?;
-    push_number(text, refused)?;
-    text.extend_from_slice(b" moot ")?;
-    push_number(text, moot)?;
-    text.extend_from_slice(b"\n")
+    push_words(text, " allowed ");
+    push_number(text, allowed);
+    push_words(text, " refused ");
+    push_number(text, refused);
+    push_words(text, " moot ");
+    push_number(text, moot);
+    push_words(text, "\n");
 }
 
 /// Adds the last line.
-pub(crate) fn push_total(
-    text: &mut Vec<u8>,
-    all: u64,
-    allowed: u64,
-    refused: u64,
-    moot: u64,
-) -> Result<(), AllocError>
-    ensures { OnOk result (text.new.items
-        ≡ text.old.items ++ total_text all allowed refused moot) }
+pub(crate) fn push_total(text: &mut TextBuffer, all: u64, allowed: u64, refused: u64, moot: u64)
+    ensures { text.new ≡ adding text.old (total_text all allowed refused moot) }
 {
-    text.extend_from_slice(b"total ")?;
-    push_number(text, all)?;
-    push_counts(text, allowed, refused, moot)
+    push_words(text, "total ");
+    push_number(text, all);
+    push_counts(text, allowed, refused, moot);
 }
 
 /// Adds how a record was answered.
-pub(crate) fn push_verdict(text: &mut Vec<u8>, answer: &Answer) -> Result<(), AllocError>
-    ensures { OnOk result (text.new.items
-        ≡ text.old.items ++ verdict_text (verdict_of answer.now)) }
+pub(crate) fn push_verdict(text: &mut TextBuffer, answer: &Answer)
+    ensures { text.new ≡ adding text.old (verdict_text (verdict_of answer.now)) }
 {
     match answer {
-        Answer::Allowed => text.extend_from_slice(b"allowed"),
-        Answer::Moot => text.extend_from_slice(b"moot"),
+        Answer::Allowed => push_words(text, "allowed"),
+        Answer::Moot => push_words(text, "moot"),
         Answer::Refused(error, layers) => push_refusal(text, *error, *layers),
     }
 }
 
 /// Adds the line of a record and its answer.
-pub(crate) fn push_line(
-    text: &mut Vec<u8>,
-    record: &Record,
-    answer: &Answer,
-) -> Result<(), AllocError>
-    ensures { OnOk result (text.new.items
-        ≡ text.old.items ++ line_text (line_of «record».now answer.now)) }
+pub(crate) fn push_line(text: &mut TextBuffer, record: &Record, answer: &Answer)
+    ensures { text.new ≡ adding text.old (line_text (line_of «record».now answer.now)) }
 {
-    push_head(text, record.line, record.pid, record.op.name())?;
-    push_verdict(text, answer)?;
-    text.push(b'\n')?;
-    Ok(())
+    push_head(text, record.line, record.pid, record.op.name());
+    push_verdict(text, answer);
+    push_words(text, "\n");
 }
 
 fn is_allowed(answer: &Answer) -> bool
@@ -238,23 +216,24 @@ impl Totals {
         }
     }
 
-    fn push_to(&self, text: &mut Vec<u8>) -> Result<(), AllocError>
-        ensures { OnOk result (text.new.items ≡ text.old.items
-            ++ total_text self.now.all self.now.allowed self.now.refused self.now.moot) }
+    /// Adds the last line.
+    pub(crate) fn push_to(&self, text: &mut TextBuffer)
+        ensures { text.new ≡ adding text.old
+            (total_text self.now.all self.now.allowed self.now.refused self.now.moot) }
     {
-        push_total(text, self.all, self.allowed, self.refused, self.moot)
+        push_total(text, self.all, self.allowed, self.refused, self.moot);
     }
 
     /// Adds the last line of the version of a number.
-    pub(crate) fn push_under(&self, text: &mut Vec<u8>, abi: u64) -> Result<(), AllocError>
-        ensures { OnOk result (text.new.items ≡ text.old.items
-            ++ (codes "total " ++ decimal self.now.all ++ codes " abi " ++ decimal abi
-            ++ counts_text self.now.allowed self.now.refused self.now.moot)) }
+    pub(crate) fn push_under(&self, text: &mut TextBuffer, abi: u64)
+        ensures { text.new ≡ adding text.old
+            (codes "total " ++ decimal self.now.all ++ codes " abi " ++ decimal abi
+            ++ counts_text self.now.allowed self.now.refused self.now.moot) }
     {
-        text.extend_from_slice(b"total ")?;
-        push_number(text, self.all)?;
-        text.extend_from_slice(b" abi ")?;
-        push_number(text, abi)?;
-        push_counts(text, self.allowed, self.refused, self.moot)
+        push_words(text, "total ");
+        push_number(text, self.all);
+        push_words(text, " abi ");
+        push_number(text, abi);
+        push_counts(text, self.allowed, self.refused, self.moot);
     }
 }

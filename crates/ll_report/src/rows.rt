@@ -12,7 +12,8 @@ ghost use Rattle.ll_report.specs.Rows.{answers_said, explanations_said, is_refus
 use crate::alike::{common_answer, common_explanation};
 use crate::blocks::is_hidden;
 use crate::found::Finding;
-use crate::report::{Report, Totals, is_refused, push_line, push_record};
+use crate::phrases::{Phrase, append, append_line, append_record};
+use crate::report::{Report, Totals, is_refused};
 use crate::spans::{Form, Sayings, agree, push_alone};
 use ll_options::Shown;
 use ll_process::Answer;
@@ -136,7 +137,7 @@ impl<'f> Versions<'f> {
         if is_hidden(self.shown, &answer) {
             return Ok(());
         }
-        push_line(text, record, &answer)?;
+        append_line(self.alloc, text, record, &answer)?;
         self.push_behind(text, place)
     }
 
@@ -154,7 +155,7 @@ impl<'f> Versions<'f> {
         if self.is_left_out(place, &answers) {
             return Ok(());
         }
-        push_record(text, record.line, record.pid, record.op.name())?;
+        append_record(self.alloc, text, record)?;
         self.sayings(Form::Answers, &answers).push_to(text)?;
         text.push(b'\n')?;
         self.push_behind(text, place)
@@ -180,7 +181,7 @@ impl<'f> Versions<'f> {
     {
         let mut abi = self.oldest;
         for finding in self.findings {
-            push_total_under(text, abi, finding)?;
+            push_total_under(self.alloc, text, abi, finding)?;
             abi += 1;
         }
         Ok(())
@@ -188,10 +189,16 @@ impl<'f> Versions<'f> {
 }
 
 /// Adds the last line of a version.
-fn push_total_under(text: &mut Vec<u8>, abi: u64, finding: &Finding) -> Result<(), AllocError>
+fn push_total_under(
+    alloc: Global,
+    text: &mut Vec<u8>,
+    abi: u64,
+    finding: &Finding,
+) -> Result<(), AllocError>
     ensures { OnOk result (text.new.items ≡ text.old.items ++ total_under_text abi finding.now) }
 {
-    Totals::of(finding.answers()).push_under(text, abi)
+    let totals = Totals::of(finding.answers());
+    append(alloc, text, &Phrase::TotalUnder(&totals, abi))
 }
 
 /// How many records some version refuses, of this many.

@@ -1,10 +1,10 @@
 //! What is said of a record under neighbouring versions.
 
-ghost use Rattle.std.specs.Prelude.{◌≡◌, ◌+◌, ◌++◌, ◌<◌, ◌^◌, OnOk, bytes_eq, length, map};
+ghost use Rattle.std.specs.Prelude.{◌≡◌, ◌+◌, ◌++◌, ◌<◌, ◌^◌, OnOk, bytes_eq, decimal, length, map};
 ghost use Rattle.std.specs.List.{flat_map, list_all};
 ghost use Rattle.ll_report.specs.Spans.{agree, alone_text, numbers_text, span_text, spans_of, versions_text};
 
-use crate::report::push_number;
+use itoa::Buffer;
 use std::alloc::AllocError;
 
 /// What is said under each version.
@@ -31,6 +31,14 @@ pub(crate) fn agree(said: &[Vec<u8>]) -> bool
         Some((first, others)) => all_say(first, others),
         None => true,
     }
+}
+
+/// Adds a number in decimal digits.
+fn push_number(text: &mut Vec<u8>, number: u64) -> Result<(), AllocError>
+    ensures { OnOk result (text.new.items ≡ text.old.items ++ decimal number) }
+{
+    let mut buffer = Buffer::new();
+    text.extend_from_slice(buffer.format(number).as_bytes())
 }
 
 /// Adds the numbers of neighbouring versions.

@@ -1,6 +1,6 @@
 use Rattle.std.proofs.Common.{append_assoc, subst}
 use Rattle.ll_endings.specs.Outcomes.{AppendsBeginning}
-use Rattle.ll_endings.proofs.Beginnings.{line_of_two}
+use Rattle.ll_endings.proofs.LineTexts.{line_of_two}
 use Rattle.ll_endings.proofs.lines.write_line.Goals as goal
 
 pub returns-clause-whole : goal.returns-clause-whole

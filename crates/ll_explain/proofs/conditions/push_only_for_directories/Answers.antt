@@ -3,4 +3,4 @@ use Rattle.ll_explain.proofs.conditions.push_only_for_directories.Goals as goal
 
 pub returns : goal.returns
 returns c =
-    appended_3 c.args.text.now.items _ _ _ _ _ _ c.in_ok-push_path_of_rule.ensures c.in_ok-push_words.ensures c.in_ok-push_rights.ensures
+    appended_3 c.args.text.now _ _ _ _ _ _ c.push_path_of_rule.ensures c.push_words.ensures c.push_rights.ensures

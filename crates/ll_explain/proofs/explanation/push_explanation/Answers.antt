@@ -36,10 +36,11 @@ returns c =
     c.index-records-place.is in
     let is : IsExplanation cv c.args.place c.args.answer r e = c.in_ok-explanation.ensures r there in
     let layers = (origins_at cv.tree cv.abi cv.records c.args.place r.process.0).layers in
-    c.in_ok-push_text.ensures layers is.made
-    ∙ ap (λ (found : Record). c.args.text.now.items ++ explanation_text c.records-records.result.now layers (explanation_in c.tree.result.now found.op e))
+    c.in_ok-extend_from_slice.ensures.items
+    ∙ ap (λ t. c.args.text.now.items ++ t) (c.deref.ensures.value ∙ c.in_ok-explained.ensures layers is.made
+    ∙ ap (λ (found : Record). explanation_text c.records-records.result.now layers (explanation_in c.tree.result.now found.op e))
     (sym c.index-records-place.is)
-    ∙ ap (λ (tree : List Entry). c.args.text.now.items ++ explanation_text c.records-records.result.now layers (explanation_in tree r.op e)) c.tree.ensures
-    ∙ ap (λ (records : List Record). c.args.text.now.items ++ explanation_text records layers (explanation_in cv.tree r.op e))
+    ∙ ap (λ (tree : List Entry). explanation_text c.records-records.result.now layers (explanation_in tree r.op e)) c.tree.ensures
+    ∙ ap (λ (records : List Record). explanation_text records layers (explanation_in cv.tree r.op e))
     (c.records-records.ensures.value ∙ c.trace.ensures.records)
-    ∙ ap (λ t. c.args.text.now.items ++ t) (text_is cv c.args.place r c.args.answer e there c.requires.answer is)
+    ∙ text_is cv c.args.place r c.args.answer e there c.requires.answer is)

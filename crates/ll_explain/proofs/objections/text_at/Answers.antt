@@ -1,4 +1,4 @@
-use Rattle.std.proofs.Common.{arith, ◌≤◌, length}
+use Rattle.std.proofs.Common.{arith}
 use Rattle.ll_explain.proofs.NodeTexts.{text_outside}
 use Rattle.ll_explain.proofs.objections.text_at.Goals as goal
 

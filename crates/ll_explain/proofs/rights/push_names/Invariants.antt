@@ -1,4 +1,5 @@
-use Rattle.std.proofs.Common.{◌≡◌, ◌++◌, codes, drop, true}
+use Rattle.std.proofs.Common.{◌≡◌, codes, drop, true}
+use Rattle.ll_explain.specs.Buffers.{adding}
 use Rattle.ll_explain.specs.Words.{word_for}
 use Rattle.ll_explain.proofs.Listing.{left}
 use Rattle.ll_explain.proofs.rights.push_names.Given as goal
@@ -8,4 +9,4 @@ abbrev pub invariant-loop-right : goal.invariant-loop-right
 invariant-loop-right g l =
     let set = g.S.RightSet in
     let rest = left (set.has l.rights) (λ right. word_for (set.name right)) (codes ", ") in
-    l.text.items ++ rest l.is_first (drop l.right-index l.right-items) ≡ l.fn.text.items ++ rest true l.right-items
+    adding l.text (rest l.is_first (drop l.right-index l.right-items)) ≡ adding l.fn.text (rest true l.right-items)

@@ -20,4 +20,4 @@ returns c =
     let written =
     row_written c.args.self.now.shown c.args.self.now.oldest c.args.self.now.findings.now c.args.place c.args.record.now c.args.answer c.requires.common
     c.args.text.now.items shows in
-    on_ok_weaker c.push_behind.result (λ is. rw c.in_ok-push_line.ensures at is ∙ written) c.push_behind.ensures
+    on_ok_weaker c.push_behind.result (λ is. rw c.in_ok-append_line.ensures at is ∙ written) c.push_behind.ensures
