@@ -207,9 +207,10 @@ fn report_by<R: Threads + Wait + Sync, G: Gate + Sync>(
     };
     match options.format {
         Format::Text => text_by(&crew, tree, trace, options),
-        Format::Json => Ok(ReportText::whole(report_in_json(
-            &crew, tree, trace, options,
-        )?)),
+        Format::Json => {
+            let report = report_in_json(&crew, tree, trace, options)?;
+            Ok(ReportText::whole(report))
+        }
     }
 }
 
