@@ -1,5 +1,5 @@
 -- What a writer holds while the bytes that are to be written go out piece by piece.
-use Rattle.std.proofs.Common.{◌≡◌, ◌∙◌, ℕ, suc, ◌+◌, ◌-◌, ◌<◌, List, ◌++◌, Bor, codes, get_or, length, take, drop, Option, ap, ap₂, refl, sym, subst}
+use Rattle.std.proofs.Common.{◌≡◌, ◌∙◌, ℕ, suc, ◌+◌, ◌-◌, ◌<◌, List, ◌++◌, Bor, get_or, length, take, drop, Option, ap, ap₂, sym, subst}
 use Rattle.std.proofs.Common.{append_assoc, take-append-drop, add-one}
 use Rattle.std.specs.List.{flat_map}
 use Rattle.std.proofs.lemmas.List.Concat.{flat_map-cons}

@@ -1,14 +1,9 @@
-use Rattle.std.proofs.Common.{◌<◌, ◌≤◌, ◌∙◌, ◌+◌, ap, get_or, length, slice_get, List, subst, sym, arith}
-use Rattle.ll_explain.specs.Explained.{text_at}
+use Rattle.std.proofs.Common.{◌≤◌, ◌∙◌, ap, length, slice_get, List, subst, sym, arith}
 use Rattle.ll_explain.specs.Buffers.{adding}
-use Rattle.ll_explain.proofs.Buffering.{adding_nothing, goes_on}
 use Rattle.ll_process.specs.Cases.{CaseValue}
-use Rattle.ll_semantics.proofs.Steps.{length-judged}
 use Rattle.ll_semantics.specs.declared.answer.Answer.{Answer}
 use Rattle.ll_trace.specs.declared.record.Record.{Record}
 use Rattle.ll_trails.specs.CaseTrails.{IsAnswerAt}
-use Rattle.ll_report.specs.Lines.{line_of}
-use Rattle.ll_report.specs.Shown.{block_text}
 use Rattle.ll_report.specs.Longest.{block_at}
 use Rattle.ll_report.proofs.Paging.{measured_within, one_more_within}
 use Rattle.std.proofs.lemmas.Option.{slice_get_within}

@@ -6,8 +6,6 @@ use Rattle.ll_semantics.proofs.Steps.{length-judged}
 use Rattle.ll_semantics.specs.declared.answer.Answer.{Answer}
 use Rattle.ll_trace.specs.declared.record.Record.{Record}
 use Rattle.ll_trails.specs.CaseTrails.{IsAnswerAt}
-use Rattle.ll_report.specs.Lines.{line_of}
-use Rattle.ll_report.specs.Shown.{block_text}
 use Rattle.ll_report.specs.Longest.{block_at, total_of}
 use Rattle.std.specs.Io.KnownBytes.{Appends}
 use Rattle.ll_report.specs.Writing.{AppendsBeginning}
