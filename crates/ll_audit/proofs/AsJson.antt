@@ -10,7 +10,7 @@ use Rattle.ll_options.specs.declared.format.Format.TheVariants.{Json}
 use Rattle.ll_options.specs.declared.options.Options.{Options}
 use Rattle.ll_options.specs.declared.shown.Shown.{Shown}
 use Rattle.ll_options.specs.Versions.{versions_in}
-use Rattle.ll_report.specs.declared.report.Report.{Report}
+use Rattle.ll_report.specs.Told.{Told}
 use Rattle.ll_report.specs.Found.{Found}
 use Rattle.ll_report.specs.Rows.{is_refused_under_some, refused_under_some}
 use Rattle.ll_json.specs.Kept.{kept_under}
@@ -49,7 +49,7 @@ module _ (options : Options) (tree : List Entry) (records : List Record) where
 
 -- a report on records of which the same is told
 pub same_report : (shown : Shown) (tree : List Entry) (oldest number : ℕ) (versions : List Version) (read records : List Record)
-    (program : List ℕ) (report : Report) → number ≡ oldest → map about read ≡ map about records
+    (program : List ℕ) (report : Told) → number ≡ oldest → map about read ≡ map about records
     → IsJsonReport shown tree number versions read program report → IsJsonReport shown tree oldest versions records program report
 same_report shown tree oldest number versions read records program report same_number same is =
     let last : List ℕ = line_text (totals_json (totals_from oldest (kept_of shown tree versions)) program) in

@@ -12,6 +12,7 @@ use Rattle.ll_trace.proofs.LawLemmas.{one_trace}
 use Rattle.ll_explain.specs.Explained.{text_at}
 use Rattle.ll_semantics.specs.Worlds.{judged}
 use Rattle.ll_report.specs.declared.report.Report.{Report}
+use Rattle.ll_report.specs.Told.{Told, told_by}
 use Rattle.ll_report.specs.Lines.{lines_of, refused_among}
 use Rattle.ll_report.specs.Report.{report_text}
 use Rattle.ll_report.specs.Shown.{IsShownReportOn}
@@ -22,7 +23,7 @@ use Rattle.ll_options.specs.Versions.{Range}
 use Rattle.ll_audit.specs.ShownReports.{IsReportWith, IsTextReport, plain_options, taken}
 
 -- a report with these options is the report
-pub with_all_lines : (abi : Abi) (tree trace : List ℕ) (report : Report) → IsReportWith (plain_options abi) tree trace report
+pub with_all_lines : (abi : Abi) (tree trace : List ℕ) (report : Report) → IsReportWith (plain_options abi) tree trace (told_by report)
     → IsReport abi tree trace report
 with_all_lines abi tree trace report is = record {
   tree = is.tree;
@@ -37,7 +38,7 @@ with_all_lines abi tree trace report is = record {
 
 -- and the report is one with these options
 pub by_plain_options : (abi : Abi) (tree trace : List ℕ) (report : Report) → IsReport abi tree trace report
-    → IsReportWith (plain_options abi) tree trace report
+    → IsReportWith (plain_options abi) tree trace (told_by report)
 by_plain_options abi tree trace report is = record {
   tree = is.tree;
   records = is.records;
@@ -63,7 +64,7 @@ single_version range abi is = go (number_of range.oldest == number_of range.newe
     go false same is = cc
 
 -- the report under the only version of a range is the one that is asked for
-module _ (options : Options) (tree : List Entry) (records : List Record) (abi : Abi) (report : Report)
+module _ (options : Options) (tree : List Entry) (records : List Record) (abi : Abi) (report : Told)
     (single : (if number_of options.abis.oldest == number_of options.abis.newest then Some options.abis.oldest else None) ≡ Some abi) where
   under_single : IsShownReportOn options.shown tree abi (taken options.effort abi records) report → IsTextReport options tree records report
   under_single is =

@@ -9,7 +9,7 @@ use Rattle.ll_options.specs.declared.format.Format.TheVariants.{Text}
 use Rattle.ll_options.specs.declared.options.Options.{Options}
 use Rattle.ll_options.specs.Versions.{versions_in}
 use Rattle.ll_options.proofs.Ranges.{versions_from}
-use Rattle.ll_report.specs.declared.report.Report.{Report}
+use Rattle.ll_report.specs.Told.{Told}
 use Rattle.ll_report.specs.Found.{Found}
 use Rattle.ll_report.specs.Rows.{rows_from, total_under_text, totals_from}
 use Rattle.ll_audit.specs.ShownReports.{IsReportOver, findings, found_at, total_at}
@@ -23,8 +23,8 @@ totals_numbered n found (abi ∷ newer) are =
     let others : map number_of newer ≡ range_with_len (n + 1) (length newer) = cc in
     ap₂ (λ (number : ℕ) (rest : List ℕ). total_under_text number (found abi) ++ rest) (sym first) (totals_numbered (n + 1) found newer others)
 
-pub one_total_each : (options : Options) (tree : List Entry) (records : List Record) (report : Report) → IsReportOver options tree records report
-    → report.bytes.items ≡ rows_from options.shown (number_of options.abis.oldest) (findings Text options tree records) 0 records
+pub one_total_each : (options : Options) (tree : List Entry) (records : List Record) (report : Told) → IsReportOver options tree records report
+    → report.text ≡ rows_from options.shown (number_of options.abis.oldest) (findings Text options tree records) 0 records
     ++ flat_map (total_at options tree records) (versions_in options.abis)
 one_total_each options tree records report is =
     is.text

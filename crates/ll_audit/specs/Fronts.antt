@@ -6,7 +6,7 @@ use Rattle.ll_lines.specs.Reading.{Format, IsBad}
 use Rattle.ll_tree.specs.TreeReading.{tree_format}
 use Rattle.ll_lines.specs.declared.fault.ReadFault.{ReadFault}
 use Rattle.ll_trace.specs.Entries.{trace_file}
-use Rattle.ll_report.specs.declared.report.Report.{Report}
+use Rattle.ll_report.specs.Told.{Told}
 use Rattle.ll_report.specs.Report.{report_status}
 use Rattle.ll_endings.specs.declared.lines.Failure.{Failure}
 use Rattle.ll_endings.specs.declared.lines.Failure.TheVariants as failure
@@ -25,7 +25,7 @@ abbrev pub AreBytesOf : Option Files → Text → List ℕ → Type 0
 AreBytesOf files name bytes = IfSome files (λ known. bytes_of known name ≡ Some bytes)
 
 -- the report on the files that a request names, with the options that it asks for
-pub record Reports (files : Option Files) (request : Request) (report : Report) : Type 0 where
+pub record Reports (files : Option Files) (request : Request) (report : Told) : Type 0 where
   pub tree_bytes : List ℕ
   pub trace_bytes : List ℕ
   pub tree_file : AreBytesOf files request.tree tree_bytes
@@ -33,7 +33,7 @@ pub record Reports (files : Option Files) (request : Request) (report : Report) 
   pub is_report : IsReportWith request.options tree_bytes trace_bytes report
 
 -- the words ask for a run, and this is its report
-pub record HasReport (words : List Text) (files : Option Files) (report : Report) : Type 0 where
+pub record HasReport (words : List Text) (files : Option Files) (report : Told) : Type 0 where
   pub request : Request
   pub asked : request_of words ≡ Some request
   pub reports : Reports files request report
@@ -79,14 +79,14 @@ IsOutcomeOf words files before after (outcome.Failure one) = HasFailure words fi
 
 -- there is help, the version or a report to be written
 abbrev pub HasOutput : List Text → Option Files → Type 0
-HasOutput words files = AskForText words ⊎ ((report : Report) × HasReport words files report)
+HasOutput words files = AskForText words ⊎ ((report : Told) × HasReport words files report)
 
 -- With status 0 or 1 words that ask for a run have its report appended to what the output held, and the status is 1
 -- exactly where some record is refused.
 abbrev pub WritesReport : List Text → Option Files → ℕ → Option (List ℕ) → Option (List ℕ) → Type 0
 WritesReport words files status old new =
     (status ≡ 0) ⊎ (status ≡ 1) → (request : Request) → request_of words ≡ Some request →
-    (report : Report) × Reports files request report × Appends old new report.bytes.items × (status ≡ report_status report.refused)
+    (report : Told) × Reports files request report × Appends old new report.text × (status ≡ report_status report.refused)
 
 -- With status 2 the words have a fault that is no call for help or the version.
 abbrev pub HasWrongWords : List Text → ℕ → Type 0
@@ -102,7 +102,7 @@ EndsWithoutRun words status =
 abbrev pub IsCutShort : List Text → Option Files → Option (List ℕ) → Option (List ℕ) → Type 0
 IsCutShort words files old new =
     AskForText words
-    ⊎ ((report : Report) × HasReport words files report × AppendsBeginning old new report.bytes.items)
+    ⊎ ((report : Told) × HasReport words files report × AppendsBeginning old new report.text)
 
 -- With status 2 or 3 nothing is written to the output. Nor is it with status 4, unless writing the report, help or the version failed:
 -- then a beginning of the report may be there.

@@ -6,7 +6,7 @@ use Rattle.ll_rights.specs.Abis.{number_of}
 use Rattle.ll_tree.specs.Trees.{Entry}
 use Rattle.ll_trace.specs.declared.record.Record.{Record}
 use Rattle.ll_trace.specs.BestEffort.{records_at_best_effort}
-use Rattle.ll_report.specs.declared.report.Report.{Report}
+use Rattle.ll_report.specs.Told.{Told}
 use Rattle.ll_report.specs.Found.{Found, found_by, found_under}
 use Rattle.ll_report.specs.Rows.{refused_under_some, rows_text, total_under_text}
 use Rattle.ll_report.specs.Shown.{IsShownReportOn}
@@ -49,12 +49,12 @@ total_at options tree records abi = total_under_text (number_of abi) (found_at T
 -- ---- the report as text
 
 -- the report over several versions
-pub record IsReportOver (options : Options) (tree : List Entry) (records : List Record) (report : Report) : Type 0 where
-  pub text : report.bytes.items ≡ rows_text options.shown (number_of options.abis.oldest) (findings Text options tree records) records
+pub record IsReportOver (options : Options) (tree : List Entry) (records : List Record) (report : Told) : Type 0 where
+  pub text : report.text ≡ rows_text options.shown (number_of options.abis.oldest) (findings Text options tree records) records
   pub refused : report.refused ≡ refused_under_some (findings Text options tree records) records
 
 -- under the version that the options name, or over the versions
-pub record IsTextReport (options : Options) (tree : List Entry) (records : List Record) (report : Report) : Type 0 where
+pub record IsTextReport (options : Options) (tree : List Entry) (records : List Record) (report : Told) : Type 0 where
   pub under_one : number_of options.abis.oldest ≡ number_of options.abis.newest
       → IsShownReportOn options.shown tree options.abis.oldest (taken options.effort options.abis.oldest records) report
   pub over_several : number_of options.abis.oldest ≢ number_of options.abis.newest → IsReportOver options tree records report
@@ -69,21 +69,21 @@ version_at options records abi = record { abi = abi; records = taken options.eff
 abbrev pub versions_by : Options → List Record → List Version
 versions_by options records = map (version_at options records) (versions_in options.abis)
 
-abbrev pub IsReportInJson : Options → List Entry → List Record → Report → Type 0
+abbrev pub IsReportInJson : Options → List Entry → List Record → Told → Type 0
 IsReportInJson options tree records report =
     IsJsonReport options.shown tree (number_of options.abis.oldest) (versions_by options records) records VERSION.now report
 
 -- ---- the report that the options ask for
 
-abbrev pub IsReportIn : Format → Options → List Entry → List Record → Report → Type 0
+abbrev pub IsReportIn : Format → Options → List Entry → List Record → Told → Type 0
 IsReportIn Text options tree records report = IsTextReport options tree records report
 IsReportIn Json options tree records report = IsReportInJson options tree records report
 
-abbrev pub IsReportBy : Options → List Entry → List Record → Report → Type 0
+abbrev pub IsReportBy : Options → List Entry → List Record → Told → Type 0
 IsReportBy options tree records report = IsReportIn options.format options tree records report
 
 -- the report that the options ask for on what both files say
-abbrev pub IsReportWith : Options → List ℕ → List ℕ → Report → Type 0
+abbrev pub IsReportWith : Options → List ℕ → List ℕ → Told → Type 0
 IsReportWith options tree_bytes trace_bytes report = BothRead tree_bytes trace_bytes (λ tree records. IsReportBy options tree records report)
 
 -- the options of the plain report: one version, rulesets as they were recorded, all lines, no explanations, as text

@@ -4,6 +4,7 @@ ghost use Rattle.std.specs.Prelude.{◌≡◌, IfOk, IfErr};
 ghost use Rattle.ll_tree.specs.TreeReading.{IsTreeOf};
 ghost use Rattle.ll_trace.specs.Records.{IsTrace};
 ghost use Rattle.ll_report.specs.Shown.{IsShownReportOn};
+ghost use Rattle.ll_report.specs.Told.{told_by};
 ghost use Rattle.ll_options.specs.Crews.{IsCrew};
 ghost use Rattle.ll_audit.specs.Audits.{IsFaultOf, IsReport};
 ghost use Rattle.ll_audit.specs.ShownReports.{IsReportBy, IsReportWith, IsTextReport, taken};
@@ -17,7 +18,7 @@ use crate::ranging::{report_in_json, report_over};
 use ll_options::{ALL_LINES, AbiRange, Effort, Format, Options, Shown};
 use ll_pool::Gate;
 use ll_process::Case;
-use ll_report::Report;
+use ll_report::{Report, ReportText, TextReport};
 use ll_rights::Abi;
 use ll_trace::Trace;
 use ll_tree::{Cause, Tree};
@@ -89,12 +90,14 @@ pub fn audit_with<R: Threads + Wait + Sync, G: Gate + Sync>(
     cut: Cut,
     gate: &G,
 ) -> Result<Report, Fault>
-    ensures report { IfOk result (IsReportWith options.now tree.now trace.now) }
+    ensures report { IfOk result
+        (λ report. IsReportWith options.now tree.now trace.now (told_by report)) }
     ensures crew { IfOk result (λ _. IsCrew workers) }
     ensures fault { IfErr result (IsFaultOf workers tree.now trace.now) }
 {
     let files = files_of(rt, alloc, tree, trace, workers)?;
-    report_by(rt, alloc, files, options, workers, cut, gate)
+    let report = report_by(rt, alloc, files, options, workers, cut, gate)?;
+    Ok(report.into_report(alloc)?)
 }
 
 /// Audits a trace against a tree as `audit_with` does, and gives the bytes of their files back once they are read.
@@ -106,7 +109,7 @@ pub(crate) fn audit_inputs<R: Threads + Wait + Sync, G: Gate + Sync>(
     workers: u64,
     cut: Cut,
     gate: &G,
-) -> Result<Report, Fault>
+) -> Result<ReportText, Fault>
     ensures report { IfOk result (IsReportWith options.now inputs.tree.items inputs.trace.items) }
     ensures crew { IfOk result (λ _. IsCrew workers) }
     ensures fault { IfErr result (IsFaultOf workers inputs.tree.items inputs.trace.items) }
@@ -210,7 +213,7 @@ fn report_by<R: Threads + Wait + Sync, G: Gate + Sync>(
     workers: u64,
     cut: Cut,
     gate: &G,
-) -> Result<Report, Fault>
+) -> Result<ReportText, Fault>
     requires { IsCrew workers }
     ensures report { IfOk result (IsReportBy options.now files.tree files.trace) }
     ensures fault { IfErr result IsWant }
@@ -226,7 +229,10 @@ fn report_by<R: Threads + Wait + Sync, G: Gate + Sync>(
     };
     match options.format {
         Format::Text => text_by(&crew, tree, trace, options),
-        Format::Json => report_in_json(&crew, tree, trace, options),
+        Format::Json => {
+            let report = report_in_json(&crew, tree, trace, options)?;
+            Ok(ReportText::whole(report))
+        }
     }
 }
 
@@ -236,7 +242,7 @@ fn text_by<R: Threads + Wait + Sync, G: Gate + Sync>(
     tree: Tree,
     trace: Trace,
     options: &Options,
-) -> Result<Report, Fault>
+) -> Result<ReportText, Fault>
     requires { IsCrew crew.now.workers }
     ensures report { IfOk result (IsTextReport options.now tree trace) }
     ensures fault { IfErr result IsWant }
@@ -246,23 +252,24 @@ fn text_by<R: Threads + Wait + Sync, G: Gate + Sync>(
             let trace = taken(trace, options.effort, abi);
             let located = crew.located(tree, trace)?;
             let case = Case::of_located(crew.alloc, located, abi)?;
-            report_on(crew, &case, options.shown)
+            report_on(crew, case, options.shown)
         }
-        None => report_over(crew, tree, trace, options),
+        None => Ok(ReportText::whole(report_over(crew, tree, trace, options)?)),
     }
 }
 
 /// The report on a case, as much as is shown of it.
 fn report_on<R: Threads + Wait + Sync, G: Gate + Sync>(
     crew: &Crew<'_, R, G>,
-    case: &Case,
+    case: Case,
     shown: Shown,
-) -> Result<Report, Fault>
+) -> Result<ReportText, Fault>
     requires { IsCrew crew.now.workers }
     ensures report { IfOk result
-        (IsShownReportOn shown case.now.tree case.now.abi case.now.records) }
+        (IsShownReportOn shown case.tree case.abi case.records) }
     ensures fault { IfErr result IsWant }
 {
-    let answers = crew.answers(case)?;
-    Ok(Report::of(crew.alloc, case, &answers, shown)?)
+    let answers = crew.answers(&case)?;
+    let report = TextReport::of(crew.alloc, case, answers, shown)?;
+    Ok(ReportText::by_record(report))
 }

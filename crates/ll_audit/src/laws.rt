@@ -18,6 +18,7 @@ ghost use Rattle.ll_semantics.specs.declared.answer.Answer.{Answer};
 ghost use Rattle.ll_report.specs.Lines.{line_of};
 ghost use Rattle.ll_report.specs.Rows.{rows_from};
 ghost use Rattle.ll_report.specs.declared.report.Report.{Report as Made};
+ghost use Rattle.ll_report.specs.Told.{told_by};
 ghost use Rattle.ll_options.specs.declared.format.Format.TheVariants.{Text};
 ghost use Rattle.ll_options.specs.declared.options.Options.{Options as Asked};
 ghost use Rattle.ll_options.specs.Versions.{IsRising, versions_in};
@@ -47,16 +48,16 @@ pub fn the_same_bytes_have_one_report()
 /// `audit_with` answers by plain options what `audit` answers, and nothing else.
 pub fn plain_options_ask_for_the_report()
     ensures leads { (abi : Version) (tree trace : List ℕ) (report : Made)
-        → IsReportWith (plain_options abi) tree trace report → IsReport abi tree trace report }
+        → IsReportWith (plain_options abi) tree trace (told_by report) → IsReport abi tree trace report }
     ensures back { (abi : Version) (tree trace : List ℕ) (report : Made)
-        → IsReport abi tree trace report → IsReportWith (plain_options abi) tree trace report }
+        → IsReport abi tree trace report → IsReportWith (plain_options abi) tree trace (told_by report) }
 {}
 
 /// The report over several versions ends with one total for each version of the range, the oldest
 /// first, under its own number. There is at least one.
 pub fn reports_have_a_total_for_each_version()
     ensures totals { (options : Asked) (tree : List Entry) (records : List Record) (report : Made)
-        → IsReportOver options tree records report
+        → IsReportOver options tree records (told_by report)
         → report.bytes.items ≡ rows_from options.shown (number_of options.abis.oldest)
         (findings Text options tree records) 0 records
         ++ flat_map (total_at options tree records) (versions_in options.abis) }

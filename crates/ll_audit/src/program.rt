@@ -12,7 +12,7 @@ use crate::inputs::inputs_of;
 use ll_command::{Plan, Run, plan_of};
 use ll_endings::{Ending, Failure, Outcome};
 use ll_pool::Gate;
-use ll_report::Report;
+use ll_report::ReportText;
 use ll_source::Source;
 use std::alloc::Global;
 use std::io::Write;
@@ -108,7 +108,7 @@ fn report_of<'a, R: Threads + Wait + Sync, S: Source, G: Gate + Sync>(
     source: &mut S,
     run: &Run<'a>,
     gate: &G,
-) -> Result<Report, Failure<'a>>
+) -> Result<ReportText, Failure<'a>>
     requires failures { S.failed source.old + 2 < 2 ^ 64 }
     requires crew { IsCrew run.now.workers }
     ensures report { IfOk result (Reports (S.files source.old) (request_by run.now)) }

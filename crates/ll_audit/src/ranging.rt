@@ -6,6 +6,7 @@ ghost use Rattle.ll_options.specs.Crews.{IsCrew};
 ghost use Rattle.ll_options.specs.Versions.{is_in};
 ghost use Rattle.ll_semantics.specs.Worlds.{judged};
 ghost use Rattle.ll_json.specs.Records.{about};
+ghost use Rattle.ll_report.specs.Told.{told_by};
 ghost use Rattle.ll_audit.specs.Causes.{IsWant};
 ghost use Rattle.ll_audit.specs.ShownReports.{IsReportInJson, IsReportOver, findings, found_in, taken};
 
@@ -161,7 +162,8 @@ pub(crate) fn report_over<R: Threads + Wait + Sync, G: Gate + Sync>(
     options: &Options,
 ) -> Result<Report, Fault>
     requires { IsCrew crew.now.workers }
-    ensures report { IfOk result (IsReportOver options.now tree trace) }
+    ensures report { IfOk result
+        (λ report. IsReportOver options.now tree trace (told_by report)) }
     ensures fault { IfErr result IsWant }
 {
     let all = Audited::of(crew, tree, trace, options, Format::Text)?;
@@ -184,7 +186,8 @@ pub(crate) fn report_in_json<R: Threads + Wait + Sync, G: Gate + Sync>(
     options: &Options,
 ) -> Result<Report, Fault>
     requires { IsCrew crew.now.workers }
-    ensures report { IfOk result (IsReportInJson options.now tree trace) }
+    ensures report { IfOk result
+        (λ report. IsReportInJson options.now tree trace (told_by report)) }
     ensures fault { IfErr result IsWant }
 {
     let all = Audited::of(crew, tree, trace, options, Format::Json)?;

@@ -25,8 +25,8 @@ abbrev pub EndsWith : {Output Errors : Type 0} → (Output → Option (List ℕ)
     → Output → Output → Errors → Errors → Type 0
 EndsWith contents lines (outcome.Report report) ending old new errors_old errors_new =
     (Complains Unwritten ending (lines errors_old) (lines errors_new)
-    × AppendsBeginning (contents old) (contents new) report.bytes.items)
-    ⊎ ((ending.status ≡ report_status report.refused) × Appends (contents old) (contents new) report.bytes.items
+    × AppendsBeginning (contents old) (contents new) report.text)
+    ⊎ ((ending.status ≡ report_status report.refused) × Appends (contents old) (contents new) report.text
     × (errors_new ≡ errors_old))
 EndsWith contents lines (outcome.Text error) ending old new errors_old errors_new =
     Complains Unwritten ending (lines errors_old) (lines errors_new) ⊎ ((ending.status ≡ 0) × (errors_new ≡ errors_old))

@@ -5,15 +5,15 @@ ghost use Rattle.ll_endings.specs.Outcomes.{Complains, EndsWith};
 
 use crate::lines::Failure;
 use ll_command::{Message, Misuse};
-use ll_report::{Report, write_whole};
+use ll_report::ReportText;
 use std::io;
 use std::io::Write;
 
 /// What a run comes to, before anything is written.
-#[derive(Debug, Drop)]
+#[derive(Drop)]
 pub enum Outcome<'a> {
     /// A report.
-    Report(Report),
+    Report(ReportText),
     /// Help or the version was asked for.
     Text(Message),
     /// The command line is at fault, as the message says.
@@ -35,18 +35,18 @@ pub struct Ending {
 
 impl Outcome<'_> {
     /// Writes the report, the help or the version to `out`, or what is wrong to `err`, and gives the status.
-    pub fn write_to<O: Write, E: Write>(&self, out: &mut O, err: &mut E) -> Ending
-        ensures { EndsWith O.contents E.contents self.now result out.old out.new err.old err.new }
+    pub fn write_to<O: Write, E: Write>(self, out: &mut O, err: &mut E) -> Ending
+        ensures { EndsWith O.contents E.contents self.entry result out.old out.new err.old err.new }
     {
         match self {
-            Outcome::Report(report) => match write_whole(out, report.bytes.as_slice()) {
-                Ok(()) => Ending {
-                    status: report.status(),
-                    told: true,
-                },
-                Err(_) => complain(&Failure::Unwritten, err),
-            },
-            Outcome::Text(text) => match write_text(out, text) {
+            Outcome::Report(report) => {
+                let status = report.status();
+                match report.write_to(out) {
+                    Ok(()) => Ending { status, told: true },
+                    Err(_) => complain(&Failure::Unwritten, err),
+                }
+            }
+            Outcome::Text(text) => match write_text(out, &text) {
                 Ok(()) => Ending {
                     status: 0,
                     told: true,
@@ -55,7 +55,7 @@ impl Outcome<'_> {
             },
             Outcome::Usage(message) => wrong_words(write!(err, "{message}").is_ok()),
             Outcome::Misuse(why) => { wrong_words(writeln!(err, "landaudit: {why}").is_ok()) }
-            Outcome::Failure(failure) => complain(failure, err),
+            Outcome::Failure(failure) => complain(&failure, err),
         }
     }
 }

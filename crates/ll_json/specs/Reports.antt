@@ -6,7 +6,7 @@ use Rattle.json.specs.Json.{Json, string}
 use Rattle.ll_tree.specs.Trees.{Entry}
 use Rattle.ll_trace.specs.declared.record.Record.{Record}
 use Rattle.ll_options.specs.declared.shown.Shown.{Shown}
-use Rattle.ll_report.specs.declared.report.Report.{Report}
+use Rattle.ll_report.specs.Told.{Told}
 use Rattle.ll_report.specs.Found.{Found}
 use Rattle.ll_report.specs.Report.{is_allowed, is_moot, is_refused}
 use Rattle.ll_report.specs.Rows.{count_under, is_row_left_out, refused_under_some}
@@ -60,7 +60,7 @@ totals_json totals program = object_of ((codes "totals", array_of totals) ∷ (c
 -- ---- the report
 
 -- over versions, of which the oldest has this number, on records whose calls meet this tree
-pub record IsJsonReport (shown : Shown) (tree : List Entry) (oldest : ℕ) (versions : List Version) (records : List Record) (program : List ℕ) (report : Report) : Type 0 where
-  pub text : report.bytes.items
+pub record IsJsonReport (shown : Shown) (tree : List Entry) (oldest : ℕ) (versions : List Version) (records : List Record) (program : List ℕ) (report : Told) : Type 0 where
+  pub text : report.text
       ≡ lines_from shown tree oldest versions 0 records ++ line_text (totals_json (totals_from oldest (kept_of shown tree versions)) program)
   pub refused : report.refused ≡ refused_under_some (kept_of shown tree versions) records

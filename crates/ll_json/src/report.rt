@@ -2,6 +2,7 @@
 
 ghost use Rattle.std.specs.Prelude.{◌≡◌, ◌+◌, ◌<◌, ◌^◌, IfOk, List, length};
 ghost use Rattle.ll_tree.specs.Trees.{Entry};
+ghost use Rattle.ll_report.specs.Told.{told_by};
 ghost use Rattle.ll_json.specs.Reports.{IsJsonReport, kept_of};
 ghost use Rattle.ll_json.specs.Versions.{HaveAll, Version};
 
@@ -26,7 +27,7 @@ pub fn json_report(
     ensures { IfOk result (λ report. (tree : List Entry) (versions : List Version)
         → findings.now ≡ kept_of shown tree versions
         → HaveAll versions (length records.now)
-        → IsJsonReport shown tree oldest versions records.now program.now report) }
+        → IsJsonReport shown tree oldest versions records.now program.now (told_by report)) }
 {
     let versions = Versions {
         alloc,

@@ -1,4 +1,5 @@
 pub mod Names
+pub mod Told
 pub mod Report
 pub mod Phrases
 pub mod Lines
@@ -6,6 +7,7 @@ pub mod Shown
 pub mod Blocks
 pub mod Writing
 pub mod TextReports
+pub mod ReportTexts
 pub mod Longest
 pub mod Pages
 pub mod Texts

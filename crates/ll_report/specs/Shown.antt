@@ -6,9 +6,9 @@ use Rattle.ll_tree.specs.Trees.{Entry}
 use Rattle.ll_trace.specs.declared.record.Record.{Record}
 use Rattle.ll_semantics.specs.Worlds.{judged}
 use Rattle.ll_explain.specs.Explained.{text_at}
-use Rattle.ll_report.specs.declared.report.Report.{Report}
 use Rattle.ll_options.specs.declared.shown.Shown.{Shown}
 use Rattle.ll_report.specs.Lines.{lines_of, refused_among}
+use Rattle.ll_report.specs.Told.{Told}
 use Rattle.ll_report.specs.Report.{ReportLine, Verdict, count_of, is_allowed, is_moot, is_refused, line_text, total_text}
 
 -- A record whose line is left out: only refused ones are shown, and it isn't, or only those whose answer differs between
@@ -39,6 +39,6 @@ shown_text shown explained lines =
     ++ total_text (length lines) (count_of is_allowed lines) (count_of is_refused lines) (count_of is_moot lines)
 
 -- the report under one version on records whose calls meet this tree
-pub record IsShownReportOn (shown : Shown) (tree : List Entry) (abi : Abi) (records : List Record) (report : Report) : Type 0 where
-  pub text : report.bytes.items ≡ shown_text shown (text_at tree abi records) (lines_of records (judged tree abi records))
+pub record IsShownReportOn (shown : Shown) (tree : List Entry) (abi : Abi) (records : List Record) (report : Told) : Type 0 where
+  pub text : report.text ≡ shown_text shown (text_at tree abi records) (lines_of records (judged tree abi records))
   pub refused : report.refused ≡ refused_among records (judged tree abi records)

@@ -1,4 +1,4 @@
--- The report under one version as text, and how many records it says are refused.
+-- What the report under one version tells.
 -- Source: docs/FORMATS.md, "The report".
 use Rattle.std.specs.Prelude.{ℕ, List}
 use Rattle.ll_rights.specs.declared.abi.Abi.{Abi}
@@ -9,10 +9,7 @@ use Rattle.ll_explain.specs.Explained.{text_at}
 use Rattle.ll_options.specs.declared.shown.Shown.{Shown}
 use Rattle.ll_report.specs.Lines.{lines_of, refused_among}
 use Rattle.ll_report.specs.Shown.{shown_text}
-
-pub record Told : Type 0 where
-  pub text : List ℕ
-  pub refused : ℕ
+use Rattle.ll_report.specs.Told.{Told}
 
 -- the report on records whose calls meet this tree, as it is shown
 abbrev pub told_of : Shown → List Entry → Abi → List Record → Told

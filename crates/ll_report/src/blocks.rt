@@ -22,7 +22,7 @@ use ll_process::{Answer, Case};
 use ll_rules::NoMemory;
 use ll_trace::Record;
 use ll_trails::TraceOrigins;
-use std::alloc::Global;
+use std::alloc::{AllocError, Global};
 use std::io;
 use std::io::Write;
 
@@ -129,6 +129,20 @@ impl<'a> Blocks<'a> {
         for (place, record) in self.case.trace().records().iter().enumerate() {
             self.push_block(text, place, record, self.answers[place]);
         }
+    }
+
+    /// What is shown of each record and the last line, in a vector of just its length.
+    pub(crate) fn bytes(&self, alloc: Global) -> Result<Vec<u8>, AllocError>
+        requires { AreOfCase self.now }
+        ensures { IfOk result (λ bytes. bytes.items ≡ written_by self.now) }
+    {
+        let mut measure = TextBuffer::measure(alloc);
+        self.push_to(&mut measure);
+        self.push_total(&mut measure);
+        let mut text = TextBuffer::new(alloc, measure.count())?;
+        self.push_to(&mut text);
+        self.push_total(&mut text);
+        Ok(text.into_bytes())
     }
 
     /// The bytes of the longest part in which the report is written: what is shown of a record, or the last line.

@@ -1,22 +1,17 @@
 //! The text of the report.
 
-ghost use Rattle.std.specs.Prelude.{◌≡◌, ◌++◌, ◌∷◌, [], IfOk, OnOk, codes, count_by, decimal, length, if◌then◌else◌};
-ghost use Rattle.ll_semantics.specs.Worlds.{judged};
+ghost use Rattle.std.specs.Prelude.{◌≡◌, ◌++◌, ◌∷◌, [], codes, count_by, decimal, length, if◌then◌else◌};
 ghost use Rattle.ll_explain.specs.Buffers.{adding};
-ghost use Rattle.ll_report.specs.Shown.{IsShownReportOn};
 ghost use Rattle.ll_report.specs.Lines.{line_of, verdict_of};
 ghost use Rattle.ll_report.specs.Report as words;
 ghost use Rattle.ll_report.specs.Report.{counts_text, head_text, layers_text, line_text, next_layer_text, record_text, refused, report_status, total_text, verdict_text};
 ghost use Rattle.ll_report.specs.Names as spec;
 
-use crate::blocks::{Blocks, explanations_of};
 use crate::names::error_name;
 use ll_explain::{TextBuffer, push_number, push_words};
-use ll_options::Shown;
-use ll_process::{Answer, Case};
-use ll_rules::{Errno, LayerSet, MOST_LAYERS, NoMemory};
+use ll_process::Answer;
+use ll_rules::{Errno, LayerSet, MOST_LAYERS};
 use ll_trace::Record;
-use std::alloc::{AllocError, Global};
 
 /// The report of an audit.
 #[derive(Debug, Drop)]
@@ -28,36 +23,6 @@ pub struct Report {
 }
 
 impl Report {
-    /// The report under the version of a case on the answers to its records, as much as is shown of it.
-    pub fn of(
-        alloc: Global,
-        case: &Case,
-        answers: &[Answer],
-        shown: Shown,
-    ) -> Result<Report, NoMemory>
-        requires { answers.now ≡ judged case.now.tree case.now.abi case.now.records }
-        ensures { IfOk result (IsShownReportOn shown case.now.tree case.now.abi case.now.records) }
-    {
-        let explanations = explanations_of(alloc, case, answers, shown)?;
-        let blocks = Blocks {
-            case,
-            answers,
-            explanations: &explanations,
-            shown,
-        };
-        let totals = Totals::of(answers);
-        let mut measure = TextBuffer::measure(alloc);
-        blocks.push_to(&mut measure);
-        totals.push_to(&mut measure);
-        let mut text = TextBuffer::new(alloc, measure.count())?;
-        blocks.push_to(&mut text);
-        totals.push_to(&mut text);
-        Ok(Report {
-            bytes: text.into_bytes(),
-            refused: totals.refused,
-        })
-    }
-
     /// The program's status with the report: 0 where no record is refused, else 1.
     pub fn status(&self) -> u8
         ensures { result ≡ report_status self.now.refused }

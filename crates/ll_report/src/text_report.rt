@@ -5,16 +5,17 @@ ghost use Rattle.std.specs.Io.KnownBytes.{Appends};
 ghost use Rattle.ll_semantics.specs.Worlds.{judged};
 ghost use Rattle.ll_report.specs.Report.{report_status};
 ghost use Rattle.ll_report.specs.TextReports.{told_of};
+ghost use Rattle.ll_report.specs.Told.{told_by};
 ghost use Rattle.ll_report.specs.Writing.{AppendsBeginning};
 
 use crate::blocks::{Blocks, explanations_of};
-use crate::report::Totals;
+use crate::report::{Report, Totals};
 use ll_explain::TextBuffer;
 use ll_explanations::Explanation;
 use ll_options::Shown;
 use ll_process::{Answer, Case};
 use ll_rules::NoMemory;
-use std::alloc::Global;
+use std::alloc::{AllocError, Global};
 use std::io;
 use std::io::Write;
 use std::marker::Model;
@@ -41,7 +42,8 @@ impl Model for TextReport {
     ghost use Rattle.ll_explain.specs.Buffers.{blank};
     ghost use Rattle.ll_report.specs.Blocks.{AreExplanations};
     ghost use Rattle.ll_report.specs.Longest.{AreWithin, IsWithin, total_of};
-    ghost use Rattle.ll_report.specs.TextReports.{Told, told_of};
+    ghost use Rattle.ll_report.specs.TextReports.{told_of};
+    ghost use Rattle.ll_report.specs.Told.{Told};
 
     ghost Value = { Told };
 
@@ -94,6 +96,29 @@ impl TextReport {
         ensures { result ≡ report_status self.now.refused }
     {
         if self.refused == 0 { 0 } else { 1 }
+    }
+
+    /// The report with all its bytes.
+    pub fn into_report(self, alloc: Global) -> Result<Report, AllocError>
+        ensures { IfOk result (λ report. told_by report ≡ self) }
+    {
+        let TextReport {
+            case,
+            answers,
+            explanations,
+            shown,
+            refused,
+            longest: _,
+            page: _,
+        } = self;
+        let blocks = Blocks {
+            case: &case,
+            answers: &answers,
+            explanations: &explanations,
+            shown,
+        };
+        let bytes = blocks.bytes(alloc)?;
+        Ok(Report { bytes, refused })
     }
 
     /// Writes the report, record after record. Where that fails a beginning was written.

@@ -4,6 +4,7 @@ use Rattle.ll_options.specs.declared.shown.TheConstants.{ALL_LINES}
 use Rattle.ll_options.specs.declared.format.Format.TheVariants.{Text}
 use Rattle.ll_options.specs.Versions.{Range}
 use Rattle.ll_options.specs.declared.options.Effort.TheVariants.{AsRecorded}
+use Rattle.ll_report.specs.Told.{told_by}
 use Rattle.ll_audit.specs.ShownReports.{IsReportWith}
 use Rattle.ll_audit.proofs.OneReport.{with_all_lines}
 use Rattle.ll_audit.proofs.auditing.audit.Goals as goal
@@ -13,6 +14,7 @@ returns-clause-report g c =
     IfOk-weaker c.audit_with.result _ _
     (λ report is. with_all_lines c.args.abi c.args.tree.now c.args.trace.now report
     (subst
-    (λ (abis : Range). IsReportWith (record { abis = abis; effort = AsRecorded; shown = ALL_LINES; format = Text }) c.args.tree.now c.args.trace.now report)
+    (λ (abis : Range). IsReportWith (record { abis = abis; effort = AsRecorded; shown = ALL_LINES; format = Text }) c.args.tree.now c.args.trace.now
+    (told_by report))
     c.only.ensures is))
     c.audit_with.ensures.report

@@ -1,4 +1,5 @@
 use Rattle.std.proofs.Common.{◌≡◌, ◌∙◌, List, arith, ap, length, map, subst, sym}
+use Rattle.ll_report.specs.Told.{told_by}
 use Rattle.std.proofs.lemmas.List.{length-map}
 use Rattle.ll_rights.specs.Abis.{number_of}
 use Rattle.ll_report.specs.Found.{Found}
@@ -30,6 +31,6 @@ returns-clause-report g c =
     let told : map about read ≡ map about c.args.trace =
     ap (map about) c.records.ensures.value ∙ c.in_ok-all.ensures.records in
     let many : length read ≡ length c.args.trace = omega (arith, ap length told, length-map read about, length-map c.args.trace about) in
-    same_report options.shown c.args.tree (number_of options.abis.oldest) c.number.result versions read c.args.trace _ c.in_ok-report.report
+    same_report options.shown c.args.tree (number_of options.abis.oldest) c.number.result versions read c.args.trace _ (told_by c.in_ok-report.report)
     (c.number.ensures ∙ ap number_of c.oldest-oldest.ensures.version) told
     (c.in_ok-report.ensures c.args.tree versions same (subst (HaveAll versions) (sym many) (have_each options c.args.tree c.args.trace)))

@@ -1,7 +1,7 @@
 use Rattle.std.proofs.Common.{◌∙◌, List, ℕ, ap, subst}
 use Rattle.std.specs.Prelude.{OnOk}
 use Rattle.std.specs.Io.KnownBytes.{Appends}
-use Rattle.ll_report.specs.TextReports.{Told}
+use Rattle.ll_report.specs.Told.{Told}
 use Rattle.ll_report.specs.Writing.{AppendsBeginning}
 use Rattle.ll_report.proofs.LinesLeft.{is_told}
 use Rattle.ll_report.proofs.text_report.TextReport.write_to.Goals as goal
