@@ -6,10 +6,10 @@ use Rattle.std.proofs.lemmas.List.{length-map}
 use Rattle.ll_rights.specs.declared.abi.Abi.{Abi}
 use Rattle.ll_tree.specs.Trees.{Entry}
 use Rattle.ll_trace.specs.declared.record.Record.{Record}
-use Rattle.ll_options.specs.declared.format.Format.TheVariants.{Json}
-use Rattle.ll_options.specs.declared.options.Options.{Options}
-use Rattle.ll_options.specs.declared.shown.Shown.{Shown}
-use Rattle.ll_options.specs.Versions.{versions_in}
+use Rattle.ll_report.specs.declared.options.Format.TheVariants.{Json}
+use Rattle.ll_report.specs.declared.options.Options.{Options}
+use Rattle.ll_report.specs.declared.options.Shown.{Shown}
+use Rattle.ll_rights.specs.AbiRanges.{versions_in}
 use Rattle.ll_report.specs.Told.{Told}
 use Rattle.ll_report.specs.Found.{Found}
 use Rattle.ll_report.specs.Rows.{is_refused_under_some, refused_under_some}

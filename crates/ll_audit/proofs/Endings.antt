@@ -3,17 +3,17 @@ use Rattle.std.proofs.Common.{◌≡◌, ◌∙◌, ℕ, List, Option, None, ref
 use Rattle.std.specs.Prelude.{◌⊎◌}
 use Rattle.std.proofs.lemmas.Option.{none-some, same_Some}
 use Rattle.ll_report.specs.Report.{report_status}
-use Rattle.ll_endings.specs.declared.lines.Failure.{Failure}
-use Rattle.ll_endings.specs.declared.lines.Failure.TheVariants as failure
-use Rattle.ll_endings.specs.declared.outcome.Ending.{Ending}
-use Rattle.ll_endings.specs.declared.outcome.Outcome.{Outcome}
-use Rattle.ll_endings.specs.declared.outcome.Outcome.TheVariants as outcome
+use Rattle.ll_audit.specs.declared.lines.Failure.{Failure}
+use Rattle.ll_audit.specs.declared.lines.Failure.TheVariants as failure
+use Rattle.ll_audit.specs.declared.outcome.Ending.{Ending}
+use Rattle.ll_audit.specs.declared.outcome.Outcome.{Outcome}
+use Rattle.ll_audit.specs.declared.outcome.Outcome.TheVariants as outcome
 use Rattle.ll_command.specs.Command.{Request, Text, request_of}
-use Rattle.ll_endings.specs.FaultLines.{failure_line, failure_status}
-use Rattle.ll_source.specs.Files.{Files}
+use Rattle.ll_audit.specs.FaultLines.{failure_line, failure_status}
+use Rattle.ll_audit.specs.Files.{Files}
 use Rattle.ll_audit.specs.Fronts.{EndsWithoutRun, HasFailure, HasReason, HasWrongWords, IsOutcomeOf, IsWhy, Reports, StaysQuiet, TellsWhy, WritesNothing}
 use Rattle.ll_audit.specs.Fronts.{WritesReport}
-use Rattle.ll_endings.specs.Outcomes.{AppendsBeginning, Complains, EndsWith}
+use Rattle.ll_audit.specs.Outcomes.{AppendsBeginning, Complains, EndsWith}
 use Rattle.ll_command.proofs.CommandLine.{asks_for_no_run}
 
 -- a failure's status is 3 or 4

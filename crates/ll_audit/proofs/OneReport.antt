@@ -17,9 +17,9 @@ use Rattle.ll_report.specs.Lines.{lines_of, refused_among}
 use Rattle.ll_report.specs.Report.{report_text}
 use Rattle.ll_report.specs.Shown.{IsShownReportOn}
 use Rattle.ll_report.proofs.BlocksLeft.{is_report_text}
-use Rattle.ll_options.specs.declared.options.Options.{Options}
+use Rattle.ll_report.specs.declared.options.Options.{Options}
 use Rattle.ll_audit.specs.Audits.{IsReport}
-use Rattle.ll_options.specs.Versions.{Range}
+use Rattle.ll_rights.specs.AbiRanges.{Range}
 use Rattle.ll_audit.specs.ShownReports.{IsReportWith, IsTextReport, plain_options, taken}
 
 -- a report with these options is the report

@@ -5,10 +5,10 @@ use Rattle.ll_rights.specs.declared.abi.Abi.{Abi}
 use Rattle.ll_rights.specs.Abis.{number_of}
 use Rattle.ll_tree.specs.Trees.{Entry}
 use Rattle.ll_trace.specs.declared.record.Record.{Record}
-use Rattle.ll_options.specs.declared.format.Format.TheVariants.{Text}
-use Rattle.ll_options.specs.declared.options.Options.{Options}
-use Rattle.ll_options.specs.Versions.{versions_in}
-use Rattle.ll_options.proofs.Ranges.{versions_from}
+use Rattle.ll_report.specs.declared.options.Format.TheVariants.{Text}
+use Rattle.ll_report.specs.declared.options.Options.{Options}
+use Rattle.ll_rights.specs.AbiRanges.{versions_in}
+use Rattle.ll_rights.proofs.AbiRanges.{versions_from}
 use Rattle.ll_report.specs.Told.{Told}
 use Rattle.ll_report.specs.Found.{Found}
 use Rattle.ll_report.specs.Rows.{rows_from, total_under_text, totals_from}

@@ -19,14 +19,14 @@ use Rattle.ll_json.specs.Records.{about}
 use Rattle.ll_trace.specs.Operations.{op_name}
 use Rattle.ll_report.specs.Report.{record_text}
 use Rattle.ll_report.specs.Rows.{told_of}
-use Rattle.ll_options.specs.declared.format.Format.{Format}
-use Rattle.ll_options.specs.declared.options.Effort.{Effort}
-use Rattle.ll_options.specs.declared.options.Effort.TheVariants.{AsRecorded, Best}
-use Rattle.ll_options.specs.declared.options.Options.{Options}
+use Rattle.ll_report.specs.declared.options.Format.{Format}
+use Rattle.ll_trace.specs.declared.trace.Effort.{Effort}
+use Rattle.ll_trace.specs.declared.trace.Effort.TheVariants.{AsRecorded, Best}
+use Rattle.ll_report.specs.declared.options.Options.{Options}
 use Rattle.ll_audit.specs.declared.ranging.Audited.{Audited}
 use Rattle.ll_audit.specs.ShownReports.{findings, found_in, taken}
-use Rattle.ll_options.specs.Versions.{is_in, versions_in}
-use Rattle.ll_options.proofs.Few.{few_versions}
+use Rattle.ll_rights.specs.AbiRanges.{is_in, versions_in}
+use Rattle.ll_rights.proofs.AbiRanges.{few_versions}
 use Rattle.std.proofs.Math.Seq.{drop-cons}
 use Rattle.std.proofs.lemmas.List.{length-map}
 

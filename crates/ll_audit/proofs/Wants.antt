@@ -2,7 +2,7 @@
 use Rattle.std.proofs.Common.{ℕ, List, Result, Ok, Err, sym, subst, inl, inr}
 use Rattle.std.specs.Prelude.{IfErr}
 use Rattle.ll_audit.specs.declared.fault.Fault.{Fault}
-use Rattle.ll_options.specs.Crews.{IsCrew}
+use Rattle.ll_pool.specs.Crews.{IsCrew}
 use Rattle.ll_audit.specs.Audits.{IsFaultOf, ReadsAsTree, ReadsAsTrace}
 use Rattle.ll_audit.specs.Causes.{IsWant}
 

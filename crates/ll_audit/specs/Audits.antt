@@ -2,7 +2,7 @@
 -- Source: docs/FORMATS.md, "The report" and "Faults of a run"; docs/SEMANTICS.md.
 use Rattle.std.specs.Prelude.{◌≡◌, ℕ, List}
 use Rattle.ll_rights.specs.declared.abi.Abi.{Abi}
-use Rattle.ll_options.specs.Crews.{IsCrew}
+use Rattle.ll_pool.specs.Crews.{IsCrew}
 use Rattle.ll_lines.specs.Reading.{IsBad}
 use Rattle.ll_tree.specs.TreeReading.{IsTreeOf, tree_format}
 use Rattle.ll_tree.specs.Trees.{Entry}

@@ -8,17 +8,17 @@ use Rattle.ll_lines.specs.declared.fault.ReadFault.{ReadFault}
 use Rattle.ll_trace.specs.Entries.{trace_file}
 use Rattle.ll_report.specs.Told.{Told}
 use Rattle.ll_report.specs.Report.{report_status}
-use Rattle.ll_endings.specs.declared.lines.Failure.{Failure}
-use Rattle.ll_endings.specs.declared.lines.Failure.TheVariants as failure
-use Rattle.ll_endings.specs.declared.outcome.Ending.{Ending}
-use Rattle.ll_endings.specs.declared.outcome.Outcome.{Outcome}
-use Rattle.ll_endings.specs.declared.outcome.Outcome.TheVariants as outcome
+use Rattle.ll_audit.specs.declared.lines.Failure.{Failure}
+use Rattle.ll_audit.specs.declared.lines.Failure.TheVariants as failure
+use Rattle.ll_audit.specs.declared.outcome.Ending.{Ending}
+use Rattle.ll_audit.specs.declared.outcome.Outcome.{Outcome}
+use Rattle.ll_audit.specs.declared.outcome.Outcome.TheVariants as outcome
 use Rattle.ll_audit.specs.Audits.{ReadsAsTrace, ReadsAsTree}
 use Rattle.ll_audit.specs.ShownReports.{IsReportWith}
 use Rattle.ll_command.specs.Command.{AreWrong, AskForText, Request, Text, request_of}
-use Rattle.ll_endings.specs.FaultLines.{failure_line, failure_status}
-use Rattle.ll_source.specs.Files.{Files, bytes_of}
-use Rattle.ll_endings.specs.Outcomes.{AppendsBeginning, Complains}
+use Rattle.ll_audit.specs.FaultLines.{failure_line, failure_status}
+use Rattle.ll_audit.specs.Files.{Files, bytes_of}
+use Rattle.ll_audit.specs.Outcomes.{AppendsBeginning, Complains}
 
 -- these are the bytes of the file of a name, where the files are known
 abbrev pub AreBytesOf : Option Files → Text → List ℕ → Type 0

@@ -1,3 +1,6 @@
+pub mod Files
+pub mod FaultLines
+pub mod Outcomes
 pub mod Audits
 pub mod Causes
 pub mod Fronts

@@ -14,14 +14,14 @@ use Rattle.ll_json.specs.Kept.{kept_at}
 use Rattle.ll_json.specs.Reports.{IsJsonReport}
 use Rattle.ll_json.specs.Versions.{Version}
 use Rattle.ll_command.specs.declared.command.TheConstants.{VERSION}
-use Rattle.ll_options.specs.declared.format.Format.{Format}
-use Rattle.ll_options.specs.declared.format.Format.TheVariants.{Json, Text}
-use Rattle.ll_options.specs.declared.options.Effort.{Effort}
-use Rattle.ll_options.specs.declared.options.Effort.TheVariants.{AsRecorded, Best}
-use Rattle.ll_options.specs.declared.options.Options.{Options}
-use Rattle.ll_options.specs.declared.shown.Shown.{Shown}
-use Rattle.ll_options.specs.declared.shown.TheConstants.{ALL_LINES}
-use Rattle.ll_options.specs.Versions.{versions_in}
+use Rattle.ll_report.specs.declared.options.Format.{Format}
+use Rattle.ll_report.specs.declared.options.Format.TheVariants.{Json, Text}
+use Rattle.ll_trace.specs.declared.trace.Effort.{Effort}
+use Rattle.ll_trace.specs.declared.trace.Effort.TheVariants.{AsRecorded, Best}
+use Rattle.ll_report.specs.declared.options.Options.{Options}
+use Rattle.ll_report.specs.declared.options.Shown.{Shown}
+use Rattle.ll_report.specs.declared.options.TheConstants.{ALL_LINES}
+use Rattle.ll_rights.specs.AbiRanges.{versions_in}
 use Rattle.ll_audit.specs.Audits.{BothRead}
 
 -- the records as they are taken: as they were recorded, or as a program calls that uses what its kernel supports

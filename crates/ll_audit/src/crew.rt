@@ -2,7 +2,7 @@
 
 ghost use Rattle.std.specs.Prelude.{◌≡◌, IfOk, IfErr};
 ghost use Rattle.ll_semantics.specs.Worlds.{judged};
-ghost use Rattle.ll_options.specs.Crews.{IsCrew};
+ghost use Rattle.ll_pool.specs.Crews.{IsCrew};
 ghost use Rattle.ll_audit.specs.Causes.{IsWant};
 
 use crate::fault::Fault;

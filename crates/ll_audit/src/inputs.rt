@@ -1,11 +1,11 @@
 //! The bytes of the two files of a run.
 
 ghost use Rattle.std.specs.Prelude.{◌≡◌, ◌⊎◌, ◌+◌, ◌-◌, ◌^◌, ◌<◌, ◌≤◌, IfOk, IfErr, IfSome, Some};
-ghost use Rattle.ll_source.specs.Files.{bytes_of};
+ghost use Rattle.ll_audit.specs.Files.{bytes_of};
 
+use crate::lines::Failure;
+use crate::source::{Source, SourceFault};
 use ll_command::Run;
-use ll_endings::Failure;
-use ll_source::{Source, SourceFault};
 use std::alloc::Global;
 
 /// The bytes of the files that a run names.

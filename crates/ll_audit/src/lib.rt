@@ -7,8 +7,11 @@ mod cut;
 mod fault;
 mod inputs;
 mod laws;
+mod lines;
+mod outcome;
 mod program;
 mod ranging;
+mod source;
 
 pub use auditing::{audit, audit_with};
 pub use crew::Idle;
@@ -19,8 +22,9 @@ pub use laws::{
     the_report_has_the_words_of_the_trace, the_same_bytes_have_one_report,
 };
 pub use ll_command::{command_lines, words_without_a_fault_name_a_run};
-pub use ll_endings::Ending;
-pub use ll_options::{AbiRange, Effort, Format, Options};
-pub use ll_report::{ALL_LINES, Report, Shown, empty_report};
-pub use ll_source::{LARGEST_FILE, MemorySource, Source, SourceFault};
+pub use ll_report::{ALL_LINES, Format, Options, Report, Shown, empty_report};
+pub use ll_rights::AbiRange;
+pub use ll_trace::Effort;
+pub use outcome::Ending;
 pub use program::{front, front_ending};
+pub use source::{LARGEST_FILE, MemorySource, Source, SourceFault};

@@ -1,7 +1,7 @@
 //! The program as a whole, whatever its files and its outputs are.
 
 ghost use Rattle.std.specs.Prelude.{◌≡◌, ◌+◌, ◌^◌, ◌<◌, ◌≤◌, IfOk, IfErr, map, string_bytes};
-ghost use Rattle.ll_options.specs.Crews.{IsCrew};
+ghost use Rattle.ll_pool.specs.Crews.{IsCrew};
 ghost use Rattle.ll_command.specs.Command.{request_by};
 ghost use Rattle.ll_audit.specs.Fronts.{EndsWithoutRun, HasReason, HasWrongWords, IsFailureOf, IsOutcomeOf, Reports, StaysQuiet, TellsWhy, WritesNothing, WritesReport};
 
@@ -9,11 +9,12 @@ use crate::auditing::audit_inputs;
 use crate::cut::Cut;
 use crate::fault::Fault;
 use crate::inputs::inputs_of;
+use crate::lines::Failure;
+use crate::outcome::{Ending, Outcome};
+use crate::source::Source;
 use ll_command::{Plan, Run, plan_of};
-use ll_endings::{Ending, Failure, Outcome};
 use ll_pool::Gate;
 use ll_report::ReportText;
-use ll_source::Source;
 use std::alloc::Global;
 use std::io::Write;
 use std::sync::Wait;

@@ -2,8 +2,8 @@
 
 ghost use Rattle.std.specs.Prelude.{◌≡◌, ◌+◌, ◌∷◌, ◌<◌, ◌^◌, [], IfOk, IfErr, if◌then◌else◌, length, map};
 ghost use Rattle.ll_rights.specs.Abis.{number_of};
-ghost use Rattle.ll_options.specs.Crews.{IsCrew};
-ghost use Rattle.ll_options.specs.Versions.{is_in};
+ghost use Rattle.ll_pool.specs.Crews.{IsCrew};
+ghost use Rattle.ll_rights.specs.AbiRanges.{is_in};
 ghost use Rattle.ll_semantics.specs.Worlds.{judged};
 ghost use Rattle.ll_json.specs.Records.{about};
 ghost use Rattle.ll_report.specs.Told.{told_by};
@@ -14,13 +14,12 @@ use crate::crew::Crew;
 use crate::fault::Fault;
 use ll_command::VERSION;
 use ll_json::{InJson, json_report};
-use ll_options::{Effort, Format, Options, Shown};
 use ll_pool::Gate;
 use ll_process::{Answer, Case};
-use ll_report::{Finding, InWords, Report};
+use ll_report::{Finding, Format, InWords, Options, Report, Shown};
 use ll_rights::Abi;
 use ll_rules::NoMemory;
-use ll_trace::{Located, Trace};
+use ll_trace::{Effort, Located, Trace};
 use ll_tree::Tree;
 use std::alloc::{AllocError, Global};
 use std::sync::Wait;

@@ -11,7 +11,7 @@ use Rattle.std.proofs.lemmas.Slice.Eq.{bytes_eq-Decides}
 use Rattle.std.specs.Str.Parse.{digits_value, without_leading_plus}
 use Rattle.clap.specs.declared.builder.value_parser.ValueParser.TheVariants.{Unsigned}
 use Rattle.clap.proofs.ValueTestLemmas.{accepts-Accepts, Accepts-accepts}
-use Rattle.ll_options.specs.Versions.{Range}
+use Rattle.ll_rights.specs.AbiRanges.{Range}
 use Rattle.ll_command.proofs.CommandLine.{no_misuse, request_of-matches}
 use Rattle.ll_command.specs.Command.{Request, command, crew_of, faults, is_misuse, number_at, range_in, request_if, request_in, request_of, options_in}
 use Rattle.ll_command.specs.Command.{with_misuse}

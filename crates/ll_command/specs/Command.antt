@@ -14,15 +14,15 @@ use Rattle.clap.specs.Simple.{on_top}
 use Rattle.clap.specs.ValueTests.{is_unsigned_in}
 use Rattle.ll_rights.specs.declared.abi.Abi.{Abi}
 use Rattle.ll_rights.specs.Abis.{all_versions, version_of}
-use Rattle.ll_options.specs.declared.format.Format.{Format}
-use Rattle.ll_options.specs.declared.format.Format.TheVariants.{Json, Text as Plain}
-use Rattle.ll_options.specs.declared.shown.Shown.{Shown}
-use Rattle.ll_options.specs.Crews.{IsCrew}
-use Rattle.ll_options.specs.Versions.{Range, range_from}
+use Rattle.ll_report.specs.declared.options.Format.{Format}
+use Rattle.ll_report.specs.declared.options.Format.TheVariants.{Json, Text as Plain}
+use Rattle.ll_report.specs.declared.options.Shown.{Shown}
+use Rattle.ll_pool.specs.Crews.{IsCrew}
+use Rattle.ll_rights.specs.AbiRanges.{Range, range_from}
 use Rattle.ll_command.specs.declared.command.Run.{Run}
-use Rattle.ll_options.specs.declared.options.Effort.{Effort}
-use Rattle.ll_options.specs.declared.options.Effort.TheVariants.{AsRecorded, Best}
-use Rattle.ll_options.specs.declared.options.Options.{Options}
+use Rattle.ll_trace.specs.declared.trace.Effort.{Effort}
+use Rattle.ll_trace.specs.declared.trace.Effort.TheVariants.{AsRecorded, Best}
+use Rattle.ll_report.specs.declared.options.Options.{Options}
 use Rattle.ll_command.specs.declared.command.Plan.{Plan}
 use Rattle.ll_command.specs.declared.command.Plan.TheVariants as plan
 

@@ -3,7 +3,7 @@
 ghost use Rattle.std.specs.Prelude.{◌≡◌, ◌⊎◌, [], IfOk, IfSome, MatchResult, Some, false, is_some, map, option_map, string_bytes};
 ghost use Rattle.clap.specs.Words.{HasKind, app_of, fault_of, first_of, found_of, kind_of, matches_of, rows_of, rule_of};
 ghost use Rattle.clap.specs.declared.error.kind.ErrorKind.TheVariants.{OutOfMemory};
-ghost use Rattle.ll_options.specs.Crews.{IsCrew};
+ghost use Rattle.ll_pool.specs.Crews.{IsCrew};
 ghost use Rattle.ll_command.specs.Command as spec;
 
 use crate::message::Message;
@@ -11,8 +11,9 @@ use crate::misuse::Misuse;
 use clap::builder::ValueParser;
 use clap::error::ErrorKind;
 use clap::{Arg, ArgAction, ArgMatches, Command, Error};
-use ll_options::{AbiRange, Effort, Format, Options, Shown};
-use ll_rights::{Abi, with_abi_numbers};
+use ll_report::{Format, Options, Shown};
+use ll_rights::{Abi, AbiRange, with_abi_numbers};
+use ll_trace::Effort;
 use std::alloc::{AllocError, Global};
 
 /// What a run is asked to do.

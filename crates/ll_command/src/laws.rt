@@ -3,9 +3,9 @@
 ghost use Rattle.std.specs.Prelude.{◌≡◌, ◌++◌, ◌∷◌, ◌↔◌, List, [], Some, IsSome, codes, false, option_map, true};
 ghost use Rattle.clap.specs.declared.error.kind.ErrorKind.TheVariants as kind;
 ghost use Rattle.ll_rights.specs.declared.abi.Abi.TheVariants.{V1, V4, V5};
-ghost use Rattle.ll_options.specs.declared.format.Format.TheVariants.{Json, Text as Plain};
-ghost use Rattle.ll_options.specs.declared.options.Effort.TheVariants.{AsRecorded, Best};
-ghost use Rattle.ll_options.specs.declared.shown.TheConstants.{ALL_LINES};
+ghost use Rattle.ll_report.specs.declared.options.Format.TheVariants.{Json, Text as Plain};
+ghost use Rattle.ll_trace.specs.declared.trace.Effort.TheVariants.{AsRecorded, Best};
+ghost use Rattle.ll_report.specs.declared.options.TheConstants.{ALL_LINES};
 ghost use Rattle.ll_command.specs.Command.{Text, faults, newer_digit, request_of};
 
 /// What some command lines ask for, and what is wrong with others.

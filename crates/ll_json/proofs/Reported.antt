@@ -1,7 +1,7 @@
 -- The rows that are written one after another.
 use Rattle.std.proofs.Common.{◌≡◌, ◌∙◌, ℕ, ◌+◌, ◌<◌, ◌≤◌, List, [], ◌∷◌, ◌++◌, length, drop, get_or, refl, sym, ap, append_assoc, append-nil, drop_of_length-le}
 use Rattle.ll_trace.specs.declared.record.Record.{Record}
-use Rattle.ll_options.specs.declared.shown.Shown.{Shown}
+use Rattle.ll_report.specs.declared.options.Shown.{Shown}
 use Rattle.ll_report.specs.Found.{Found}
 use Rattle.ll_report.proofs.SpansLeft.{next_of}
 use Rattle.ll_json.specs.Rows.{row_text, rows_from}

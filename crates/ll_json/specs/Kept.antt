@@ -8,7 +8,7 @@ use Rattle.ll_semantics.specs.declared.answer.Answer.{Answer}
 use Rattle.ll_semantics.specs.declared.answer.Answer.TheVariants.{Allowed, Moot, Refused}
 use Rattle.ll_semantics.specs.Worlds.{judged}
 use Rattle.ll_reasons.specs.Explanations.{nothing}
-use Rattle.ll_options.specs.declared.shown.Shown.{Shown}
+use Rattle.ll_report.specs.declared.options.Shown.{Shown}
 use Rattle.ll_report.specs.Found.{Found, answer_at, explanation_at, found_by}
 use Rattle.ll_json.specs.Parts.{Named}
 use Rattle.ll_json.specs.Records.{answer_members, members_with}

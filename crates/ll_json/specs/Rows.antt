@@ -5,7 +5,7 @@ use Rattle.json.specs.Print.{print}
 use Rattle.json.specs.Token as token
 use Rattle.json.specs.Token.{Token}
 use Rattle.json.specs.Tree.{json_tokens}
-use Rattle.ll_options.specs.declared.shown.Shown.{Shown}
+use Rattle.ll_report.specs.declared.options.Shown.{Shown}
 use Rattle.ll_trace.specs.declared.record.Record.{Record}
 use Rattle.ll_trace.specs.Operations.{op_name}
 use Rattle.ll_report.specs.Found.{Found}

@@ -8,8 +8,7 @@ ghost use Rattle.ll_json.specs.Versions.{HaveAll, Version};
 
 use crate::rows::Versions;
 use crate::totals::push_last;
-use ll_options::Shown;
-use ll_report::{Finding, Report, refused_under_some};
+use ll_report::{Finding, Report, Shown, refused_under_some};
 use ll_trace::Record;
 use std::alloc::{AllocError, Global};
 

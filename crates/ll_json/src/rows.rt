@@ -11,8 +11,7 @@ use crate::kept::said_of;
 use crate::spans::push_spans;
 use crate::words::{Added, begin_array, begin_object, taken, write_key, write_number, write_text};
 use json::Writer;
-use ll_options::Shown;
-use ll_report::{Finding, is_left_out};
+use ll_report::{Finding, Shown, is_left_out};
 use ll_trace::Record;
 use std::alloc::{AllocError, Global};
 

@@ -2,10 +2,9 @@
 
 use crate::{InJson, json_report};
 use ll_fixtures::TREE;
-use ll_options::Shown;
 use ll_pool::judge_alone;
 use ll_process::Case;
-use ll_report::{Finding, Report};
+use ll_report::{Finding, Report, Shown};
 use ll_rights::Abi;
 use ll_trace::Trace;
 use ll_tree::Tree;

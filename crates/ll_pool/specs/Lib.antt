@@ -1,3 +1,4 @@
 pub mod Accounts
 pub mod Rule
 pub mod Gathered
+pub mod Crews

@@ -4,8 +4,8 @@ use Rattle.std.proofs.Math.Seq.{drop-length}
 use Rattle.std.specs.List.{flat_map}
 use Rattle.ll_trace.specs.declared.record.Record.{Record}
 use Rattle.ll_semantics.specs.declared.answer.Answer.{Answer}
-use Rattle.ll_options.specs.declared.shown.Shown.{Shown}
-use Rattle.ll_options.specs.declared.shown.TheConstants.{ALL_LINES}
+use Rattle.ll_report.specs.declared.options.Shown.{Shown}
+use Rattle.ll_report.specs.declared.options.TheConstants.{ALL_LINES}
 use Rattle.ll_report.specs.Report.{ReportLine, line_text, report_text}
 use Rattle.ll_report.specs.Lines.{line_of, lines_of}
 use Rattle.ll_report.specs.Shown.{block_text, blocks_from, shown_text}

@@ -8,7 +8,7 @@ use Rattle.ll_semantics.proofs.Steps.{length-judged}
 use Rattle.ll_semantics.specs.declared.answer.Answer.{Answer}
 use Rattle.ll_trace.specs.declared.record.Record.{Record}
 use Rattle.ll_trails.specs.CaseTrails.{IsAnswerAt}
-use Rattle.ll_options.specs.declared.shown.Shown.{Shown}
+use Rattle.ll_report.specs.declared.options.Shown.{Shown}
 use Rattle.ll_explanations.specs.Explained.{Explains}
 use Rattle.ll_explanations.specs.declared.explanation.Explanation.{Explanation}
 use Rattle.ll_report.specs.Blocks.{ExplainAll}

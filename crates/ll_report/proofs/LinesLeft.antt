@@ -11,7 +11,7 @@ use Rattle.ll_process.specs.Cases.{CaseValue}
 use Rattle.ll_explain.specs.Explained.{text_at}
 use Rattle.ll_report.specs.Longest.{total_of}
 use Rattle.ll_report.specs.TextReports.{told_of}
-use Rattle.ll_options.specs.declared.shown.Shown.{Shown}
+use Rattle.ll_report.specs.declared.options.Shown.{Shown}
 use Rattle.ll_report.specs.Report.{ReportLine, Verdict, count_of, is_allowed, is_moot, is_refused, total_text}
 use Rattle.ll_report.specs.Shown.{blocks_from, shown_text}
 use Rattle.ll_report.specs.Lines.{line_of, lines_of, refused_among, verdict_of}

@@ -10,7 +10,7 @@ use Rattle.ll_semantics.specs.declared.answer.Answer.{Answer}
 use Rattle.ll_semantics.specs.Worlds.{judged}
 use Rattle.ll_process.specs.Cases.{CaseValue}
 use Rattle.ll_trails.specs.CaseTrails.{IsAnswerAt}
-use Rattle.ll_options.specs.declared.shown.Shown.{Shown}
+use Rattle.ll_report.specs.declared.options.Shown.{Shown}
 use Rattle.ll_explain.specs.Buffers.{Buffered, adding, blank, most_counted}
 use Rattle.ll_explain.proofs.Buffering.{added, held_added, room_added}
 use Rattle.ll_report.specs.Longest.{IsWithin, block_at}

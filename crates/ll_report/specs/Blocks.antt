@@ -7,7 +7,7 @@ use Rattle.ll_process.specs.Cases.{CaseValue}
 use Rattle.ll_trails.specs.CaseTrails.{IsAnswerAt}
 use Rattle.ll_explanations.specs.Explained.{Explains}
 use Rattle.ll_explanations.specs.declared.explanation.Explanation.{Explanation}
-use Rattle.ll_options.specs.declared.shown.Shown.{Shown}
+use Rattle.ll_report.specs.declared.options.Shown.{Shown}
 use Rattle.ll_report.specs.declared.blocks.Blocks.{Blocks}
 
 -- each of these explains the answer to the record at its place

@@ -4,7 +4,7 @@ use Rattle.ll_trace.specs.declared.record.Record.{Record}
 use Rattle.ll_semantics.specs.declared.answer.Answer.{Answer}
 use Rattle.ll_process.specs.Cases.{CaseValue}
 use Rattle.ll_trails.specs.CaseTrails.{IsAnswerAt}
-use Rattle.ll_options.specs.declared.shown.Shown.{Shown}
+use Rattle.ll_report.specs.declared.options.Shown.{Shown}
 use Rattle.ll_explain.specs.Buffers.{adding, blank}
 use Rattle.ll_explain.specs.Explained.{text_at}
 use Rattle.ll_report.specs.Lines.{line_of, verdict_of}

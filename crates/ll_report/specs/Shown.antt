@@ -6,7 +6,7 @@ use Rattle.ll_tree.specs.Trees.{Entry}
 use Rattle.ll_trace.specs.declared.record.Record.{Record}
 use Rattle.ll_semantics.specs.Worlds.{judged}
 use Rattle.ll_explain.specs.Explained.{text_at}
-use Rattle.ll_options.specs.declared.shown.Shown.{Shown}
+use Rattle.ll_report.specs.declared.options.Shown.{Shown}
 use Rattle.ll_report.specs.Lines.{lines_of, refused_among}
 use Rattle.ll_report.specs.Told.{Told}
 use Rattle.ll_report.specs.Report.{ReportLine, Verdict, count_of, is_allowed, is_moot, is_refused, line_text, total_text}

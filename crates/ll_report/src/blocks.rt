@@ -13,11 +13,11 @@ ghost use Rattle.std.specs.Io.KnownBytes.{Appends};
 ghost use Rattle.ll_report.specs.Lines.{line_of, lines_of, verdict_of};
 ghost use Rattle.ll_report.specs.Shown.{behind_line, block_text, blocks_from, is_left_out};
 
+use crate::options::Shown;
 use crate::report::{Totals, is_refused, push_line, push_total};
 use crate::writing::{write_bytes, write_whole};
 use ll_explain::{TextBuffer, push_text};
 use ll_explanations::{Explanation, explain};
-use ll_options::Shown;
 use ll_process::{Answer, Case};
 use ll_rules::NoMemory;
 use ll_trace::Record;

@@ -6,11 +6,11 @@ ghost use Rattle.ll_semantics.specs.Worlds.{judged};
 ghost use Rattle.ll_report.specs.Found.{answer_at, explanation_at, found_by};
 ghost use Rattle.ll_report.specs.Rows.{said_by};
 
+use crate::options::Shown;
 use crate::phrases::{Phrase, append};
 use crate::spans::Form;
 use crate::telling::Telling;
 use crate::texts::Texts;
-use ll_options::Shown;
 use ll_process::{Answer, Case};
 use ll_rules::NoMemory;
 use ll_trails::TraceOrigins;

@@ -6,6 +6,7 @@ mod blocks;
 mod found;
 mod laws;
 mod names;
+mod options;
 mod phrases;
 mod report;
 mod report_text;
@@ -18,8 +19,8 @@ mod writing;
 
 pub use found::Finding;
 pub use laws::{empty_report, spans_give_back_what_was_said};
-pub use ll_options::{ALL_LINES, Shown};
 pub use names::error_name;
+pub use options::{ALL_LINES, Format, Options, Shown};
 pub use report::{Report, Totals};
 pub use report_text::ReportText;
 pub use rows::{is_left_out, refused_under_some};

@@ -12,10 +12,10 @@ ghost use Rattle.ll_report.specs.Rows.{answers_said, explanations_said, is_refus
 use crate::alike::{common_answer, common_explanation};
 use crate::blocks::is_hidden;
 use crate::found::Finding;
+use crate::options::Shown;
 use crate::phrases::{Phrase, append, append_line, append_record};
 use crate::report::{Report, Totals, is_refused};
 use crate::spans::{Form, Sayings, agree, push_alone};
-use ll_options::Shown;
 use ll_process::Answer;
 use ll_trace::Record;
 use std::alloc::{AllocError, Global};

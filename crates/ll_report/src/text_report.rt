@@ -9,10 +9,10 @@ ghost use Rattle.ll_report.specs.Told.{told_by};
 ghost use Rattle.ll_report.specs.Writing.{AppendsBeginning};
 
 use crate::blocks::{Blocks, explanations_of};
+use crate::options::Shown;
 use crate::report::{Report, Totals};
 use ll_explain::TextBuffer;
 use ll_explanations::Explanation;
-use ll_options::Shown;
 use ll_process::{Answer, Case};
 use ll_rules::NoMemory;
 use std::alloc::{AllocError, Global};

@@ -7,3 +7,4 @@ pub mod CodeRights
 pub mod Abis
 pub mod Supported
 pub mod Kinds
+pub mod AbiRanges

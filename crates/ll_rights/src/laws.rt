@@ -1,6 +1,6 @@
 //! What holds of the sets of rights by their definitions.
 
-ghost use Rattle.std.specs.Prelude.{◌≡◌, ◌≤◌, ◌&&◌, ◌||◌, Some, false, length, map, not};
+ghost use Rattle.std.specs.Prelude.{◌≡◌, ◌-◌, ◌≤◌, ◌&&◌, ◌||◌, Some, false, length, map, not, suc};
 ghost use Rattle.std.specs.List.{range_with_len};
 ghost use Rattle.ll_rights.specs.declared.abi.Abi.{Abi as Version};
 ghost use Rattle.ll_rights.specs.declared.fs.Fs.{Fs as FsSet};
@@ -8,6 +8,7 @@ ghost use Rattle.ll_rights.specs.declared.net.Net.{Net as NetSet};
 ghost use Rattle.ll_rights.specs.Rights as files;
 ghost use Rattle.ll_rights.specs.NetRights as network;
 ghost use Rattle.ll_rights.specs.Abis.{all_versions, number_of, version_of, knows_fs, knows_net};
+ghost use Rattle.ll_rights.specs.AbiRanges.{IsRising, Range, versions_in};
 ghost use Rattle.ll_rights.specs.Supported.{supported_fs, supported_net};
 
 use crate::fs::Fs;
@@ -63,4 +64,14 @@ pub fn supported_sets()
         → supported_fs older (supported_fs newer set) ≡ supported_fs older set }
     ensures older_net { (older newer : Version) (set : NetSet) → number_of older ≤ number_of newer
         → supported_net older (supported_net newer set) ≡ supported_net older set }
+{}
+
+/// A range has a version for each number from that of its oldest to that of its newest, and so at
+/// least one.
+#[tactic(auto, using(crate::proofs::AbiRanges::versions_numbered, crate::proofs::AbiRanges::at_least_one))]
+pub fn a_range_has_a_version_for_each_number()
+    ensures numbers { (range : Range) → map number_of (versions_in range)
+        ≡ range_with_len (number_of range.oldest)
+        (suc (number_of range.newest) - number_of range.oldest) }
+    ensures at_least_one { (range : Range) → IsRising range → 1 ≤ length (versions_in range) }
 {}

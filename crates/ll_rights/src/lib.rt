@@ -1,8 +1,9 @@
-//! Landlock's access rights: sets of them, the versions of the interface that know them, and the
-//! kinds of files that they speak of.
+//! Landlock's access rights: sets of them, the versions of the interface that know them and ranges of these versions,
+//! and the kinds of files that they speak of.
 #![tactic(auto)]
 
 mod abi;
+mod abi_range;
 mod bits;
 mod fs;
 mod kind;
@@ -10,7 +11,11 @@ mod laws;
 mod net;
 
 pub use abi::Abi;
+pub use abi_range::AbiRange;
 pub use fs::{Fs, FsRight, fs_of_name};
 pub use kind::Kind;
-pub use laws::{file_rights, numbered_versions, sets_by_rights, supported_sets};
+pub use laws::{
+    a_range_has_a_version_for_each_number, file_rights, numbered_versions, sets_by_rights,
+    supported_sets,
+};
 pub use net::{LARGEST_PORT, Net, NetRight, net_of_name};

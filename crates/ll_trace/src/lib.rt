@@ -24,4 +24,4 @@ pub use path_text::{PathText, SecondPath};
 pub use reader::{MOST_PROCESSES, MOST_RECORDS};
 pub use record::{ProcessId, Record};
 pub use rows::{calls_at_best_effort, faulty_traces, whole_traces};
-pub use trace::Trace;
+pub use trace::{Effort, Trace};

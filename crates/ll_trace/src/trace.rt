@@ -20,6 +20,17 @@ use std::alloc::Global;
 use std::marker::Model;
 use std::thread::Threads;
 
+/// How the rulesets of a trace are taken.
+#[derive(Clone, Copy, Debug, PartialEq, Eq)]
+pub enum Effort {
+    /// As they were recorded: a right that the version doesn't know is an error.
+    AsRecorded,
+    /// As a program makes them that first asks its kernel for the version, and then names those rights
+    /// alone that this version supports (the kernel's userspace document on Landlock, which advises
+    /// "a best-effort security approach").
+    Best,
+}
+
 /// The records of a trace, in the order of the file; contracts see their list.
 #[derive(Drop)]
 pub struct Trace {

@@ -2,10 +2,10 @@
 
 ghost use Rattle.std.specs.Prelude.{◌+◌, ◌^◌, ◌<◌};
 
+use crate::failing::FailingSource;
 use crate::tests::ready::{REPORT, TRACE, owned};
 use ll_audit::{Ending, Idle, MemorySource, Source, SourceFault, front_ending};
 use ll_fixtures::TREE;
-use ll_source::FailingSource;
 use std::alloc::{AllocError, Global};
 use std::io;
 use std::io::{ErrorKind, Write};

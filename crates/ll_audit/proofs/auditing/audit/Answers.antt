@@ -1,9 +1,9 @@
 use Rattle.std.proofs.Common.{subst}
 use Rattle.std.proofs.lemmas.Result.{IfOk-weaker}
-use Rattle.ll_options.specs.declared.shown.TheConstants.{ALL_LINES}
-use Rattle.ll_options.specs.declared.format.Format.TheVariants.{Text}
-use Rattle.ll_options.specs.Versions.{Range}
-use Rattle.ll_options.specs.declared.options.Effort.TheVariants.{AsRecorded}
+use Rattle.ll_report.specs.declared.options.TheConstants.{ALL_LINES}
+use Rattle.ll_report.specs.declared.options.Format.TheVariants.{Text}
+use Rattle.ll_rights.specs.AbiRanges.{Range}
+use Rattle.ll_trace.specs.declared.trace.Effort.TheVariants.{AsRecorded}
 use Rattle.ll_report.specs.Told.{told_by}
 use Rattle.ll_audit.specs.ShownReports.{IsReportWith}
 use Rattle.ll_audit.proofs.OneReport.{with_all_lines}

@@ -1,5 +1,5 @@
 use Rattle.std.proofs.Common.{arith, rules}
-use Rattle.ll_options.specs.Crews.{IsCrew}
+use Rattle.ll_pool.specs.Crews.{IsCrew}
 use Rattle.ll_audit.specs.Audits.{ReadsAsTree}
 use Rattle.ll_audit.proofs.auditing.files_of.Goals as goal
 

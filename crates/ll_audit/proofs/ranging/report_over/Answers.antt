@@ -6,7 +6,7 @@ use Rattle.ll_report.specs.Found.{Found}
 use Rattle.ll_report.specs.Rows.{is_refused_under_some, refused_under_some, rows_text, told_of, totals_from}
 use Rattle.ll_report.proofs.RowsLeft.{same_rows}
 use Rattle.ll_json.specs.Records.{about}
-use Rattle.ll_options.specs.declared.format.Format.TheVariants.{Text}
+use Rattle.ll_report.specs.declared.options.Format.TheVariants.{Text}
 use Rattle.ll_audit.specs.ShownReports.{findings}
 use Rattle.ll_rights.specs.Abis.{number_of}
 use Rattle.ll_audit.proofs.VersionByVersion.{same_told}

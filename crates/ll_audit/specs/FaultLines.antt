@@ -1,0 +1,43 @@
+-- The lines that the program writes to standard error, and its status with each.
+-- Source: docs/FORMATS.md, "Faults of a run".
+use Rattle.std.specs.Prelude.{ℕ, List, ◌++◌, codes, decimal}
+use Rattle.ll_lines.specs.declared.fault.Cause.{Cause}
+use Rattle.ll_lines.specs.declared.fault.Cause.TheVariants as cause
+use Rattle.ll_lines.specs.declared.fault.ReadFault.{ReadFault}
+use Rattle.ll_audit.specs.declared.lines.Failure.{Failure}
+use Rattle.ll_audit.specs.declared.lines.Failure.TheVariants as failure
+
+-- the name of a cause
+abbrev pub cause_name : Cause → List ℕ
+cause_name cause.Json = codes "Json"
+cause_name cause.Field = codes "Field"
+cause_name cause.BadPath = codes "BadPath"
+cause_name cause.NoParent = codes "NoParent"
+cause_name cause.Twice = codes "Twice"
+cause_name cause.TooMany = codes "TooMany"
+cause_name cause.UnknownProcess = codes "UnknownProcess"
+cause_name cause.Memory = codes "Memory"
+
+-- which line of a file is wrong, and why
+abbrev pub place_text : List ℕ → ReadFault → List ℕ
+place_text file fault = file ++ codes " line " ++ decimal fault.line ++ codes ": " ++ cause_name fault.cause
+
+-- what a line says
+abbrev pub failure_text : Failure → List ℕ
+failure_text (failure.Tree fault) = place_text (codes "tree") fault
+failure_text (failure.Trace fault) = place_text (codes "trace") fault
+failure_text (failure.Unread name) = codes "cannot read " ++ name.now
+failure_text failure.Memory = codes "no memory"
+failure_text failure.NoThread = codes "no thread"
+failure_text failure.Unwritten = codes "cannot write"
+
+-- the line, with the program's name before it
+abbrev pub failure_line : Failure → List ℕ
+failure_line failure = codes "landaudit: " ++ failure_text failure ++ codes "\n"
+
+-- the status: 3 where a file is at fault, else 4
+abbrev pub failure_status : Failure → ℕ
+failure_status (failure.Tree fault) = 3
+failure_status (failure.Trace fault) = 3
+failure_status (failure.Unread name) = 3
+failure_status _ = 4

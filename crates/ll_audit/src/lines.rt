@@ -1,0 +1,115 @@
+//! The lines on standard error.
+
+ghost use Rattle.std.specs.Prelude.{◌≡◌, ◌++◌, OnOk, codes};
+ghost use Rattle.std.specs.Io.KnownBytes.{Appends};
+ghost use Rattle.ll_audit.specs.FaultLines.{cause_name, failure_line, failure_status, place_text};
+ghost use Rattle.ll_audit.specs.Outcomes.{AppendsBeginning};
+
+use itoa::Buffer;
+use ll_lines::{Cause, ReadFault};
+use ll_report::write_texts;
+use std::io;
+use std::io::Write;
+
+/// Why a run ends without a report.
+#[derive(Clone, Copy, Debug)]
+pub enum Failure<'a> {
+    /// The tree doesn't read.
+    Tree(ReadFault),
+    /// The trace doesn't read.
+    Trace(ReadFault),
+    /// The file of this name can't be read.
+    Unread(&'a str),
+    /// Out of memory.
+    Memory,
+    /// A thread could not be started.
+    NoThread,
+    /// The output can't be written.
+    Unwritten,
+}
+
+impl Failure<'_> {
+    /// The program's status.
+    pub fn status(&self) -> u8
+        ensures { result ≡ failure_status self.now }
+    {
+        match self {
+            Failure::Tree(_) | Failure::Trace(_) | Failure::Unread(_) => 3,
+            Failure::Memory | Failure::NoThread | Failure::Unwritten => 4,
+        }
+    }
+
+    /// Writes the line for standard error. Where that fails a beginning of it was written.
+    pub fn write_to<W: Write>(&self, err: &mut W) -> io::Result<()>
+        ensures whole { OnOk result (Appends (W.contents err.old) (W.contents err.new)
+            (failure_line self.now)) }
+        ensures beginning { AppendsBeginning (W.contents err.old) (W.contents err.new)
+            (failure_line self.now) }
+    {
+        match self {
+            Failure::Tree(fault) => write_place(err, "tree", fault),
+            Failure::Trace(fault) => write_place(err, "trace", fault),
+            Failure::Unread(name) => write_line(err, "cannot read ", name),
+            Failure::Memory => write_line(err, "no memory", ""),
+            Failure::NoThread => write_line(err, "no thread", ""),
+            Failure::Unwritten => write_line(err, "cannot write", ""),
+        }
+    }
+}
+
+/// Writes a line of two texts behind the program's name.
+fn write_line<W: Write>(err: &mut W, first: &str, second: &str) -> io::Result<()>
+    ensures whole { OnOk result (Appends (W.contents err.old) (W.contents err.new)
+        (codes "landaudit: " ++ (first.now ++ second.now) ++ codes "\n")) }
+    ensures beginning { AppendsBeginning (W.contents err.old) (W.contents err.new)
+        (codes "landaudit: " ++ (first.now ++ second.now) ++ codes "\n") }
+{
+    write_texts(err, &["landaudit: ", first, second, "\n"])
+}
+
+/// Writes the line that says which line of a file is wrong, and why.
+fn write_place<W: Write>(err: &mut W, file: &str, fault: &ReadFault) -> io::Result<()>
+    ensures whole { OnOk result (Appends (W.contents err.old) (W.contents err.new)
+        (codes "landaudit: " ++ place_text file.now fault.now ++ codes "\n")) }
+    ensures beginning { AppendsBeginning (W.contents err.old) (W.contents err.new)
+        (codes "landaudit: " ++ place_text file.now fault.now ++ codes "\n") }
+{
+    let mut buffer = Buffer::new();
+    let line = buffer.format(fault.line);
+    write_words(err, file, line, name_of(fault.cause))
+}
+
+/// Writes the line on this line of a file, which has this cause.
+fn write_words<'t, W: Write>(
+    err: &mut W,
+    file: &'t str,
+    line: &'t str,
+    cause: &'t str,
+) -> io::Result<()>
+    ensures whole { OnOk result (Appends (W.contents err.old) (W.contents err.new)
+        (codes "landaudit: " ++ (file.now ++ codes " line " ++ line.now ++ codes ": " ++ cause.now)
+        ++ codes "\n")) }
+    ensures beginning { AppendsBeginning (W.contents err.old) (W.contents err.new)
+        (codes "landaudit: " ++ (file.now ++ codes " line " ++ line.now ++ codes ": " ++ cause.now)
+        ++ codes "\n") }
+{
+    write_texts(
+        err,
+        &["landaudit: ", file, " line ", line, ": ", cause, "\n"],
+    )
+}
+
+fn name_of(cause: Cause) -> &'static str
+    ensures { result.now ≡ cause_name cause }
+{
+    match cause {
+        Cause::Json => "Json",
+        Cause::Field => "Field",
+        Cause::BadPath => "BadPath",
+        Cause::NoParent => "NoParent",
+        Cause::Twice => "Twice",
+        Cause::TooMany => "TooMany",
+        Cause::UnknownProcess => "UnknownProcess",
+        Cause::Memory => "Memory",
+    }
+}
