@@ -3,7 +3,7 @@
 ghost use Rattle.std.specs.Prelude.{◌≡◌, Some};
 ghost use Rattle.ll_audit.specs.Files.{files_of};
 
-use crate::source::{MemorySource, Source, SourceFault};
+use ll_audit::{MemorySource, Source, SourceFault};
 use std::alloc::Global;
 
 /// Files in memory, as names beside their bytes, that can be read until the source fails.
