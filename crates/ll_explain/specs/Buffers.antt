@@ -1,4 +1,5 @@
 -- What a buffer of fixed size holds when bytes are added to it.
+-- Source: the code's own; it stands in no document.
 use Rattle.std.specs.Prelude.{ℕ, ◌+◌, ◌^◌, ◌-◌, List, [], ◌∷◌, ◌++◌, fold, min, take}
 
 -- A buffer has room for so many bytes. It holds the first ones of the text that was added, and counts all of them.

@@ -1,4 +1,5 @@
 -- How long the parts are in which the report is written.
+-- Source: docs/FORMATS.md, "The report"; that it is written in parts is the code's own.
 use Rattle.std.specs.Prelude.{◌≡◌, ◌≤◌, ℕ, List, Some, count_by, length, slice_get}
 use Rattle.ll_trace.specs.declared.record.Record.{Record}
 use Rattle.ll_semantics.specs.declared.answer.Answer.{Answer}

@@ -1,4 +1,5 @@
 -- A report that is written through a page of fixed size.
+-- Source: docs/FORMATS.md, "The report"; the page is the code's own.
 use Rattle.std.specs.Prelude.{◌≡◌, ◌≤◌, ◌+◌, ℕ, List, ◌++◌, Option, length}
 use Rattle.std.specs.Io.KnownBytes.{Appends}
 use Rattle.ll_explain.specs.Buffers.{Buffered}

@@ -1,4 +1,5 @@
 -- What a writer holds when not all bytes could be written.
+-- Source: docs/FORMATS.md, "Statuses"; write(2).
 use Rattle.std.specs.Prelude.{ℕ, List, Option, take}
 use Rattle.std.specs.Io.KnownBytes.{Appends}
 
