@@ -48,9 +48,11 @@ pub fn the_same_bytes_have_one_report()
 /// `audit_with` answers by plain options what `audit` answers, and nothing else.
 pub fn plain_options_ask_for_the_report()
     ensures leads { (abi : Version) (tree trace : List ℕ) (report : Made)
-        → IsReportWith (plain_options abi) tree trace (told_by report) → IsReport abi tree trace report }
+        → IsReportWith (plain_options abi) tree trace (told_by report)
+        → IsReport abi tree trace report }
     ensures back { (abi : Version) (tree trace : List ℕ) (report : Made)
-        → IsReport abi tree trace report → IsReportWith (plain_options abi) tree trace (told_by report) }
+        → IsReport abi tree trace report
+        → IsReportWith (plain_options abi) tree trace (told_by report) }
 {}
 
 /// The report over several versions ends with one total for each version of the range, the oldest

@@ -58,7 +58,8 @@ part_held room held bytes fits =
       part_is more (inr fits) = ap (λ n. take n bytes) (min-eq_left fits) ∙ take-length bytes ∙ sym (take_all more bytes fits)
 
 -- a loop adds the next text, and then the rest
-pub goes_on : (before after whole : Buffered) (next rest : List ℕ) → adding before (next ++ rest) ≡ whole → after ≡ adding before next → adding after rest ≡ whole
+pub goes_on : (before after whole : Buffered) (next rest : List ℕ) → adding before (next ++ rest) ≡ whole → after ≡ adding before next
+    → adding after rest ≡ whole
 goes_on before after whole next rest so_far added = ap (λ b. adding b rest) added ∙ adding_both before next rest ∙ so_far
 
 -- a text that is counted by a buffer without room, and then added to one with as much room, is held whole
