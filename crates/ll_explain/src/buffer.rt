@@ -23,7 +23,8 @@ impl Model for TextBuffer {
 
     ghost Value = { Buffered };
 
-    ghost view = { λ buffer. record { room = buffer.room; count = buffer.count; held = buffer.bytes.items } };
+    ghost view = { λ buffer.
+        record { room = buffer.room; count = buffer.count; held = buffer.bytes.items } };
 
     ghost invariant = { λ buffer.
         (vec_len buffer.bytes ≤ buffer.room) × (buffer.room ≤ vec_capacity buffer.bytes) };

@@ -25,7 +25,8 @@ use std::alloc::{AllocError, Global};
 
 /// Adds the line of a condition.
 fn push_failure(text: &mut TextBuffer, op: &Op, condition: &Condition)
-    ensures { text.new ≡ adding text.old (alone (condition_text (condition_in op.now condition.now))) }
+    ensures { text.new
+        ≡ adding text.old (alone (condition_text (condition_in op.now condition.now))) }
 {
     push_words(text, "    ");
     push_condition(text, op, condition);
@@ -52,7 +53,8 @@ pub fn push_text(
     explanation: &Explanation,
 )
     ensures { (layers : List ℕ) → AreMade layers explanation.now → text.new
-        ≡ adding text.old (explanation_text records.now layers (explanation_in tree.now op.now explanation.now)) }
+        ≡ adding text.old (explanation_text records.now layers
+        (explanation_in tree.now op.now explanation.now)) }
 {
     match explanation {
         Explanation::Nothing | Explanation::Mootness(None) => {}

@@ -43,7 +43,8 @@ fn push_node(text: &mut TextBuffer, tree: &Tree, node: NodeId)
 /// Adds names of rights, and the node on which they are missing.
 #[tactic(auto, using(crate::proofs::Appending::appended_3))]
 fn push_missing(text: &mut TextBuffer, tree: &Tree, rights: Fs, node: NodeId)
-    ensures { text.new ≡ adding text.old (rights_text (rights_in rights) ++ codes " on " ++ path_text (path_at tree.now node)) }
+    ensures { text.new ≡ adding text.old
+        (rights_text (rights_in rights) ++ codes " on " ++ path_text (path_at tree.now node)) }
 {
     push_rights(text, rights);
     push_words(text, " on ");
@@ -53,7 +54,8 @@ fn push_missing(text: &mut TextBuffer, tree: &Tree, rights: Fs, node: NodeId)
 /// Adds names of rights, and the port on which they are missing.
 #[tactic(auto, using(crate::proofs::Appending::appended_3))]
 fn push_closed(text: &mut TextBuffer, rights: Net, port: u16)
-    ensures { text.new ≡ adding text.old (port_rights_text (port_rights_in rights) ++ codes " on port " ++ decimal port) }
+    ensures { text.new ≡ adding text.old
+        (port_rights_text (port_rights_in rights) ++ codes " on port " ++ decimal port) }
 {
     push_port_rights(text, rights);
     push_words(text, " on port ");
@@ -112,7 +114,8 @@ fn push_kept(text: &mut TextBuffer, records: &[Record], right: FsRight, opened: 
 /// Says what is objected to.
 #[tactic(auto, unfolding(crate::specs::Words::objection_text))]
 fn push_objection(text: &mut TextBuffer, tree: &Tree, records: &[Record], objection: &Objection)
-    ensures { text.new ≡ adding text.old (objection_text records.now (objection_in tree.now objection.now)) }
+    ensures { text.new
+        ≡ adding text.old (objection_text records.now (objection_in tree.now objection.now)) }
 {
     match objection {
         Objection::Missing { rights, node } => push_missing(text, tree, *rights, *node),

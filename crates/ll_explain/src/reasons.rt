@@ -75,7 +75,8 @@ fn push_both(text: &mut TextBuffer, op: &Op, between: &str, said: &str)
 
 /// Says that a directory and something else would take one another's place.
 fn push_mixed(text: &mut TextBuffer, op: &Op)
-    ensures { text.new ≡ adding text.old (codes "one of " ++ path_text (path_named op.now First) ++ codes " and "
+    ensures { text.new ≡ adding text.old
+        (codes "one of " ++ path_text (path_named op.now First) ++ codes " and "
         ++ path_text (path_named op.now Second) ++ codes " is a directory, the other is not") }
 {
     push_words(text, "one of ");

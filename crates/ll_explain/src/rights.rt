@@ -109,7 +109,8 @@ pub fn word_for(name: &str) -> &str
 
 /// Adds a name, behind a comma if it isn't the first.
 fn push_name(text: &mut TextBuffer, name: &str, is_first: bool)
-    ensures { text.new ≡ adding text.old (if is_first then name.now else behind (codes ", ") name.now) }
+    ensures { text.new
+        ≡ adding text.old (if is_first then name.now else behind (codes ", ") name.now) }
 {
     if is_first {
         push_words(text, name);

@@ -1,5 +1,6 @@
 -- A report on its way through a page: what was sent, what the page holds, and what is left.
-use Rattle.std.proofs.Common.{◌≡◌, ◌∙◌, ℕ, ◌+◌, ◌<◌, ◌≤◌, List, [], ◌++◌, Option, Some, length, take, drop, slice_get, min, refl, sym, ap, subst, inl, inr, arith, append_assoc}
+use Rattle.std.proofs.Common.{◌≡◌, ◌∙◌, ℕ, ◌+◌, ◌<◌, ◌≤◌, List, [], ◌++◌, Option, Some, arith}
+use Rattle.std.proofs.Common.{length, take, drop, slice_get, min, refl, sym, ap, subst, inl, inr, append_assoc}
 use Rattle.std.specs.Prelude.{unwrap_or}
 use Rattle.std.specs.Io.KnownBytes.{Appends}
 use Rattle.std.proofs.KnownBytes.{Appends-nil, Appends-trans}
@@ -106,7 +107,8 @@ module _ (old mid new : Option (List ℕ)) (room : ℕ) (page : Buffered) (rest 
         appended = Appends-trans old mid new between.done sends.0 between.appended sends.1;
         split = between.split
             ∙ ap (λ before. between.done ++ (before ++ (part ++ rest))) sends.2
-            ∙ ap (λ text. between.done ++ text) (append_assoc sends.0 roomy.held (part ++ rest) ∙ ap (λ text. sends.0 ++ text) (sym (append_assoc roomy.held part rest)))
+            ∙ ap (λ text. between.done ++ text)
+            (append_assoc sends.0 roomy.held (part ++ rest) ∙ ap (λ text. sends.0 ++ text) (sym (append_assoc roomy.held part rest)))
             ∙ sym (append_assoc between.done sends.0 ((roomy.held ++ part) ++ rest))
             ∙ ap (λ before. (between.done ++ sends.0) ++ (before ++ rest)) (sym held);
       }

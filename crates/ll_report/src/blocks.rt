@@ -108,7 +108,8 @@ impl<'a> Blocks<'a> {
         requires blocks { AreOfCase self.now }
         requires read { slice_get self.now.case.now.records place ≡ Some «record».now }
         requires answered { IsAnswerAt self.now.case.now place answer }
-        ensures { text.new ≡ adding text.old (block_text self.now.shown (line_of «record».now answer)
+        ensures { text.new ≡ adding text.old
+            (block_text self.now.shown (line_of «record».now answer)
             (text_at self.now.case.now.tree self.now.case.now.abi
             self.now.case.now.records place)) }
     {

@@ -79,7 +79,8 @@ fn push_refusal(text: &mut TextBuffer, error: Errno, layers: LayerSet)
 
 /// Adds the number of a layer, behind a comma if it isn't the first.
 fn push_layer(text: &mut TextBuffer, number: u32, is_first: bool)
-    ensures { text.new ≡ adding text.old (if is_first then decimal number else next_layer_text number) }
+    ensures { text.new
+        ≡ adding text.old (if is_first then decimal number else next_layer_text number) }
 {
     if is_first {
         push_number(text, u64::from(number));

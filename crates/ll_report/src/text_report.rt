@@ -47,7 +47,8 @@ impl Model for TextReport {
 
     ghost Value = { Told };
 
-    ghost view = { λ report. told_of report.shown report.case.tree report.case.abi report.case.records };
+    ghost view = { λ report.
+        told_of report.shown report.case.tree report.case.abi report.case.records };
 
     ghost invariant = { λ report.
         (report.answers.items ≡ judged report.case.tree report.case.abi report.case.records)
@@ -56,7 +57,8 @@ impl Model for TextReport {
         × IsWithin report.longest (total_of report.answers.items)
         × (report.page ≡ blank report.page.room) × (report.longest ≤ report.page.room)
         × (report.page.room < 2 ^ 63)
-        × (report.refused ≡ (told_of report.shown report.case.tree report.case.abi report.case.records).refused) };
+        × (report.refused
+        ≡ (told_of report.shown report.case.tree report.case.abi report.case.records).refused) };
 }
 
 impl TextReport {

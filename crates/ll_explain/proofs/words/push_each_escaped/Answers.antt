@@ -12,4 +12,5 @@ loop-byte-preserved c =
 
 pub returns : goal.returns
 returns c =
-    adding_nothing c.loop-byte.text ∙ ap (λ rest. adding c.loop-byte.text (escape rest)) (sym (nil_from_length _ c.in-None.ensures.steps.0)) ∙ c.loop-byte.invariant
+    adding_nothing c.loop-byte.text ∙ ap (λ rest. adding c.loop-byte.text (escape rest)) (sym (nil_from_length _ c.in-None.ensures.steps.0))
+    ∙ c.loop-byte.invariant

@@ -5,4 +5,5 @@ use Rattle.ll_report.proofs.report.push_layer.Goals as goal
 
 pub returns-else-is_first : goal.returns-else-is_first
 returns-else-is_first c =
-    rw c.if-is_first.false (appended_2 c.args.text.now _ _ _ _ c.push_words.ensures (c.push_number-else-is_first.ensures ∙ ap (λ n. adding c.push_words.new.text (decimal n)) c.from-else-is_first.ensures))
+    rw c.if-is_first.false (appended_2 c.args.text.now _ _ _ _ c.push_words.ensures
+    (c.push_number-else-is_first.ensures ∙ ap (λ n. adding c.push_words.new.text (decimal n)) c.from-else-is_first.ensures))

@@ -6,5 +6,6 @@ use Rattle.ll_report.proofs.report.push_line.Goals as goal
 
 pub returns : goal.returns
 returns c =
-    appended_3 c.args.text.now _ _ _ _ _ _ (c.push_head.ensures ∙ ap (λ (op : List ℕ). adding c.args.text.now (head_text c.args.record.now.line c.args.record.now.pid op)) c.name.ensures)
+    appended_3 c.args.text.now _ _ _ _ _ _
+    (c.push_head.ensures ∙ ap (λ (op : List ℕ). adding c.args.text.now (head_text c.args.record.now.line c.args.record.now.pid op)) c.name.ensures)
     c.push_verdict.ensures c.push_words.ensures

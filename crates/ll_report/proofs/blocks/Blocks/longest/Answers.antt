@@ -41,11 +41,13 @@ loop-place-preserved c =
     let one : Record = c.record-item.result in
     let answer : Answer = c.index-self-place.result in
     let same = c.records-record-items.ensures.value ∙ c.trace.ensures.records in
-    let there = ap (λ (rs : List Record). slice_get rs place) (sym same) ∙ stands c.records-record-items.result.now place one c.loop-place-test.true c.record-item.is in
+    let there = ap (λ (rs : List Record). slice_get rs place) (sym same)
+    ∙ stands c.records-record-items.result.now place one c.loop-place-test.true c.record-item.is in
     let given = given_at cv answers place answer c.requires.answers
     (as_many cv answers c.records-record-items.result.now place c.requires.answers same c.loop-place-test.true) c.index-self-place.is in
     let printed = c.push_block.ensures ∙ ap (λ (a : Answer). adding c.clear.new.self (block_at shown cv place one a)) (sym c.index-self-place.is) in
-    let this = measured_within _ c.count.result (block_at shown cv place one answer) c.clear.new.self c.push_block.new.text c.clear.ensures printed c.count.ensures in (
+    let this = measured_within _ c.count.result (block_at shown cv place one answer) c.clear.new.self c.push_block.new.text
+    c.clear.ensures printed c.count.ensures in (
       one_more_within shown cv place c.loop-place.longest c.count.result c.max-longest.result one answer there given c.loop-place.invariant.0 this
           (omega (arith, c.max-longest.ensures)) (omega (arith, c.max-longest.ensures)),
       omega (arith, c.loop-place.invariant.1, c.max-longest.ensures),

@@ -51,7 +51,8 @@ loop-place-preserved g c =
     let one : Record = c.record-item.result in
     let answer : Answer = c.index-self-place.result in
     let same = c.records-record-items.ensures.value ∙ c.trace.ensures.records in
-    let there = ap (λ (rs : List Record). slice_get rs place) (sym same) ∙ stands c.records-record-items.result.now place one c.loop-place-test.true c.record-item.is in
+    let there = ap (λ (rs : List Record). slice_get rs place) (sym same)
+    ∙ stands c.records-record-items.result.now place one c.loop-place-test.true c.record-item.is in
     let given = given_at cv answers place answer c.requires.blocks.answers
     (as_many cv answers c.records-record-items.result.now place c.requires.blocks.answers same c.loop-place-test.true) c.index-self-place.is in
     let next = left_next shown explained cv.records answers place one answer
