@@ -30,7 +30,7 @@ Cases are TOML: each [[refused]] or [[allowed]] has a call in the words of a
 trace (open r, open w create, exec, mknod fifo, rename, connect, ..) with path,
 from and to, or port; abi (one or a range) unless it is about all of them; and
 kind for a path that is not on this machine. The output is TAP, version 14, or
-with --json the same as data."""
+JSON with --json."""
 
 
 def add_arguments(parser: argparse.ArgumentParser) -> None:
@@ -38,7 +38,7 @@ def add_arguments(parser: argparse.ArgumentParser) -> None:
     parser.description = f"{HELP}\n{CASES}"
     add_policy(parser)
     parser.add_argument("cases", metavar="CASES.toml", type=Path, help="what the policy must allow and refuse")
-    parser.add_argument("--json", action="store_true", help="print the same as data")
+    parser.add_argument("--json", action="store_true", help="print the result as JSON")
     add_landaudit(parser)
 
 
