@@ -181,7 +181,7 @@ def _last_name(path: str) -> str:
 
 
 def _nowhere(trace: Path, program: str | None, programs: list[str]) -> str:
-    """The message that a policy goes nowhere in a trace, and what to do."""
+    """The message that a policy has no place in a trace, and what to do."""
     if not programs:
         return f"{trace} runs no program (it has no exec record): there is nowhere to put the policy"
     if program is None:

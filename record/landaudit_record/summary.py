@@ -71,8 +71,8 @@ class Brief:
 
 @dataclass
 class Summary:
-    """The result of an audit; `missing` is what it could not judge, so that it can't say that all is well, `untraced`
-    which kinds of calls that a layer may refuse were not traced.
+    """The result of an audit; `missing` has what could not be judged, so that the audit is not complete; `untraced` has
+    the kinds of calls that a layer may refuse and that were not traced.
 
     Accepted refusals are separate, with how many calls there are of each. `untouched` are the warnings about rules on
     paths that the run never touched; `brief` has shorter forms of some warnings; `recordings` says, if several were
@@ -176,7 +176,7 @@ class Summaries:
             self._by_abi[abi].refusals.setdefault(refusal, Counter())[told.program or "-"] += times
 
     def _warned(self, record: Record, answer: Answer, abis: Iterable[int], times: int) -> bool:
-        """Warns of a ruleset that is not made or not filled; says whether that is all to be said of the record."""
+        """Warns of a ruleset that is not made or not filled; tells whether the record needs no other entry."""
         condition, origin = answer.condition, of_policy(record)
         for abi in abis:
             if origin is not None:

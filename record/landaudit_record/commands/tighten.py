@@ -1,4 +1,4 @@
-"""Prints a policy without what recordings don't need."""
+"""Prints a policy without the rights that recordings don't need."""
 
 from __future__ import annotations
 

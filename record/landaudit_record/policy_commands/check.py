@@ -43,7 +43,7 @@ def add_arguments(parser: argparse.ArgumentParser) -> None:
 
 
 def run(arguments: argparse.Namespace) -> int:
-    """Prints a line of TAP for each case, with why, or all as data; the status is 1 if any fails."""
+    """Prints a line of TAP for each case with the reasons, or all cases as JSON; the status is 1 if any fails."""
     program = landaudit.find(arguments.landaudit)
     policy = _followed(policies.read(arguments.policy))
     given = cases.read(arguments.cases)
@@ -67,7 +67,7 @@ def _print(outcomes: Sequence[_Outcome]) -> None:
 
 
 def _data(arguments: argparse.Namespace, outcomes: Sequence[_Outcome]) -> dict[str, Any]:
-    """What is found of all cases, as data for programs; its keys stay."""
+    """The results of all cases, as data for programs; its keys stay."""
     held = sum(outcome.holds for outcome in outcomes)
     return {
         "format": FORMAT,
@@ -98,7 +98,7 @@ def _followed(policy: Policy) -> Policy:
 
 @dataclass(frozen=True)
 class _Outcome:
-    """A case with landaudit's answer at each of its ABIs, and the rules that grant something of the call."""
+    """A case with landaudit's answer at each of its ABIs, and the rules that grant one or more rights of the call."""
 
     case: Case
     answers: dict[int, Answer]
