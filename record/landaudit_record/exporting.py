@@ -31,9 +31,10 @@ _HEAD = """\
 #include <linux/landlock.h>
 
 /*
- * Confines the calling thread, and all that it starts from now on, by the policy below. Gives 0, or the errno of the
- * call that failed: ENOSYS or EOPNOTSUPP where the kernel has no Landlock. After a failure the thread may be confined
- * by some of the layers. What the kernel's ABI does not have is left out, and so are rules on what is not there.
+ * Confines the calling thread, and all that it starts afterwards, by the policy below. Returns 0, or the errno of the
+ * call that failed: ENOSYS or EOPNOTSUPP if the kernel has no Landlock. After a failure, the thread may be confined by
+ * some of the layers. Rights that the kernel's ABI does not have are left out, and so are rules on objects that do not
+ * exist.
  */
 int confine_by_policy(void);
 """

@@ -155,7 +155,7 @@ class Finished:
         """The calls that the policy's scopes may refuse: there are no records for them, they are only counted."""
         for scope in self.scoped:
             if SIGNALS in self.untraced:
-                yield f"scoped = {scope}: the recording has no calls that it may refuse, so record it again"
+                yield f"scoped = {scope}: calls that it may refuse were not traced, so record it again"
             elif self.scopes[scope]:
                 calls = counted(self.scopes[scope], "call")
                 yield f"{calls} that scoped = {scope} may refuse can't be judged: {_SCOPED[scope]}"
@@ -214,7 +214,7 @@ def _by_hand(path: Path) -> Finished:
         if not file.is_file():
             if path.exists():
                 raise Problem(f"{path} has no {file.name}: name a folder that 'landaudit-record run' made")
-            raise Problem(f"{path} does not exist: record it first by landaudit-record run {path} -- COMMAND")
+            raise Problem(f"{path} does not exist: record it first with landaudit-record run {path} -- COMMAND")
     unsaid, holes = _unsaid(path / "unsaid.jsonl")
     return Finished(path, (part,), unsaid, holes, True)
 

@@ -34,7 +34,7 @@ def find(named: str | None) -> Path:
             return program
     found = shutil.which("landaudit")
     if found is None:
-        raise Problem("landaudit is not built: run 'make landaudit', or give its path by --landaudit", WANTING)
+        raise Problem("landaudit is not built: run 'make landaudit', or give its path with --landaudit", WANTING)
     return Path(found)
 
 

@@ -17,7 +17,7 @@ from .reading import ASKED_LANDLOCK, Place, Told, Walk, call_text, place_of, pla
 _TELLS = ("op", "path", "shown", "from", "to", "shown_to", "mode", "create", "trunc", "kind", "exchange", "port", "rs")
 #: Why a call on a descriptor is moot if the descriptor's open was not allowed.
 MISSED = f"{NOT_OPEN}, its opening was refused or moot"
-NO_LAYER = ("no process confines itself, so nothing is refused: try a policy by --policy, or record a program that "
+NO_LAYER = ("no process confines itself, so nothing is refused: try a policy with --policy, or record a program that "
             "confines itself")
 
 
@@ -214,7 +214,7 @@ class Summaries:
         for abi, summary in self._by_abi.items():
             summary.verdicts["allowed"] = summary.seen - summary.verdicts["refused"] - summary.verdicts["moot"]
             if not self._confines:
-                _warn(summary, NO_LAYER, 1, Brief("no process confines itself: try a policy by --policy"))
+                _warn(summary, NO_LAYER, 1, Brief("no process confines itself: try a policy with --policy"))
             if 10 * summary.moot_path_calls > summary.path_calls:
                 _warn_of_many_moot(summary)
             summary.unsaid = unsaid

@@ -228,7 +228,7 @@ def notes(tried: Tried, abis: range, *, here: bool = False) -> Iterator[str]:
         yield f"ABI {older[0]} lacks rights of the policy: --abi {older[0]} says which"
     elif older:
         several = span(range(older[0], older[-1] + 1))
-        yield f"ABI {several} lack rights of the policy: --abi N says which of them N lacks"
+        yield f"ABI {several} lack rights of the policy: --abi N says which rights ABI N lacks"
     yield from fitting.fit(tried.policy, abis[-1])[1]
 
 
