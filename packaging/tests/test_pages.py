@@ -102,6 +102,9 @@ class Made(unittest.TestCase):
             [".Bl -bullet", ".It", "a", ".It", "b", ".El", ".Bd -literal -offset indent", "\\&.c \\-d", "e", ".Ed"],
         )
 
+    def test_an_item_of_several_lines(self) -> None:
+        self.assertEqual(self.made("- a\n  b\n- c"), [".Bl -bullet", ".It", "a b", ".It", "c", ".El"])
+
     def test_tables(self) -> None:
         self.assertEqual(
             self.made("| Since | Names |\n|---|---|\n| 1 | `a`, b |"),

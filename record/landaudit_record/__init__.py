@@ -1,6 +1,6 @@
 """landaudit-record: from a command line to an audit of what a Landlock policy breaks.
 
-landaudit-policy, beside it, is for what needs no recording. Both programs are of this one package.
+landaudit-policy, beside it, works on policies without a recording. Both programs are of this one package.
 """
 
 import sys

@@ -181,7 +181,7 @@ def _last_name(path: str) -> str:
 
 
 def _nowhere(trace: Path, program: str | None, programs: list[str]) -> str:
-    """The message that a policy goes nowhere in a trace, and what to do."""
+    """The message that a policy has no place in a trace, and what to do."""
     if not programs:
         return f"{trace} runs no program (it has no exec record): there is nowhere to put the policy"
     if program is None:
@@ -271,7 +271,7 @@ def write(trace: Path, places: Plan, inserted: list[Record], out: BinaryIO) -> N
     total = places.records(inserted)
     if total > MOST_RECORDS:
         raise Problem(f"with the policy put in {places.times} times {trace} has {total:,} records, and landaudit "
-                      f"reads {MOST_RECORDS:,}: name another program by --program, or record less")
+                      f"reads {MOST_RECORDS:,}: name another program with --program, or record less")
     at = 0
     with open(trace, "rb") as lines:
         for number in sorted({*places.before, *places.behind}):

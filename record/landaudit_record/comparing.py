@@ -51,7 +51,7 @@ class Class(enum.Enum):
 
 @dataclass(frozen=True)
 class Difference:
-    """A call that the kernel answered in another way than landaudit."""
+    """A call to which the kernel gave another answer than landaudit."""
 
     call: Call
     because: Class

@@ -54,7 +54,7 @@ def place(call: Call) -> str:
 
 
 def told(answer: Answer) -> str:
-    """An answer as the text of a report has it."""
+    """An answer in the words of a report."""
     if not answer.refused:
         return answer.verdict
     return f"{answer.verdict} {answer.error} {','.join(str(layer.layer) for layer in answer.layers) or '-'}"

@@ -1,7 +1,7 @@
 """Puts a policy in force: this process restricts itself by its layers, at best effort, and then becomes a command.
 
-Best effort is what the kernel's document advises: rights that the ABI does not have are dropped, and rules whose object
-does not exist are left out. As in a trace, a rule that the kernel refuses is an error in the policy.
+Best effort is advised by the kernel's documentation: rights that the ABI does not have are dropped, and rules whose
+object does not exist are left out. As in a trace, a rule that the kernel refuses is an error in the policy.
 """
 
 from __future__ import annotations

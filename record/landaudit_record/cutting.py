@@ -17,8 +17,8 @@ MOST = 700_000
 def cut(trace: Path, folder: Path, weights: Mapping[int, int], most: int = MOST) -> Iterator[Path]:
     """Pieces of a trace, each a trace of its own that begins with what all living processes have.
 
-    A record weighs 1, or what is given for its line. A piece ends between two system calls, before it would be too
-    heavy. The next piece is written after this one was used.
+    A record has the weight 1, or the one that is given for its line. A piece ends between two system calls, before it
+    would be too heavy. The next piece is written after this one was used.
     """
     living = Living()
     pieces = 0

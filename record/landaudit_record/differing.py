@@ -113,8 +113,8 @@ def differences(program: Path, old: Policy, new: Policy, abis: range) -> Differe
     regions = Regions.of((old, new))
     kinds = regions.kinds()
     if len(kinds) > MOST_OBJECTS:
-        raise Problem(f"{old.path} and {new.path} have rules on {len(regions.paths):,} paths, and a tree for that many "
-                      f"is more than landaudit reads ({MOST_OBJECTS:,} objects): compare parts of them")
+        raise Problem(f"{old.path} and {new.path} have rules on {len(regions.paths):,} paths, and a tree for these has "
+                      f"more objects than landaudit reads ({MOST_OBJECTS:,}): compare parts of the policies")
     found = Differences()
     making: dict[str, set[str]] = {}
     with tempfile.TemporaryDirectory(prefix="landaudit-") as folder:

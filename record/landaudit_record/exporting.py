@@ -1,7 +1,7 @@
 """A policy as code: a C99 function that confines its process as `confining` does, with only the kernel's headers.
 
 The tables of the code are the policy. The functions after them are the same for every policy, and follow "Defining
-and enforcing a security policy" in the kernel's userspace document on Landlock.
+and enforcing a security policy" in the kernel's userspace documentation on Landlock.
 """
 
 from __future__ import annotations
@@ -31,9 +31,10 @@ _HEAD = """\
 #include <linux/landlock.h>
 
 /*
- * Confines the calling thread, and all that it starts from now on, by the policy below. Gives 0, or the errno of the
- * call that failed: ENOSYS or EOPNOTSUPP where the kernel has no Landlock. After a failure the thread may be confined
- * by some of the layers. What the kernel's ABI does not have is left out, and so are rules on what is not there.
+ * Confines the calling thread, and all that it starts afterwards, by the policy below. Returns 0, or the errno of the
+ * call that failed: ENOSYS or EOPNOTSUPP if the kernel has no Landlock. After a failure, the thread may be confined by
+ * some of the layers. Rights that the kernel's ABI does not have are left out, and so are rules on objects that do not
+ * exist.
  */
 int confine_by_policy(void);
 """
@@ -278,6 +279,6 @@ def _comment(texts: Iterable[str], indent: str) -> Iterator[str]:
 
 
 def _text(text: str) -> str:
-    """A text as a C string: each byte that is not plain is an octal escape of three digits."""
+    """A text as a C string: each byte that is not a plain character is an octal escape of three digits."""
     plain = (chr(byte) if 32 <= byte < 127 and chr(byte) not in '"\\?' else f"\\{byte:03o}" for byte in text.encode())
     return f'"{"".join(plain)}"'

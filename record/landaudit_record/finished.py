@@ -25,12 +25,12 @@ OF_A_PART = ("tree", "trace", "tried", "report")
 #: Kinds of calls that not every recording has: those that only look at an object, that read links, that send signals.
 LOOKING, READING_LINKS, SIGNALS = "looks", "readlink", "signals"
 _OLDER = (LOOKING, READING_LINKS, SIGNALS)
-#: What of a policy's scopes may be refused (landlock(7)), and by which calls.
+#: The scopes that a policy may have (landlock(7)), each with the calls that it may refuse.
 _SCOPED = {
     "abstract_unix_socket": "a connection to an abstract UNIX socket of another process",
     "signal": "a signal to another process",
 }
-#: What is in a folder by `landaudit-record run` and can be converted (again).
+#: The files that `landaudit-record run` writes and from which a recording can be converted.
 RECORDED = ("recording.json", "strace.txt", "strace.txt.gz")
 
 
@@ -46,11 +46,11 @@ class Size:
 
 @dataclass(frozen=True)
 class Converted:
-    """What a conversion that finished says about itself.
+    """What a finished conversion says about itself.
 
-    `unsaid` counts by class what could not be said, `holes` those of these calls that the kernel may refuse by a policy
-    and an audit can't foresee, `scopes` those that it may refuse if the policy has the scope; `ended` says that the
-    tracer ended by itself, `untraced` which kinds of calls the log does not have.
+    `unsaid` counts by class the calls that could not be written, `holes` those of them that the kernel may refuse by a
+    policy and that an audit can't foresee, `scopes` the calls that the kernel may refuse if the policy has the scope.
+    `ended` says that the tracer ended by itself; `untraced` has the kinds of calls that the log does not have.
     """
 
     parts: tuple[Size, ...]
@@ -68,7 +68,7 @@ class Converted:
         return sum(part.records - part.again for part in self.parts)
 
     def write(self, folder: Path) -> None:
-        """Says in a folder that the conversion is whole; nobody ever sees half of it."""
+        """Marks the conversion in a folder as complete; the file appears in one step."""
         names = ("processes", "objects", "unsaid", "holes", "scopes", "ended", "untraced")
         said = {name: getattr(self, name) for name in names}
         parts = [asdict(part) for part in self.parts]
@@ -127,7 +127,7 @@ def numbered(folder: Path, parts: int) -> list[Part]:
 
 @dataclass(frozen=True)
 class Finished:
-    """The folder of a recording that has all its parts; `scoped` are the scopes of the policy that is tried on it."""
+    """The folder of a recording with all its parts; `scoped` are the scopes of the policy that is tried on it."""
 
     folder: Path
     parts: tuple[Part, ...]
@@ -140,7 +140,7 @@ class Finished:
 
     @property
     def missing(self) -> list[str]:
-        """What an audit of the recording can't judge, a text for each cause; with any, no audit says all is well."""
+        """What an audit of the recording can't judge, a text for each cause; with one, no audit has status 0."""
         told: list[str] = []
         if self.holes:
             calls = ", ".join(f"{name} ({times})" for name, times in self.holes.most_common())
@@ -152,17 +152,17 @@ class Finished:
         return told
 
     def _of_scopes(self) -> Iterator[str]:
-        """What the policy's scopes may refuse: no record has such calls, they are only counted."""
+        """The calls that the policy's scopes may refuse: there are no records for them, they are only counted."""
         for scope in self.scoped:
             if SIGNALS in self.untraced:
-                yield f"scoped = {scope}: the recording has no calls that it may refuse, so record it again"
+                yield f"scoped = {scope}: calls that it may refuse were not traced, so record it again"
             elif self.scopes[scope]:
                 calls = counted(self.scopes[scope], "call")
                 yield f"{calls} that scoped = {scope} may refuse can't be judged: {_SCOPED[scope]}"
 
     @property
     def notes(self) -> Iterator[str]:
-        """What stands beside each audit: the kinds of calls that were not traced and that a layer may refuse."""
+        """The notes on each audit: the kinds of calls that were not traced and that a layer may refuse."""
         if LOOKING in self.untraced:
             yield "calls that only look (stat, readlink) into other processes are not recorded: record it again"
         elif READING_LINKS in self.untraced:
@@ -170,7 +170,7 @@ class Finished:
 
 
 def opened(folder: str) -> Finished:
-    """The recording in a folder; if the folder has none, or one that is not whole, that is a Problem."""
+    """The recording in a folder; if the folder has none, or an incomplete one, that is a Problem."""
     path = Path(folder)
     converted = _converted(path)
     if converted is None:
@@ -214,7 +214,7 @@ def _by_hand(path: Path) -> Finished:
         if not file.is_file():
             if path.exists():
                 raise Problem(f"{path} has no {file.name}: name a folder that 'landaudit-record run' made")
-            raise Problem(f"{path} does not exist: record it first by landaudit-record run {path} -- COMMAND")
+            raise Problem(f"{path} does not exist: record it first with landaudit-record run {path} -- COMMAND")
     unsaid, holes = _unsaid(path / "unsaid.jsonl")
     return Finished(path, (part,), unsaid, holes, True)
 

@@ -1,6 +1,6 @@
 """A policy at one ABI, at best effort: rights that the ABI does not have are dropped.
 
-The kernel's document advises this, and libraries do it. A program that asks an
+The kernel's documentation advises this, and libraries do it. A program that asks an
 older kernel for a right that it does not know gets EINVAL, and no layer.
 """
 

@@ -1,4 +1,4 @@
-"""What is kept of processes while an audit goes over a trace: what each runs, its layers, numbers that are not open."""
+"""The state of processes while an audit reads a trace: the program, the layers, and numbers that are not open."""
 
 from __future__ import annotations
 
@@ -48,7 +48,7 @@ class Followed:
         return NOWHERE if of_process is None else of_process.get(fd, NOWHERE)
 
     def follow(self, line: int, record: Record, not_allowed: frozenset[int]) -> None:
-        """Takes up the record on a line; `not_allowed` are the ABIs under which it is refused or moot."""
+        """Follows the record on a line; `not_allowed` are the ABIs under which it is refused or moot."""
         pid = record["pid"]
         match record["op"]:
             case "start":
@@ -94,7 +94,7 @@ class Followed:
         self.watched -= sum(map(_may_be_opened, self._missed.pop(pid, ())))
 
     def miss(self, pid: int, fd: int, abis: frozenset[int]) -> None:
-        """Keeps the ABIs under which a number is not open because its opening was not allowed."""
+        """Stores the ABIs under which a number is not open because its opening was not allowed."""
         missed = self._missed.get(pid)
         if abis:
             if missed is None:

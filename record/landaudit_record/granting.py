@@ -72,7 +72,7 @@ def _parts(policy: Policy) -> Iterator[_Alone]:
 
 
 def grants(program: Path, policy: Policy, tree: Tree, questions: Sequence[Question]) -> list[list[Grant]]:
-    """For each question, the rules of the policy that grant something of it at the newest ABI, with what they grant."""
+    """For each question, the rules of the policy that grant rights of it at the newest ABI, and these rights."""
     parts = [(part, [n for n, it in enumerate(questions) if part.concerns(it)]) for part in _parts(policy)]
     parts = [(part, concerned) for part, concerned in parts if concerned]
     confined = [asking.under(part.policy(policy.path), NEWEST_ABI, tree) for part, _ in parts]

@@ -1,4 +1,4 @@
-"""Puts many kinds of refused calls into few groups: by what is lacking, and below which directory.
+"""Puts many kinds of refused calls into few groups: by the rights that are lacking and the directory above the paths.
 
 A reader would write one rule for a group. Its directory is the deepest one above all its paths. A group is split, while
 there are few groups, if its directory is near the root or if one directory below has most of the group.
@@ -158,7 +158,7 @@ def _depth(directory: str) -> int:
 
 
 def _is_loose(group: Group, smaller: Sequence[Group]) -> bool:
-    """Whether a group says too little: it is near the root, or one directory has most of it."""
+    """Whether a group is too wide: its directory is near the root, or one directory below has most of it."""
     below = [len(one.kinds) for one in smaller if one.directory != group.directory]
     return _depth(group.directory) < _NEAR_ROOT or max(below, default=0) >= _MOST * len(group.kinds)
 

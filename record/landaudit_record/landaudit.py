@@ -34,7 +34,7 @@ def find(named: str | None) -> Path:
             return program
     found = shutil.which("landaudit")
     if found is None:
-        raise Problem("landaudit is not built: run 'make landaudit', or give its path by --landaudit", WANTING)
+        raise Problem("landaudit is not built: run 'make landaudit', or give its path with --landaudit", WANTING)
     return Path(found)
 
 
@@ -77,7 +77,7 @@ class Run:
 
 
 def _ended(status: int) -> str:
-    """How a run of landaudit ended that said nothing."""
+    """How a run of landaudit ended that printed no message."""
     if status == -signal.SIGKILL:
         return "landaudit was killed: is there enough memory?"
     by_signal = f"was ended by {signal.Signals(-status).name}" if status < 0 else f"ended with status {status}"
@@ -96,7 +96,7 @@ def start(
     only_refused: bool = False,
 ) -> Run:
     """Starts landaudit once for all ABIs of a range; its report, as JSON, is with explanations or without, and of all
-    records or of those alone that some ABI refuses.
+    records or only of those that some ABI refuses.
 
     At best effort rulesets lose the rights that an ABI does not have; else they are judged as they were recorded.
     """

@@ -1,6 +1,6 @@
 """Text that fits a width: sentences folded at blanks, long names shortened in the middle, tables without wrapped lines.
 
-Names are not trusted: a printed name is on one line, runs from left to right, and is as wide as it is counted.
+Names are not trusted: a printed name is on one line, runs from left to right, and has the width that was computed.
 """
 
 from __future__ import annotations
@@ -22,15 +22,15 @@ WIDTH = 80
 LEAST_WIDTH = 20
 #: The fewest characters of a shortened column; a table in which that is too wide has a line for each cell.
 LEAST_COLUMN = 14
-#: A path beside words that stay keeps so many, while there is room; one of several less.
+#: The characters that a path beside fixed words keeps while there is room; one of several paths keeps fewer.
 LEAST_PATH = 7
 _LEAST_OF_SEVERAL = 5
 _MARGIN = "  "
 _BETWEEN = "  "
 _NATURAL = 1 << 30
-#: Where a table has lines for each cell, so many for a long one.
+#: The most lines of a long cell in a table with a line for each cell.
 _STACKED = 3
-#: How much of what is shown of a long text is its beginning: the end of a path tells more.
+#: The share of the beginning in a shortened text: the end of a path says more.
 _HEAD = 0.3
 #: Unicode's names of the directions of letters and digits that a terminal may draw from right to left.
 _RIGHT_TO_LEFT = frozenset({"R", "AL", "AN"})
@@ -191,7 +191,7 @@ def lacks(texts: Sequence[Lack], between: str = "; ") -> Cell:
 
 
 def _end_of(path: str, width: int) -> str:
-    """A path that fits: of little room its end takes all."""
+    """A path that fits: if there is little room, its end takes all of it."""
     return shortened(path, width, head=_HEAD if width >= LEAST_COLUMN else 0)
 
 
@@ -214,7 +214,7 @@ def names(texts: Sequence[str], *, said: str = "", brief: Callable[[str], str] |
 
 
 def shared(wanted: Sequence[int], room: int) -> list[int]:
-    """Shares out room: each gets what it wants, or, if that is too much, those that want most get equal parts."""
+    """Divides the room: each gets what it wants or, if that is too much, those that want most get equal parts."""
     given = [0] * len(wanted)
     left = sorted(range(len(wanted)), key=lambda index: wanted[index])
     while left:
@@ -229,8 +229,8 @@ class Column:
     """A column: a number flush right, or a text, which may be shortened; columns with `less` are shortened first.
 
     `once` says that where all rows have the same, and the table is too wide, it is said once before it; a row with `-`
-    has none of it, in which case `none` is said too, and is as the others if it is given. Where the table is so narrow
-    that other columns are shortened, `instead` is said before it in the place of the column. A column that is shortened
+    has none of it, in which case `none` is said too, and is as the others if it is given. If the table is so narrow
+    that other columns are shortened, `instead` is said before it in place of the column. A column that is shortened
     keeps the width `least`, while the others have room.
     """
 
@@ -274,7 +274,7 @@ def _without(
 
 
 def _is_tight(columns: Sequence[Column], rows: Sequence[Sequence[Cell]], width: int) -> bool:
-    """Whether columns of more weight are shortened, whatever is taken from those of less."""
+    """Whether columns of more weight are shortened even if those of less weight have their least width."""
     widths, wanted = _widths(columns, rows, width), _natural(columns, rows)
     return widths is None or any(
         given < natural for column, given, natural in zip(columns, widths, wanted) if not column.less

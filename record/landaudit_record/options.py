@@ -19,7 +19,7 @@ OF_POLICY = "rights of the policy that this ABI does not have are dropped"
 
 def add_recordings(parser: argparse.ArgumentParser) -> None:
     """Adds the recordings that a subcommand is about."""
-    parser.add_argument("recordings", metavar="OUT", nargs="+", help="the folder of a recording, or of several")
+    parser.add_argument("recordings", metavar="OUT", nargs="+", help="the folders of one or more recordings")
 
 
 def add_abi(parser: argparse.ArgumentParser, besides: str = OF_POLICY) -> None:
@@ -71,8 +71,8 @@ class _Once(argparse.Action):
 
 
 OF_SUMMARY = (
-    "Landlock's ABI, or a range (default: {all}): the newest is described in full, followed by what breaks at each; "
-    "rights of the policy that an ABI does not have are dropped"
+    "Landlock's ABI, or a range (default: {all}): the summary describes the newest in full, and says what breaks at "
+    "each; rights of the policy that an ABI does not have are dropped"
 )
 
 
@@ -124,7 +124,7 @@ def add_landaudit(parser: argparse.ArgumentParser) -> None:
     parser.add_argument(
         "--landaudit",
         metavar="PATH",
-        help="the program landaudit (default: where 'make landaudit' puts it, else beside landaudit-record, "
+        help="the landaudit to run (default: where 'make landaudit' puts it, else in the directory of this program, "
         "else on PATH)",
     )
 

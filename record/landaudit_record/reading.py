@@ -1,9 +1,9 @@
 """Reads a trace together with its report: each record with its answer, or only those that an audit shows.
 
 Most records are allowed and change nothing that a summary needs. `Walk` goes over a trace and its report once, for all
-ABIs of the report, and takes apart only the lines of the other records; of those that a summary counts as one it takes
-apart the first (`Walk.kinds`). It knows what to do with a line by its first bytes, and the members of the commonest
-records by theirs, where they are written as landaudit-record writes them.
+ABIs of the report, and decodes only the lines of the other records; of those that a summary counts as one, it decodes
+the first (`Walk.kinds`). The first bytes of a line show what to do with it. The members of the most frequent records
+are read without decoding, if they are written as landaudit-record writes them.
 """
 
 from __future__ import annotations
@@ -44,9 +44,9 @@ _STATES = ASKS_FOR_LAYERS | {"start", "fork", "exit", "exec"}
 _RULES = frozenset({"add_path", "add_port"})
 _OPENS = frozenset({"open", "adopt", "dup"})
 _OTHERS = PORT_CALLS | {"nnp", "close_rs", "close", "ftruncate", "mount", "ioctl"}
-#: Progress is shown each time that so many records were read.
+#: Progress is shown each time that this many records were read.
 EVERY = 10_000
-#: So many kinds of records are counted before they are told.
+#: The number of kinds of records that are counted before they are yielded.
 MOST_KINDS = 16_384
 
 #: What there is to do with a line, by its operation: what _READ has is known only when the line is taken apart.
@@ -58,7 +58,7 @@ def _to_do(op: str) -> int:
     return sum(to_do for to_do, ops in families.items() if op in ops)
 
 
-#: How records begin as landaudit-record writes them: enough of a line to know what there is to do.
+#: How records begin as landaudit-record writes them: enough of a line to know what to do with it.
 _KNOWN = len('{"op":"nnp"')
 _BEGINS = {f'{{"op":"{op}"'[:_KNOWN].encode(): _to_do(op) for op in _STATES | _RULES | _OPENS | _OTHERS | PATH_CALLS}
 _KERNEL = b'"kernel":"'
@@ -67,12 +67,12 @@ _ASKED = tuple(f'{answer}"'.encode() for answer in ASKED_LANDLOCK if answer)
 _AGAIN = b'"again":true'
 _POLICY = b'"policy":'
 _BLANKS = b" \t\r\n"
-#: The commonest records that change what is kept, as landaudit-record writes them.
+#: The most frequent records that change what is kept, as landaudit-record writes them.
 _CHANGES = re.compile(
     rb'\{"op":"(exit|fork|exec)","pid":[0-9]+(?:,"child":([0-9]+)|,"path":"([^"\\]*)")?(,"role":"[a-z]+")?'
     rb',"call":[0-9]+(?:,"kernel":"ok")?\}\n'
 )
-#: Members by which records differ that a summary counts as one: of an opening its number too.
+#: Members in which records may differ that a summary counts as one: for an opening, its number too.
 _OWN = re.compile(rb'"(?:pid|call)":[0-9]+,?')
 _OWN_OF_OPENING = re.compile(rb'"(?:pid|call|fd)":[0-9]+,?')
 _FD = re.compile(rb'"fd":([0-9]+)')
@@ -122,19 +122,19 @@ class Told:
 #: A line of a trace: its number, the line, what there is to do with it, the report's line on it, and whether some ABI
 #: does not allow it.
 _Said = tuple[int, bytes, int, bytes, bool]
-#: How the process of a record stands before it: see Told.program, Told.missed and Told.confined.
+#: The state of the process of a record before it: see Told.program, Told.missed and Told.confined.
 _Standing = tuple[str | None, frozenset[int], bool]
-#: What records have in common that a summary counts as one: standing, members and answers.
+#: What records have in common that a summary counts as one: state, members and answers.
 _Kind = tuple[_Standing, bytes, bytes]
 
 
 class Walk:
     """One walk over a trace and its report over some ABIs.
 
-    The records at the beginning that only give processes once more what they had are walked over and not told.
-    `records` and `path_calls` count what was walked over without them, the latter where Landlock was asked; `files` are
-    both. With `only_refused` the report has the refused records alone: then moot ones are as those that are allowed,
-    and no opening is missed.
+    The records at the beginning of a part that only restore what processes had are read and not yielded. `records` and
+    `path_calls` count the other records that were read, the latter those on paths about which Landlock was asked;
+    `files` are both files. With `only_refused` the report has only the refused records: then moot records count as
+    allowed, and no opening is missed.
     """
 
     def __init__(
@@ -166,7 +166,7 @@ class Walk:
             return shown(jsonl.read(self.files[0], line, trace.readline()), "path")
 
     def __iter__(self) -> Iterator[Told]:
-        """Each record that is told."""
+        """Each record that is not allowed at all ABIs, or that changes what is kept."""
         for said in self._lines():
             _, _, to_do, _, differs = said
             if differs or to_do >= _RULE:
@@ -177,10 +177,10 @@ class Walk:
                 self._follow_opening(said, self._members(said))
 
     def kinds(self) -> Iterator[tuple[Told, int]]:
-        """Records that are not allowed under all ABIs and those of the tried policy: of those that a summary counts as
-        one, the first, and how many they are. They are in the order of these first ones.
+        """Records that are not allowed under all ABIs, and those of the tried policy: of those that a summary counts as
+        one, the first, and how many there are. They are in the order of these first ones.
 
-        A kind is told again if many others came after it.
+        A kind is yielded again if many others came after it.
         """
         kinds: dict[_Kind, tuple[_Said, list[int]]] = {}
         for said in self._lines():
@@ -202,7 +202,7 @@ class Walk:
             yield self._told(said, self._record(said), standing), times
 
     def _lines(self) -> Iterator[_Said]:
-        """Goes over both files, and gives what is told or changes what is kept. A long recording waits for this."""
+        """Reads both files, and yields the lines to decode. A long recording spends most of the time here."""
         again, at, offset, processes, progress = True, 0, self._offsets.append, self._processes, self._progress
         begins, allowed, whole = _BEGINS.get, self._allowed, self._whole
         with open(self.files[0], "rb") as lines, open(self.files[1], "rb") as report:
@@ -252,7 +252,7 @@ class Walk:
         return Told(number, record, found, program, asked, missed, confined)
 
     def _taken_apart(self, said: _Said) -> Told:
-        """Takes a record and its answer apart, and takes up what they change."""
+        """Decodes a record and its answer, and follows what they change."""
         record, processes = self._record(said), self._processes
         pid, fd = record["pid"], record.get("fd")
         missed = processes.missed(pid, fd) if isinstance(fd, int) else NOWHERE
@@ -262,7 +262,7 @@ class Walk:
         return told
 
     def _kind(self, said: _Said) -> _Kind | None:
-        """Takes up what a record changes, and says of which kind it is if a summary counts it."""
+        """Follows what a record changes, and gives its kind if a summary counts it."""
         _, line, to_do, _, differs = said
         members = self._members(said)
         counts = differs or _POLICY in line
@@ -279,7 +279,7 @@ class Walk:
         return (standing, own.sub(b"", line), members[3]) if counts else None
 
     def _follow_opening(self, said: _Said, members: list[bytes]) -> None:
-        """Takes up that a number is opened that may have been missed."""
+        """Follows the opening of a number that may have been missed."""
         if self._processes.misses(_pid(members)) and self._standing(said[1], members, False) is None:
             self._taken_apart(said)
 
@@ -291,8 +291,8 @@ class Walk:
         return members
 
     def _standing(self, line: bytes, members: list[bytes], differs: bool) -> _Standing | None:
-        """How a record's process stands before it, and takes up what the record does to numbers. It is not taken apart
-        for that; None if it is not written as landaudit-record does.
+        """The state of a record's process before the record; follows what the record does to numbers. The record is not
+        decoded for this; None if it is not written as landaudit-record writes it.
         """
         processes, (_, member, op, answers) = self._processes, members
         if member + b"," not in line and member + b"}" not in line:
@@ -312,7 +312,7 @@ class Walk:
         return processes.program(pid), missed, processes.confined(pid)
 
     def _changes(self, line: bytes, pid: int) -> bool:
-        """Takes up what a record changes, if it is one of the commonest and written as landaudit-record does."""
+        """Follows what a record changes, if it is a frequent one and is written as landaudit-record writes it."""
         found = _CHANGES.fullmatch(line)
         if found is None:
             return False

@@ -1,7 +1,7 @@
 """Reads landaudit's report: docs/FORMATS.md, "The report as JSON".
 
-Each line is an object, without spaces and with its members in one order. So what most lines say is known by their
-bytes, and only the others are taken apart.
+Each line is an object, without spaces and with its members in one order. So the meaning of most lines is known from
+their bytes, and only the others are decoded.
 """
 
 from __future__ import annotations
@@ -185,7 +185,7 @@ def _objection(said: Mapping[str, Any]) -> Objection:
 
 
 def _condition(said: Mapping[str, Any]) -> Condition:
-    """A condition, from its object; what a word is about are the members of the same names."""
+    """A condition, from its object; the values in its text are the members of the same names."""
     about = dict(said)
     word, rights = about.pop("condition"), tuple(about.pop("rights", ()))
     if word not in CONDITIONS:

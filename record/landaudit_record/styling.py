@@ -1,4 +1,4 @@
-"""Groups of rules instead of single rules, as a person would write: the groups that contain several of the paths."""
+"""Groups of rules instead of single rules, as a person writes them: the groups that contain several paths."""
 
 from __future__ import annotations
 

@@ -57,11 +57,12 @@ def _rule(rule: Rule) -> Iterator[str]:
 def _ending(suggestion: Suggestion) -> Iterator[str]:
     """Lines that say which calls the rules leave refused, or that there are none."""
     if not suggestion.finished:
-        yield f"# after {suggestion.rounds} audits there is still more to fix: add these rules and run this again"
+        yield f"# after {suggestion.rounds} audits there is more to fix: add these rules and run this command again"
     elif suggestion.rules or suggestion.groups:
-        yield f"# with these rules no layer of the policy refuses what a rule can fix ({suggestion.rounds} audits)"
+        audits = f"({suggestion.rounds} audits)"
+        yield f"# with these rules, no layer of the policy refuses a call that a rule can fix {audits}"
     else:
-        yield "# the policy refuses nothing that a rule can fix"
+        yield "# the policy refuses no call that a rule can fix"
     yield from _staying(suggestion.unmended, "refused by layers of the policy whatever their rules are")
     yield from _staying(suggestion.of_program, "refused by layers that the program makes itself")
     yield from _staying(suggestion.failed, "refused that failed in the recording too, so no rule would help")

@@ -17,7 +17,7 @@ from .reading import ASKED_LANDLOCK, Place, Told, Walk, call_text, place_of, pla
 _TELLS = ("op", "path", "shown", "from", "to", "shown_to", "mode", "create", "trunc", "kind", "exchange", "port", "rs")
 #: Why a call on a descriptor is moot if the descriptor's open was not allowed.
 MISSED = f"{NOT_OPEN}, its opening was refused or moot"
-NO_LAYER = ("no process confines itself, so nothing is refused: try a policy by --policy, or record a program that "
+NO_LAYER = ("no process confines itself, so nothing is refused: try a policy with --policy, or record a program that "
             "confines itself")
 
 
@@ -71,8 +71,8 @@ class Brief:
 
 @dataclass
 class Summary:
-    """The result of an audit; `missing` is what it could not judge, so that it can't say that all is well, `untraced`
-    which kinds of calls that a layer may refuse were not traced.
+    """The result of an audit; `missing` has what could not be judged, so that the audit is not complete; `untraced` has
+    the kinds of calls that a layer may refuse and that were not traced.
 
     Accepted refusals are separate, with how many calls there are of each. `untouched` are the warnings about rules on
     paths that the run never touched; `brief` has shorter forms of some warnings; `recordings` says, if several were
@@ -176,7 +176,7 @@ class Summaries:
             self._by_abi[abi].refusals.setdefault(refusal, Counter())[told.program or "-"] += times
 
     def _warned(self, record: Record, answer: Answer, abis: Iterable[int], times: int) -> bool:
-        """Warns of a ruleset that is not made or not filled; says whether that is all to be said of the record."""
+        """Warns of a ruleset that is not made or not filled; tells whether the record needs no other entry."""
         condition, origin = answer.condition, of_policy(record)
         for abi in abis:
             if origin is not None:
@@ -214,7 +214,7 @@ class Summaries:
         for abi, summary in self._by_abi.items():
             summary.verdicts["allowed"] = summary.seen - summary.verdicts["refused"] - summary.verdicts["moot"]
             if not self._confines:
-                _warn(summary, NO_LAYER, 1, Brief("no process confines itself: try a policy by --policy"))
+                _warn(summary, NO_LAYER, 1, Brief("no process confines itself: try a policy with --policy"))
             if 10 * summary.moot_path_calls > summary.path_calls:
                 _warn_of_many_moot(summary)
             summary.unsaid = unsaid

@@ -35,7 +35,7 @@ _IN_WORDS = {
 }
 _FAILED_TOO = "the call failed in the recording too: "
 _TIMES = Column("times", number=True)
-#: So much of its width the column of rights keeps before paths do.
+#: The columns of its width that the column of rights keeps, at most, before paths do.
 _MOST_KEPT = 34
 
 
@@ -92,7 +92,7 @@ def lines(summary: Summary, title: str, style: Style, beside: Beside = Beside())
 
 
 def ending(summary: Summary, style: Style) -> Iterator[str]:
-    """The last lines of all: what could not be judged, so that no audit looks complete that is not."""
+    """The last lines: what could not be judged, so that an incomplete audit does not look complete."""
     for text in summary.missing:
         yield from _marked("NOT ALL IS JUDGED:", text, style.red, style.width)
 

@@ -1,8 +1,8 @@
-"""Takes from a policy the rights that recordings don't need.
+"""Removes from a policy the rights that recordings don't need.
 
-Rights of rules are taken away one by one, until every further one is needed. Each policy that is tried has processes of
-its own in one trace, which ask what the recordings asked (`distilling`): so each answer depends only on its policy, and
-one audit tries many policies.
+Rights of rules are removed one by one, until every right that is left is needed. Each policy that is tried has
+processes of its own in one trace, which ask what the recordings asked (`distilling`): so each answer depends only on
+its policy, and one audit tries many policies.
 """
 
 from __future__ import annotations

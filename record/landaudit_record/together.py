@@ -66,7 +66,7 @@ def note_missing(members: Sequence[Member]) -> None:
 
 
 def recording_notes(members: Sequence[Member]) -> list[str]:
-    """What stands beside an audit of the recordings, each text once."""
+    """The notes on an audit of the recordings, each text once."""
     return list(dict.fromkeys(text for member in members for text in member.recording.notes))
 
 

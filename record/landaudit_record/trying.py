@@ -165,8 +165,8 @@ class Auditing:
     ) -> Iterator[Files]:
         """Judges each part at some ABIs, and gives its files. landaudit judges the next part meanwhile.
 
-        If a policy is tried, `policy` is one with other rules to try instead. With `only_refused` the report has the
-        refused records alone.
+        If a policy is tried, `policy` is one with other rules to try instead. With `only_refused` the report has only
+        the refused records.
         """
         before: Files | None = None
         try:
@@ -219,8 +219,8 @@ class Auditing:
 def notes(tried: Tried, abis: range, *, here: bool = False) -> Iterator[str]:
     """Notes on parts of a policy that are not judged or that the ABIs do not have.
 
-    Of the newest ABI all is said, of the older ones which of them have something to be said of. What the recording did
-    not meet is looked for on this machine if `here` asks for it.
+    For the newest ABI there is each note; for the older ones, only which of them have notes. With `here`, paths that do
+    not occur in the recording are looked up on this machine.
     """
     yield from _not_judged(tried.policy, tried.tree, here=here)
     older = [abi for abi in abis[:-1] if fitting.fit(tried.policy, abi)[1]]
@@ -228,7 +228,7 @@ def notes(tried: Tried, abis: range, *, here: bool = False) -> Iterator[str]:
         yield f"ABI {older[0]} lacks rights of the policy: --abi {older[0]} says which"
     elif older:
         several = span(range(older[0], older[-1] + 1))
-        yield f"ABI {several} lack rights of the policy: --abi N says which of them N lacks"
+        yield f"ABI {several} lack rights of the policy: --abi N says which rights ABI N lacks"
     yield from fitting.fit(tried.policy, abis[-1])[1]
 
 

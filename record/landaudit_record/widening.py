@@ -1,4 +1,4 @@
-"""Reduces rules to a number: puts those together on a directory that grant least in addition to what is needed.
+"""Reduces rules to a number: joins rules into one on a directory, where that grants least besides what is needed.
 
 A rule's grants are counted in objects: for each of its rights, the objects to which the right applies.
 """

@@ -94,7 +94,7 @@ class LiveRun(unittest.TestCase):
         os.kill(tracer, signal.SIGKILL)
         _, error = run.communicate(timeout=SOON)
         self.assertEqual((run.returncode, running(SLEEPS)), (128 + signal.SIGKILL, []), error)
-        self.assertIn("the recording is not whole", error)
+        self.assertIn("the recording is not complete", error)
         self.assertIs(self.recording()["ended"], False)
 
     def test_a_run_that_is_ended_while_it_converts_names_what_is_next(self) -> None:

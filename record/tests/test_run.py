@@ -70,7 +70,7 @@ class Running(unittest.TestCase):
                 with mock.patch.object(tracing, "run", side_effect=traced):
                     status, error = said("run", str(out), "--", "ls")
                 self.assertEqual((status, recordings.read_about(out).ended), (7, ended))
-                self.assertEqual("is not whole" in error, not ended)
+                self.assertEqual("is not complete" in error, not ended)
 
     def test_a_recording_of_before_is_taken_to_be_whole(self) -> None:
         self.assertTrue(recordings.read_about(LOGS / "forks").ended)

@@ -99,7 +99,7 @@ class Told(unittest.TestCase):
 
     def test_a_recording_in_which_none_are_counted(self) -> None:
         older = self.recording("signal", untraced=(SIGNALS,))
-        said = "scoped = signal: the recording has no calls that it may refuse, so record it again"
+        said = "scoped = signal: calls that it may refuse were not traced, so record it again"
         self.assertEqual(older.missing, [said])
 
     def test_what_stands_beside_each_audit(self) -> None:

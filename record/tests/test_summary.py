@@ -443,7 +443,7 @@ class ShortWarnings(unittest.TestCase):
 
     def test_a_recording_without_layers(self) -> None:
         lines = text(summed([NNP, RUN])).splitlines()
-        self.assertIn("warning: no process confines itself: try a policy by --policy", lines)
+        self.assertIn("warning: no process confines itself: try a policy with --policy", lines)
 
 
 class Narrow(unittest.TestCase):

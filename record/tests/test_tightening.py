@@ -117,7 +117,7 @@ class Tightening(unittest.TestCase):
         status, out, _ = self.said(self.recording("one", TREE, CALLS))
         self.assertEqual(status, 0)
         head, _, text = out.partition("\n")
-        self.assertRegex(head, r"\A# 15 rights taken away that these recordings don't need \(\d+ audits\)\Z")
+        self.assertRegex(head, r"\A# 15 rights removed that these recordings don't need \(\d+ audits\)\Z")
         self.assertEqual(
             text,
             """# Mine.
@@ -240,7 +240,7 @@ port = [80, 443]
         text = self.rules(('["execute"]', f'"{PROGRAM}"'), ('["make_reg", "refer"]', '"/"'), ('["read_file"]', '"/b"'))
         self.assertEqual(self.left(text, one), [("execute", PROGRAM), ("make_reg", "refer", "/")])
         self.policy.write_text(text)
-        self.assertIn("note: 1 call of these recordings would pass that the policy refuses", self.said(one)[2])
+        self.assertIn("the printed policy allows 1 call of these recordings that the policy refuses", self.said(one)[2])
         self.policy.write_text(text.replace('"/b"', '"/"'))
         self.assertEqual(self.said(one)[2], "")
 

@@ -139,7 +139,7 @@ class Several(StandIn):
     def test_one_that_is_no_recording(self) -> None:
         status, out, errors = self.audited("audit", self.recording, self.folder / "none")
         self.assertEqual((status, out, errors.count("\n")), (3, "", 1))
-        self.assertIn("does not exist: record it first by landaudit-record run", errors)
+        self.assertIn("does not exist: record it first with landaudit-record run", errors)
 
     def test_recordings_of_different_formats(self) -> None:
         (self.second / "converted.json").write_text('{"format": 2}')

@@ -163,7 +163,8 @@ class Trying(StandIn):
             "    3        7        1     0",
             "    4        7        1     0",
         ])
-        self.assertEqual(notes_in(out), ["note: ABI 1-2 lack rights of the policy: --abi N says which of them N lacks"])
+        said = "note: ABI 1-2 lack rights of the policy: --abi N says which rights ABI N lacks"
+        self.assertEqual(notes_in(out), [said])
         self.assertEqual(errors, "")
         self.assertEqual(self.ran(), ["1-4 --best-effort --explain"])
         _, out, _ = self.audited("audit", self.recording, "--policy", self.policy, abi="2-4")
@@ -377,7 +378,7 @@ parent = ["/none", "/a"]
     def test_a_folder_without_a_recording(self) -> None:
         made = "has no tree.jsonl: name a folder that 'landaudit-record run' made\n"
         absent = self.folder / "absent"
-        first = f"does not exist: record it first by landaudit-record run {absent} -- COMMAND\n"
+        first = f"does not exist: record it first with landaudit-record run {absent} -- COMMAND\n"
         for folder, what in ((self.folder, made), (self.policy, made), (absent, first)):
             for words in (["audit", folder], ["suggest", folder, "--policy", self.policy]):
                 with self.subTest(words):

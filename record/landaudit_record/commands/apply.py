@@ -25,8 +25,8 @@ A right has its name in Landlock, such as read_file. The groups all, read, write
 and execute stand for several rights. In a rule, a group stands for those of its
 rights that the layer handles and, on a parent that is a file, that apply to
 files. The layer must handle each right that one of its rules names. Rights that
-the ABI does not know are dropped, as the kernel's document advises, with a note
-if the policy named them."""
+the ABI does not know are dropped, as the kernel's documentation advises, with a
+note if the policy named them."""
 
 
 def add_arguments(parser: argparse.ArgumentParser) -> None:

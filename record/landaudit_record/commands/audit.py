@@ -21,7 +21,7 @@ from ..trying import Auditing
 NAME = "audit"
 #: The version of what --json prints: docs/audit.schema.json describes it, docs/CI.md says when it changes.
 FORMAT = 1
-HELP = "say what a policy would refuse, or without one what the program's own layers refuse"
+HELP = "say what a policy would refuse or, without a policy, what the program's own layers refuse"
 EXAMPLE = """landaudit-record audit rec --policy policy.toml --abi 4
   landaudit-record audit rec again --policy policy.toml"""
 
@@ -32,7 +32,8 @@ def add_arguments(parser: argparse.ArgumentParser) -> None:
     parser.add_argument(
         "--policy",
         metavar="POLICY.toml",
-        help="a policy to try on the recording, in OUT/tried.jsonl (how to write one: landaudit-record apply --help)",
+        help="a policy to try on the recording; OUT/tried.jsonl is then the trace under it (how to write a policy: "
+        "landaudit-record apply --help)",
     )
     parser.add_argument(
         "--accepted",
@@ -53,11 +54,11 @@ def add_arguments(parser: argparse.ArgumentParser) -> None:
     parser.add_argument(
         "--json",
         action="store_true",
-        help="print the result as JSON: 'abis' is about each ABI and, for several recordings, 'recordings' about each "
-        "recording",
+        help="print the result as JSON: 'abis' has the result at each ABI and, for several recordings, 'recordings' that "
+        "of each recording",
     )
     parser.add_argument(
-        "--html", metavar="FILE", type=Path, help="also write the result as a page for a browser, which is one file"
+        "--html", metavar="FILE", type=Path, help="also write the result to FILE, as a page for a browser"
     )
     add_landaudit(parser)
 

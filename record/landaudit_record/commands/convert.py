@@ -27,8 +27,8 @@ def add_port_rules(parser: argparse.ArgumentParser) -> None:
         "--port-rules",
         metavar="POLICY.toml",
         type=Path,
-        help="the policy that the command puts on itself: strace before 6.7 does not decode what it says of ports, so"
-        " that is taken from this file, in its order (default: the policy that 'run --policy' put in force)",
+        help="the policy by which the command restricts itself: strace before 6.7 does not decode rights and rules for"
+        " ports, so they are taken from this file, in its order (default: the policy that 'run --policy' put in force)",
     )
 
 

@@ -44,16 +44,16 @@ def add_arguments(parser: argparse.ArgumentParser) -> None:
         "--policy",
         metavar="POLICY.toml",
         type=Path,
-        help="run the command under this policy (landaudit-policy confine), keep the policy in OUT/policy.toml, and say"
-        " at the end what it refused",
+        help="run the command under this policy, as landaudit-policy confine does, keep the policy in OUT/policy.toml,"
+        " and say at the end what it refused",
     )
     add_abi(parser, "with --policy, rights that this ABI or the kernel does not have are dropped")
     convert.add_port_rules(parser)
     parser.add_argument(
         "--readlink",
         action="store_true",
-        help="trace readlink(2) too, by which a program may look into other processes (/proc/PID/exe), and Landlock"
-        " refuses that; builds take about twice as long then",
+        help="trace readlink(2) too: a program may look into other processes with it (/proc/PID/exe), and Landlock"
+        " refuses that; a build then takes about twice as long",
     )
 
 
@@ -77,7 +77,7 @@ def run(arguments: argparse.Namespace) -> int:
     if outcome.ended:
         replace(about, ended=True).write(folder)
     else:
-        convert.say("strace was ended, and so was what it traced: the recording is not whole")
+        convert.say("strace was ended, and with it all that it traced: the recording is not complete")
     _converted(folder, arguments)
     if policy is not None:
         policy.tell_refused(folder)

@@ -31,15 +31,15 @@ def add_arguments(parser: argparse.ArgumentParser) -> None:
         "--rules",
         metavar="N",
         type=_number,
-        help="at most N rules for a layer (default: as many as it takes to grant nothing else): rules are put together "
-        "on directories where that grants least, and each says what more it grants",
+        help="at most N rules for a layer (default: as many as are needed to grant nothing else): rules are joined "
+        "into rules on directories, where that grants least, and a comment on each says what else it grants",
     )
     parser.add_argument(
         "--style",
         choices=(EXACT, BASE),
         default=EXACT,
-        help="exact (the default) grants only what is needed; base includes the groups of rules that contain several "
-        "of the paths, as a person does: base, nameservice, ssl, tmp, languages",
+        help="exact (the default) grants only what is needed; base includes the groups of rules that contain two or "
+        "more of the paths: base, nameservice, ssl, tmp, and some for languages",
     )
     add_program(parser)
     add_abi(parser)
@@ -48,7 +48,7 @@ def add_arguments(parser: argparse.ArgumentParser) -> None:
 
 
 def run(arguments: argparse.Namespace) -> int:
-    """Prints the rules; the status is 1 if calls stay refused that no rule of the policy can fix."""
+    """Prints the rules; the status is 1 if calls are still refused that no rule of the policy can fix."""
     program = landaudit.find(arguments.landaudit)
     policy = policies.read(Path(arguments.policy))
     members = together.opened(arguments.recordings, policy, arguments.program)

@@ -1,4 +1,4 @@
-"""Prints a policy without what recordings don't need."""
+"""Prints a policy without the rights that recordings don't need."""
 
 from __future__ import annotations
 
@@ -32,7 +32,9 @@ def add_arguments(parser: argparse.ArgumentParser) -> None:
     add_recordings(parser)
     parser.add_argument("--policy", metavar="POLICY.toml", type=Path, required=True, help="the policy")
     parser.add_argument(
-        "--list", action="store_true", help="print a table instead: how many calls need each right, 0 first"
+        "--list",
+        action="store_true",
+        help="print a table instead: how many calls need each right, first the rights that no call needs",
     )
     add_program(parser)
     add_abi(parser)
@@ -58,8 +60,8 @@ def run(arguments: argparse.Namespace) -> int:
             raise Problem("without the rights that no call needs, more calls of the recordings are refused: this is a "
                           f"fault of {RECORDER}, please report it", WANTING)
     if passing := _more(after, before):
-        note([f"{counted(passing, 'call')} of these recordings would pass that the policy refuses: Landlock refuses a "
-              "move or link by which an object would gain rights, and such rights are taken away"])
+        note([f"the printed policy allows {counted(passing, 'call')} of these recordings that the policy refuses: "
+              "Landlock refuses a move or link by which an object would gain rights, and such rights are removed"])
     together.note_missing(members)
     for line in _table(policy, done, arguments.abi) if arguments.list else _toml(policy, done):
         print(line)
@@ -96,7 +98,7 @@ def _toml(policy: Policy, done: Tightened) -> Iterator[str]:
         return f"needed by {counted(done.by_rule.get((layer, rule), 0), 'call')}"
 
     written = comments.read(policy.path.read_text(encoding="utf-8"))
-    yield f"# {counted(done.taken, 'right')} taken away that these recordings don't need ({done.audits} audits)"
+    yield f"# {counted(done.taken, 'right')} removed that these recordings don't need ({done.audits} audits)"
     yield from policy_text.lines(done.policy, written, remark)
 
 

@@ -1,4 +1,4 @@
-"""An audit as one page of HTML, which opens from the disk and loads nothing from elsewhere.
+"""An audit as one page of HTML, which can be opened from the disk and loads nothing from elsewhere.
 
 It has the data of `audit --json` for every ABI. All data are in tables and lists that need no script. The buttons that
 choose an ABI need only style, and a script adds a filter and sorting. Names from a recording are always text

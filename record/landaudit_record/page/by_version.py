@@ -29,9 +29,10 @@ def choice(abi: int) -> str:
 
 
 def rules(newest: int) -> Markup:
-    """The rules of style by which what is chosen is shown, without a script; an old browser shows the newest ABI.
+    """The rules of style that show the chosen ABI without a script; an old browser shows the newest ABI.
 
-    It is the bar that has the button and not the body: Chromium looks through all of what has one, once for each row.
+    The selector starts at the bar with the buttons and not at the body: Chromium searches all of the element that has
+    `:has`, once for each row.
     """
     chosen = (f"nav:has(#{choice(abi)}:checked)~main .a:not(.a{abi}){{display:none}}\n"
               f"nav:has(#{choice(abi)}:checked)~main .t{abi}{{background:var(--chosen)}}\n"

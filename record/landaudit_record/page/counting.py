@@ -1,4 +1,4 @@
-"""Counts the calls at or below each path, and on each port: all, refused and moot ones."""
+"""Counts the calls at or below each path, and on each port: all calls, refused ones and moot ones."""
 
 from __future__ import annotations
 

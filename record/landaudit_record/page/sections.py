@@ -96,7 +96,7 @@ def _figures(summary: Summary) -> Markup:
 
 
 def not_judged(summary: Summary) -> Markup:
-    """What could not be judged, so that the page does not look complete if it is not."""
+    """The calls that could not be judged, so that the page does not look complete if it is not."""
     title = element("b", "Not all is judged. ")
     return together(paragraph(title, named(told), kind="alarm") for told in summary.missing)
 

@@ -30,7 +30,7 @@ Cases are TOML: each [[refused]] or [[allowed]] has a call in the words of a
 trace (open r, open w create, exec, mknod fifo, rename, connect, ..) with path,
 from and to, or port; abi (one or a range) unless it is about all of them; and
 kind for a path that is not on this machine. The output is TAP, version 14, or
-with --json the same as data."""
+JSON with --json."""
 
 
 def add_arguments(parser: argparse.ArgumentParser) -> None:
@@ -38,12 +38,12 @@ def add_arguments(parser: argparse.ArgumentParser) -> None:
     parser.description = f"{HELP}\n{CASES}"
     add_policy(parser)
     parser.add_argument("cases", metavar="CASES.toml", type=Path, help="what the policy must allow and refuse")
-    parser.add_argument("--json", action="store_true", help="print the same as data")
+    parser.add_argument("--json", action="store_true", help="print the result as JSON")
     add_landaudit(parser)
 
 
 def run(arguments: argparse.Namespace) -> int:
-    """Prints a line of TAP for each case, with why, or all as data; the status is 1 if any fails."""
+    """Prints a line of TAP for each case with the reasons, or all cases as JSON; the status is 1 if any fails."""
     program = landaudit.find(arguments.landaudit)
     policy = _followed(policies.read(arguments.policy))
     given = cases.read(arguments.cases)
@@ -67,7 +67,7 @@ def _print(outcomes: Sequence[_Outcome]) -> None:
 
 
 def _data(arguments: argparse.Namespace, outcomes: Sequence[_Outcome]) -> dict[str, Any]:
-    """What is found of all cases, as data for programs; its keys stay."""
+    """The results of all cases, as data for programs; its keys stay."""
     held = sum(outcome.holds for outcome in outcomes)
     return {
         "format": FORMAT,
@@ -98,7 +98,7 @@ def _followed(policy: Policy) -> Policy:
 
 @dataclass(frozen=True)
 class _Outcome:
-    """A case with landaudit's answer at each of its ABIs, and the rules that grant something of the call."""
+    """A case with landaudit's answer at each of its ABIs, and the rules that grant one or more rights of the call."""
 
     case: Case
     answers: dict[int, Answer]

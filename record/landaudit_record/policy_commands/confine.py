@@ -23,7 +23,7 @@ def add_arguments(parser: argparse.ArgumentParser) -> None:
 
 
 def run(arguments: argparse.Namespace) -> int:
-    """Restricts this process by the policy and becomes the command, whose status is then that of this program."""
+    """Restricts this process by the policy and executes the command, whose status is then that of this program."""
     command = arguments.behind
     if not command:
         raise Problem(BEHIND_DASHES, USAGE)

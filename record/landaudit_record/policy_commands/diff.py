@@ -13,7 +13,7 @@ from ..policies import Policy
 from ..regions import as_named
 
 NAME = "diff"
-HELP = "show what a new policy lets pass that an old one refuses, and the reverse, for every call on every tree"
+HELP = "show what a new policy allows and an old one refuses, and the reverse, for every call on every tree"
 EXAMPLE = "landaudit-policy diff old.toml new.toml"
 
 

@@ -238,7 +238,7 @@ class Disk:
         return self._interpreters[path]
 
     def head(self, path: str) -> bytes:
-        """How a file begins that is run by a format, be it one that is not known; nothing of all others."""
+        """The beginning of a file that is run by a format, known or not; nothing for all other files."""
         seen = self.look(path)
         if path not in self._heads:
             begins = head(path) if self._live and seen is not None and seen.kind == "reg" else b""

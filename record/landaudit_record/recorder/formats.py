@@ -1,6 +1,6 @@
-"""Formats of binfmt_misc: files that the kernel runs by an interpreter because of how they begin, or of their names.
+"""Formats of binfmt_misc: files that the kernel runs with an interpreter because of their first bytes or their names.
 
-Each registered format is a file of a file system of its own, which tells what the kernel knows of it
+Each registered format is a file in the binfmt_misc file system, which has what the kernel knows of the format
 (Documentation/admin-guide/binfmt-misc.rst in the kernel's source).
 """
 
@@ -14,7 +14,7 @@ from typing import Any
 REGISTERED = Path("/proc/sys/fs/binfmt_misc")
 #: The files there that are no formats.
 _CONTROLS = ("register", "status")
-#: The kernel looks at so many bytes of a file (BINPRM_BUF_SIZE).
+#: The kernel looks at this many bytes of a file (BINPRM_BUF_SIZE).
 HEAD = 256
 
 
@@ -63,7 +63,7 @@ def registered(folder: Path = REGISTERED) -> list[dict[str, Any]] | None:
 
 
 def _told(name: str, text: str) -> dict[str, Any] | None:
-    """What the file of a format tells; None of one that is switched off."""
+    """The format that a file describes; None if the format is disabled."""
     lines = text.splitlines()
     words = dict(line.split(" ", 1) for line in lines if " " in line)
     if lines[:1] != ["enabled"]:
@@ -75,5 +75,5 @@ def _told(name: str, text: str) -> dict[str, Any] | None:
 
 
 def first_of(formats: Sequence[Format], called: str, head: bytes) -> Format | None:
-    """The format that the kernel takes a file to be of."""
+    """The first format that matches a file, which the kernel uses."""
     return next((one for one in formats if one.is_of(called, head)), None)

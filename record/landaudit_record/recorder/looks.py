@@ -1,14 +1,14 @@
-"""Calls that only look at what a path leads to, or change what Landlock has no right for.
+"""Calls that only look at an object, or change something for which Landlock has no right.
 
-Landlock is asked about them by its rule on ptrace alone, where a path goes through /proc into another process. They are
-very many, so a line of one is dropped at once unless it can be such a look.
+Landlock is asked about them only by its rule on ptrace, if a path goes through /proc into another process. There are
+very many of them, so a line of one is dropped at once unless it may be such a look.
 """
 
 from __future__ import annotations
 
 from dataclasses import dataclass
 
-#: What looks at an object or changes it; not all of them are there on every machine, or known to every strace.
+#: Calls that look at an object or change it; some of them are unknown to some machines, or to some versions of strace.
 LOOKS = frozenset(
     """
     stat lstat newfstatat fstatat64 statx access faccessat faccessat2 statfs
@@ -18,9 +18,9 @@ LOOKS = frozenset(
     inotify_add_watch fanotify_mark quotactl fspick mount_setattr
     """.split()
 )
-#: What reads links. A compiler makes a thousand of these calls for each file, so they are traced only where asked for.
+#: Calls that read links. A compiler makes a thousand of them for each file, so they are traced only on request.
 READLINKS = frozenset({"readlink", "readlinkat"})
-#: Of these a line may be dropped; in a recording without readlink(2) there is none of it.
+#: Calls whose lines may be dropped; a recording without `--readlink` has no calls of READLINKS.
 DROPPED = LOOKS | READLINKS
 
 
@@ -35,5 +35,5 @@ class Near:
         return "proc/" in text or "/proc>" in text or (self.relative and '("/' not in text)
 
     def drops(self, text: str) -> bool:
-        """Whether a line tells nothing: it is a call that only looks, and not into /proc."""
+        """Whether a line can be dropped: it is a call that only looks, and not into /proc."""
         return text[: text.find("(")] in DROPPED and not self.is_look(text)

@@ -1,4 +1,4 @@
-"""The names of objects while a log is converted: the file system as the program met it, call after call.
+"""The names of objects while a log is converted: the file system as the program saw it, call after call.
 
 Every object is one node for its whole life, whatever its names are. Calls that make, remove and move objects change
 the nodes. An object that the run does not touch is as the listing before the run says, else as the disk says after it.

@@ -1,4 +1,4 @@
-"""A recording's folder: how it was made, and what was there before the run."""
+"""A recording's folder: how it was made, and which objects existed before the run."""
 
 from __future__ import annotations
 
@@ -32,14 +32,14 @@ _LANDLOCK_CREATE_RULESET_ERRATA = 2
 class About:
     """How a recording was made.
 
-    `started` is the time at which the run began (seconds since 1970), `watched` the directories that
-    were listed before it, `descriptors` those that the command was given, with the kind as which a
-    trace adopts each and its path, `admin` and `nnp` what the first process had, `errata` the faults of
-    Landlock that the kernel says it has mended, the first as bit 0. `uid` and `groups` say as whom the command runs,
-    `uid` only if it has no privilege by which file modes would not count. `ended` says that the tracer ended by itself,
-    so that the log is whole; it is said after the run. `looks` says that calls were traced which only look at what a
-    path leads to and such as send signals, `readlink` that those were which read links. `formats` are those that
-    binfmt_misc had, None if that was not known; `hidepid` says that /proc is mounted with this option (proc(5)).
+    `started` is the time at which the run began (seconds since 1970), `watched` the directories that were listed before
+    it, `descriptors` those that the command was given, with the kind as which a trace adopts each and its path, `admin`
+    and `nnp` what the first process had, `errata` the errata of Landlock that the kernel has fixed, the first as bit 0.
+    `uid` and `groups` are those of the command, `uid` only if the command has no privilege that overrides file modes.
+    `ended` says that the tracer ended by itself, so that the log is complete; it is set after the run. `looks` says
+    that calls which only look at an object and calls which send signals were traced, `readlink` that calls which read
+    links were traced. `formats` are those that binfmt_misc had, None if they are not known; `hidepid` says that /proc
+    is mounted with this option (proc(5)).
     """
 
     command: list[str]
@@ -125,7 +125,7 @@ def errata() -> int:
 
 
 def hides_processes(mounts: Path = Path("/proc/self/mountinfo")) -> bool:
-    """Whether /proc is mounted so that what is in it of a process is not for all (proc(5), `hidepid`)."""
+    """Whether /proc is mounted so that the directory of a process is not visible to all (proc(5), `hidepid`)."""
     with open(mounts, encoding="utf-8", errors="surrogateescape") as lines:
         fields = [line.split() for line in lines]
     options = [field[-1].split(",") for field in fields if field[4:5] == ["/proc"]]
@@ -139,7 +139,7 @@ def is_admin() -> bool:
 
 
 def user() -> int | None:
-    """The number of this process's user, if the process has no capability; with some, file modes would not count."""
+    """The number of this process's user, if the process has no capability; with one, file modes may not apply."""
     return None if _capabilities() else os.geteuid()
 
 

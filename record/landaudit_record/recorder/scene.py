@@ -24,7 +24,7 @@ AT_FDCWD = -100
 CLONE_FS = 0x200
 CLONE_FILES = 0x400
 CLONE_THREAD = 0x10000
-#: Of so many processes that ended it is known whose children they are.
+#: The number of ended processes whose parents are kept.
 MOST_ENDED = 1_024
 #: The directory of processes.
 PROC = "proc"

@@ -20,7 +20,7 @@ from .looks import LOOKS, READLINKS
 
 OLDEST = (6, 1)
 
-#: With its filter (--seccomp-bpf, which makes recording quicker) strace sets no_new_privs on the command.
+#: With its filter (--seccomp-bpf, which makes recording faster) strace sets no_new_privs on the command.
 SETS_NO_NEW_PRIVS = True
 
 #: Signals that end no process by themselves (signal(7)); all others are kept, since strace reports that a signal ended
@@ -43,7 +43,7 @@ kill tkill tgkill rt_sigqueueinfo ?rt_tgsigqueueinfo ?pidfd_send_signal
 
 #: Calls of which only the flags are read: their data stay out of the log.
 UNDECODED = ("sendto", "sendmsg", "sendmmsg")
-#: Calls that tell much of what they look at: that stays out of the log.
+#: Calls whose results are long: these stay out of the log.
 BRIEF = ("stat", "lstat", "newfstatat", "fstatat64", "statx", "statfs")
 
 #: The time that a command has to end before it is killed, in seconds.

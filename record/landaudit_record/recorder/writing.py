@@ -205,8 +205,8 @@ class Tree:
 class Limits:
     """How much a part holds before the next one begins, with room for a policy; `own` are records not written again.
 
-    Of `own` there are less than landaudit reads: it takes its memory for one part, and judges a part while the one
-    before is read.
+    `own` is less than landaudit's limit: an audit needs memory for one part only, and judges it while the answers to
+    the one before are read.
     """
 
     records: int = MOST_RECORDS - POLICY_RECORDS

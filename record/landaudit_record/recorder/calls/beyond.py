@@ -109,7 +109,7 @@ def _fanotify_init(scene: Scene, thread: Thread, call: Call) -> None:
 
 
 def _mq_open(scene: Scene, thread: Thread, call: Call) -> None:
-    """Queues are in a file system of their own, which rules on directories of other file systems do not reach."""
+    """Queues are in a file system of their own, to which rules on directories of other file systems do not apply."""
     if call.ok or call.error == "EACCES":
         raise CannotSay(QUEUE)
 

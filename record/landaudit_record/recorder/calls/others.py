@@ -1,8 +1,8 @@
-"""Landlock's rule on ptrace: a process under a layer reaches no process that is not under the same one.
+"""Landlock's rule on ptrace: a process under a layer may not trace a process that is not under the same layer.
 
-The kernel asks it wherever a process looks into another, whatever the rules for files say: by calls (ptrace(2),
+The kernel checks it whenever a process looks into another one, whatever the rules for files are: by calls (ptrace(2),
 process_vm_readv(2), pidfd_getfd(2), ...), by files of /proc that are opened, and by links of /proc that any call
-follows (proc(5)). A trace has no words for it.
+follows (proc(5)). A trace has no records for these calls.
 """
 
 from __future__ import annotations
@@ -45,7 +45,7 @@ Handler = Callable[[Scene, Thread, Call], None]
 
 
 class _Passing(ThreadLinks):
-    """Links as a thread meets them whose path is looked at alone: none is listed for it."""
+    """Links as a thread resolves them when only the path matters: none of them is listed."""
 
     def passed(self, path: str, node: Node) -> None:
         """A link that is followed is not listed."""
@@ -54,7 +54,7 @@ class _Passing(ThreadLinks):
 def look(scene: Scene, thread: Thread, call: Call) -> bool:
     """Counts a call that leads into another process, and says whether it does.
 
-    One that failed under a layer is not said: the kernel may have refused it by the rule on ptrace.
+    A call that failed under a layer gets no record: the kernel may have refused it by the rule on ptrace.
     """
     if not _may_be_refused(scene, thread, call):
         return False
@@ -84,13 +84,13 @@ def _count(scene: Scene, thread: Thread, call: Call) -> None:
 
 
 def passed_by_links(scene: Scene, thread: Thread, call: Call) -> None:
-    """Counts a call whose path has nothing of /proc in it, and leads there by links."""
+    """Counts a call whose path does not name /proc, and leads there by links."""
     if _may_be_refused(scene, thread, call) and any(may_refuse(scene, thread, pid) for pid in scene.through):
         _count(scene, thread, call)
 
 
 def _may_be_refused(scene: Scene, thread: Thread, call: Call) -> bool:
-    """Whether a call passed, or a layer may have refused it; without one it fails whatever a policy says."""
+    """Whether a call succeeded, or a layer may have refused it; without a layer, no policy refused it."""
     refused = ("EACCES", "EPERM") if scene.hides else ("EACCES",)
     return call.ok or (thread.process.confined and call.error in refused)
 

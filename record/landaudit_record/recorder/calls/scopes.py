@@ -1,7 +1,7 @@
 """Calls that a ruleset with scopes may refuse (ABI 6): signals, and connections to abstract UNIX sockets.
 
-A process reaches what is under its own layers, as by the rule on ptrace. A trace has no words for these calls: they are
-counted by the scope that may refuse them.
+A process may reach processes under its own layers, as with the rule on ptrace. A trace has no records for these calls:
+they are counted by the scope that may refuse them.
 """
 
 from __future__ import annotations
@@ -39,9 +39,9 @@ def _by_pidfd(scene: Scene, thread: Thread, call: Call) -> None:
 
 
 def _count(scene: Scene, thread: Thread, call: Call, scope: str, *, pid: int, to_all: bool = False) -> None:
-    """Counts a call that reaches another process, or that a layer may have kept from it.
+    """Counts a call that reaches another process, or that a layer may have refused.
 
-    A group of processes, if `to_all`, has others than one's own.
+    With `to_all`, the call is for a group of processes, to which other processes belong too.
     """
     reached = call.ok or (thread.process.confined and call.error == _REFUSED)
     if reached and (to_all or others.may_refuse(scene, thread, pid)):

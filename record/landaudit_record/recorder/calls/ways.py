@@ -1,4 +1,4 @@
-"""Where the calls that take paths have them, and whether they follow a link at their end."""
+"""Which arguments of calls are paths, and whether a link at the end of a path is followed."""
 
 from __future__ import annotations
 
