@@ -1,13 +1,14 @@
 //! The operations of records.
 
-ghost use Rattle.std.specs.Prelude.{◌≡◌};
+ghost use Rattle.std.specs.Prelude.{◌≡◌, IfOk, None, Some, if◌then◌else◌};
 ghost use Rattle.ll_rights.specs.Supported.{supported_fs, supported_net};
-ghost use Rattle.ll_trace.specs.BestEffort.{at_best_effort, creates, adds_port};
+ghost use Rattle.ll_trace.specs.BestEffort.{at_best_effort, creates, adds_port, names_rights};
 
 use crate::path_text::{PathText, SecondPath};
 use crate::record::ProcessId;
 use ll_rights::{Abi, Fs, Kind, Net};
 use ll_tree::{Place, Tree};
+use std::alloc::{AllocError, Global};
 
 /// What a file is opened for.
 #[derive(Clone, Copy, Debug, PartialEq, Eq)]
@@ -304,6 +305,32 @@ impl Op {
             Op::Fork { .. } => Some(own),
             _ => None,
         }
+    }
+
+    /// A copy of a call that names rights, which best effort may change; `None` for every other call.
+    #[tactic(auto, unfolding(crate::specs::BestEffort::names_rights))]
+    pub fn copy_if_naming_rights(&self, alloc: Global) -> Result<Option<Op>, AllocError>
+        ensures { IfOk result
+            (λ copy. copy ≡ (if names_rights self.now then Some self.now else None)) }
+    {
+        Ok(match self {
+            Op::Create { rs, fs, net } => Some(Op::Create {
+                rs: *rs,
+                fs: *fs,
+                net: *net,
+            }),
+            Op::AddPath { rs, path, fs } => Some(Op::AddPath {
+                rs: *rs,
+                path: path.try_clone(alloc)?,
+                fs: *fs,
+            }),
+            Op::AddPort { rs, port, net } => Some(Op::AddPort {
+                rs: *rs,
+                port: *port,
+                net: *net,
+            }),
+            changes_nothing!() | changes_without_names!() | Op::OpenFile { .. } => None,
+        })
     }
 
     /// Turns a call into the one that a program makes instead if it goes by its kernel's version of

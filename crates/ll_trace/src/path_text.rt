@@ -1,13 +1,13 @@
 //! The paths of records.
 
-ghost use Rattle.std.specs.Prelude.{◌≡◌, IsTrue, is_some};
+ghost use Rattle.std.specs.Prelude.{◌≡◌, IfOk, IsTrue, is_some};
 ghost use Rattle.ll_lines.specs.Paths.{path_of};
 ghost use Rattle.ll_lines.specs.Readers.{Gives};
 ghost use Rattle.ll_trace.specs.Members.{path_in};
 
 use ll_lines::Cause;
 use ll_tree::path_ok;
-use std::alloc::Global;
+use std::alloc::{AllocError, Global};
 use std::marker::Model;
 
 /// A path as a record has it: `/`, or names with one `/` before each. Contracts see its bytes.
@@ -39,6 +39,14 @@ impl PathText {
             return Err(Cause::BadPath);
         }
         let text = String::from_str(alloc, text)?;
+        Ok(PathText { text })
+    }
+
+    /// A copy of the path.
+    pub(crate) fn try_clone(&self, alloc: Global) -> Result<PathText, AllocError>
+        ensures { IfOk result (λ copy. copy ≡ self.now) }
+    {
+        let text = String::from_str(alloc, self.text.as_str())?;
         Ok(PathText { text })
     }
 
