@@ -3,6 +3,7 @@ use Rattle.std.proofs.Common.{◌≡◌, ◌∙◌, ℕ, List, Option, None, ref
 use Rattle.std.specs.Prelude.{◌⊎◌}
 use Rattle.std.proofs.lemmas.Option.{none-some, same_Some}
 use Rattle.ll_report.specs.Report.{report_status}
+use Rattle.ll_audit.specs.declared.fault.Fault.TheVariants as fault
 use Rattle.ll_audit.specs.declared.lines.Failure.{Failure}
 use Rattle.ll_audit.specs.declared.lines.Failure.TheVariants as failure
 use Rattle.ll_audit.specs.declared.outcome.Ending.{Ending}
@@ -18,11 +19,12 @@ use Rattle.ll_command.proofs.CommandLine.{asks_for_no_run}
 
 -- a failure's status is 3 or 4
 status_of-high : (one : Failure) → (failure_status one ≡ 3) ⊎ (failure_status one ≡ 4)
-status_of-high (failure.Tree fault) = inl refl
-status_of-high (failure.Trace fault) = inl refl
+status_of-high (failure.Audit (fault.Tree bad)) = inl refl
+status_of-high (failure.Audit (fault.Trace bad)) = inl refl
+status_of-high (failure.Audit fault.Workers) = inr refl
+status_of-high (failure.Audit fault.Memory) = inr refl
+status_of-high (failure.Audit fault.NoThread) = inr refl
 status_of-high (failure.Unread name) = inl refl
-status_of-high failure.Memory = inr refl
-status_of-high failure.NoThread = inr refl
 status_of-high failure.Unwritten = inr refl
 
 failing : (one : Failure) (status : ℕ) → status ≡ failure_status one → (status ≡ 3) ⊎ (status ≡ 4)

@@ -5,4 +5,5 @@ pub mod Wants
 pub mod OneReport
 pub mod Totals
 pub mod VersionByVersion
+pub mod FoundAtHand
 pub mod AsJson

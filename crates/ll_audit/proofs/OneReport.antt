@@ -16,7 +16,7 @@ use Rattle.ll_report.specs.Told.{Told, told_by}
 use Rattle.ll_report.specs.Lines.{lines_of, refused_among}
 use Rattle.ll_report.specs.Report.{report_text}
 use Rattle.ll_report.specs.Shown.{IsShownReportOn}
-use Rattle.ll_report.proofs.BlocksLeft.{is_report_text}
+use Rattle.ll_report.proofs.BlocksMade.{is_report_text}
 use Rattle.ll_report.specs.declared.options.Options.{Options}
 use Rattle.ll_audit.specs.Audits.{IsReport}
 use Rattle.ll_rights.specs.AbiRanges.{Range}
@@ -66,22 +66,15 @@ single_version range abi is = go (number_of range.oldest == number_of range.newe
 -- the report under the only version of a range is the one that is asked for
 module _ (options : Options) (tree : List Entry) (records : List Record) (abi : Abi) (report : Told)
     (single : (if number_of options.abis.oldest == number_of options.abis.newest then Some options.abis.oldest else None) ≡ Some abi) where
-  under_single : IsShownReportOn options.shown tree abi (taken options.effort abi records) report → IsTextReport options tree records report
-  under_single is =
+  pub under_single : (rs : List Record) → rs ≡ taken options.effort abi records → IsShownReportOn options.shown tree abi rs report
+      → IsTextReport options tree records report
+  under_single rs same is =
       let only = single_version options.abis abi single in
       record {
-        under_one = λ same. subst (λ (a : Abi). IsShownReportOn options.shown tree a (taken options.effort a records) report) only.0 is;
+        under_one = λ one. subst (λ (a : Abi). IsShownReportOn options.shown tree a (taken options.effort a records) report) only.0
+            (subst (λ (x : List Record). IsShownReportOn options.shown tree abi x report) same is);
         over_several = λ differs. absurd (differs only.1);
       }
-
-  pub is_under_one : (t : List Entry) (a : Abi) (rs : List Record) → t ≡ tree → a ≡ abi → rs ≡ taken options.effort abi records
-      → IsShownReportOn options.shown t a rs report
-      → IsTextReport options tree records report
-  is_under_one t a rs same_tree same_abi same_records is =
-      under_single
-      (subst (λ (x : List Record). IsShownReportOn options.shown tree abi x report) same_records
-      (subst (λ (x : Abi). IsShownReportOn options.shown tree x rs report) same_abi
-      (subst (λ (x : List Entry). IsShownReportOn options.shown x a rs report) same_tree is)))
 
 module _ (abi : Abi) (tree trace : List ℕ) (report other : Report) (first : IsReport abi tree trace report) (second : IsReport abi tree trace other) where
   same_tree : first.tree ≡ second.tree

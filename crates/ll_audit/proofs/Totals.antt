@@ -5,7 +5,6 @@ use Rattle.ll_rights.specs.declared.abi.Abi.{Abi}
 use Rattle.ll_rights.specs.Abis.{number_of}
 use Rattle.ll_tree.specs.Trees.{Entry}
 use Rattle.ll_trace.specs.declared.record.Record.{Record}
-use Rattle.ll_report.specs.declared.options.Format.TheVariants.{Text}
 use Rattle.ll_report.specs.declared.options.Options.{Options}
 use Rattle.ll_rights.specs.AbiRanges.{versions_in}
 use Rattle.ll_rights.proofs.AbiRanges.{versions_from}
@@ -24,9 +23,9 @@ totals_numbered n found (abi ∷ newer) are =
     ap₂ (λ (number : ℕ) (rest : List ℕ). total_under_text number (found abi) ++ rest) (sym first) (totals_numbered (n + 1) found newer others)
 
 pub one_total_each : (options : Options) (tree : List Entry) (records : List Record) (report : Told) → IsReportOver options tree records report
-    → report.text ≡ rows_from options.shown (number_of options.abis.oldest) (findings Text options tree records) 0 records
+    → report.text ≡ rows_from options.shown (number_of options.abis.oldest) (findings options tree records) 0 records
     ++ flat_map (total_at options tree records) (versions_in options.abis)
 one_total_each options tree records report is =
     is.text
-    ∙ ap (λ (totals : List ℕ). rows_from options.shown (number_of options.abis.oldest) (findings Text options tree records) 0 records ++ totals)
-    (totals_numbered (number_of options.abis.oldest) (found_at Text options tree records) (versions_in options.abis) (versions_from options.abis))
+    ∙ ap (λ (totals : List ℕ). rows_from options.shown (number_of options.abis.oldest) (findings options tree records) 0 records ++ totals)
+    (totals_numbered (number_of options.abis.oldest) (found_at options tree records) (versions_in options.abis) (versions_from options.abis))

@@ -14,17 +14,22 @@ use Rattle.ll_trace.specs.declared.op.RuleType.TheVariants.{PathBeneath, NetPort
 use Rattle.ll_trace.specs.declared.record.Record.{Record}
 use Rattle.ll_trace.specs.BestEffort.{at_best_effort, records_at_best_effort}
 use Rattle.ll_trace.proofs.Versions.{records-older}
-use Rattle.ll_report.specs.Found.{Found}
 use Rattle.ll_json.specs.Records.{about}
 use Rattle.ll_trace.specs.Operations.{op_name}
 use Rattle.ll_report.specs.Report.{record_text}
 use Rattle.ll_report.specs.Rows.{told_of}
-use Rattle.ll_report.specs.declared.options.Format.{Format}
 use Rattle.ll_trace.specs.declared.trace.Effort.{Effort}
 use Rattle.ll_trace.specs.declared.trace.Effort.TheVariants.{AsRecorded, Best}
 use Rattle.ll_report.specs.declared.options.Options.{Options}
 use Rattle.ll_audit.specs.declared.ranging.Audited.{Audited}
-use Rattle.ll_audit.specs.ShownReports.{findings, found_in, taken}
+use Rattle.ll_explanations.specs.FindingValues.{FindingValue}
+use Rattle.ll_explanations.specs.Findings.{Finds}
+use Rattle.ll_explanations.specs.TakenLater.{AreTakenLater}
+use Rattle.ll_explanations.proofs.TakenLater.{taken_as_they_are, taken_again, taken_at_best_effort}
+use Rattle.ll_json.specs.Judged.{AreFound}
+use Rattle.ll_json.specs.Versions.{Version}
+use Rattle.ll_audit.specs.Audited.{Adds}
+use Rattle.ll_audit.specs.ShownReports.{taken, version_at, versions_by}
 use Rattle.ll_rights.specs.AbiRanges.{is_in, versions_in}
 use Rattle.ll_rights.proofs.AbiRanges.{few_versions}
 use Rattle.std.proofs.Math.Seq.{drop-cons}
@@ -125,48 +130,75 @@ pub before_newer : (place : ℕ) (other : Abi) → place < length all_versions
 unfolding all_versions
 before_newer place other small = before_those_behind all_versions place other refl small
 
-module _ (format : Format) (options : Options) (tree : List Entry) (records : List Record) where
-  -- what is found under a version
-  abbrev pub found : Abi → Found
-  found abi = found_in format options.shown tree (taken options.effort abi records) abi
+-- records are taken under a version
+later_taken : (effort : Effort) (abi : Abi) (records : List Record) → AreTakenLater (taken effort abi records) records
+later_taken AsRecorded abi records = taken_as_they_are records
+later_taken Best abi records = taken_at_best_effort abi records
+
+module _ (options : Options) (tree : List Entry) (records : List Record) where
+  -- versions with the records as they are taken under them
+  abbrev pub versions : List Abi → List Version
+  versions abis = map (version_at options records) abis
 
   -- All versions of the range among some are gone over; those that are left are older.
   pub record IsDownTo (done : List Abi) (audited : Audited) : Type 0 where
     pub same_tree : audited.located.tree ≡ tree
     pub again : (abi : Abi) → IsBefore done abi → taken options.effort abi audited.located.trace ≡ taken options.effort abi records
     pub told : map about audited.located.trace ≡ map about records
-    pub found : audited.findings.items ≡ map found (filter (is_in options.abis) done)
+    pub found : AreFound options.shown.explanations tree audited.located.trace (versions (filter (is_in options.abis) done)) audited.findings.items
+
+  -- what was found stays so when the records at hand are taken under an older version
+  still_found : (hand later : List Record) → AreTakenLater later hand → (found : List Version) (findings : List FindingValue)
+      → AreFound options.shown.explanations tree hand found findings → AreFound options.shown.explanations tree later found findings
+  still_found hand later more [] [] are = tt
+  still_found hand later more [] (finding ∷ others) are = absurd are
+  still_found hand later more (version ∷ newer) [] are = absurd are
+  still_found hand later more (version ∷ newer) (finding ∷ others) are = (
+    record { finds = are.0.finds; taken = taken_again later hand version.records more are.0.taken },
+    still_found hand later more newer others are.1,
+  )
 
   -- one more version
   pub one_down : (done : List Abi) (abi : Abi) (audited next : Audited) → IsBefore done abi → IsDownTo done audited
       → next.located.tree ≡ audited.located.tree
       → next.located.trace ≡ (if is_in options.abis abi then taken options.effort abi audited.located.trace else audited.located.trace)
-      → next.findings.items ≡ (if is_in options.abis abi
-      then found_in format options.shown audited.located.tree (taken options.effort abi audited.located.trace) abi ∷ audited.findings.items
-      else audited.findings.items)
+      → Adds options abi audited next
       → IsDownTo (abi ∷ done) next
-  one_down done abi audited next before is kept trace findings =
-      let more = go (is_in options.abis abi) trace findings in
+  one_down done abi audited next before is kept trace adds =
+      let more = go (is_in options.abis abi) refl trace in
       record { same_tree = kept ∙ is.same_tree; again = more.0; told = more.1; found = more.2 }
     where
-      own : found_in format options.shown audited.located.tree (taken options.effort abi audited.located.trace) abi ≡ found abi
-      own = ap₂ (λ (t : List Entry) (rs : List Record). found_in format options.shown t rs abi) is.same_tree (is.again abi before)
+      hand : List Record
+      hand = audited.located.trace
 
-      go : (b : Bool) → next.located.trace ≡ (if b then taken options.effort abi audited.located.trace else audited.located.trace)
-          → next.findings.items ≡ (if b then found_in format options.shown audited.located.tree (taken options.effort abi audited.located.trace) abi
-          ∷ audited.findings.items else audited.findings.items)
+      go : (b : Bool) → is_in options.abis abi ≡ b → next.located.trace ≡ (if b then taken options.effort abi hand else hand)
           → ((older : Abi) → IsBefore (abi ∷ done) older → taken options.effort older next.located.trace ≡ taken options.effort older records)
           × (map about next.located.trace ≡ map about records)
-          × (next.findings.items ≡ map found (cond b (abi ∷ filter (is_in options.abis) done) (filter (is_in options.abis) done)))
-      go true trace findings = (
-        λ older le. ap (taken options.effort older) trace ∙ taken-older options.effort older abi audited.located.trace le.0 ∙ is.again older le.1,
-        ap (map about) trace ∙ about-taken options.effort abi audited.located.trace ∙ is.told,
-        findings ∙ ap₂ (λ (one : Found) (others : List Found). one ∷ others) own is.found,
-      )
-      go false trace findings = (
+          × AreFound options.shown.explanations tree next.located.trace
+          (versions (cond b (abi ∷ filter (is_in options.abis) done) (filter (is_in options.abis) done))) next.findings.items
+      go true asked trace =
+          let own = adds.one asked in
+          let same : next.located.trace ≡ taken options.effort abi records = trace ∙ is.again abi before in (
+            λ older le. ap (taken options.effort older) trace ∙ taken-older options.effort older abi hand le.0 ∙ is.again older le.1,
+            ap (map about) trace ∙ about-taken options.effort abi hand ∙ is.told,
+            subst (AreFound options.shown.explanations tree next.located.trace (versions (abi ∷ filter (is_in options.abis) done))) (sym own.1) (
+              record {
+                finds = subst (λ (t : List Entry). Finds options.shown.explanations t abi (taken options.effort abi records) own.0) is.same_tree
+                    (subst (λ (rs : List Record). Finds options.shown.explanations audited.located.tree abi rs own.0) (is.again abi before) own.2);
+                taken = subst (λ (rs : List Record). AreTakenLater rs (taken options.effort abi records)) (sym same)
+                    (taken_as_they_are (taken options.effort abi records));
+              },
+              still_found hand next.located.trace
+                  (subst (λ (rs : List Record). AreTakenLater rs hand) (sym trace) (later_taken options.effort abi hand))
+                  (versions (filter (is_in options.abis) done)) audited.findings.items is.found,
+            ),
+          )
+      go false asked trace = (
         λ older le. ap (taken options.effort older) trace ∙ is.again older le.1,
         ap (map about) trace ∙ is.told,
-        findings ∙ is.found,
+        subst (AreFound options.shown.explanations tree next.located.trace (versions (filter (is_in options.abis) done))) (sym (adds.none asked))
+            (subst (λ (rs : List Record). AreFound options.shown.explanations tree rs (versions (filter (is_in options.abis) done)) audited.findings.items)
+            (sym trace) is.found),
       )
 
   -- before the newest version
@@ -175,44 +207,37 @@ module _ (format : Format) (options : Options) (tree : List Entry) (records : Li
     same_tree = kept;
     again = λ abi none. ap (taken options.effort abi) same_trace;
     told = ap (map about) same_trace;
-    found = none;
+    found = subst (AreFound options.shown.explanations tree audited.located.trace []) (sym none) tt;
   }
 
   -- the version below a place
-  pub next_down : (versions : List Abi) (place : ℕ) (other : Abi) (audited next : Audited) → versions ≡ all_versions → 0 < place → place ≤ length versions
-      → IsDownTo (drop place versions) audited
+  pub next_down : (all : List Abi) (place : ℕ) (other : Abi) (audited next : Audited) → all ≡ all_versions → 0 < place → place ≤ length all
+      → IsDownTo (drop place all) audited
       → next.located.tree ≡ audited.located.tree
       → next.located.trace
-      ≡ (if is_in options.abis (get_or versions (place - 1) other) then taken options.effort (get_or versions (place - 1) other) audited.located.trace
+      ≡ (if is_in options.abis (get_or all (place - 1) other) then taken options.effort (get_or all (place - 1) other) audited.located.trace
       else audited.located.trace)
-      → next.findings.items ≡ (if is_in options.abis (get_or versions (place - 1) other)
-      then found_in format options.shown audited.located.tree (taken options.effort (get_or versions (place - 1) other) audited.located.trace)
-      (get_or versions (place - 1) other) ∷ audited.findings.items
-      else audited.findings.items)
-      → IsDownTo (drop (place - 1) versions) next
-  next_down versions place other audited next same some within is kept trace more =
-      let abi : Abi = get_or versions (place - 1) other in
+      → Adds options (get_or all (place - 1) other) audited next
+      → IsDownTo (drop (place - 1) all) next
+  next_down all place other audited next same some within is kept trace adds =
+      let abi : Abi = get_or all (place - 1) other in
       let below : place ≡ suc (place - 1) = omega (arith, some) in
-      let before : IsBefore (drop (suc (place - 1)) versions) abi =
+      let before : IsBefore (drop (suc (place - 1)) all) abi =
       subst (λ (vs : List Abi). place - 1 < length vs
       → IsBefore (drop (suc (place - 1)) vs) (get_or vs (place - 1) other)) (sym same) (before_newer (place - 1) other)
       (omega (arith, some, within)) in
-      subst (λ (done : List Abi). IsDownTo done next) (sym (drop-cons versions (place - 1) other (omega (arith, some, within))))
-      (one_down (drop (suc (place - 1)) versions) abi audited next before (subst (λ (k : ℕ). IsDownTo (drop k versions) audited) below is) kept trace more)
+      subst (λ (done : List Abi). IsDownTo done next) (sym (drop-cons all (place - 1) other (omega (arith, some, within))))
+      (one_down (drop (suc (place - 1)) all) abi audited next before (subst (λ (k : ℕ). IsDownTo (drop k all) audited) below is) kept trace adds)
 
   -- behind the oldest
-  pub all_versions_found : (versions : List Abi) (place : ℕ) (audited : Audited) → versions ≡ all_versions → place ≡ 0 → IsDownTo (drop place versions) audited
-      → audited.findings.items ≡ findings format options tree records
+  pub all_versions_found : (all : List Abi) (place : ℕ) (audited : Audited) → all ≡ all_versions → place ≡ 0 → IsDownTo (drop place all) audited
+      → AreFound options.shown.explanations tree audited.located.trace (versions_by options records) audited.findings.items
   unfolding versions_in
-  all_versions_found versions place audited same none is =
-      is.found ∙ ap₂ (λ (k : ℕ) (vs : List Abi). map found (filter (is_in options.abis) (drop k vs))) none same
+  all_versions_found all place audited same none is =
+      subst (λ (abis : List Abi). AreFound options.shown.explanations tree audited.located.trace (versions abis) audited.findings.items)
+      (ap₂ (λ (k : ℕ) (vs : List Abi). filter (is_in options.abis) (drop k vs)) none same) is.found
 
-  -- there are few versions
-  pub few_found : length (findings format options tree records) ≤ 64
-  unfolding versions_in
-  few_found = omega (
-    arith,
-    length-map (versions_in options.abis) found,
-    no_longer (is_in options.abis) all_versions,
-    few_versions,
-  )
+-- there are few versions
+pub few_asked : (options : Options) → length (versions_in options.abis) ≤ 64
+unfolding versions_in
+few_asked options = omega (arith, no_longer (is_in options.abis) all_versions, few_versions)

@@ -4,6 +4,8 @@ use Rattle.std.specs.Prelude.{ℕ, List, ◌++◌, codes, decimal}
 use Rattle.ll_lines.specs.declared.fault.Cause.{Cause}
 use Rattle.ll_lines.specs.declared.fault.Cause.TheVariants as cause
 use Rattle.ll_lines.specs.declared.fault.ReadFault.{ReadFault}
+use Rattle.ll_audit.specs.declared.fault.Fault.{Fault}
+use Rattle.ll_audit.specs.declared.fault.Fault.TheVariants as fault
 use Rattle.ll_audit.specs.declared.lines.Failure.{Failure}
 use Rattle.ll_audit.specs.declared.lines.Failure.TheVariants as failure
 
@@ -22,22 +24,30 @@ cause_name cause.Memory = codes "Memory"
 abbrev pub place_text : List ℕ → ReadFault → List ℕ
 place_text file fault = file ++ codes " line " ++ decimal fault.line ++ codes ": " ++ cause_name fault.cause
 
+-- what a line says of an audit; the program asks for no number of workers that there can't be
+abbrev pub fault_text : Fault → List ℕ
+fault_text (fault.Tree bad) = place_text (codes "tree") bad
+fault_text (fault.Trace bad) = place_text (codes "trace") bad
+fault_text fault.Workers = codes "no such number of workers"
+fault_text fault.Memory = codes "no memory"
+fault_text fault.NoThread = codes "no thread"
+
 -- what a line says
 abbrev pub failure_text : Failure → List ℕ
-failure_text (failure.Tree fault) = place_text (codes "tree") fault
-failure_text (failure.Trace fault) = place_text (codes "trace") fault
+failure_text (failure.Audit one) = fault_text one
 failure_text (failure.Unread name) = codes "cannot read " ++ name.now
-failure_text failure.Memory = codes "no memory"
-failure_text failure.NoThread = codes "no thread"
 failure_text failure.Unwritten = codes "cannot write"
 
 -- the line, with the program's name before it
 abbrev pub failure_line : Failure → List ℕ
 failure_line failure = codes "landaudit: " ++ failure_text failure ++ codes "\n"
 
+abbrev pub fault_line : Fault → List ℕ
+fault_line one = codes "landaudit: " ++ fault_text one ++ codes "\n"
+
 -- the status: 3 where a file is at fault, else 4
 abbrev pub failure_status : Failure → ℕ
-failure_status (failure.Tree fault) = 3
-failure_status (failure.Trace fault) = 3
+failure_status (failure.Audit (fault.Tree bad)) = 3
+failure_status (failure.Audit (fault.Trace bad)) = 3
 failure_status (failure.Unread name) = 3
 failure_status _ = 4

@@ -8,6 +8,7 @@ use Rattle.ll_lines.specs.declared.fault.ReadFault.{ReadFault}
 use Rattle.ll_trace.specs.Entries.{trace_file}
 use Rattle.ll_report.specs.Told.{Told}
 use Rattle.ll_report.specs.Report.{report_status}
+use Rattle.ll_audit.specs.declared.fault.Fault.TheVariants as fault
 use Rattle.ll_audit.specs.declared.lines.Failure.{Failure}
 use Rattle.ll_audit.specs.declared.lines.Failure.TheVariants as failure
 use Rattle.ll_audit.specs.declared.outcome.Ending.{Ending}
@@ -54,19 +55,20 @@ HasTrace files name = (bytes : List ℕ) × AreBytesOf files name bytes × Reads
 -- What a failure says of the files that a request names, where the count of failures to read one was `before` and is
 -- `after`.
 abbrev pub IsFailureOf : Option Files → Request → ℕ → ℕ → Failure → Type 0
-IsFailureOf files request before after (failure.Tree fault) = IsBadFile tree_format files request.tree fault
-IsFailureOf files request before after (failure.Trace fault) =
-    HasTree files request.tree × IsBadFile trace_file files request.trace fault
+IsFailureOf files request before after (failure.Audit (fault.Tree bad)) = IsBadFile tree_format files request.tree bad
+IsFailureOf files request before after (failure.Audit (fault.Trace bad)) =
+    HasTree files request.tree × IsBadFile trace_file files request.trace bad
+IsFailureOf files request before after (failure.Audit fault.Workers) = ⊥
+IsFailureOf files request before after (failure.Audit fault.Memory) = ⊤
+IsFailureOf files request before after (failure.Audit fault.NoThread) = HasTree files request.tree × HasTrace files request.trace
 IsFailureOf files request before after (failure.Unread name) =
     ((name.now ≡ request.tree) ⊎ (name.now ≡ request.trace)) × (before < after)
-IsFailureOf files request before after failure.Memory = ⊤
-IsFailureOf files request before after failure.NoThread = HasTree files request.tree × HasTrace files request.trace
 IsFailureOf files request before after failure.Unwritten = ⊥
 
 -- out of memory, or the words ask for a run that fails in this way
 abbrev pub HasFailure : List Text → Option Files → ℕ → ℕ → Failure → Type 0
 HasFailure words files before after one =
-    (one ≡ failure.Memory)
+    (one ≡ failure.Audit fault.Memory)
     ⊎ ((request : Request) × (request_of words ≡ Some request) × IsFailureOf files request before after one)
 
 -- what an outcome says of the words and of the files

@@ -6,3 +6,5 @@ pub mod Causes
 pub mod Fronts
 pub mod Cuts
 pub mod ShownReports
+pub mod Audited
+pub mod ReportTexts

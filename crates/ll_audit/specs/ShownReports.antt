@@ -7,10 +7,9 @@ use Rattle.ll_tree.specs.Trees.{Entry}
 use Rattle.ll_trace.specs.declared.record.Record.{Record}
 use Rattle.ll_trace.specs.BestEffort.{records_at_best_effort}
 use Rattle.ll_report.specs.Told.{Told}
-use Rattle.ll_report.specs.Found.{Found, found_by, found_under}
+use Rattle.ll_report.specs.Found.{Found, found_under}
 use Rattle.ll_report.specs.Rows.{refused_under_some, rows_text, total_under_text}
 use Rattle.ll_report.specs.Shown.{IsShownReportOn}
-use Rattle.ll_json.specs.Kept.{kept_at}
 use Rattle.ll_json.specs.Reports.{IsJsonReport}
 use Rattle.ll_json.specs.Versions.{Version}
 use Rattle.ll_command.specs.declared.command.TheConstants.{VERSION}
@@ -19,7 +18,6 @@ use Rattle.ll_report.specs.declared.options.Format.TheVariants.{Json, Text}
 use Rattle.ll_trace.specs.declared.trace.Effort.{Effort}
 use Rattle.ll_trace.specs.declared.trace.Effort.TheVariants.{AsRecorded, Best}
 use Rattle.ll_report.specs.declared.options.Options.{Options}
-use Rattle.ll_report.specs.declared.options.Shown.{Shown}
 use Rattle.ll_report.specs.declared.options.TheConstants.{ALL_LINES}
 use Rattle.ll_rights.specs.AbiRanges.{versions_in}
 use Rattle.ll_audit.specs.Audits.{BothRead}
@@ -29,29 +27,24 @@ abbrev pub taken : Effort → Abi → List Record → List Record
 taken AsRecorded abi records = records
 taken Best abi records = records_at_best_effort abi records
 
--- what is found of records under a version, for a report in this form
-abbrev pub found_in : Format → Shown → List Entry → List Record → Abi → Found
-found_in Text shown tree records abi = found_under shown tree records abi
-found_in Json shown tree records abi = found_by kept_at shown tree records abi
-
 -- what is found of the records under a version
-abbrev pub found_at : Format → Options → List Entry → List Record → Abi → Found
-found_at format options tree records abi = found_in format options.shown tree (taken options.effort abi records) abi
+abbrev pub found_at : Options → List Entry → List Record → Abi → Found
+found_at options tree records abi = found_under options.shown tree (taken options.effort abi records) abi
 
 -- what is found of the records under each version that is asked for, the oldest first
-abbrev pub findings : Format → Options → List Entry → List Record → List Found
-findings format options tree records = map (found_at format options tree records) (versions_in options.abis)
+abbrev pub findings : Options → List Entry → List Record → List Found
+findings options tree records = map (found_at options tree records) (versions_in options.abis)
 
 -- the last line of a version
 abbrev pub total_at : Options → List Entry → List Record → Abi → List ℕ
-total_at options tree records abi = total_under_text (number_of abi) (found_at Text options tree records abi)
+total_at options tree records abi = total_under_text (number_of abi) (found_at options tree records abi)
 
 -- ---- the report as text
 
 -- the report over several versions
 pub record IsReportOver (options : Options) (tree : List Entry) (records : List Record) (report : Told) : Type 0 where
-  pub text : report.text ≡ rows_text options.shown (number_of options.abis.oldest) (findings Text options tree records) records
-  pub refused : report.refused ≡ refused_under_some (findings Text options tree records) records
+  pub text : report.text ≡ rows_text options.shown (number_of options.abis.oldest) (findings options tree records) records
+  pub refused : report.refused ≡ refused_under_some (findings options tree records) records
 
 -- under the version that the options name, or over the versions
 pub record IsTextReport (options : Options) (tree : List Entry) (records : List Record) (report : Told) : Type 0 where

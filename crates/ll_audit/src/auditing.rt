@@ -7,17 +7,18 @@ ghost use Rattle.ll_report.specs.Shown.{IsShownReportOn};
 ghost use Rattle.ll_report.specs.Told.{told_by};
 ghost use Rattle.ll_pool.specs.Crews.{IsCrew};
 ghost use Rattle.ll_audit.specs.Audits.{IsFaultOf, IsReport};
-ghost use Rattle.ll_audit.specs.ShownReports.{IsReportBy, IsReportWith, IsTextReport, taken};
+ghost use Rattle.ll_audit.specs.ShownReports.{IsReportBy, IsReportInJson, IsReportOver, IsReportWith, IsTextReport, taken};
 ghost use Rattle.ll_audit.specs.Causes.{IsTraceFault, IsTreeFault, IsWant};
 
-use crate::crew::Crew;
 use crate::cut::{Cut, cuts_of};
 use crate::fault::Fault;
 use crate::inputs::Inputs;
-use crate::ranging::{report_in_json, report_over};
+use crate::ranging::{Audit, Audited};
+use crate::report_text::{Form, ReportText};
+use crate::workers::Workers;
 use ll_pool::Gate;
 use ll_process::Case;
-use ll_report::{ALL_LINES, Format, Options, Report, ReportText, Shown, TextReport};
+use ll_report::{ALL_LINES, Format, Options, Report, text_report};
 use ll_rights::{Abi, AbiRange};
 use ll_trace::{Effort, Trace};
 use ll_tree::{Cause, Tree};
@@ -94,27 +95,31 @@ pub fn audit_with<R: Threads + Wait + Sync, G: Gate + Sync>(
     ensures crew { IfOk result (λ _. IsCrew workers) }
     ensures fault { IfErr result (IsFaultOf workers tree.now trace.now) }
 {
-    let files = files_of(rt, alloc, tree, trace, workers)?;
-    let report = report_by(rt, alloc, files, options, workers, cut, gate)?;
+    let workers = Workers {
+        rt,
+        alloc,
+        count: workers,
+        gate,
+    };
+    let files = files_of(&workers, tree, trace)?;
+    let report = report_by(&workers, files, options, cut)?;
     Ok(report.into_report(alloc)?)
 }
 
 /// Audits a trace against a tree as `audit_with` does, and gives the bytes of their files back once they are read.
 pub(crate) fn audit_inputs<R: Threads + Wait + Sync, G: Gate + Sync>(
-    rt: &R,
-    alloc: Global,
+    workers: &Workers<'_, R, G>,
     inputs: Inputs,
     options: &Options,
-    workers: u64,
     cut: Cut,
-    gate: &G,
 ) -> Result<ReportText, Fault>
     ensures report { IfOk result (IsReportWith options.now inputs.tree.items inputs.trace.items) }
-    ensures crew { IfOk result (λ _. IsCrew workers) }
-    ensures fault { IfErr result (IsFaultOf workers inputs.tree.items inputs.trace.items) }
+    ensures crew { IfOk result (λ _. IsCrew workers.now.count) }
+    ensures fault { IfErr result
+        (IsFaultOf workers.now.count inputs.tree.items inputs.trace.items) }
 {
-    let files = files_in(rt, alloc, inputs, workers)?;
-    report_by(rt, alloc, files, options, workers, cut, gate)
+    let files = files_in(workers, inputs)?;
+    report_by(workers, files, options, cut)
 }
 
 /// A tree and a trace, as two files say them.
@@ -125,39 +130,36 @@ struct Files {
 }
 
 /// What two files read as, by this many workers.
-fn files_of<R: Threads + Wait + Sync>(
-    rt: &R,
-    alloc: Global,
+fn files_of<R: Threads + Wait + Sync, G: Gate + Sync>(
+    workers: &Workers<'_, R, G>,
     tree: &[u8],
     trace: &[u8],
-    workers: u64,
 ) -> Result<Files, Fault>
     ensures tree { IfOk result (λ files. IsTreeOf tree.now files.tree) }
     ensures trace { IfOk result (λ files. IsTrace trace.now files.trace) }
-    ensures crew { IfOk result (λ _. IsCrew workers) }
-    ensures fault { IfErr result (IsFaultOf workers tree.now trace.now) }
+    ensures crew { IfOk result (λ _. IsCrew workers.now.count) }
+    ensures fault { IfErr result (IsFaultOf workers.now.count tree.now trace.now) }
 {
-    if workers == 0 || workers > 64 {
+    if workers.count == 0 || workers.count > 64 {
         return Err(Fault::Workers);
     }
-    let tree = tree_of(alloc, tree)?;
-    let trace = trace_of(rt, alloc, trace, workers)?;
+    let tree = tree_of(workers.alloc, tree)?;
+    let trace = trace_of(workers, trace)?;
     Ok(Files { tree, trace })
 }
 
 /// What the bytes of two files read as; they are given back.
-fn files_in<R: Threads + Wait + Sync>(
-    rt: &R,
-    alloc: Global,
+fn files_in<R: Threads + Wait + Sync, G: Gate + Sync>(
+    workers: &Workers<'_, R, G>,
     inputs: Inputs,
-    workers: u64,
 ) -> Result<Files, Fault>
     ensures tree { IfOk result (λ files. IsTreeOf inputs.tree.items files.tree) }
     ensures trace { IfOk result (λ files. IsTrace inputs.trace.items files.trace) }
-    ensures crew { IfOk result (λ _. IsCrew workers) }
-    ensures fault { IfErr result (IsFaultOf workers inputs.tree.items inputs.trace.items) }
+    ensures crew { IfOk result (λ _. IsCrew workers.now.count) }
+    ensures fault { IfErr result
+        (IsFaultOf workers.now.count inputs.tree.items inputs.trace.items) }
 {
-    files_of(rt, alloc, &inputs.tree, &inputs.trace, workers)
+    files_of(workers, &inputs.tree, &inputs.trace)
 }
 
 /// A trace as its rulesets are to be taken under a version.
@@ -184,17 +186,15 @@ fn tree_of(alloc: Global, bytes: &[u8]) -> Result<Tree, Fault>
     }
 }
 
-/// The trace that a file reads as, read by this many workers.
-fn trace_of<R: Threads + Wait + Sync>(
-    rt: &R,
-    alloc: Global,
+/// The trace that a file reads as.
+fn trace_of<R: Threads + Wait + Sync, G: Gate + Sync>(
+    workers: &Workers<'_, R, G>,
     bytes: &[u8],
-    workers: u64,
 ) -> Result<Trace, Fault>
     ensures trace { IfOk result (IsTrace bytes.now) }
     ensures fault { IfErr result (IsTraceFault bytes.now) }
 {
-    match Trace::read_by(rt, alloc, bytes, workers as usize) {
+    match Trace::read_by(workers.rt, workers.alloc, bytes, workers.count as usize) {
         Ok(trace) => Ok(trace),
         Err(fault) => match fault.cause {
             Cause::Memory => Err(Fault::Memory),
@@ -205,70 +205,89 @@ fn trace_of<R: Threads + Wait + Sync>(
 
 /// The report that the options ask for.
 fn report_by<R: Threads + Wait + Sync, G: Gate + Sync>(
-    rt: &R,
-    alloc: Global,
+    workers: &Workers<'_, R, G>,
     files: Files,
     options: &Options,
-    workers: u64,
     cut: Cut,
-    gate: &G,
 ) -> Result<ReportText, Fault>
-    requires { IsCrew workers }
+    requires { IsCrew workers.now.count }
     ensures report { IfOk result (IsReportBy options.now files.tree files.trace) }
     ensures fault { IfErr result IsWant }
 {
     let Files { tree, trace } = files;
-    let cuts = cuts_of(alloc, &trace, cut)?;
-    let crew = Crew {
-        rt,
-        alloc,
+    let cuts = cuts_of(workers.alloc, &trace, cut)?;
+    let audit = Audit {
         workers,
+        options,
         cuts: &cuts,
-        gate,
     };
     match options.format {
-        Format::Text => text_by(&crew, tree, trace, options),
-        Format::Json => {
-            let report = report_in_json(&crew, tree, trace, options)?;
-            Ok(ReportText::whole(report))
-        }
+        Format::Text => text_by(&audit, tree, trace),
+        Format::Json => json_by(&audit, tree, trace),
     }
 }
 
-/// The report that the options ask for, as text.
+/// The report as text.
 fn text_by<R: Threads + Wait + Sync, G: Gate + Sync>(
-    crew: &Crew<'_, R, G>,
+    audit: &Audit<'_, R, G>,
     tree: Tree,
     trace: Trace,
-    options: &Options,
 ) -> Result<ReportText, Fault>
-    requires { IsCrew crew.now.workers }
-    ensures report { IfOk result (IsTextReport options.now tree trace) }
+    requires { IsCrew audit.now.workers.now.count }
+    ensures report { IfOk result (IsTextReport audit.now.options.now tree trace) }
     ensures fault { IfErr result IsWant }
 {
-    match options.abis.single() {
-        Some(abi) => {
-            let trace = taken(trace, options.effort, abi);
-            let located = crew.located(tree, trace)?;
-            let case = Case::of_located(crew.alloc, located, abi)?;
-            report_on(crew, case, options.shown)
-        }
-        None => Ok(ReportText::whole(report_over(crew, tree, trace, options)?)),
+    match audit.options.abis.single() {
+        Some(abi) => text_under(audit, abi, tree, taken(trace, audit.options.effort, abi)),
+        None => text_over(audit, tree, trace),
     }
 }
 
-/// The report on a case, as much as is shown of it.
-fn report_on<R: Threads + Wait + Sync, G: Gate + Sync>(
-    crew: &Crew<'_, R, G>,
-    case: Case,
-    shown: Shown,
+/// The report as text under one version.
+fn text_under<R: Threads + Wait + Sync, G: Gate + Sync>(
+    audit: &Audit<'_, R, G>,
+    abi: Abi,
+    tree: Tree,
+    trace: Trace,
 ) -> Result<ReportText, Fault>
-    requires { IsCrew crew.now.workers }
+    requires { IsCrew audit.now.workers.now.count }
     ensures report { IfOk result
-        (IsShownReportOn shown case.tree case.abi case.records) }
+        (IsShownReportOn audit.now.options.now.shown tree abi trace) }
     ensures fault { IfErr result IsWant }
 {
-    let answers = crew.answers(&case)?;
-    let report = TextReport::of(crew.alloc, case, answers, shown)?;
-    Ok(ReportText::by_record(report))
+    let alloc = audit.workers.alloc;
+    let case = Case::of_located(alloc, audit.workers.located(tree, trace)?, abi)?;
+    let answers = audit.workers.answers(&case, audit.cuts)?;
+    let report = text_report(alloc, case, answers, audit.options.shown)?;
+    Ok(ReportText::new(Form::Text(report)))
+}
+
+/// The report as text over the versions that are asked for.
+fn text_over<R: Threads + Wait + Sync, G: Gate + Sync>(
+    audit: &Audit<'_, R, G>,
+    tree: Tree,
+    trace: Trace,
+) -> Result<ReportText, Fault>
+    requires { IsCrew audit.now.workers.now.count }
+    ensures report { IfOk result (IsReportOver audit.now.options.now tree trace) }
+    ensures fault { IfErr result IsWant }
+{
+    let all = Audited::of(audit, tree, trace)?;
+    let report = all.into_text(audit.workers.alloc, audit.options)?;
+    Ok(ReportText::new(Form::Range(report)))
+}
+
+/// The report as JSON.
+fn json_by<R: Threads + Wait + Sync, G: Gate + Sync>(
+    audit: &Audit<'_, R, G>,
+    tree: Tree,
+    trace: Trace,
+) -> Result<ReportText, Fault>
+    requires { IsCrew audit.now.workers.now.count }
+    ensures report { IfOk result (IsReportInJson audit.now.options.now tree trace) }
+    ensures fault { IfErr result IsWant }
+{
+    let all = Audited::of(audit, tree, trace)?;
+    let report = all.into_json(audit.workers.alloc, audit.options)?;
+    Ok(ReportText::new(Form::Json(report)))
 }

@@ -1,8 +1,10 @@
 //! The bytes of the two files of a run.
 
 ghost use Rattle.std.specs.Prelude.{◌≡◌, ◌⊎◌, ◌+◌, ◌-◌, ◌^◌, ◌<◌, ◌≤◌, IfOk, IfErr, IfSome, Some};
+ghost use Rattle.ll_audit.specs.declared.fault.Fault.TheVariants.{Memory};
 ghost use Rattle.ll_audit.specs.Files.{bytes_of};
 
+use crate::fault::Fault;
 use crate::lines::Failure;
 use crate::source::{Source, SourceFault};
 use ll_command::Run;
@@ -24,7 +26,7 @@ fn bytes_of<'a, S: Source>(
     requires { S.failed source.old < 2 ^ 64 - 1 }
     ensures bytes { IfOk result (λ bytes. IfSome (S.files source.old)
         (λ files. bytes_of files name.entry.now ≡ Some bytes.items)) }
-    ensures failure { IfErr result (λ failure. (failure ≡ Failure.Memory)
+    ensures failure { IfErr result (λ failure. (failure ≡ Failure.Audit Memory)
         ⊎ ((failure ≡ Failure.Unread name.entry)
         × (S.failed source.new ≡ S.failed source.old + 1))) }
     ensures kept { S.failed source.old ≤ S.failed source.new }
@@ -34,7 +36,7 @@ fn bytes_of<'a, S: Source>(
     match source.bytes_of(alloc, name) {
         Ok(bytes) => Ok(bytes),
         Err(SourceFault::Unread) => Err(Failure::Unread(name)),
-        Err(SourceFault::Memory) => Err(Failure::Memory),
+        Err(SourceFault::Memory) => Err(Failure::Audit(Fault::Memory)),
     }
 }
 
@@ -49,7 +51,7 @@ pub(crate) fn inputs_of<'a, S: Source>(
         (λ files. bytes_of files run.now.tree.now ≡ Some inputs.tree.items)) }
     ensures trace { IfOk result (λ inputs. IfSome (S.files source.old)
         (λ files. bytes_of files run.now.trace.now ≡ Some inputs.trace.items)) }
-    ensures failure { IfErr result (λ failure. (failure ≡ Failure.Memory)
+    ensures failure { IfErr result (λ failure. (failure ≡ Failure.Audit Memory)
         ⊎ (((failure ≡ Failure.Unread run.now.tree) ⊎ (failure ≡ Failure.Unread run.now.trace))
         × (S.failed source.old < S.failed source.new))) }
     ensures same_files { S.files source.new ≡ S.files source.old }

@@ -19,7 +19,6 @@ ghost use Rattle.ll_report.specs.Lines.{line_of};
 ghost use Rattle.ll_report.specs.Rows.{rows_from};
 ghost use Rattle.ll_report.specs.declared.report.Report.{Report as Made};
 ghost use Rattle.ll_report.specs.Told.{told_by};
-ghost use Rattle.ll_report.specs.declared.options.Format.TheVariants.{Text};
 ghost use Rattle.ll_report.specs.declared.options.Options.{Options as Asked};
 ghost use Rattle.ll_rights.specs.AbiRanges.{IsRising, versions_in};
 ghost use Rattle.ll_audit.specs.declared.source.TheConstants.{LARGEST_FILE};
@@ -61,7 +60,7 @@ pub fn reports_have_a_total_for_each_version()
     ensures totals { (options : Asked) (tree : List Entry) (records : List Record) (report : Made)
         → IsReportOver options tree records (told_by report)
         → report.bytes.items ≡ rows_from options.shown (number_of options.abis.oldest)
-        (findings Text options tree records) 0 records
+        (findings options tree records) 0 records
         ++ flat_map (total_at options tree records) (versions_in options.abis) }
     ensures at_least_one { (options : Asked) → IsRising options.abis
         → 1 ≤ length (versions_in options.abis) }

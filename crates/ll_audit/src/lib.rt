@@ -2,7 +2,6 @@
 #![tactic(auto)]
 
 mod auditing;
-mod crew;
 mod cut;
 mod fault;
 mod inputs;
@@ -11,10 +10,11 @@ mod lines;
 mod outcome;
 mod program;
 mod ranging;
+mod report_text;
 mod source;
+mod workers;
 
 pub use auditing::{audit, audit_with};
-pub use crew::Idle;
 pub use cut::Cut;
 pub use fault::Fault;
 pub use laws::{
@@ -28,3 +28,4 @@ pub use ll_trace::Effort;
 pub use outcome::Ending;
 pub use program::{front, front_ending};
 pub use source::{LARGEST_FILE, MemorySource, Source, SourceFault};
+pub use workers::Idle;

@@ -2,9 +2,11 @@
 
 ghost use Rattle.std.specs.Prelude.{◌≡◌, ◌++◌, OnOk, codes};
 ghost use Rattle.std.specs.Io.KnownBytes.{Appends};
-ghost use Rattle.ll_audit.specs.FaultLines.{cause_name, failure_line, failure_status, place_text};
+ghost use Rattle.ll_audit.specs.declared.lines.Failure.TheVariants.{Audit};
+ghost use Rattle.ll_audit.specs.FaultLines.{cause_name, failure_line, failure_status, fault_line, place_text};
 ghost use Rattle.ll_audit.specs.Outcomes.{AppendsBeginning};
 
+use crate::fault::Fault;
 use itoa::Buffer;
 use ll_lines::{Cause, ReadFault};
 use ll_report::write_texts;
@@ -14,18 +16,20 @@ use std::io::Write;
 /// Why a run ends without a report.
 #[derive(Clone, Copy, Debug)]
 pub enum Failure<'a> {
-    /// The tree doesn't read.
-    Tree(ReadFault),
-    /// The trace doesn't read.
-    Trace(ReadFault),
+    /// The audit gives no report.
+    Audit(Fault),
     /// The file of this name can't be read.
     Unread(&'a str),
-    /// Out of memory.
-    Memory,
-    /// A thread could not be started.
-    NoThread,
     /// The output can't be written.
     Unwritten,
+}
+
+impl From<Fault> for Failure<'_> {
+    ghost from_gives = { λ fault failure. failure ≡ Audit fault };
+
+    fn from(fault: Fault) -> Self {
+        Failure::Audit(fault)
+    }
 }
 
 impl Failure<'_> {
@@ -34,8 +38,9 @@ impl Failure<'_> {
         ensures { result ≡ failure_status self.now }
     {
         match self {
-            Failure::Tree(_) | Failure::Trace(_) | Failure::Unread(_) => 3,
-            Failure::Memory | Failure::NoThread | Failure::Unwritten => 4,
+            Failure::Audit(Fault::Tree(_) | Fault::Trace(_)) | Failure::Unread(_) => 3,
+            Failure::Audit(Fault::Workers | Fault::Memory | Fault::NoThread) | Failure::Unwritten =>
+                4,
         }
     }
 
@@ -47,13 +52,26 @@ impl Failure<'_> {
             (failure_line self.now) }
     {
         match self {
-            Failure::Tree(fault) => write_place(err, "tree", fault),
-            Failure::Trace(fault) => write_place(err, "trace", fault),
+            Failure::Audit(fault) => write_fault(err, fault),
             Failure::Unread(name) => write_line(err, "cannot read ", name),
-            Failure::Memory => write_line(err, "no memory", ""),
-            Failure::NoThread => write_line(err, "no thread", ""),
             Failure::Unwritten => write_line(err, "cannot write", ""),
         }
+    }
+}
+
+/// Writes the line of an audit that gives no report.
+fn write_fault<W: Write>(err: &mut W, fault: &Fault) -> io::Result<()>
+    ensures whole { OnOk result (Appends (W.contents err.old) (W.contents err.new)
+        (fault_line fault.now)) }
+    ensures beginning { AppendsBeginning (W.contents err.old) (W.contents err.new)
+        (fault_line fault.now) }
+{
+    match fault {
+        Fault::Tree(bad) => write_place(err, "tree", bad),
+        Fault::Trace(bad) => write_place(err, "trace", bad),
+        Fault::Workers => write_line(err, "no such number of workers", ""),
+        Fault::Memory => write_line(err, "no memory", ""),
+        Fault::NoThread => write_line(err, "no thread", ""),
     }
 }
 

@@ -4,8 +4,8 @@ ghost use Rattle.std.specs.Prelude.{◌≡◌};
 ghost use Rattle.ll_audit.specs.Outcomes.{Complains, EndsWith};
 
 use crate::lines::Failure;
+use crate::report_text::ReportText;
 use ll_command::{Message, Misuse};
-use ll_report::ReportText;
 use std::io;
 use std::io::Write;
 

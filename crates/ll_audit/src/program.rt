@@ -11,10 +11,11 @@ use crate::fault::Fault;
 use crate::inputs::inputs_of;
 use crate::lines::Failure;
 use crate::outcome::{Ending, Outcome};
+use crate::report_text::ReportText;
 use crate::source::Source;
+use crate::workers::Workers;
 use ll_command::{Plan, Run, plan_of};
 use ll_pool::Gate;
-use ll_report::ReportText;
 use std::alloc::Global;
 use std::io::Write;
 use std::sync::Wait;
@@ -98,7 +99,7 @@ fn outcome_of<'a, R: Threads + Wait + Sync, S: Source, G: Gate + Sync>(
         Plan::Text(text) => Outcome::Text(text),
         Plan::Usage(error) => Outcome::Usage(error),
         Plan::Misuse(why) => Outcome::Misuse(why),
-        Plan::Memory => Outcome::Failure(Failure::Memory),
+        Plan::Memory => Outcome::Failure(Failure::Audit(Fault::Memory)),
     }
 }
 
@@ -118,12 +119,11 @@ fn report_of<'a, R: Threads + Wait + Sync, S: Source, G: Gate + Sync>(
 {
     let inputs = inputs_of(alloc, source, run)?;
     let cut = Cut::Grain(run.grain);
-    match audit_inputs(rt, alloc, inputs, &run.options, run.workers, cut, gate) {
-        Ok(report) => Ok(report),
-        Err(Fault::Tree(fault)) => Err(Failure::Tree(fault)),
-        Err(Fault::Trace(fault)) => Err(Failure::Trace(fault)),
-        Err(Fault::Memory) => Err(Failure::Memory),
-        Err(Fault::NoThread) => Err(Failure::NoThread),
-        Err(Fault::Workers) => unreachable!(),
-    }
+    let workers = Workers {
+        rt,
+        alloc,
+        count: run.workers,
+        gate,
+    };
+    Ok(audit_inputs(&workers, inputs, &run.options, cut)?)
 }

@@ -6,4 +6,4 @@ pub mod NodeTexts
 pub mod LinesSaid
 pub mod PathsSpelt
 pub mod ConditionsSaid
-pub mod Explaining
+pub mod FindingSays

@@ -12,29 +12,25 @@ use Rattle.ll_reasons.specs.Objections.{Objection}
 use Rattle.ll_explanations.specs.Meanings.{IsMade, by_layer, in_front, objection_in}
 use Rattle.ll_explanations.specs.declared.objection.LayerObjection.{LayerObjection}
 use Rattle.ll_explain.specs.Buffers.{Buffered, adding}
-use Rattle.ll_explain.specs.Lines.{ending, head_of, next_text, opening}
+use Rattle.ll_explain.specs.Lines.{ending, head_of, lines_from, next_text, opening}
 use Rattle.ll_explain.proofs.Buffering.{goes_on}
 use Rattle.ll_explain.specs.Words.{behind, joined, layer_head, layer_text, objection_text}
 
 module _ (tree : List Entry) (records : List Record) where
-  -- what is to be said behind an objection of this layer
-  unfoldable pub left : ℕ → List LayerObjection → List ℕ
-  left before [] = ending before
-  left before (one ∷ more) = next_text tree records before one ++ left one.layer more
+  pub said_next : (text after whole : Buffered) (before : ℕ) (all : List LayerObjection) (k : ℕ) (one : LayerObjection) →
+      k < length all → one ≡ get_or all k one → adding text (lines_from tree records before (drop k all)) ≡ whole
+      → after ≡ adding text (next_text tree records before one)
+      → adding after (lines_from tree records one.layer (drop (k + 1) all)) ≡ whole
+  unfolding lines_from
+  said_next text after whole before all k one there is so_far written =
+      goes_on text after whole (next_text tree records before one) (lines_from tree records one.layer (drop (k + 1) all))
+      (ap (adding text) (sym (ap (lines_from tree records before) (drop_more all k one there ∙ ap (λ y. y ∷ drop (k + 1) all) (sym is)))) ∙ so_far) written
 
-  pub left_next : (text after whole : Buffered) (before : ℕ) (all : List LayerObjection) (k : ℕ) (one : LayerObjection) →
-      k < length all → one ≡ get_or all k one → adding text (left before (drop k all)) ≡ whole → after ≡ adding text (next_text tree records before one)
-      → adding after (left one.layer (drop (k + 1) all)) ≡ whole
-  unfolding left
-  left_next text after whole before all k one there is so_far written =
-      goes_on text after whole (next_text tree records before one) (left one.layer (drop (k + 1) all))
-      (ap (adding text) (sym (ap (left before) (drop_more all k one there ∙ ap (λ y. y ∷ drop (k + 1) all) (sym is)))) ∙ so_far) written
-
-  pub left_none : (text after whole : Buffered) (before : ℕ) (all : List LayerObjection) (k : ℕ) → length all ≤ k
-      → adding text (left before (drop k all)) ≡ whole → after ≡ adding text (ending before) → after ≡ whole
-  unfolding left
-  left_none text after whole before all k end so_far written =
-      written ∙ ap (adding text) (sym (ap (left before) (drop_all k all end))) ∙ so_far
+  pub said_last : (text after whole : Buffered) (before : ℕ) (all : List LayerObjection) (k : ℕ) → length all ≤ k
+      → adding text (lines_from tree records before (drop k all)) ≡ whole → after ≡ adding text (ending before) → after ≡ whole
+  unfolding lines_from
+  said_last text after whole before all k end so_far written =
+      written ∙ ap (adding text) (sym (ap (lines_from tree records before) (drop_all k all end))) ∙ so_far
 
   module _ (layers : List ℕ) where
     abbrev Groups : Type 0
@@ -109,8 +105,8 @@ module _ (tree : List Entry) (records : List Record) where
       go false = on_the_next (ending before) (head_of records one.layer one.made) said (texts os) (codes "\n") (lines gs)
           ∙ ap (λ h. ending before ++ (((h ++ (said ++ texts os)) ++ codes "\n") ++ lines gs)) (headed one made)
 
-    said_from : (before : ℕ) (all : List LayerObjection) → All (IsMade layers) all → left before all ≡ rest_of before (by_layer tree all)
-    unfolding left by_layer
+    said_from : (before : ℕ) (all : List LayerObjection) → All (IsMade layers) all → lines_from tree records before all ≡ rest_of before (by_layer tree all)
+    unfolding lines_from by_layer
     said_from before [] made = refl
     said_from before (one ∷ more) made =
         let o = objection_in tree one.objection in
@@ -125,8 +121,8 @@ module _ (tree : List Entry) (records : List Record) where
     unfolding ending
     begun layer os gs positive = rw (ne_eqb layer 0 (λ zero. absurd (omega (arith, zero, positive)))) refl
 
-    pub all_said : (all : List LayerObjection) → All (IsMade layers) all → left 0 all ≡ lines (by_layer tree all)
-    unfolding left by_layer ending
+    pub all_said : (all : List LayerObjection) → All (IsMade layers) all → lines_from tree records 0 all ≡ lines (by_layer tree all)
+    unfolding lines_from by_layer ending
     all_said [] made = refl
     all_said (one ∷ more) made =
         let o = objection_in tree one.objection in

@@ -1,10 +1,12 @@
 -- What a buffer of fixed size holds when bytes are added to it.
 -- Source: the code's own; it stands in no document.
-use Rattle.std.specs.Prelude.{ℕ, ◌+◌, ◌^◌, ◌-◌, List, [], ◌∷◌, ◌++◌, fold, min, take}
+use Rattle.std.specs.Prelude.{ℕ, ◌+◌, ◌^◌, ◌-◌, List, [], ◌∷◌, ◌++◌, fold, if◌then◌else◌, length, min, nat_lt, take}
 
--- A buffer has room for so many bytes. It holds the first ones of the text that was added, and counts all of them.
+-- A buffer has a window over the text that was added: it leaves out so many bytes of it, holds the next ones, for which
+-- it has room, and counts all of them.
 pub record Buffered : Type 0 where
   pub room : ℕ
+  pub skip : ℕ
   pub count : ℕ
   pub held : List ℕ
 
@@ -12,16 +14,25 @@ pub record Buffered : Type 0 where
 abbrev pub most_counted : ℕ
 most_counted = 2 ^ 64 - 1
 
--- nothing was added yet
-abbrev pub blank : ℕ → Buffered
-blank room = record { room = room; count = 0; held = [] }
+-- nothing was added yet, and so many bytes will be left out
+abbrev pub from_byte : ℕ → ℕ → Buffered
+from_byte skip room = record { room = room; skip = skip; count = 0; held = [] }
 
--- one more byte is counted, and held if there is room
+-- nothing was added yet, and none will be left out
+abbrev pub blank : ℕ → Buffered
+blank = from_byte 0
+
+-- these bytes were added, and they are held
+abbrev pub holding : ℕ → List ℕ → Buffered
+holding room held = record { room = room; skip = 0; count = length held; held = held }
+
+-- one more byte is counted, and held if it is not left out and there is room
 unfoldable pub with_byte : Buffered → ℕ → Buffered
 with_byte buffer byte = record {
   room = buffer.room;
+  skip = buffer.skip;
   count = min (buffer.count + 1) most_counted;
-  held = take buffer.room (buffer.held ++ byte ∷ []);
+  held = if nat_lt buffer.count buffer.skip then buffer.held else take buffer.room (buffer.held ++ byte ∷ []);
 }
 
 -- a text is added, byte after byte

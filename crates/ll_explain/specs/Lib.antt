@@ -4,3 +4,4 @@ pub mod Lines
 pub mod Explained
 pub mod Buffers
 pub mod Plain
+pub mod Told

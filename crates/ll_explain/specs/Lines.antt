@@ -1,6 +1,6 @@
 -- The lines of an explanation's objections, one after another: what stands in front of each.
 -- Source: docs/FORMATS.md, "Explanations".
-use Rattle.std.specs.Prelude.{ℕ, List, [], ◌++◌, ◌==◌, Option, codes, decimal, option_and_then, slice_get, if◌then◌else◌}
+use Rattle.std.specs.Prelude.{ℕ, List, [], ◌∷◌, ◌++◌, ◌==◌, Option, codes, decimal, option_and_then, slice_get, if◌then◌else◌}
 use Rattle.ll_tree.specs.Trees.{Entry}
 use Rattle.ll_trace.specs.declared.record.Record.{Record}
 use Rattle.ll_explanations.specs.Meanings.{objection_in}
@@ -22,6 +22,11 @@ opening records before one = if one.layer == before then codes "; " else ending 
 -- it is said
 unfoldable pub next_text : List Entry → List Record → ℕ → LayerObjection → List ℕ
 next_text tree records before one = opening records before one ++ objection_text records (objection_in tree one.objection)
+
+-- what is said behind an objection of this layer: more objections, and the end of the last line
+unfoldable pub lines_from : List Entry → List Record → ℕ → List LayerObjection → List ℕ
+lines_from tree records before [] = ending before
+lines_from tree records before (one ∷ more) = next_text tree records before one ++ lines_from tree records one.layer more
 
 -- All that unfolds when the text of an explanation is made.
 unfoldable pub wording : Unit {0}

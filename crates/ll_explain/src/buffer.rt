@@ -1,33 +1,40 @@
 //! A buffer of fixed size for texts.
 
 ghost use Rattle.std.specs.Prelude.{◌≡◌, ◌<◌, ◌≤◌, ◌^◌, IfOk, OnOk, length};
-ghost use Rattle.ll_explain.specs.Buffers.{adding, blank};
+ghost use Rattle.ll_explain.specs.Buffers.{adding, blank, from_byte, holding};
 
 use std::alloc::{AllocError, Global};
 use std::marker::Model;
 
-/// A buffer for a text, of a size that is fixed beforehand: it holds the first bytes of the text, as many as it has
-/// room for, and counts all of them. So adding to it takes no memory and can't fail, and a buffer without room
-/// measures a text.
+/// A buffer for a text, of a size that is fixed beforehand. It has a window over the text: it leaves out the first bytes,
+/// as many as it was told, holds the next, as many as it has room for, and counts all. So adding to it takes no memory
+/// and can't fail. A buffer without room measures a text, and a long text can be had part by part.
 #[derive(Drop)]
 pub struct TextBuffer {
     bytes: Vec<u8>,
     room: usize,
+    skip: usize,
     count: usize,
 }
 
 impl Model for TextBuffer {
-    ghost use Rattle.std.specs.Prelude.{◌≤◌};
+    ghost use Rattle.std.specs.Prelude.{◌≤◌, ◌<◌, ◌^◌};
     ghost use Rattle.std.specs.Vec.{vec_capacity, vec_len};
     ghost use Rattle.ll_explain.specs.Buffers.{Buffered};
 
     ghost Value = { Buffered };
 
     ghost view = { λ buffer.
-        record { room = buffer.room; count = buffer.count; held = buffer.bytes.items } };
+        record {
+          room = buffer.room;
+          skip = buffer.skip;
+          count = buffer.count;
+          held = buffer.bytes.items;
+        } };
 
     ghost invariant = { λ buffer.
-        (vec_len buffer.bytes ≤ buffer.room) × (buffer.room ≤ vec_capacity buffer.bytes) };
+        (vec_len buffer.bytes ≤ buffer.room) × (buffer.room ≤ vec_capacity buffer.bytes)
+        × (buffer.room < 2 ^ 63) };
 }
 
 impl TextBuffer {
@@ -39,6 +46,7 @@ impl TextBuffer {
         Ok(TextBuffer {
             bytes: Vec::with_capacity(alloc, room)?,
             room,
+            skip: 0,
             count: 0,
         })
     }
@@ -50,13 +58,15 @@ impl TextBuffer {
         TextBuffer {
             bytes: Vec::new(alloc),
             room: 0,
+            skip: 0,
             count: 0,
         }
     }
 
     /// How many bytes it can hold.
     pub fn room(&self) -> usize
-        ensures { result ≡ self.now.room }
+        ensures room { result ≡ self.now.room }
+        ensures small { self.now.room < 2 ^ 63 }
     {
         self.room
     }
@@ -88,16 +98,35 @@ impl TextBuffer {
     pub fn clear(&mut self)
         ensures { self.new ≡ blank self.old.room }
     {
+        self.restart(0);
+    }
+
+    /// Makes the buffer empty, for a text of which so many bytes are left out.
+    pub fn restart(&mut self, skip: usize)
+        ensures { self.new ≡ from_byte skip self.old.room }
+    {
         self.bytes.clear();
+        self.skip = skip;
         self.count = 0;
     }
 
-    /// Adds bytes: holds as many of them as there is room for, and counts all.
+    /// Makes what is held all of the text, as if no other byte had been added.
+    pub fn settle(&mut self)
+        ensures { self.new ≡ holding self.old.room self.old.held }
+    {
+        self.skip = 0;
+        self.count = self.bytes.len();
+    }
+
+    /// Adds bytes: leaves out those that are to be left out, holds as many of the others as there is room for, and
+    /// counts all.
     pub fn put(&mut self, bytes: &[u8])
         ensures { self.new ≡ adding self.old bytes.now }
     {
+        let out = self.skip.saturating_sub(self.count).min(bytes.len());
+        let wanted = &bytes[out..];
         let left = self.room - self.bytes.len();
-        let part = &bytes[..bytes.len().min(left)];
+        let part = &wanted[..wanted.len().min(left)];
         let Ok(()) = self.bytes.extend_from_slice(part) else {
             unreachable!()
         };

@@ -1,16 +1,35 @@
-//! What some explanations say.
+//! What some explanations say, and what findings say.
 
-ghost use Rattle.std.specs.Prelude.{◌≡◌, ◌∷◌, [], Some, codes, false};
+ghost use Rattle.std.specs.Prelude.{◌≡◌, ◌∷◌, [], ℕ, Bool, List, Some, codes, false, if◌then◌else◌};
+ghost use Rattle.ll_rights.specs.declared.abi.Abi.{Abi as Version};
 ghost use Rattle.ll_rights.specs.declared.abi.Abi.TheVariants.{V3, V4};
 ghost use Rattle.ll_rights.specs.Rights.{execute, other, read_file, refer, truncate, write_file};
 ghost use Rattle.ll_rights.specs.NetRights.{bind_tcp};
+ghost use Rattle.ll_tree.specs.Trees.{Entry};
+ghost use Rattle.ll_trace.specs.declared.record.Record.{Record as OneRecord};
 ghost use Rattle.ll_trace.specs.declared.op.Op.TheVariants.{Nnp, OpenFile};
 ghost use Rattle.ll_trace.specs.declared.op.Mode.TheVariants.{Write};
 ghost use Rattle.ll_reasons.specs.Conditions.{unhandled, unknown};
 ghost use Rattle.ll_reasons.specs.Explanations.{failure, mootness, nothing, objections};
 ghost use Rattle.ll_reasons.specs.Objections.{closed, gained, kept, missing};
 ghost use Rattle.ll_reasons.specs.Reasons.{absent, unsupported, unenforced};
+ghost use Rattle.ll_explanations.specs.FindingValues.{FindingValue};
+ghost use Rattle.ll_explanations.specs.Findings.{Finds};
+ghost use Rattle.ll_explanations.specs.TakenLater.{AreTakenLater};
+ghost use Rattle.ll_explain.specs.Explained.{text_at};
+ghost use Rattle.ll_explain.specs.Told.{text_told};
 ghost use Rattle.ll_explain.specs.Words.{explanation_text};
+
+/// A finding says of each record what the definitions say, also by the records as an older version takes them. One
+/// that keeps no explanations says nothing.
+#[tactic(auto, using(crate::proofs::FindingSays::said_as_judged))]
+pub fn findings_say_what_is_judged()
+    ensures { (explains : Bool) (tree : List Entry) (abi : Version)
+        (records later : List OneRecord) (finding : FindingValue)
+        → Finds explains tree abi records finding → AreTakenLater later records → (place : ℕ)
+        → text_told tree later finding place
+        ≡ (if explains then text_at tree abi records place else []) }
+{}
 
 /// The text of some explanations, in a trace whose first record is on line 5 and opens a file.
 #[tactic(auto, unfolding(crate::specs::Lines::wording))]

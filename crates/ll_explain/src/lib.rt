@@ -3,7 +3,7 @@
 
 mod buffer;
 mod conditions;
-mod explanation;
+mod found;
 mod laws;
 mod objections;
 mod reasons;
@@ -11,8 +11,8 @@ mod rights;
 mod words;
 
 pub use buffer::TextBuffer;
-pub use explanation::{push_explanation, push_text, text_of};
-pub use laws::worked_words;
+pub use found::{push_found, push_value};
+pub use laws::{findings_say_what_is_judged, worked_words};
 pub use objections::{line_at, line_made, text_at};
 pub use rights::word_for;
-pub use words::{push_number, push_words};
+pub use words::{push_escaped, push_number, push_words};

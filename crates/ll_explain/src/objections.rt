@@ -1,17 +1,16 @@
 //! The lines on what layers object to.
 
-ghost use Rattle.std.specs.Prelude.{◌≡◌, ◌++◌, All, ℕ, List, codes, decimal, option_and_then, slice_get};
-ghost use Rattle.std.specs.List.{flat_map};
+ghost use Rattle.std.specs.Prelude.{◌≡◌, ◌++◌, codes, decimal, option_and_then, slice_get};
 ghost use Rattle.json.specs.Print.{escape};
 ghost use Rattle.ll_lines.specs.PathTexts.{text_of};
 ghost use Rattle.ll_rights.specs.CodeRights.{fs_right};
 ghost use Rattle.ll_rights.specs.Rights.{name_of};
 ghost use Rattle.ll_tree.specs.Trees.{path_at};
-ghost use Rattle.ll_explanations.specs.Meanings.{IsMade, by_layer, objection_in};
+ghost use Rattle.ll_explanations.specs.Meanings.{objection_in};
 ghost use Rattle.ll_explanations.specs.Sets.{port_rights_in, rights_in};
 ghost use Rattle.ll_explain.specs.Buffers.{adding};
-ghost use Rattle.ll_explain.specs.Lines.{ending, head_of, next_text, opening};
-ghost use Rattle.ll_explain.specs.Words.{layer_text, line_of, objection_text, path_opened, path_text, port_rights_text, rights_text, word_for};
+ghost use Rattle.ll_explain.specs.Lines.{ending, head_of, lines_from, next_text, opening};
+ghost use Rattle.ll_explain.specs.Words.{line_of, objection_text, path_opened, path_text, port_rights_text, rights_text, word_for};
 
 use crate::buffer::TextBuffer;
 use crate::rights::{push_port_rights, push_rights, word_for};
@@ -194,8 +193,7 @@ pub(crate) fn push_lines(
     records: &[Record],
     all: &[LayerObjection],
 )
-    ensures { (layers : List ℕ) → All (IsMade layers) all.now → text.new
-        ≡ adding text.old (flat_map (layer_text records.now layers) (by_layer tree.now all.now)) }
+    ensures { text.new ≡ adding text.old (lines_from tree.now records.now 0 all.now) }
 {
     let mut before = 0;
     for one in all {

@@ -90,9 +90,9 @@ fn push_each_escaped(text: &mut TextBuffer, path: &str)
     }
 }
 
-/// Adds a path, escaped as JSON escapes texts: at once where no byte of it is escaped, as in most paths.
+/// Adds a text, escaped as JSON escapes texts: at once where no byte of it is escaped, as in most paths.
 #[tactic(auto, using(crate::proofs::PlainTexts::escape_plain))]
-pub(crate) fn push_escaped(text: &mut TextBuffer, path: &str)
+pub fn push_escaped(text: &mut TextBuffer, path: &str)
     ensures { text.new ≡ adding text.old (escape path.now) }
 {
     if are_plain(path.as_bytes()) {

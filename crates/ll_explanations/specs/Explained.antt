@@ -1,6 +1,8 @@
 -- The explanation of a record of a case, as a value.
 -- Source: docs/FORMATS.md, "Explanations".
-use Rattle.std.specs.Prelude.{◌≡◌, ℕ, Some, slice_get}
+use Rattle.std.specs.Prelude.{◌≡◌, ℕ, List, Some, slice_get}
+use Rattle.ll_rights.specs.declared.abi.Abi.{Abi}
+use Rattle.ll_tree.specs.Trees.{Entry}
 use Rattle.ll_trace.specs.declared.record.Record.{Record}
 use Rattle.ll_semantics.specs.declared.answer.Answer.{Answer}
 use Rattle.ll_process.specs.Cases.{CaseValue}
@@ -8,10 +10,14 @@ use Rattle.ll_reasons.specs.Explanations.{explained_at, origins_at}
 use Rattle.ll_explanations.specs.Meanings.{AreMade, explanation_in}
 use Rattle.ll_explanations.specs.declared.explanation.Explanation.{Explanation}
 
--- a value means the explanation of the record at a place, which is answered so, and names the records that made the layers
-pub record IsExplanation (case : CaseValue) (place : ℕ) (answer : Answer) (r : Record) (e : Explanation) : Type 0 where
-  pub means : explanation_in case.tree r.op e ≡ explained_at case.tree case.abi case.records place r answer
-  pub made : AreMade (origins_at case.tree case.abi case.records place r.process.0).layers e
+-- a value means the explanation of the record at a place of a trace, which is answered so, and names the records that made the layers
+pub record IsExplanationOf (tree : List Entry) (abi : Abi) (records : List Record) (place : ℕ) (answer : Answer) (r : Record) (e : Explanation) : Type 0 where
+  pub means : explanation_in tree r.op e ≡ explained_at tree abi records place r answer
+  pub made : AreMade (origins_at tree abi records place r.process.0).layers e
+
+-- of a case
+abbrev pub IsExplanation : CaseValue → ℕ → Answer → Record → Explanation → Type 0
+IsExplanation case = IsExplanationOf case.tree case.abi case.records
 
 abbrev pub Explains : CaseValue → ℕ → Answer → Explanation → Type 0
 Explains case place answer e = (r : Record) → slice_get case.records place ≡ Some r → IsExplanation case place answer r e

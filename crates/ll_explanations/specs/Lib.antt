@@ -6,3 +6,7 @@ pub mod Adding
 pub mod MoveRequests
 pub mod Asking
 pub mod Explained
+pub mod TakenLater
+pub mod Kept
+pub mod FindingValues
+pub mod Findings

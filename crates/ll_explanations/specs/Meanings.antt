@@ -67,14 +67,14 @@ failing = tt
 unfoldable pub mooting : Unit {0}
 unfolding
     Rattle.ll_reasons.specs.Meant.reason_in Rattle.ll_reasons.specs.Meant.text_named Rattle.ll_reasons.specs.Reasons.reason
-    Rattle.ll_trace.specs.Operations.paths_of
+    Rattle.ll_trace.specs.Operations.paths_of Rattle.ll_trace.specs.FirstPlaces.first_place
 mooting = tt
 
 -- ---- the explanation of a call
 
 unfoldable pub explanation_in : List Entry → Op → Explanation → explanations.Explanation
 explanation_in tree op Nothing = explanations.nothing
-explanation_in tree op (Objections all) = explanations.objections (by_layer tree all.items)
+explanation_in tree op (Objections all) = explanations.objections (by_layer tree all)
 explanation_in tree op (Failure condition) = explanations.failure (condition_in op condition)
 explanation_in tree op (Mootness reason) = explanations.mootness (option_map (reason_in op) reason)
 
@@ -87,6 +87,6 @@ IsMade layers one = (0 < one.layer) × (one.made ≡ slice_get layers (one.layer
 -- each objection of an explanation does
 abbrev pub AreMade : List ℕ → Explanation → Type 0
 AreMade layers Nothing = Unit {0}
-AreMade layers (Objections all) = All (IsMade layers) all.items
+AreMade layers (Objections all) = All (IsMade layers) all
 AreMade layers (Failure condition) = Unit {0}
 AreMade layers (Mootness reason) = Unit {0}

@@ -18,7 +18,7 @@ use ll_trace::{Op, Record};
 use ll_trails::ProcessOrigins;
 
 /// Why a call fails by no layer. Each variant stands for the condition of the same name in the definitions.
-#[derive(Clone, Copy)]
+#[derive(Clone, Copy, PartialEq, Eq)]
 pub enum Condition {
     /// The version doesn't know these rights.
     Unknown(Abi, Fs),

@@ -7,12 +7,13 @@ ghost use Rattle.ll_reasons.specs.Explanations.{origins_at};
 ghost use Rattle.ll_trails.specs.CaseTrails.{AreTrailsAt, IsAnswerAt};
 ghost use Rattle.ll_trails.specs.TraceOrigins.{Follows};
 ghost use Rattle.ll_explanations.specs.Explained.{Explains};
+ghost use Rattle.ll_explanations.specs.Kept.{is_silent};
 
 use crate::call::objections_to;
 use crate::condition::{Condition, condition_of};
 use crate::confinement::Confinement;
 use crate::mootness::reason_of;
-use crate::objection::LayerObjection;
+use crate::objection::LayerObjections;
 use ll_process::Case;
 use ll_reasons::Reason;
 use ll_rules::{Errno, LayerSet, NoMemory};
@@ -27,12 +28,25 @@ use std::alloc::Global;
 pub enum Explanation {
     /// The record is allowed.
     Nothing,
-    /// What the layers that refuse it object to: those of one layer stand side by side, and the layers rise.
-    Objections(Vec<LayerObjection>),
+    /// What the layers that refuse it object to.
+    Objections(LayerObjections),
     /// Why it fails by no layer.
     Failure(Condition),
     /// Why the policy isn't asked.
     Mootness(Option<Reason>),
+}
+
+impl Explanation {
+    /// Whether there is nothing to explain.
+    pub fn is_silent(&self) -> bool
+        ensures { result ≡ is_silent self.now }
+    {
+        match self {
+            Explanation::Nothing | Explanation::Mootness(None) => true,
+            Explanation::Objections(_) | Explanation::Failure(_) | Explanation::Mootness(Some(_)) =>
+                false,
+        }
+    }
 }
 
 /// The record at a place, and where all that its process has comes from; the record isn't the process's first.
@@ -61,7 +75,8 @@ fn moot(case: &Case, trails: &TraceOrigins, place: usize) -> Explanation
     ensures { Explains case.now place Moot result }
 {
     let (found, trail) = found_at(case, trails, place, Answer::Moot);
-    Explanation::Mootness(reason_of(case.tree(), trail, &found.op))
+    let known = case.known_place(place);
+    Explanation::Mootness(reason_of(case.tree(), trail, &found.op, known))
 }
 
 /// Why a record is refused by no layer.
@@ -98,7 +113,7 @@ fn refused(
         domain: &domain,
     };
     let all = objections_to(alloc, &ctx, &found.op, error, numbers)?;
-    Ok(Explanation::Objections(all))
+    Ok(Explanation::Objections(LayerObjections { all }))
 }
 
 /// The explanation of the record at a place of a case, by its answer and by where all that its process has comes from.

@@ -1,8 +1,9 @@
 //! Why a call is moot.
 
-ghost use Rattle.std.specs.Prelude.{◌≡◌, if◌then◌else◌, is_some, option_map};
+ghost use Rattle.std.specs.Prelude.{◌≡◌, if◌then◌else◌, IfSome, is_some, option_map};
 ghost use Rattle.ll_tree.specs.Trees.{place};
 ghost use Rattle.ll_trace.specs.declared.op.Op.{Op};
+ghost use Rattle.ll_trace.specs.FirstPlaces.{first_place};
 ghost use Rattle.ll_semantics.specs.Requests.{wanted};
 ghost use Rattle.ll_reasons.specs.declared.why.Which.TheVariants.{First};
 ghost use Rattle.ll_reasons.specs.Meant.{path_named, reason_in, text_named};
@@ -15,7 +16,7 @@ use ll_reasons::{Reason, no_object, unlinked, unmet, unrenamed};
 use ll_semantics::wanted;
 use ll_trace::Op;
 use ll_trails::ProcessOrigins;
-use ll_tree::Tree;
+use ll_tree::{Place, Tree};
 
 /// Whether a number of the process is open.
 fn is_open(trail: &ProcessOrigins, fd: u64) -> bool
@@ -24,9 +25,10 @@ fn is_open(trail: &ProcessOrigins, fd: u64) -> bool
     trail.openings.get(fd).is_some()
 }
 
-/// Why nothing is opened at the first path of a call.
+/// Why nothing is opened at the first path of a call, whose place may be known.
 #[tactic(auto, unfolding(ll_reasons::specs::Meant::reason_in))]
-fn not_opened(tree: &Tree, trail: &ProcessOrigins, op: &Op, fd: u64) -> Reason
+fn not_opened(tree: &Tree, trail: &ProcessOrigins, op: &Op, fd: u64, known: Option<Place>) -> Reason
+    requires { IfSome known (λ one. one ≡ place tree.now (text_named op.now First)) }
     ensures { reason_in op.now result
         ≡ (if is_some (opened trail.now.openings fd) then open_already fd
         else no_object tree.now (path_named op.now First)
@@ -35,7 +37,7 @@ fn not_opened(tree: &Tree, trail: &ProcessOrigins, op: &Op, fd: u64) -> Reason
     if is_open(trail, fd) {
         return Reason::OpenAlready(fd);
     }
-    no_object(tree, op)
+    no_object(tree, op, known)
 }
 
 /// Why a descriptor's file isn't truncated.
@@ -50,19 +52,28 @@ fn not_truncated(trail: &ProcessOrigins, fd: u64) -> Reason
     Reason::Unopened(fd)
 }
 
-/// Why what is at the first path of a call isn't what it wants there, if it wants something at one.
+/// Why what is at the first path of a call, whose place may be known, isn't what it wants there, if it wants something
+/// at one.
 #[tactic(auto, using(crate::proofs::Wanting::unmet_wanted))]
-fn reason_at_path(tree: &Tree, op: &Op) -> Option<Reason>
+fn reason_at_path(tree: &Tree, op: &Op, known: Option<Place>) -> Option<Reason>
+    requires { IfSome known (λ one. one ≡ first_place tree.now op.now) }
     ensures { option_map (reason_in op.now) result ≡ option_map
         (λ want. unmet tree.now (spelt want.0) (place tree.now want.0) want.1) (wanted op.now) }
 {
     let (_, wanted) = wanted(op)?;
-    Some(unmet(tree, op, wanted))
+    Some(unmet(tree, op, wanted, known))
 }
 
-/// Why a call is moot, and None for a call that never is.
+/// Why a call is moot, and None for a call that never is. The place of its first path may be known, except that of a
+/// rule's path.
 #[tactic(auto, unfolding(crate::specs::Meanings::mooting))]
-pub(crate) fn reason_of(tree: &Tree, trail: &ProcessOrigins, op: &Op) -> Option<Reason>
+pub(crate) fn reason_of(
+    tree: &Tree,
+    trail: &ProcessOrigins,
+    op: &Op,
+    known: Option<Place>,
+) -> Option<Reason>
+    requires { IfSome known (λ one. one ≡ first_place tree.now op.now) }
     ensures { (o : Origins) → Follows trail.now o
         → option_map (reason_in op.now) result ≡ reason tree.now o op.now }
 {
@@ -71,13 +82,13 @@ pub(crate) fn reason_of(tree: &Tree, trail: &ProcessOrigins, op: &Op) -> Option<
         Op::LeaveOut { .. } => Some(Reason::Unsupported),
         Op::Restrict { .. } => Some(Reason::Unenforced),
         Op::CloseRs { rs } => Some(Reason::Unheld(*rs)),
-        Op::OpenFile { fd, .. } => Some(not_opened(tree, trail, op, *fd)),
+        Op::OpenFile { fd, .. } => Some(not_opened(tree, trail, op, *fd, known)),
         Op::Adopt { fd, .. } => Some(Reason::OpenAlready(*fd)),
         Op::Dup { fd, .. } | Op::Close { fd } | Op::Ioctl { fd, .. } => Some(Reason::Unopened(*fd)),
         Op::Ftruncate { fd } => Some(not_truncated(trail, *fd)),
-        Op::AddPath { .. } => Some(no_object(tree, op)),
-        Op::Rename { exchange, .. } => Some(unrenamed(tree, op, *exchange)),
-        Op::Link { .. } => Some(unlinked(tree, op)),
-        _ => reason_at_path(tree, op),
+        Op::AddPath { .. } => Some(no_object(tree, op, None)),
+        Op::Rename { exchange, .. } => Some(unrenamed(tree, op, *exchange, known)),
+        Op::Link { .. } => Some(unlinked(tree, op, known)),
+        _ => reason_at_path(tree, op, known),
     }
 }

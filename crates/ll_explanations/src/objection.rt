@@ -1,10 +1,13 @@
 //! What a layer objects to, as a value.
 
+ghost use Rattle.std.specs.Prelude.{◌≡◌};
+
 use ll_rights::{Fs, FsRight, Net};
 use ll_tree::NodeId;
+use std::marker::Model;
 
 /// What a layer objects to in a call. Each variant stands for the objection of the same name in the definitions.
-#[derive(Clone, Copy)]
+#[derive(Clone, Copy, PartialEq, Eq)]
 pub enum Objection {
     /// Rights are missing on a node.
     Missing {
@@ -32,7 +35,7 @@ pub enum Objection {
 }
 
 /// One objection of one layer.
-#[derive(Clone, Copy)]
+#[derive(Clone, Copy, PartialEq, Eq)]
 pub struct LayerObjection {
     /// The layer's number, from 1 on.
     pub layer: u64,
@@ -40,4 +43,29 @@ pub struct LayerObjection {
     pub made: Option<u32>,
     /// What it objects to.
     pub objection: Objection,
+}
+
+/// What the layers that refuse a record object to: the objections of one layer stand side by side, and the layers rise.
+/// Contracts see the list.
+#[derive(Drop)]
+pub struct LayerObjections {
+    pub(crate) all: Vec<LayerObjection>,
+}
+
+impl Model for LayerObjections {
+    ghost use Rattle.std.specs.Prelude.{List};
+    ghost use Rattle.ll_explanations.specs.declared.objection.LayerObjection.{LayerObjection as OneObjection};
+
+    ghost Value = { List OneObjection };
+
+    ghost view = { λ objections. objections.all.items };
+}
+
+impl LayerObjections {
+    /// All of them.
+    pub fn as_slice(&self) -> &[LayerObjection]
+        ensures { result.now ≡ self.now }
+    {
+        &self.all
+    }
 }

@@ -4,7 +4,7 @@ use Rattle.json.specs.Json.{Json}
 use Rattle.json.specs.Token as token
 use Rattle.json.specs.Token.{Token}
 use Rattle.json.specs.Tree.{items_tokens, json_tokens, members_tokens}
-use Rattle.ll_json.specs.Parts.{Named, array_of, items_of, members_of, named_tokens, object_of, values_tokens}
+use Rattle.ll_json.specs.Parts.{Named, array_of, items_of, members_of, named_tokens, values_tokens}
 
 pub values_end : (values : List Json) → values_tokens values ++ token.end_array ∷ [] ≡ items_tokens (items_of values)
 values_end [] = refl

@@ -13,32 +13,30 @@ use Rattle.ll_trace.specs.declared.record.Record.{Record}
 use Rattle.ll_reasons.specs.Objections.{Objection}
 use Rattle.ll_explanations.specs.Meanings.{IsMade, by_layer, in_front, objection_in}
 use Rattle.ll_explanations.specs.declared.objection.LayerObjection.{LayerObjection}
-use Rattle.ll_json.specs.Layering.{ending, head_of, next_tokens, opening}
+use Rattle.ll_json.specs.Layering.{ending, head_of, next_tokens, objections_from, opening}
 use Rattle.ll_json.specs.Parts.{values_tokens}
 use Rattle.ll_json.specs.Why.{layer_json, objection_json}
+use Rattle.ll_json.specs.Writing.{Written, writing}
 use Rattle.ll_json.proofs.Enclosing.{values_end}
+use Rattle.ll_json.proofs.Writing.{goes_on}
 
 module _ (tree : List Entry) (records : List Record) where
-  -- what is to be written behind an objection of this layer
-  unfoldable pub left : ℕ → List LayerObjection → List Token
-  left before [] = ending before
-  left before (one ∷ more) = next_tokens tree records before one ++ left one.layer more
-
-  pub left_next : (tokens after whole : List Token) (before : ℕ) (all : List LayerObjection) (k : ℕ) (one : LayerObjection) →
+  pub left_next : (out after whole : Written) (before : ℕ) (all : List LayerObjection) (k : ℕ) (one : LayerObjection) →
       k < length all → one ≡ get_or all k one →
-      tokens ++ left before (drop k all) ≡ whole → after ≡ tokens ++ next_tokens tree records before one → after ++ left one.layer (drop (k + 1) all) ≡ whole
-  unfolding left
-  left_next tokens after whole before all k one there is so_far written =
-      let rest = left one.layer (drop (k + 1) all) in
-      ap (λ t. t ++ rest) written ∙ append_assoc tokens (next_tokens tree records before one) rest
-      ∙ ap (λ t. tokens ++ t) (sym (ap (left before) (drop_more all k one there ∙ ap (λ y. y ∷ drop (k + 1) all) (sym is)))) ∙ so_far
+      writing out (objections_from tree records before (drop k all)) ≡ whole → after ≡ writing out (next_tokens tree records before one)
+      → writing after (objections_from tree records one.layer (drop (k + 1) all)) ≡ whole
+  unfolding objections_from
+  left_next out after whole before all k one there is so_far wrote =
+      goes_on out after whole (next_tokens tree records before one) (objections_from tree records one.layer (drop (k + 1) all))
+      (ap (λ ts. writing out ts) (sym (ap (objections_from tree records before)
+      (drop_more all k one there ∙ ap (λ y. y ∷ drop (k + 1) all) (sym is)))) ∙ so_far) wrote
 
-  pub left_none : (tokens after whole : List Token) (before : ℕ) (all : List LayerObjection) (k : ℕ) →
-      length all ≤ k → tokens ++ left before (drop k all) ≡ whole
-      → after ≡ tokens ++ ending before → after ≡ whole
-  unfolding left
-  left_none tokens after whole before all k end so_far written =
-      written ∙ ap (λ t. tokens ++ t) (sym (ap (left before) (drop_all k all end))) ∙ so_far
+  pub left_none : (out after whole : Written) (before : ℕ) (all : List LayerObjection) (k : ℕ) →
+      length all ≤ k → writing out (objections_from tree records before (drop k all)) ≡ whole
+      → after ≡ writing out (ending before) → after ≡ whole
+  unfolding objections_from
+  left_none out after whole before all k end so_far wrote =
+      wrote ∙ ap (λ ts. writing out ts) (sym (ap (objections_from tree records before) (drop_all k all end))) ∙ so_far
 
   module _ (layers : List ℕ) where
     abbrev Groups : Type 0
@@ -126,8 +124,9 @@ module _ (tree : List Entry) (records : List Record) where
           ∙ ap (λ (h : List Token). ending before ++ ((h ++ ((written ++ each os) ++ tail)) ++ all_of gs)) (headed one made)
           ∙ ap (λ (l : List Token). ending before ++ (l ++ all_of gs)) (sym (in_parts one.layer (objection_in tree one.objection ∷ os)))
 
-    written_from : (before : ℕ) (all : List LayerObjection) → All (IsMade layers) all → left before all ≡ rest_of before (by_layer tree all)
-    unfolding left by_layer
+    written_from : (before : ℕ) (all : List LayerObjection) → All (IsMade layers) all
+        → objections_from tree records before all ≡ rest_of before (by_layer tree all)
+    unfolding objections_from by_layer
     written_from before [] made = refl
     written_from before (one ∷ more) made =
         let o = objection_in tree one.objection in
@@ -142,8 +141,8 @@ module _ (tree : List Entry) (records : List Record) where
     unfolding ending
     begun layer os gs positive = rw (ne_eqb layer 0 (λ zero. absurd (omega (arith, zero, positive)))) refl
 
-    pub all_written : (all : List LayerObjection) → All (IsMade layers) all → left 0 all ≡ all_of (by_layer tree all)
-    unfolding left by_layer ending
+    pub all_written : (all : List LayerObjection) → All (IsMade layers) all → objections_from tree records 0 all ≡ all_of (by_layer tree all)
+    unfolding objections_from by_layer ending
     all_written [] made = refl
     all_written (one ∷ more) made =
         let o = objection_in tree one.objection in

@@ -1,4 +1,5 @@
-pub mod Telling
+pub mod Writing
+pub mod Tokens
 pub mod Enclosing
 pub mod Printed
 pub mod PathsSpelt
@@ -6,7 +7,11 @@ pub mod NamesTold
 pub mod LayersTold
 pub mod NumbersTold
 pub mod LinesTold
-pub mod KeptTold
-pub mod SpansTold
+pub mod Meant
+pub mod SpansSaid
+pub mod Holding
+pub mod Rooms
+pub mod SaidAlike
+pub mod RowsMade
+pub mod Judged
 pub mod RowsTold
-pub mod Reported

@@ -1,7 +1,6 @@
 -- The layers of a set that are written by their numbers, up to a number.
 use Rattle.std.proofs.Common.{◌≡◌, ◌∙◌, ℕ, suc, ◌+◌, ◌-◌, ◌<◌, Bool, true, false, cond, ◌==◌, List, [], ◌∷◌, ◌++◌, length, map}
 use Rattle.std.proofs.Common.{refl, sym, ap, append_assoc, arith}
-use Rattle.std.proofs.lemmas.List.{append-nil}
 use Rattle.std.proofs.lemmas.Bool.{ne_eqb, true≢false}
 use Rattle.json.specs.Token.{Token}
 use Rattle.json.specs.Tree.{json_tokens}
@@ -9,6 +8,8 @@ use Rattle.ll_rules.specs.LayerNumbers.{is_among, passing_upto}
 use Rattle.ll_json.specs.Numbers.{among_tokens}
 use Rattle.ll_json.specs.Parts.{values_tokens}
 use Rattle.ll_json.specs.Records.{bare_layer}
+use Rattle.ll_json.specs.Writing.{Written, writing}
+use Rattle.ll_json.proofs.Writing.{wrote_2}
 
 abbrev layers_tokens : List ℕ → List Token
 layers_tokens numbers = values_tokens (map bare_layer numbers)
@@ -44,22 +45,22 @@ upto-next numbers number positive =
     let back : suc (number - 1) ≡ number = omega arith in
     ap (upto numbers) this ∙ upto-suc numbers (number - 1) ∙ ap (λ (n : ℕ). upto numbers (number - 1) ++ among_tokens numbers n) back
 
-pub upto_more : (numbers : List ℕ) (number : ℕ) (start tokens after : List Token) → 0 < number → tokens ≡ start ++ upto numbers (number - 1)
-    → after ≡ tokens ++ among_tokens numbers number → after ≡ start ++ upto numbers (number + 1 - 1)
-upto_more numbers number start tokens after positive so_far written =
-    written ∙ ap (λ (t : List Token). t ++ among_tokens numbers number) so_far
-    ∙ append_assoc start (upto numbers (number - 1)) (among_tokens numbers number)
-    ∙ ap (λ (t : List Token). start ++ t) (sym (upto-next numbers number positive))
+pub upto_more : (numbers : List ℕ) (number : ℕ) (start out after : Written) → 0 < number → out ≡ writing start (upto numbers (number - 1))
+    → after ≡ writing out (among_tokens numbers number) → after ≡ writing start (upto numbers (number + 1 - 1))
+upto_more numbers number start out after positive so_far wrote =
+    wrote_2 start out after (upto numbers (number - 1)) (among_tokens numbers number) so_far wrote
+    ∙ ap (λ (ts : List Token). writing start ts) (sym (upto-next numbers number positive))
 
 -- all are written
-pub upto_all : (numbers : List ℕ) (bound last : ℕ) (start tokens : List Token) → bound ≡ last → passing_upto (λ number. is_among number numbers) last ≡ numbers
-    → tokens ≡ start ++ upto numbers bound → tokens ≡ start ++ values_tokens (map bare_layer numbers)
+pub upto_all : (numbers : List ℕ) (bound last : ℕ) (start out : Written) → bound ≡ last → passing_upto (λ number. is_among number numbers) last ≡ numbers
+    → out ≡ writing start (upto numbers bound) → out ≡ writing start (values_tokens (map bare_layer numbers))
 unfolding upto
-upto_all numbers bound last start tokens end rising so_far =
-    so_far ∙ ap (λ (n : ℕ). start ++ layers_tokens (passing_upto (λ number. is_among number numbers) n)) end
-    ∙ ap (λ (all : List ℕ). start ++ layers_tokens all) rising
+upto_all numbers bound last start out end rising so_far =
+    so_far ∙ ap (λ (n : ℕ). writing start (layers_tokens (passing_upto (λ number. is_among number numbers) n))) end
+    ∙ ap (λ (all : List ℕ). writing start (layers_tokens all)) rising
 
 -- there are none
-pub no_layer : (numbers : List ℕ) (start : List Token) → (length numbers == 0) ≡ true → start ≡ start ++ values_tokens (map bare_layer numbers)
-no_layer [] start none = sym (append-nil start)
+pub no_layer : (numbers : List ℕ) (start : Written) → (length numbers == 0) ≡ true → start ≡ writing start (values_tokens (map bare_layer numbers))
+unfolding writing
+no_layer [] start none = refl
 no_layer (first ∷ more) start none = absurd (true≢false (sym none ∙ ne_eqb (length (first ∷ more)) 0 (λ same. absurd (omega arith))))

@@ -1,11 +1,12 @@
 -- What tokens print that are written one after another.
-use Rattle.std.proofs.Common.{◌≡◌, ◌∙◌, ℕ, Bool, true, false, cond, List, [], ◌∷◌, ◌++◌, refl, sym, ap, append_assoc, codes}
+use Rattle.std.proofs.Common.{◌≡◌, ◌∙◌, ℕ, Bool, true, List, [], ◌∷◌, ◌++◌, refl, sym, ap, append_assoc}
 use Rattle.std.specs.Prelude.{fold}
 use Rattle.json.specs.Print.{ends, print, print_from, separator, token_text}
 use Rattle.json.specs.Token as token
 use Rattle.json.specs.Token.{Token}
-use Rattle.json.specs.Written.{Written}
-use Rattle.ll_json.specs.Told.{Told}
+use Rattle.ll_explain.specs.Buffers.{Buffered, adding}
+use Rattle.ll_explain.proofs.Buffering.{adding_both, adding_nothing}
+use Rattle.ll_json.specs.Writing.{Written, begun, with_token, writing}
 
 -- whether a value ends with these tokens
 abbrev pub ends_with : Bool → List Token → Bool
@@ -26,9 +27,23 @@ pub ends_object : (c : Bool) (ts : List Token) → ends_with c (ts ++ token.end_
 ends_object c [] = refl
 ends_object c (t ∷ ts) = ends_object (ends t) ts
 
--- tokens that a writer wrote alone, behind a text
-pub printed : (text inner : List ℕ) (begun done : Written) (ts : List Token) → begun.before ≡ text → begun.tokens ≡ [] → Told begun done ts
-    → inner ≡ done.before ++ print done.tokens → inner ≡ text ++ print ts
-printed text inner begun done ts before none told is =
-    let tokens : done.tokens ≡ ts = told.1 ∙ ap (λ (us : List Token). us ++ ts) none in
-    is ∙ ap (λ (b : List ℕ). b ++ print done.tokens) (told.0 ∙ before) ∙ ap (λ (us : List Token). text ++ print us) tokens
+-- the text of tokens that are written
+pub text_of : (out : Written) (ts : List Token) → (writing out ts).text ≡ adding out.text (print_from out.after_value ts)
+unfolding print_from with_token writing
+text_of out [] = adding_nothing out.text
+text_of out (t ∷ ts) =
+    let here : List ℕ = separator out.after_value t ++ token_text t in
+    let rest : List ℕ = print_from (ends t) ts in
+    text_of (with_token out t) ts ∙ adding_both out.text here rest
+    ∙ ap (adding out.text) (append_assoc (separator out.after_value t) (token_text t) rest)
+
+-- of tokens that are written behind a text
+pub printed : (start text : Buffered) (done : Written) (ts : List Token) → done ≡ writing (begun start) ts → text ≡ done.text
+    → text ≡ adding start (print ts)
+printed start text done ts wrote is = is ∙ ap (λ (out : Written). out.text) wrote ∙ text_of (begun start) ts
+
+-- the same of a text that was taken out of its place
+pub printed_behind : (start taken text : Buffered) (first done : Written) (ts : List Token) → taken ≡ start → first ≡ begun taken → done ≡ writing first ts
+    → text ≡ done.text → text ≡ adding start (print ts)
+printed_behind start taken text first done ts is_taken is_first wrote is =
+    printed start text done ts (wrote ∙ ap (λ (out : Written). writing out ts) (is_first ∙ ap begun is_taken)) is

@@ -1,123 +1,84 @@
--- The lines of records that are put together of texts are those of the values that the versions answer.
+-- The rows that are put together of texts are the lines of the values that the versions answer.
 use Rattle.std.proofs.Common.{◌≡◌, ◌∙◌, ◌+◌, ◌-◌, ◌<◌, ◌≤◌, ℕ, zero, suc, Bool, true, false}
-use Rattle.std.proofs.Common.{cond, List, [], ◌∷◌, ◌++◌, Option, Some, None, drop, get_or, length, map}
+use Rattle.std.proofs.Common.{cond, List, [], ◌∷◌, ◌++◌, Some, drop, get_or, length, map}
 use Rattle.std.proofs.Common.{refl, sym, ap, ap₂, subst, append_assoc, arith, codes}
-use Rattle.std.specs.Prelude.{bytes_eq, if◌then◌else◌, slice_get, unwrap_or}
-use Rattle.std.specs.List.{range_with_len}
-use Rattle.std.proofs.lemmas.List.FromFn.{get_or-map-range_with_len}
-use Rattle.std.proofs.lemmas.Option.{slice_get-get_or, unwrap_or-slice_get}
+use Rattle.std.specs.Prelude.{bytes_eq, count_by, fold, if◌then◌else◌, slice_get}
+use Rattle.std.specs.List.{flat_map, range_with_len}
+use Rattle.std.proofs.lemmas.List.Elements.{length_all_zip}
+use Rattle.std.proofs.lemmas.Option.{slice_get-get_or}
 use Rattle.json.specs.Json.{Json}
 use Rattle.json.specs.Print.{print, print_from}
 use Rattle.json.specs.Token as token
 use Rattle.json.specs.Token.{Token}
-use Rattle.json.specs.Tree.{items_tokens, json_tokens}
+use Rattle.json.specs.Tree.{json_tokens}
 use Rattle.ll_tree.specs.Trees.{Entry}
 use Rattle.ll_trace.specs.declared.record.Record.{Record}
 use Rattle.ll_semantics.specs.declared.answer.Answer.{Answer}
 use Rattle.ll_semantics.specs.declared.answer.Answer.TheVariants.{Allowed, Moot, Refused}
 use Rattle.ll_semantics.specs.Worlds.{judged}
 use Rattle.ll_semantics.proofs.Steps.{length-judged}
+use Rattle.ll_explanations.specs.FindingValues.{FindingValue}
 use Rattle.ll_report.specs.declared.options.Shown.{Shown}
-use Rattle.ll_report.specs.Found.{answer_at, explanation_at}
-use Rattle.ll_report.specs.Rows.{is_row_left_out}
+use Rattle.ll_report.specs.Made.{rows_of, text_of}
+use Rattle.ll_report.specs.Rows.{answers_said, is_refused_under_some, is_row_left_out}
 use Rattle.ll_report.specs.Spans.{Span, spans_from, spans_of}
-use Rattle.ll_json.specs.Kept.{is_explained, kept_at, kept_under, said_by, text_said}
-use Rattle.ll_json.specs.Parts.{Named, items_of, line_text, members_of, named_tokens, values_tokens}
-use Rattle.ll_json.specs.Records.{about, answer_json, answer_members, layers_json, members_at}
-use Rattle.ll_json.specs.Records.{members_of_both, members_with, record_json, record_of, why_members}
-use Rattle.ll_json.specs.Reports.{kept_of, lines_from, row_line, said_under}
-use Rattle.ll_json.specs.Rows.{head_tokens, row_text, rows_from, separated, span_text, versions_tokens}
+use Rattle.ll_report.proofs.Making.{next_rows}
+use Rattle.ll_report.specs.Versions.{answers_in, some_refuses}
+use Rattle.ll_json.specs.Judged.{AreFound, IsFound}
+use Rattle.ll_json.specs.Parts.{Named, line_text, named_tokens, values_tokens}
+use Rattle.ll_json.specs.Records.{about, answer_json, answer_members, members_at, members_with, record_json, record_of}
+use Rattle.ll_json.specs.Reports.{IsJsonReport, found_of, lines_from, row_line, said_under, totals_from, totals_json}
+use Rattle.ll_json.specs.Rows.{head_tokens, json_made, line_of, row_text, said_of, separated, span_text, versions_tokens}
 use Rattle.ll_json.specs.Spans.{answers_json, members_text, span_json}
-use Rattle.ll_json.specs.Versions.{HaveAll, Version}
+use Rattle.ll_json.specs.Versions.{Version}
 use Rattle.ll_json.proofs.Enclosing.{named_end, values_end}
-use Rattle.ll_json.proofs.KeptTold.{kept_told}
+use Rattle.ll_json.proofs.Judged.{members_are, said_is}
 use Rattle.ll_json.proofs.Printed.{ends_object, ends_with, print_more}
 
--- ---- what a version says of a record
+-- ---- what each version says of a record
 
 -- there is a member
 abbrev HasOne : List Named → Type 0
 HasOne [] = ⊥
 HasOne (named ∷ more) = Unit {0}
 
-module _ (tree : List Entry) (version : Version) (place : ℕ) where
-  text_is : (explains : Bool) (answer : Answer) (r : Record) (kept : List ℕ)
-      → (explains ≡ true → is_explained answer ≡ true → kept ≡ members_text (members_with true tree version place r answer))
-      → text_said explains answer kept ≡ members_text (members_with explains tree version place r answer)
-  unfolding answer_members layers_json why_members
-  text_is true Allowed r kept is = refl
-  text_is true Moot r kept is = is refl refl
-  text_is true (Refused error layers) r kept is = is refl refl
-  text_is false Allowed r kept is = refl
-  text_is false Moot r kept is = refl
-  text_is false (Refused error layers) r kept is = refl
-
-  has_one : (explains : Bool) (answer : Answer) (r : Record) → HasOne (members_with explains tree version place r answer)
-  unfolding answer_members
-  has_one explains Allowed r = tt
-  has_one explains Moot r = tt
-  has_one explains (Refused error layers) r = tt
-
-  module _ (r : Record) (answer : Answer) (there : slice_get version.records place ≡ Some r)
-      (answered : slice_get (judged tree version.abi version.records) place ≡ Some answer) where
-    members_are : (explains : Bool) → members_at explains tree version place ≡ members_with explains tree version place r answer
-    unfolding members_at
-    members_are explains =
-        ap (λ (found : Option Record). members_of_both explains tree version place found (slice_get (judged tree version.abi version.records) place)) there
-        ∙ ap (λ (given : Option Answer). members_of_both explains tree version place (Some r) given) answered
-
-    kept_is : (explains : Bool) → place < length version.records → explains ≡ true → is_explained answer ≡ true
-        → unwrap_or (slice_get (cond explains (map (kept_at tree version.abi version.records) (range_with_len 0 (length version.records))) []) place) []
-        ≡ members_text (members_with true tree version place r answer)
-    kept_is explains below shows explained =
-        ap (λ (b : Bool). unwrap_or (slice_get (cond b (map (kept_at tree version.abi version.records) (range_with_len 0 (length version.records))) []) place)
-        []) shows
-        ∙ unwrap_or-slice_get (map (kept_at tree version.abi version.records) (range_with_len 0 (length version.records))) place []
-        ∙ get_or-map-range_with_len (kept_at tree version.abi version.records) 0 (length version.records) place place [] below (omega arith)
-        ∙ sym (kept_told tree version.abi version.records place answer answered r there explained)
-
-    says : (shown : Shown) → place < length version.records
-        → said_by shown.explanations place (kept_under shown tree version) ≡ members_text (members_at shown.explanations tree version place)
-    unfolding said_by
-    says shown below =
-        let kept : List ℕ = explanation_at (kept_under shown tree version) place in
-        ap (λ (a : Option Answer). text_said shown.explanations (unwrap_or a Moot) kept) answered
-        ∙ text_is shown.explanations answer r kept (kept_is shown.explanations below)
-        ∙ ap members_text (sym (members_are shown.explanations))
-
-    has_some : (explains : Bool) → HasOne (members_at explains tree version place)
-    has_some explains = subst HasOne (sym (members_are explains)) (has_one explains answer r)
-
-  module _ (shown : Shown) (below : place < length version.records) where
-    record_there : (d : Record) → slice_get version.records place ≡ Some (get_or version.records place d)
-    record_there d = slice_get-get_or version.records place d below
-
-    answer_there : slice_get (judged tree version.abi version.records) place ≡ Some (get_or (judged tree version.abi version.records) place Moot)
-    answer_there = slice_get-get_or (judged tree version.abi version.records) place Moot
-        (subst (λ (n : ℕ). place < n) (sym (length-judged tree version.abi version.records)) below)
-
-    version_says : Record → (said_by shown.explanations place (kept_under shown tree version) ≡ members_text (members_at shown.explanations tree version place))
-        × HasOne (members_at shown.explanations tree version place)
-    version_says d = (
-      says (get_or version.records place d) _ (record_there d) answer_there shown below,
-      has_some (get_or version.records place d) _ (record_there d) answer_there shown.explanations,
-    )
-
--- ---- what each of some versions says
+has_one : (explains : Bool) (tree : List Entry) (version : Version) (place : ℕ) (answer : Answer) (r : Record)
+    → HasOne (members_with explains tree version place r answer)
+unfolding answer_members
+has_one explains tree version place Allowed r = tt
+has_one explains tree version place Moot r = tt
+has_one explains tree version place (Refused error layers) r = tt
 
 abbrev AllHaveOne : List (List Named) → Type 0
 AllHaveOne [] = Unit {0}
 AllHaveOne (members ∷ more) = HasOne members × AllHaveOne more
 
-module _ (shown : Shown) (tree : List Entry) (place n : ℕ) (below : place < n) (d : Record) where
-  each_says : (versions : List Version) → HaveAll versions n
-      → (map (said_by shown.explanations place) (kept_of shown tree versions) ≡ map members_text (said_under shown tree versions place))
+module _ (shown : Shown) (tree : List Entry) (later : List Record) (place : ℕ) (below : place < length later) (d : Record) where
+  version_says : (version : Version) (finding : FindingValue) → IsFound shown.explanations tree later version finding
+      → (said_of shown.explanations tree later place finding ≡ members_text (members_at shown.explanations tree version place))
+      × HasOne (members_at shown.explanations tree version place)
+  version_says version finding found =
+      let within : place < length version.records = subst (λ (n : ℕ). place < n) (length_all_zip _ later version.records found.taken) below in
+      let r = get_or version.records place d in
+      let answer = get_or (judged tree version.abi version.records) place Moot in
+      let there : slice_get version.records place ≡ Some r = slice_get-get_or version.records place d within in
+      let answered : slice_get (judged tree version.abi version.records) place ≡ Some answer =
+      slice_get-get_or (judged tree version.abi version.records) place Moot
+      (subst (λ (n : ℕ). place < n) (sym (length-judged tree version.abi version.records)) within) in (
+        said_is tree version place r answer there answered later found.taken finding shown.explanations found.finds,
+        subst HasOne (sym (members_are tree version place r answer there answered shown.explanations)) (has_one shown.explanations tree version place answer r),
+      )
+
+  each_says : (versions : List Version) (findings : List FindingValue) → AreFound shown.explanations tree later versions findings
+      → (map (said_of shown.explanations tree later place) findings ≡ map members_text (said_under shown tree versions place))
       × AllHaveOne (said_under shown tree versions place)
-  each_says [] have = (refl, tt)
-  each_says (version ∷ newer) have =
-      let first = version_says tree version place shown (omega (arith, below, have.0)) d in
-      let others = each_says newer have.1 in
-      (ap₂ (λ (text : List ℕ) (texts : List (List ℕ)). text ∷ texts) first.0 others.0, (first.1, others.1))
+  each_says [] [] found = (refl, tt)
+  each_says [] (finding ∷ others) found = absurd found
+  each_says (version ∷ newer) [] found = absurd found
+  each_says (version ∷ newer) (finding ∷ others) found =
+      let first = version_says version finding found.0 in
+      let rest = each_says newer others found.1 in
+      (ap₂ (λ (text : List ℕ) (texts : List (List ℕ)). text ∷ texts) first.0 rest.0, (first.1, rest.1))
 
 -- ---- the spans of texts, and the members that they stand for
 
@@ -249,22 +210,82 @@ line_printed r values text is =
     ∙ append_assoc (print (head_tokens r)) (text ++ codes "]}") (codes "\n")
     ∙ ap (λ (t : List ℕ). print (head_tokens r) ++ t) (append_assoc text (codes "]}") (codes "\n"))
 
-module _ (shown : Shown) (tree : List Entry) (oldest n : ℕ) (versions : List Version) (have : HaveAll versions n) where
-  row_is : (place : ℕ) (r : Record) → place < n → row_text shown oldest (kept_of shown tree versions) place r ≡ row_line shown tree oldest versions place r
+-- ---- what is answered under each version
+
+module _ (shown : Shown) (tree : List Entry) (later : List Record) where
+  answers_are : (versions : List Version) (findings : List FindingValue) → AreFound shown.explanations tree later versions findings
+      → (place : ℕ) → answers_said (answers_in findings) place ≡ answers_said (found_of shown tree versions) place
+  answers_are [] [] found place = refl
+  answers_are [] (finding ∷ others) found place = absurd found
+  answers_are (version ∷ newer) [] found place = absurd found
+  answers_are (version ∷ newer) (finding ∷ others) found place = rw (found.0.finds.answers, answers_are newer others found.1 place) refl
+
+  refused_are : (versions : List Version) (findings : List FindingValue) → AreFound shown.explanations tree later versions findings
+      → (place : ℕ) → is_refused_under_some (answers_in findings) place ≡ is_refused_under_some (found_of shown tree versions) place
+  refused_are [] [] found place = refl
+  refused_are [] (finding ∷ others) found place = absurd found
+  refused_are (version ∷ newer) [] found place = absurd found
+  refused_are (version ∷ newer) (finding ∷ others) found place = rw (found.0.finds.answers, refused_are newer others found.1 place) refl
+
+  some_are : (versions : List Version) (findings : List FindingValue) → AreFound shown.explanations tree later versions findings
+      → (place : ℕ) → some_refuses findings place ≡ is_refused_under_some (found_of shown tree versions) place
+  some_are [] [] found place = refl
+  some_are [] (finding ∷ others) found place = absurd found
+  some_are (version ∷ newer) [] found place = absurd found
+  some_are (version ∷ newer) (finding ∷ others) found place = rw (found.0.finds.answers, some_are newer others found.1 place) refl
+
+  totals_are : (oldest : ℕ) (versions : List Version) (findings : List FindingValue) → AreFound shown.explanations tree later versions findings
+      → totals_from oldest (answers_in findings) ≡ totals_from oldest (found_of shown tree versions)
+  unfolding totals_from
+  totals_are oldest [] [] found = refl
+  totals_are oldest [] (finding ∷ others) found = absurd found
+  totals_are oldest (version ∷ newer) [] found = absurd found
+  totals_are oldest (version ∷ newer) (finding ∷ others) found = rw (found.0.finds.answers, totals_are (oldest + 1) newer others found.1) refl
+
+-- ---- the report
+
+module _ (f g : ℕ → Bool) (same : (n : ℕ) → f n ≡ g n) where
+  counted : (start : ℕ) (ns : List ℕ)
+      → fold (λ (a n : ℕ). a + cond (f n) 1 0) start ns ≡ fold (λ (a n : ℕ). a + cond (g n) 1 0) start ns
+  counted start [] = refl
+  counted start (n ∷ ns) =
+      counted (start + cond (f n) 1 0) ns
+      ∙ ap (λ (b : Bool). fold (λ (a n : ℕ). a + cond (g n) 1 0) (start + cond b 1 0) ns) (same n)
+
+  counts_are : (ns : List ℕ) → count_by f ns ≡ count_by g ns
+  counts_are ns = counted 0 ns
+
+module _ (shown : Shown) (oldest : ℕ) (tree : List Entry) (versions : List Version) (later : List Record) (findings : List FindingValue)
+    (found : AreFound shown.explanations tree later versions findings) where
+  row_is : (place : ℕ) (r : Record) → place < length later
+      → row_text shown oldest tree later findings place r ≡ row_line shown tree oldest versions place r
   row_is place r below =
       let said : List (List Named) = said_under shown tree versions place in
-      let each = each_says shown tree place n below r versions have in
+      let each = each_says shown tree later place below r versions findings found in
       let spans : List Span = spans_of oldest (map members_text said) in
-      ap (λ (line : List ℕ). if is_row_left_out shown (kept_of shown tree versions) place then [] else line)
-      (ap (λ (texts : List (List ℕ)). print (head_tokens r) ++ (separated false (spans_of oldest texts) ++ codes "]}\n")) each.0
+      ap₂ (λ (out : Bool) (line : List ℕ). if out then [] else line)
+      (rw (refused_are shown tree later versions findings found place, answers_are shown tree later versions findings found place) refl)
+      (ap (line_of oldest r) each.0
       ∙ sym (line_printed r (answers_json oldest said) (separated false spans) (separated_is oldest said false spans (fit_all oldest said each.1))))
 
-  pub rows_are : (place : ℕ) (records : List Record) → place + length records ≤ n
-      → rows_from shown oldest (kept_of shown tree versions) place records ≡ lines_from shown tree oldest versions place records
-  unfolding rows_from lines_from
+  pub rows_are : (place : ℕ) (records : List Record) → place + length records ≤ length later
+      → flat_map (λ (row : List ℕ). row) (rows_of (row_text shown oldest tree later findings) place records)
+      ≡ lines_from shown tree oldest versions place records
+  unfolding rows_of lines_from
   rows_are place [] fits = refl
   rows_are place (r ∷ others) fits =
-      ap₂ (λ (line rest : List ℕ). line ++ rest) (row_is place r (omega (arith, fits))) (rows_are (place + 1) others (omega (arith, fits)))
+      next_rows (row_text shown oldest tree later findings) place r others
+      ∙ ap₂ (λ (line rest : List ℕ). line ++ rest) (row_is place r (omega (arith, fits))) (rows_are (place + 1) others (omega (arith, fits)))
+
+  pub report_is : (program : List ℕ) → IsJsonReport shown tree oldest versions later program (record {
+    text = text_of (json_made shown oldest tree later findings program);
+    refused = count_by (some_refuses findings) (range_with_len 0 (length later));
+  })
+  report_is program = record {
+    text = ap₂ (λ (rows : List ℕ) (totals : List Json). rows ++ line_text (totals_json totals program))
+        (rows_are 0 later (omega arith)) (totals_are shown tree later oldest versions findings found);
+    refused = counts_are _ _ (some_are shown tree later versions findings found) (range_with_len 0 (length later));
+  }
 
 -- ---- records of which the same is told
 
@@ -278,6 +299,6 @@ same_lines shown tree oldest versions place (r ∷ records) (other ∷ others) s
     let first : about r ≡ about other = cc in
     let later : map about records ≡ map about others = cc in
     let line : ℕ × ℕ × List ℕ → List ℕ =
-    λ (of : ℕ × ℕ × List ℕ). if is_row_left_out shown (kept_of shown tree versions) place then []
+    λ (of : ℕ × ℕ × List ℕ). if is_row_left_out shown (found_of shown tree versions) place then []
     else line_text (record_of of (answers_json oldest (said_under shown tree versions place))) in
     ap₂ (λ (told : ℕ × ℕ × List ℕ) (rest : List ℕ). line told ++ rest) first (same_lines shown tree oldest versions (place + 1) records others later)

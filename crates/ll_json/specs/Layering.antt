@@ -30,3 +30,8 @@ opening records before one = if one.layer == before then [] else ending before +
 -- it is written
 unfoldable pub next_tokens : List Entry → List Record → ℕ → LayerObjection → List Token
 next_tokens tree records before one = opening records before one ++ json_tokens (objection_json records (objection_in tree one.objection))
+
+-- the objections that follow one of this layer, or begin the first of all, and the end of the last layer
+unfoldable pub objections_from : List Entry → List Record → ℕ → List LayerObjection → List Token
+objections_from tree records before [] = ending before
+objections_from tree records before (one ∷ more) = next_tokens tree records before one ++ objections_from tree records one.layer more

@@ -7,10 +7,9 @@ use Rattle.ll_tree.specs.Trees.{Entry}
 use Rattle.ll_trace.specs.declared.record.Record.{Record}
 use Rattle.ll_report.specs.declared.options.Shown.{Shown}
 use Rattle.ll_report.specs.Told.{Told}
-use Rattle.ll_report.specs.Found.{Found}
+use Rattle.ll_report.specs.Found.{Found, found_under}
 use Rattle.ll_report.specs.Report.{is_allowed, is_moot, is_refused}
 use Rattle.ll_report.specs.Rows.{count_under, is_row_left_out, refused_under_some}
-use Rattle.ll_json.specs.Kept.{kept_under}
 use Rattle.ll_json.specs.Parts.{Named, array_of, line_text, object_of, whole}
 use Rattle.ll_json.specs.Records.{members_at, record_json}
 use Rattle.ll_json.specs.Spans.{answers_json}
@@ -22,13 +21,14 @@ use Rattle.ll_json.specs.Versions.{Version}
 abbrev pub said_under : Shown → List Entry → List Version → ℕ → List (List Named)
 said_under shown tree versions place = map (λ version. members_at shown.explanations tree version place) versions
 
-abbrev pub kept_of : Shown → List Entry → List Version → List Found
-kept_of shown tree versions = map (kept_under shown tree) versions
+-- what is found under each version
+abbrev pub found_of : Shown → List Entry → List Version → List Found
+found_of shown tree versions = map (λ version. found_under shown tree version.records version.abi) versions
 
 -- the line of the record at a place; those records are left out that the report's text leaves out
 abbrev pub row_line : Shown → List Entry → ℕ → List Version → ℕ → Record → List ℕ
 row_line shown tree oldest versions place r =
-    if is_row_left_out shown (kept_of shown tree versions) place then []
+    if is_row_left_out shown (found_of shown tree versions) place then []
     else line_text (record_json r (answers_json oldest (said_under shown tree versions place)))
 
 -- the lines of records, the first of which is at a place of the trace
@@ -62,5 +62,5 @@ totals_json totals program = object_of ((codes "totals", array_of totals) ∷ (c
 -- over versions, of which the oldest has this number, on records whose calls meet this tree
 pub record IsJsonReport (shown : Shown) (tree : List Entry) (oldest : ℕ) (versions : List Version) (records : List Record) (program : List ℕ) (report : Told) : Type 0 where
   pub text : report.text
-      ≡ lines_from shown tree oldest versions 0 records ++ line_text (totals_json (totals_from oldest (kept_of shown tree versions)) program)
-  pub refused : report.refused ≡ refused_under_some (kept_of shown tree versions) records
+      ≡ lines_from shown tree oldest versions 0 records ++ line_text (totals_json (totals_from oldest (found_of shown tree versions)) program)
+  pub refused : report.refused ≡ refused_under_some (found_of shown tree versions) records

@@ -1,18 +1,45 @@
--- The lines of records as they are put together of texts.
+-- The lines of records as they are put together of what is found under each version.
 -- Source: docs/FORMATS.md, "The report as JSON"; RFC 8259.
-use Rattle.std.specs.Prelude.{◌+◌, ℕ, Bool, true, false, List, [], ◌∷◌, ◌++◌, codes, decimal, if◌then◌else◌, map}
+use Rattle.std.specs.Prelude.{ℕ, Bool, true, false, List, [], ◌∷◌, ◌++◌, Option, Some, None, codes, decimal, if◌then◌else◌, map}
 use Rattle.json.specs.Print.{print}
 use Rattle.json.specs.Token as token
 use Rattle.json.specs.Token.{Token}
 use Rattle.json.specs.Tree.{json_tokens}
-use Rattle.ll_report.specs.declared.options.Shown.{Shown}
+use Rattle.ll_tree.specs.Trees.{Entry}
+use Rattle.ll_trace.specs.declared.op.Op.{Op}
 use Rattle.ll_trace.specs.declared.record.Record.{Record}
 use Rattle.ll_trace.specs.Operations.{op_name}
-use Rattle.ll_report.specs.Found.{Found}
+use Rattle.ll_semantics.specs.declared.answer.Answer.{Answer}
+use Rattle.ll_explanations.specs.FindingValues.{FindingValue}
+use Rattle.ll_explanations.specs.Findings.{answer_in, said_in}
+use Rattle.ll_explanations.specs.declared.explanation.Explanation.{Explanation}
+use Rattle.ll_report.specs.declared.options.Shown.{Shown}
+use Rattle.ll_report.specs.Made.{Made, rows_of}
 use Rattle.ll_report.specs.Rows.{is_row_left_out}
 use Rattle.ll_report.specs.Spans.{Span, spans_of}
-use Rattle.ll_json.specs.Kept.{said_by}
+use Rattle.ll_report.specs.Versions.{answers_in}
+use Rattle.ll_json.specs.Parts.{line_text, named_tokens}
 use Rattle.ll_json.specs.Records.{versions_json}
+use Rattle.ll_json.specs.Reports.{totals_from, totals_json}
+use Rattle.ll_json.specs.Values.{answer_tokens, plain_members}
+
+-- ---- what is said of a record under a version, by the tree and the records at hand
+
+-- the members of an answer, with the explanation of the call, if there is one
+abbrev pub members_tokens : List Entry → List Record → Answer → Option (Op × Explanation) → List Token
+members_tokens tree records answer None = named_tokens (plain_members answer)
+members_tokens tree records answer (Some said) = answer_tokens tree records said.0 answer said.1
+
+-- the same of the record at a place, to the end of the object
+abbrev pub said_tokens : Bool → List Entry → List Record → ℕ → FindingValue → List Token
+said_tokens explains tree records place finding =
+    members_tokens tree records (answer_in finding place) (if explains then said_in records finding place else None) ++ token.end_object ∷ []
+
+-- printed
+unfoldable pub said_of : Bool → List Entry → List Record → ℕ → FindingValue → List ℕ
+said_of explains tree records place finding = print (said_tokens explains tree records place finding)
+
+-- ---- the answers of neighbouring versions
 
 -- what is before the members of an answer
 abbrev pub versions_tokens : ℕ → ℕ → List Token
@@ -27,6 +54,8 @@ unfoldable pub separated : Bool → List Span → List ℕ
 separated behind [] = []
 separated behind (span ∷ others) = (if behind then codes "," else []) ++ (span_text span ++ separated true others)
 
+-- ---- rows
+
 -- what is before the answers to a record
 abbrev pub head_tokens : Record → List Token
 head_tokens r =
@@ -36,13 +65,19 @@ head_tokens r =
     ∷ token.key (codes "op") ∷ token.string (op_name r.op)
     ∷ token.key (codes "answers") ∷ token.begin_array ∷ []
 
-abbrev pub row_text : Shown → ℕ → List Found → ℕ → Record → List ℕ
-row_text shown oldest founds place r =
-    if is_row_left_out shown founds place then []
-    else print (head_tokens r)
-    ++ (separated false (spans_of oldest (map (said_by shown.explanations place) founds)) ++ codes "]}\n")
+-- what is shown of a record, by what each version says of it
+abbrev pub line_of : ℕ → Record → List (List ℕ) → List ℕ
+line_of oldest r said = print (head_tokens r) ++ (separated false (spans_of oldest said) ++ codes "]}\n")
 
--- of records, the first of which is at a place of the trace
-unfoldable pub rows_from : Shown → ℕ → List Found → ℕ → List Record → List ℕ
-rows_from shown oldest founds place [] = []
-rows_from shown oldest founds place (r ∷ others) = row_text shown oldest founds place r ++ rows_from shown oldest founds (place + 1) others
+-- the row of the record at a place
+abbrev pub row_text : Shown → ℕ → List Entry → List Record → List FindingValue → ℕ → Record → List ℕ
+row_text shown oldest tree records findings place r =
+    if is_row_left_out shown (answers_in findings) place then []
+    else line_of oldest r (map (said_of shown.explanations tree records place) findings)
+
+-- what a report is made of, over versions of which the oldest has this number
+abbrev pub json_made : Shown → ℕ → List Entry → List Record → List FindingValue → List ℕ → Made
+json_made shown oldest tree records findings program = record {
+  shown = rows_of (row_text shown oldest tree records findings) 0 records;
+  last = line_text (totals_json (totals_from oldest (answers_in findings)) program);
+}

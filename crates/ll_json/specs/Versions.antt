@@ -1,6 +1,6 @@
 -- The versions that answer a trace, as they take it.
 -- Source: docs/FORMATS.md, "Several versions".
-use Rattle.std.specs.Prelude.{◌≤◌, ℕ, List, [], ◌∷◌, length}
+use Rattle.std.specs.Prelude.{List}
 use Rattle.ll_rights.specs.declared.abi.Abi.{Abi}
 use Rattle.ll_trace.specs.declared.record.Record.{Record}
 
@@ -8,8 +8,3 @@ use Rattle.ll_trace.specs.declared.record.Record.{Record}
 pub record Version : Type 0 where
   pub abi : Abi
   pub records : List Record
-
--- there are at least so many records under each version
-abbrev pub HaveAll : List Version → ℕ → Type 0
-HaveAll [] n = Unit {0}
-HaveAll (version ∷ newer) n = (n ≤ length version.records) × HaveAll newer n

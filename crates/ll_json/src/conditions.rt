@@ -8,59 +8,54 @@ ghost use Rattle.ll_explanations.specs.Meanings as meanings;
 ghost use Rattle.ll_explanations.specs.Meanings.{condition_in};
 ghost use Rattle.ll_explanations.specs.Sets.{port_rights_in, rights_in};
 ghost use Rattle.ll_json.specs.Parts.{whole};
-ghost use Rattle.ll_json.specs.Told.{Tells};
+ghost use Rattle.ll_json.specs.Writing.{writing};
 ghost use Rattle.ll_json.specs.Why.{by_condition, condition_json, port_rights_json, rights_json};
 
+use crate::json_text::JsonText;
 use crate::rights::{write_port_rights_as, write_rights_as};
-use crate::words::{
-    Added, begin_by, end_object, write_alone, write_number, write_numbered, write_text,
-};
-use json::Writer;
+use crate::words::{begin_by, write_alone, write_number, write_numbered, write_text};
 use ll_explanations::Condition;
 use ll_rights::{Abi, Fs, Net};
 use ll_trace::Op;
 
 /// Writes which rights a version doesn't know.
-fn write_unknown(out: &mut Writer, abi: Abi, rights: Fs) -> Added
-    ensures { Tells result out.old out.new (json_tokens (by_condition (codes "unknown")
+fn write_unknown(out: &mut JsonText, abi: Abi, rights: Fs)
+    ensures { out.new ≡ writing out.old (json_tokens (by_condition (codes "unknown")
         ((codes "abi", whole (number_of abi)) ∷ (codes "rights", rights_json (rights_in rights))
         ∷ []))) }
 {
-    begin_by(out, "condition", "unknown")?;
-    write_number(out, "abi", abi.number())?;
-    write_rights_as(out, "rights", rights)?;
-    end_object(out)?;
-    Ok(())
+    begin_by(out, "condition", "unknown");
+    write_number(out, "abi", abi.number());
+    write_rights_as(out, "rights", rights);
+    out.end_object();
 }
 
 /// Writes that a version has no rules for ports.
-fn write_portless(out: &mut Writer, abi: Abi) -> Added
-    ensures { Tells result out.old out.new (json_tokens
+fn write_portless(out: &mut JsonText, abi: Abi)
+    ensures { out.new ≡ writing out.old (json_tokens
         (by_condition (codes "portless") ((codes "abi", whole (number_of abi)) ∷ []))) }
 {
     write_numbered(out, "condition", "portless", "abi", abi.number())
 }
 
 /// Writes which rights for files a ruleset doesn't handle.
-fn write_unhandled(out: &mut Writer, rights: Fs) -> Added
-    ensures { Tells result out.old out.new (json_tokens (by_condition (codes "unhandled")
+fn write_unhandled(out: &mut JsonText, rights: Fs)
+    ensures { out.new ≡ writing out.old (json_tokens (by_condition (codes "unhandled")
         ((codes "rights", rights_json (rights_in rights)) ∷ []))) }
 {
-    begin_by(out, "condition", "unhandled")?;
-    write_rights_as(out, "rights", rights)?;
-    end_object(out)?;
-    Ok(())
+    begin_by(out, "condition", "unhandled");
+    write_rights_as(out, "rights", rights);
+    out.end_object();
 }
 
 /// Writes which rights for ports a ruleset doesn't handle.
-fn write_unhandled_on_ports(out: &mut Writer, rights: Net) -> Added
-    ensures { Tells result out.old out.new (json_tokens (by_condition (codes "unhandled_on_ports")
+fn write_unhandled_on_ports(out: &mut JsonText, rights: Net)
+    ensures { out.new ≡ writing out.old (json_tokens (by_condition (codes "unhandled_on_ports")
         ((codes "rights", port_rights_json (port_rights_in rights)) ∷ []))) }
 {
-    begin_by(out, "condition", "unhandled_on_ports")?;
-    write_port_rights_as(out, "rights", rights)?;
-    end_object(out)?;
-    Ok(())
+    begin_by(out, "condition", "unhandled_on_ports");
+    write_port_rights_as(out, "rights", rights);
+    out.end_object();
 }
 
 /// The path of the call, if it adds a rule for one, or no text.
@@ -74,22 +69,21 @@ fn path_of_rule(op: &Op) -> &str
 }
 
 /// Writes which rights are for directories, where the path is that of something else.
-fn write_only_for_directories(out: &mut Writer, op: &Op, rights: Fs) -> Added
-    ensures { Tells result out.old out.new (json_tokens (by_condition
+fn write_only_for_directories(out: &mut JsonText, op: &Op, rights: Fs)
+    ensures { out.new ≡ writing out.old (json_tokens (by_condition
         (codes "only_for_directories") ((codes "rights", rights_json (rights_in rights))
         ∷ (codes "path", string (meanings.path_of_rule op.now)) ∷ []))) }
 {
-    begin_by(out, "condition", "only_for_directories")?;
-    write_rights_as(out, "rights", rights)?;
-    write_text(out, "path", path_of_rule(op))?;
-    end_object(out)?;
-    Ok(())
+    begin_by(out, "condition", "only_for_directories");
+    write_rights_as(out, "rights", rights);
+    write_text(out, "path", path_of_rule(op));
+    out.end_object();
 }
 
 /// Writes why a call fails by no layer.
-#[tactic(auto, unfolding(ll_explanations::specs::Meanings::condition_in, crate::specs::Why::condition_json))]
-pub(crate) fn write_condition(out: &mut Writer, op: &Op, condition: &Condition) -> Added
-    ensures { Tells result out.old out.new
+#[tactic(auto, unfolding(crate::specs::Writing::writing, ll_explanations::specs::Meanings::condition_in, crate::specs::Why::condition_json))]
+pub(crate) fn write_condition(out: &mut JsonText, op: &Op, condition: &Condition)
+    ensures { out.new ≡ writing out.old
         (json_tokens (condition_json (condition_in op.now condition.now))) }
 {
     match condition {

@@ -1,21 +1,23 @@
 //! The report as JSON Lines, record after record of a trace that was judged.
-#![tactic(auto)]
+#![tactic(auto, unfolding(crate::specs::Writing::writing))]
 
+mod alike;
 mod answers;
 mod conditions;
-mod kept;
+mod json_text;
 mod laws;
 mod objections;
 mod reasons;
 mod report;
 mod rights;
+mod room;
 mod rows;
+mod said;
 mod spans;
 #[cfg(test)]
 mod tests;
 mod totals;
 mod words;
 
-pub use kept::InJson;
 pub use laws::{worked_answers, worked_conditions, worked_objections};
-pub use report::json_report;
+pub use report::{JsonRows, json_report};

@@ -1,6 +1,6 @@
 //! What layers object to.
 
-ghost use Rattle.std.specs.Prelude.{◌≡◌, ◌∷◌, [], All, ℕ, List, OnOk, true, codes, decimal, map, option_and_then, slice_get};
+ghost use Rattle.std.specs.Prelude.{◌≡◌, ◌∷◌, ◌++◌, [], true, codes, decimal, option_and_then, slice_get};
 ghost use Rattle.json.specs.Json.{boolean, string};
 ghost use Rattle.json.specs.Token as token;
 ghost use Rattle.json.specs.Tree.{json_tokens};
@@ -9,19 +9,16 @@ ghost use Rattle.ll_rights.specs.CodeRights.{fs_right};
 ghost use Rattle.ll_tree.specs.Trees.{path_at};
 ghost use Rattle.ll_explain.specs.Words as spec;
 ghost use Rattle.ll_explain.specs.Words.{line_of};
-ghost use Rattle.ll_explanations.specs.Meanings.{IsMade, by_layer, objection_in};
+ghost use Rattle.ll_explanations.specs.Meanings.{objection_in};
 ghost use Rattle.ll_explanations.specs.Sets.{port_rights_in, rights_in};
-ghost use Rattle.ll_json.specs.Layering.{ending, head_of, next_tokens, opening};
-ghost use Rattle.ll_json.specs.Parts.{array_of, object_of, values_tokens, whole};
-ghost use Rattle.ll_json.specs.Told.{Tells, Told};
-ghost use Rattle.ll_json.specs.Why.{layer_json, objection_json, path_json, port_rights_json, rights_json};
+ghost use Rattle.ll_json.specs.Layering.{ending, head_of, next_tokens, objections_from, opening};
+ghost use Rattle.ll_json.specs.Parts.{object_of, whole};
+ghost use Rattle.ll_json.specs.Writing.{writing};
+ghost use Rattle.ll_json.specs.Why.{objection_json, path_json, port_rights_json, rights_json};
 
+use crate::json_text::JsonText;
 use crate::rights::{write_port_rights_as, write_rights_as};
-use crate::words::{
-    Added, begin_array, begin_object, end_array, end_object, write_key, write_number, write_string,
-    write_text, write_true,
-};
-use json::Writer;
+use crate::words::{write_number, write_text};
 use ll_explain::{line_at, line_made, text_at, word_for};
 use ll_explanations::{LayerObjection, Objection};
 use ll_rights::{Fs, FsRight, Net};
@@ -29,62 +26,52 @@ use ll_trace::{Op, Record};
 use ll_tree::{NodeId, Tree};
 
 /// Writes which rights are missing on a node.
-fn write_missing(out: &mut Writer, tree: &Tree, rights: Fs, node: NodeId) -> Added
-    ensures { Tells result out.old out.new (json_tokens (object_of
+fn write_missing(out: &mut JsonText, tree: &Tree, rights: Fs, node: NodeId)
+    ensures { out.new ≡ writing out.old (json_tokens (object_of
         ((codes "missing", rights_json (rights_in rights))
         ∷ (codes "on", path_json (path_at tree.now node)) ∷ []))) }
 {
-    begin_object(out)?;
-    write_rights_as(out, "missing", rights)?;
-    write_text(out, "on", text_at(tree, node))?;
-    end_object(out)?;
-    Ok(())
+    out.begin_object();
+    write_rights_as(out, "missing", rights);
+    write_text(out, "on", text_at(tree, node));
+    out.end_object();
 }
 
 /// Writes which rights are missing on a port.
-fn write_closed(out: &mut Writer, rights: Net, port: u16) -> Added
-    ensures { Tells result out.old out.new (json_tokens (object_of
+fn write_closed(out: &mut JsonText, rights: Net, port: u16)
+    ensures { out.new ≡ writing out.old (json_tokens (object_of
         ((codes "closed", port_rights_json (port_rights_in rights))
         ∷ (codes "port", whole port) ∷ []))) }
 {
-    begin_object(out)?;
-    write_port_rights_as(out, "closed", rights)?;
-    write_number(out, "port", port as u64)?;
-    end_object(out)?;
-    Ok(())
+    out.begin_object();
+    write_port_rights_as(out, "closed", rights);
+    write_number(out, "port", port as u64);
+    out.end_object();
 }
 
 /// Writes which rights an object would gain in a directory.
-fn write_gained(
-    out: &mut Writer,
-    tree: &Tree,
-    object: NodeId,
-    rights: Fs,
-    directory: NodeId,
-) -> Added
-    ensures { Tells result out.old out.new (json_tokens (object_of
+fn write_gained(out: &mut JsonText, tree: &Tree, object: NodeId, rights: Fs, directory: NodeId)
+    ensures { out.new ≡ writing out.old (json_tokens (object_of
         ((codes "gains", rights_json (rights_in rights))
         ∷ (codes "object", path_json (path_at tree.now object))
         ∷ (codes "in", path_json (path_at tree.now directory)) ∷ []))) }
 {
-    begin_object(out)?;
-    write_rights_as(out, "gains", rights)?;
-    write_text(out, "object", text_at(tree, object))?;
-    write_text(out, "in", text_at(tree, directory))?;
-    end_object(out)?;
-    Ok(())
+    out.begin_object();
+    write_rights_as(out, "gains", rights);
+    write_text(out, "object", text_at(tree, object));
+    write_text(out, "in", text_at(tree, directory));
+    out.end_object();
 }
 
 /// Writes that what is mounted stays as it is.
-fn write_mounting(out: &mut Writer) -> Added
-    ensures { Tells result out.old out.new
+fn write_mounting(out: &mut JsonText)
+    ensures { out.new ≡ writing out.old
         (json_tokens (object_of ((codes "mounting", boolean true) ∷ []))) }
 {
-    begin_object(out)?;
-    write_key(out, "mounting")?;
-    write_true(out)?;
-    end_object(out)?;
-    Ok(())
+    out.begin_object();
+    out.write_key("mounting");
+    out.write_true();
+    out.end_object();
 }
 
 /// The path that the record at a place opens, or no text if it opens none.
@@ -101,52 +88,44 @@ fn path_opened(records: &[Record], place: u32) -> &str
 }
 
 /// Writes a member that is the word for one right.
-fn write_right_as(out: &mut Writer, name: &str, right: FsRight) -> Added
-    ensures { Tells result out.old out.new
+fn write_right_as(out: &mut JsonText, name: &str, right: FsRight)
+    ensures { out.new ≡ writing out.old
         (token.key name.now ∷ json_tokens (rights_json (fs_right right ∷ []))) }
 {
-    write_key(out, name)?;
-    begin_array(out)?;
-    write_string(out, word_for(right.name()))?;
-    end_array(out)?;
-    Ok(())
+    out.write_key(name);
+    out.begin_array();
+    out.write_string(word_for(right.name()));
+    out.end_array();
 }
 
 /// Writes members that are the path that the record at a place opens, and its line.
-fn write_opened(out: &mut Writer, records: &[Record], opened: u32) -> Added
-    ensures { Tells result out.old out.new
+fn write_opened(out: &mut JsonText, records: &[Record], opened: u32)
+    ensures { out.new ≡ writing out.old
         (token.key (codes "on") ∷ token.string (spec.path_opened (slice_get records.now opened))
         ∷ token.key (codes "opened")
         ∷ token.number (decimal (line_of (slice_get records.now opened))) ∷ []) }
 {
-    write_text(out, "on", path_opened(records, opened))?;
-    write_number(out, "opened", line_at(records, opened))?;
-    Ok(())
+    write_text(out, "on", path_opened(records, opened));
+    write_number(out, "opened", line_at(records, opened));
 }
 
 /// Writes which right was missing on which path, and the line of the record that opened it.
-fn write_kept(out: &mut Writer, records: &[Record], right: FsRight, opened: u32) -> Added
-    ensures { Tells result out.old out.new (json_tokens (object_of
+fn write_kept(out: &mut JsonText, records: &[Record], right: FsRight, opened: u32)
+    ensures { out.new ≡ writing out.old (json_tokens (object_of
         ((codes "missing", rights_json (fs_right right ∷ []))
         ∷ (codes "on", string (spec.path_opened (slice_get records.now opened)))
         ∷ (codes "opened", whole (line_of (slice_get records.now opened))) ∷ []))) }
 {
-    begin_object(out)?;
-    write_right_as(out, "missing", right)?;
-    write_opened(out, records, opened)?;
-    end_object(out)?;
-    Ok(())
+    out.begin_object();
+    write_right_as(out, "missing", right);
+    write_opened(out, records, opened);
+    out.end_object();
 }
 
 /// Writes what is objected to.
-#[tactic(auto, unfolding(crate::specs::Why::objection_json))]
-fn write_objection(
-    out: &mut Writer,
-    tree: &Tree,
-    records: &[Record],
-    objection: &Objection,
-) -> Added
-    ensures { Tells result out.old out.new
+#[tactic(auto, unfolding(crate::specs::Writing::writing, crate::specs::Why::objection_json))]
+fn write_objection(out: &mut JsonText, tree: &Tree, records: &[Record], objection: &Objection)
+    ensures { out.new ≡ writing out.old
         (json_tokens (objection_json records.now (objection_in tree.now objection.now))) }
 {
     match objection {
@@ -164,86 +143,78 @@ fn write_objection(
 
 /// Begins a layer, which says where it comes from.
 #[tactic(auto, unfolding(crate::specs::Layering::head_of))]
-fn write_head(out: &mut Writer, records: &[Record], layer: u64, made: Option<u32>) -> Added
-    ensures { Tells result out.old out.new (head_of records.now layer made) }
+fn write_head(out: &mut JsonText, records: &[Record], layer: u64, made: Option<u32>)
+    ensures { out.new ≡ writing out.old (head_of records.now layer made) }
 {
-    begin_object(out)?;
-    write_number(out, "layer", layer)?;
-    write_number(out, "line", line_made(records, made))?;
-    write_key(out, "objections")?;
-    begin_array(out)?;
-    Ok(())
+    out.begin_object();
+    write_number(out, "layer", layer);
+    write_number(out, "line", line_made(records, made));
+    out.write_key("objections");
+    out.begin_array();
 }
 
 /// Ends the layer before, if there is one.
-#[tactic(auto, unfolding(crate::specs::Layering::ending))]
-fn write_ending(out: &mut Writer, before: u64) -> Added
-    ensures { Tells result out.old out.new (ending before) }
+#[tactic(auto, unfolding(crate::specs::Writing::writing, crate::specs::Layering::ending))]
+fn write_ending(out: &mut JsonText, before: u64)
+    ensures { out.new ≡ writing out.old (ending before) }
 {
     if before == 0 {
-        return Ok(());
+        return;
     }
-    end_array(out)?;
-    end_object(out)?;
-    Ok(())
+    out.end_array();
+    out.end_object();
 }
 
 /// Goes on behind an objection of the same layer, or begins the next layer.
-#[tactic(auto, unfolding(crate::specs::Layering::opening))]
-fn write_opening(out: &mut Writer, records: &[Record], before: u64, one: &LayerObjection) -> Added
-    ensures { Tells result out.old out.new (opening records.now before one.now) }
+#[tactic(auto, unfolding(crate::specs::Writing::writing, crate::specs::Layering::opening))]
+fn write_opening(out: &mut JsonText, records: &[Record], before: u64, one: &LayerObjection)
+    ensures { out.new ≡ writing out.old (opening records.now before one.now) }
 {
     if one.layer == before {
-        return Ok(());
+        return;
     }
-    write_ending(out, before)?;
-    write_head(out, records, one.layer, one.made)?;
-    Ok(())
+    write_ending(out, before);
+    write_head(out, records, one.layer, one.made);
 }
 
 /// Writes one objection behind those before it.
-#[tactic(auto, unfolding(crate::specs::Layering::next_tokens))]
+#[tactic(auto, unfolding(crate::specs::Writing::writing, crate::specs::Layering::next_tokens))]
 fn write_next(
-    out: &mut Writer,
+    out: &mut JsonText,
     tree: &Tree,
     records: &[Record],
     before: u64,
     one: &LayerObjection,
-) -> Added
-    ensures { Tells result out.old out.new (next_tokens tree.now records.now before one.now) }
+)
+    ensures { out.new ≡ writing out.old (next_tokens tree.now records.now before one.now) }
 {
-    write_opening(out, records, before, one)?;
-    write_objection(out, tree, records, &one.objection)?;
-    Ok(())
+    write_opening(out, records, before, one);
+    write_objection(out, tree, records, &one.objection);
 }
 
 /// Writes all layers that object.
-fn write_each(out: &mut Writer, tree: &Tree, records: &[Record], all: &[LayerObjection]) -> Added
-    ensures { OnOk result ((layers : List ℕ) → All (IsMade layers) all.now → Told out.old out.new
-        (values_tokens (map (layer_json records.now layers) (by_layer tree.now all.now)))) }
+fn write_each(out: &mut JsonText, tree: &Tree, records: &[Record], all: &[LayerObjection])
+    ensures { out.new ≡ writing out.old (objections_from tree.now records.now 0 all.now) }
 {
     let mut before = 0;
     for one in all {
-        write_next(out, tree, records, before, one)?;
+        write_next(out, tree, records, before, one);
         before = one.layer;
     }
-    write_ending(out, before)?;
-    Ok(())
+    write_ending(out, before);
 }
 
 /// Writes an array of all layers that object.
 pub(crate) fn write_layers(
-    out: &mut Writer,
+    out: &mut JsonText,
     tree: &Tree,
     records: &[Record],
     all: &[LayerObjection],
-) -> Added
-    ensures { OnOk result ((layers : List ℕ) → All (IsMade layers) all.now
-        → Told out.old out.new (json_tokens
-        (array_of (map (layer_json records.now layers) (by_layer tree.now all.now))))) }
+)
+    ensures { out.new ≡ writing out.old (token.begin_array
+        ∷ (objections_from tree.now records.now 0 all.now ++ token.end_array ∷ [])) }
 {
-    begin_array(out)?;
-    write_each(out, tree, records, all)?;
-    end_array(out)?;
-    Ok(())
+    out.begin_array();
+    write_each(out, tree, records, all);
+    out.end_array();
 }

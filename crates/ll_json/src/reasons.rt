@@ -8,54 +8,52 @@ ghost use Rattle.ll_lines.specs.Paths.{path_of};
 ghost use Rattle.ll_reasons.specs.declared.why.Which.TheVariants.{First, Second};
 ghost use Rattle.ll_reasons.specs.Meant.{path_in, path_named, reason_in};
 ghost use Rattle.ll_reasons.specs.Reasons.{spelt};
-ghost use Rattle.ll_json.specs.Told.{Tells};
+ghost use Rattle.ll_json.specs.Writing.{writing};
 ghost use Rattle.ll_json.specs.Why as spec;
 ghost use Rattle.ll_json.specs.Why.{by_reason, from_to, path_json, reason_json};
 
-use crate::words::{Added, begin_by, end_object, write_alone, write_numbered, write_text};
-use json::Writer;
+use crate::json_text::JsonText;
+use crate::words::{begin_by, write_alone, write_numbered, write_text};
 use ll_reasons::{NamedPath, Reason, Which, text_above, text_of};
 use ll_rights::Kind;
 use ll_trace::Op;
 
 /// Writes a member that is a path.
 #[tactic(auto, using(crate::proofs::PathsSpelt::text_spelt))]
-fn write_path(out: &mut Writer, name: &str, path: &str) -> Added
+fn write_path(out: &mut JsonText, name: &str, path: &str)
     requires { IsTrue (is_some (path_of path.now)) }
-    ensures { Tells result out.old out.new
+    ensures { out.new ≡ writing out.old
         (token.key name.now ∷ json_tokens (path_json (spelt path.now))) }
 {
     write_text(out, name, path)
 }
 
 /// Writes a member that is a path which a call names.
-fn write_which(out: &mut Writer, name: &str, op: &Op, which: Which) -> Added
-    ensures { Tells result out.old out.new
+fn write_which(out: &mut JsonText, name: &str, op: &Op, which: Which)
+    ensures { out.new ≡ writing out.old
         (token.key name.now ∷ json_tokens (path_json (path_named op.now which))) }
 {
     write_path(out, name, text_of(op, which))
 }
 
 /// Writes a reason that names a path of a call, or one above it.
-fn write_named(out: &mut Writer, op: &Op, named: NamedPath, word: &str) -> Added
-    ensures { Tells result out.old out.new (json_tokens
+fn write_named(out: &mut JsonText, op: &Op, named: NamedPath, word: &str)
+    ensures { out.new ≡ writing out.old (json_tokens
         (by_reason word.now ((codes "path", path_json (path_in op.now named)) ∷ []))) }
 {
-    begin_by(out, "reason", word)?;
-    write_path(out, "path", text_above(op, named))?;
-    end_object(out)?;
-    Ok(())
+    begin_by(out, "reason", word);
+    write_path(out, "path", text_above(op, named));
+    out.end_object();
 }
 
 /// Writes a reason that names a path of a call.
-fn write_said(out: &mut Writer, op: &Op, which: Which, word: &str) -> Added
-    ensures { Tells result out.old out.new (json_tokens
+fn write_said(out: &mut JsonText, op: &Op, which: Which, word: &str)
+    ensures { out.new ≡ writing out.old (json_tokens
         (by_reason word.now ((codes "path", path_json (path_named op.now which)) ∷ []))) }
 {
-    begin_by(out, "reason", word)?;
-    write_which(out, "path", op, which)?;
-    end_object(out)?;
-    Ok(())
+    begin_by(out, "reason", word);
+    write_which(out, "path", op, which);
+    out.end_object();
 }
 
 /// The name of a kind.
@@ -74,44 +72,40 @@ fn kind_name(kind: Kind) -> &'static str
 }
 
 /// Writes a member that is the name of a kind.
-fn write_kind_as(out: &mut Writer, kind: Kind) -> Added
-    ensures { Tells result out.old out.new
+fn write_kind_as(out: &mut JsonText, kind: Kind)
+    ensures { out.new ≡ writing out.old
         (token.key (codes "kind") ∷ token.string (spec.kind_name kind) ∷ []) }
 {
-    write_text(out, "kind", kind_name(kind))?;
-    Ok(())
+    write_text(out, "kind", kind_name(kind));
 }
 
 /// Writes of what kind the object of the first path is.
-fn write_kind(out: &mut Writer, op: &Op, kind: Kind) -> Added
-    ensures { Tells result out.old out.new (json_tokens (by_reason (codes "of_kind")
+fn write_kind(out: &mut JsonText, op: &Op, kind: Kind)
+    ensures { out.new ≡ writing out.old (json_tokens (by_reason (codes "of_kind")
         ((codes "path", path_json (path_named op.now First))
         ∷ (codes "kind", string (spec.kind_name kind)) ∷ []))) }
 {
-    begin_by(out, "reason", "of_kind")?;
-    write_which(out, "path", op, Which::First)?;
-    write_kind_as(out, kind)?;
-    end_object(out)?;
-    Ok(())
+    begin_by(out, "reason", "of_kind");
+    write_which(out, "path", op, Which::First);
+    write_kind_as(out, kind);
+    out.end_object();
 }
 
 /// Writes a reason that names both paths of a call.
-fn write_both(out: &mut Writer, op: &Op, word: &str) -> Added
-    ensures { Tells result out.old out.new (json_tokens
+fn write_both(out: &mut JsonText, op: &Op, word: &str)
+    ensures { out.new ≡ writing out.old (json_tokens
         (by_reason word.now (from_to (path_named op.now First) (path_named op.now Second)))) }
 {
-    begin_by(out, "reason", word)?;
-    write_which(out, "from", op, Which::First)?;
-    write_which(out, "to", op, Which::Second)?;
-    end_object(out)?;
-    Ok(())
+    begin_by(out, "reason", word);
+    write_which(out, "from", op, Which::First);
+    write_which(out, "to", op, Which::Second);
+    out.end_object();
 }
 
 /// Writes why the policy isn't asked.
-#[tactic(auto, unfolding(ll_reasons::specs::Meant::reason_in, crate::specs::Why::reason_json))]
-pub(crate) fn write_reason(out: &mut Writer, op: &Op, reason: &Reason) -> Added
-    ensures { Tells result out.old out.new
-        (json_tokens (reason_json (reason_in op.now reason.now))) }
+#[tactic(auto, unfolding(crate::specs::Writing::writing, ll_reasons::specs::Meant::reason_in, crate::specs::Why::reason_json))]
+pub(crate) fn write_reason(out: &mut JsonText, op: &Op, reason: &Reason)
+    ensures { out.new ≡ writing out.old (json_tokens (reason_json (reason_in op.now reason.now))) }
 {
     match reason {
         Reason::Absent(named) => write_named(out, op, *named, "absent"),

@@ -1,44 +1,165 @@
-//! The report as JSON.
+//! The report as JSON: a line for each record that is shown, and one with the totals of each version.
 
 ghost use Rattle.std.specs.Prelude.{◌≡◌, ◌+◌, ◌<◌, ◌^◌, IfOk, List, length};
-ghost use Rattle.ll_tree.specs.Trees.{Entry};
-ghost use Rattle.ll_report.specs.Told.{told_by};
-ghost use Rattle.ll_json.specs.Reports.{IsJsonReport, kept_of};
-ghost use Rattle.ll_json.specs.Versions.{HaveAll, Version};
+ghost use Rattle.ll_json.specs.Judged.{AreFound};
+ghost use Rattle.ll_json.specs.Reports.{IsJsonReport};
+ghost use Rattle.ll_json.specs.Rows.{json_made};
+ghost use Rattle.ll_json.specs.Versions.{Version};
 
-use crate::rows::Versions;
+use crate::alike::alike_records;
+use crate::room::longest;
+use crate::said::RecordAt;
+use crate::spans::Texts;
 use crate::totals::push_last;
-use ll_report::{Finding, Report, Shown, refused_under_some};
-use ll_trace::Record;
+use ll_explain::TextBuffer;
+use ll_explanations::Finding;
+use ll_report::{
+    RowReport, Rows, Sayings, Scratch, Shown, Verdicts, is_left_out, refused_under_some,
+};
+use ll_trace::Located;
 use std::alloc::{AllocError, Global};
+use std::marker::Model;
 
-/// The report as JSON over versions of which the oldest has this number, as much as is shown of it, with the version of
-/// the program that writes it. What is found under each is kept in the form [`InJson`](crate::InJson).
-pub fn json_report(
+/// What a report as JSON is made of: the tree and the records as the oldest version takes them, what is found under
+/// each version, what is shown of it, the number of the oldest version, and the version of the program that writes it.
+/// All memory for the lines is there already.
+#[derive(Drop)]
+pub struct JsonRows<'p> {
     alloc: Global,
+    located: Located,
+    findings: Vec<Finding>,
     shown: Shown,
     oldest: u64,
-    findings: &[Finding],
-    records: &[Record],
-    program: &str,
-) -> Result<Report, AllocError>
-    requires { oldest + length findings.now < 2 ^ 64 }
-    ensures { IfOk result (λ report. (tree : List Entry) (versions : List Version)
-        → findings.now ≡ kept_of shown tree versions
-        → HaveAll versions (length records.now)
-        → IsJsonReport shown tree oldest versions records.now program.now (told_by report)) }
+    program: &'p str,
+    verdicts: Scratch,
+    alike: Vec<bool>,
+    texts: Texts,
+}
+
+impl<'p> Model for JsonRows<'p> {
+    ghost use Rattle.std.specs.Prelude.{◌≡◌, ◌+◌, ◌<◌, ◌^◌, false, length};
+    ghost use Rattle.ll_report.specs.Made.{Made};
+    ghost use Rattle.ll_report.specs.Scratches.{Suits, verdict_told};
+    ghost use Rattle.ll_json.specs.Rows.{json_made};
+    ghost use Rattle.ll_json.specs.Ready.{AreReady};
+
+    ghost Value = { Made };
+
+    ghost view = { λ rows. json_made rows.shown rows.oldest rows.located.tree rows.located.trace
+        rows.findings.items rows.program.now };
+
+    ghost invariant = { λ rows. (rows.oldest + length rows.findings.items < 2 ^ 64)
+        × (rows.texts.next.room ≡ rows.texts.said.room)
+        × AreReady rows.shown.explanations rows.located.tree rows.located.trace
+        rows.findings.items rows.texts.said.room rows.alike.items
+        × Suits verdict_told false rows.located.tree rows.located.trace rows.findings.items
+        rows.verdicts };
+}
+
+impl<'p> JsonRows<'p> {
+    /// The rows of a report, with room for what is compared when they are printed.
+    pub fn of(
+        alloc: Global,
+        located: Located,
+        findings: Vec<Finding>,
+        shown: Shown,
+        oldest: u64,
+        program: &'p str,
+    ) -> Result<JsonRows<'p>, AllocError>
+        requires { oldest + length findings.items < 2 ^ 64 }
+        ensures { IfOk result (λ rows. rows ≡ json_made shown oldest located.tree located.trace
+            findings.items program.now) }
+    {
+        let records = located.trace.records();
+        let alike = alike_records(alloc, shown.explanations, &findings, records.len())?;
+        let room = longest(
+            alloc,
+            &located.tree,
+            records,
+            shown.explanations,
+            &findings,
+            &alike,
+        );
+        let texts = Texts {
+            said: TextBuffer::new(alloc, room)?,
+            next: TextBuffer::new(alloc, room)?,
+        };
+        let verdicts = Scratch::of::<Verdicts>(alloc, &located.tree, records, &findings, false)?;
+        Ok(JsonRows {
+            alloc,
+            located,
+            findings,
+            shown,
+            oldest,
+            program,
+            verdicts,
+            alike,
+            texts,
+        })
+    }
+}
+
+impl<'p> Rows for JsonRows<'p> {
+    ghost made_of = { λ made. made };
+
+    fn count(&self) -> usize {
+        self.located.trace.records().len()
+    }
+
+    fn push_row(&mut self, text: &mut TextBuffer, place: usize) {
+        let located = &self.located;
+        let records = located.trace.records();
+        let found = &records[place];
+        let sayings = Sayings {
+            tree: &located.tree,
+            records,
+            findings: &self.findings,
+            place,
+        };
+        if is_left_out(self.shown, &sayings, &mut self.verdicts) {
+            return;
+        }
+        let record = RecordAt {
+            alloc: self.alloc,
+            tree: &located.tree,
+            records,
+            explains: self.shown.explanations,
+            place,
+        };
+        let alike = self.alike.as_slice();
+        let is_alike = alike[place];
+        record.push_line(
+            text,
+            found,
+            &mut self.texts,
+            is_alike,
+            self.oldest,
+            &self.findings,
+        );
+    }
+
+    fn push_last(&mut self, text: &mut TextBuffer) {
+        push_last(self.alloc, text, self.oldest, &self.findings, self.program);
+    }
+}
+
+/// The report as JSON over versions of which the oldest has this number, by what is found under each, as much as is
+/// shown of it, with the version of the program that writes it. The tree and the records are those at hand, as the
+/// oldest version takes them.
+pub fn json_report<'p>(
+    alloc: Global,
+    located: Located,
+    findings: Vec<Finding>,
+    shown: Shown,
+    oldest: u64,
+    program: &'p str,
+) -> Result<RowReport<JsonRows<'p>>, AllocError>
+    requires { oldest + length findings.items < 2 ^ 64 }
+    ensures { IfOk result (λ report. (versions : List Version)
+        → AreFound shown.explanations located.tree located.trace versions findings.items
+        → IsJsonReport shown located.tree oldest versions located.trace program.now report) }
 {
-    let versions = Versions {
-        alloc,
-        shown,
-        oldest,
-        findings,
-    };
-    let mut bytes = Vec::new(alloc);
-    versions.push_rows(&mut bytes, records)?;
-    push_last(alloc, &mut bytes, oldest, findings, program)?;
-    Ok(Report {
-        bytes,
-        refused: refused_under_some(findings, records.len()),
-    })
+    let refused = refused_under_some(&findings, located.trace.records().len());
+    let rows = JsonRows::of(alloc, located, findings, shown, oldest, program)?;
+    RowReport::of(alloc, rows, refused)
 }

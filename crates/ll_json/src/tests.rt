@@ -1,12 +1,13 @@
 //! Reports as JSON, as the documents say them.
 
-use crate::{InJson, json_report};
+use crate::json_report;
+use ll_explanations::Finding;
 use ll_fixtures::TREE;
 use ll_pool::judge_alone;
 use ll_process::Case;
-use ll_report::{Finding, Report, Shown};
+use ll_report::{Report, Shown};
 use ll_rights::Abi;
-use ll_trace::Trace;
+use ll_trace::{Located, Trace};
 use ll_tree::Tree;
 use std::alloc::Global;
 use std::test::Fail;
@@ -62,13 +63,13 @@ const REFUSED: &str = "\
 fn report_on_trace(alloc: Global, shown: Shown) -> Result<Report, Fail> {
     let tree = Tree::read(alloc, TREE.as_bytes())?;
     let trace = Trace::read(alloc, TRACE.as_bytes())?;
-    let case = Case::new(alloc, tree, trace, Abi::V4)?;
+    let located = Located::of(alloc, tree, trace)?;
+    let case = Case::of_located(alloc, located, Abi::V4)?;
     let answers = judge_alone(alloc, &case)?;
-    let finding = Finding::of::<InJson>(alloc, &case, answers, shown, None)?;
     let mut findings = Vec::new(alloc);
-    findings.push(finding)?;
-    let records = case.trace().records();
-    Ok(json_report(alloc, shown, 4, &findings, records, "7.8.9")?)
+    findings.push(Finding::of(alloc, &case, answers, shown.explanations, None)?)?;
+    let report = json_report(alloc, case.into_located(), findings, shown, 4, "7.8.9")?;
+    Ok(report.into_report(alloc)?)
 }
 
 #[test]

@@ -1,134 +1,54 @@
-//! The words of JSON: brackets, names of members, texts and numbers.
+//! Members that are texts and numbers, and objects of a fixed word.
 
-ghost use Rattle.std.specs.Prelude.{◌≡◌, ◌∷◌, [], true, decimal};
+ghost use Rattle.std.specs.Prelude.{◌≡◌, ◌∷◌, [], decimal};
 ghost use Rattle.json.specs.Token as token;
 ghost use Rattle.json.specs.Json.{string};
 ghost use Rattle.json.specs.Tree.{json_tokens};
 ghost use Rattle.ll_json.specs.Parts.{object_of, whole};
-ghost use Rattle.ll_json.specs.Told.{Tells};
+ghost use Rattle.ll_json.specs.Writing.{writing};
 
-use json::Writer;
-use std::alloc::{AllocError, Global};
-use std::mem;
-
-/// What writing gives: nothing, or that memory ran out.
-pub(crate) type Added = Result<(), AllocError>;
-
-/// Takes a text out of its place.
-pub(crate) fn taken(alloc: Global, text: &mut Vec<u8>) -> Vec<u8>
-    ensures { result.items ≡ text.old.items }
-{
-    mem::replace(text, Vec::new(alloc))
-}
-
-/// Begins an object.
-pub(crate) fn begin_object(out: &mut Writer) -> Added
-    ensures { Tells result out.old out.new (token.begin_object ∷ []) }
-{
-    out.begin_object()
-}
-
-/// Ends an object.
-pub(crate) fn end_object(out: &mut Writer) -> Added
-    ensures { Tells result out.old out.new (token.end_object ∷ []) }
-{
-    out.end_object()
-}
-
-/// Begins an array.
-pub(crate) fn begin_array(out: &mut Writer) -> Added
-    ensures { Tells result out.old out.new (token.begin_array ∷ []) }
-{
-    out.begin_array()
-}
-
-/// Ends an array.
-pub(crate) fn end_array(out: &mut Writer) -> Added
-    ensures { Tells result out.old out.new (token.end_array ∷ []) }
-{
-    out.end_array()
-}
-
-/// Writes the name of a member.
-pub(crate) fn write_key(out: &mut Writer, name: &str) -> Added
-    ensures { Tells result out.old out.new (token.key name.now ∷ []) }
-{
-    out.key(name)
-}
-
-/// Writes a text.
-pub(crate) fn write_string(out: &mut Writer, text: &str) -> Added
-    ensures { Tells result out.old out.new (token.string text.now ∷ []) }
-{
-    out.string(text)
-}
-
-/// Writes a number.
-pub(crate) fn write_whole(out: &mut Writer, number: u64) -> Added
-    ensures { Tells result out.old out.new (token.number (decimal number) ∷ []) }
-{
-    out.u64(number)
-}
-
-/// Writes `true`.
-pub(crate) fn write_true(out: &mut Writer) -> Added
-    ensures { Tells result out.old out.new (token.boolean true ∷ []) }
-{
-    out.boolean(true)
-}
+use crate::json_text::JsonText;
 
 /// Writes a member that is a text.
-pub(crate) fn write_text(out: &mut Writer, name: &str, text: &str) -> Added
-    ensures { Tells result out.old out.new (token.key name.now ∷ token.string text.now ∷ []) }
+pub(crate) fn write_text(out: &mut JsonText, name: &str, text: &str)
+    ensures { out.new ≡ writing out.old (token.key name.now ∷ token.string text.now ∷ []) }
 {
-    write_key(out, name)?;
-    write_string(out, text)?;
-    Ok(())
+    out.write_key(name);
+    out.write_string(text);
 }
 
 /// Writes a member that is a number.
-pub(crate) fn write_number(out: &mut Writer, name: &str, number: u64) -> Added
-    ensures { Tells result out.old out.new
-        (token.key name.now ∷ token.number (decimal number) ∷ []) }
+pub(crate) fn write_number(out: &mut JsonText, name: &str, number: u64)
+    ensures { out.new ≡ writing out.old (token.key name.now ∷ token.number (decimal number) ∷ []) }
 {
-    write_key(out, name)?;
-    write_whole(out, number)?;
-    Ok(())
+    out.write_key(name);
+    out.write_whole(number);
 }
 
 /// Begins an object by a fixed word, which is the value of its first member.
-pub(crate) fn begin_by(out: &mut Writer, name: &str, word: &str) -> Added
-    ensures { Tells result out.old out.new
+pub(crate) fn begin_by(out: &mut JsonText, name: &str, word: &str)
+    ensures { out.new ≡ writing out.old
         (token.begin_object ∷ token.key name.now ∷ token.string word.now ∷ []) }
 {
-    begin_object(out)?;
-    write_text(out, name, word)?;
-    Ok(())
+    out.begin_object();
+    write_text(out, name, word);
 }
 
 /// Writes an object of a fixed word alone.
-pub(crate) fn write_alone(out: &mut Writer, name: &str, word: &str) -> Added
-    ensures { Tells result out.old out.new
+pub(crate) fn write_alone(out: &mut JsonText, name: &str, word: &str)
+    ensures { out.new ≡ writing out.old
         (json_tokens (object_of ((name.now, string word.now) ∷ []))) }
 {
-    begin_by(out, name, word)?;
-    end_object(out)?;
-    Ok(())
+    begin_by(out, name, word);
+    out.end_object();
 }
 
 /// Writes an object of a fixed word and a number.
-pub(crate) fn write_numbered(
-    out: &mut Writer,
-    name: &str,
-    word: &str,
-    what: &str,
-    number: u64,
-) -> Added
-    ensures { Tells result out.old out.new (json_tokens
+pub(crate) fn write_numbered(out: &mut JsonText, name: &str, word: &str, what: &str, number: u64)
+    ensures { out.new ≡ writing out.old (json_tokens
         (object_of ((name.now, string word.now) ∷ (what.now, whole number) ∷ []))) }
 {
-    begin_by(out, name, word)?;
-    write_number(out, what, number)?;
-    end_object(out)?;
-    Ok(())
+    begin_by(out, name, word);
+    write_number(out, what, number);
+    out.end_object();
 }

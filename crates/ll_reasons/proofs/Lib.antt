@@ -10,6 +10,7 @@ pub mod Named
 pub mod Enough
 pub mod Gains
 pub mod InDomain
+pub mod Placed
 pub mod ReasonsTrue
 pub mod ReasonsAbout
 pub mod ConditionsTrue

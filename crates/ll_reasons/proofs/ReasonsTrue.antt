@@ -15,7 +15,7 @@ use Rattle.ll_tree.specs.declared.place.NodeId.{NodeId}
 use Rattle.ll_tree.specs.declared.place.Place.{Place}
 use Rattle.ll_tree.specs.declared.place.Place.TheVariants.{Node, Gap, Nowhere}
 use Rattle.ll_lines.specs.Paths.{Path, front, is_prefix, path_of}
-use Rattle.ll_tree.specs.Trees.{Entry, path_at, kind_at, is_dir, node_at, position_of, gap_in, place_or_gap, place_of, place}
+use Rattle.ll_tree.specs.Trees.{Entry, path_at, kind_at, is_dir, node_at, position_of, place}
 use Rattle.ll_tree.proofs.Positions.{at_position}
 use Rattle.ll_trace.specs.declared.op.Op.{Op}
 use Rattle.ll_trace.specs.declared.op.Op.TheVariants as calls
@@ -39,6 +39,7 @@ use Rattle.ll_reasons.specs.Reasons.{Reason, absent, of_kind, root, unmoved, ben
 use Rattle.ll_reasons.specs.Reasons.{beside, or_above, ends_at, nowhere, no_object, unsuited, unmet, onto, moved_to, unrenamed, linked_to, unlinked, reason}
 use Rattle.ll_reasons.specs.Made.{is_restrict}
 use Rattle.ll_reasons.specs.ReasonsHold.{paths_of, are_spelt, is_left_out, is_at_root, is_at_one, names_one_twice, is_regular, Holds, IsAbout, IsSo}
+use Rattle.ll_reasons.proofs.Placed.{Placed, text_placed}
 use Rattle.ll_reasons.proofs.ReasonsAbout.{reason_about}
 use Rattle.ll_reasons.proofs.Enough.{and_both, or_left, or_right}
 use Rattle.ll_rules.proofs.Climbs.{prefix-trans}
@@ -46,31 +47,6 @@ use Rattle.ll_reasons.proofs.Gains.{prefix-front}
 use Rattle.ll_reasons.proofs.Shapes.{never_moot, can_refused_by, can_verdict, can_unless, can_ioctl_kept, can_add_port}
 
 -- ---- the tree
-
--- what a place says of the path that it is the place of
-unfoldable Placed : List Entry → Path → Place → Type 0
-Placed tree path (Node node) = node_at tree path ≡ Some node
-Placed tree path (Gap directory) = (node_at tree path ≡ None) × (node_at tree (front path) ≡ Some directory) × (is_dir (kind_at tree directory) ≡ true)
-Placed tree path Nowhere = node_at tree path ≡ None
-
-gap_placed : (tree : List Entry) (path : Path) (above : Option NodeId) → node_at tree path ≡ None → node_at tree (front path) ≡ above
-    → Placed tree path (gap_in tree above)
-unfolding Placed gap_in
-gap_placed tree path None none is = none
-gap_placed tree path (Some directory) none is = elim (cases_Bool (is_dir (kind_at tree directory))) [
-  | inl holds ↦ rw holds (none, is, holds)
-  | inr fails ↦ rw fails none
-]
-
-node_placed : (tree : List Entry) (path : Path) (node : Option NodeId) → node_at tree path ≡ node → Placed tree path (place_or_gap tree path node)
-unfolding Placed place_or_gap
-node_placed tree path None none = gap_placed tree path (node_at tree (front path)) none refl
-node_placed tree path (Some node) is = is
-
-text_placed : (tree : List Entry) (text : List ℕ) (path : Option Path) → path_of text ≡ path → is_some path ≡ true → Placed tree (spelt text) (place tree text)
-unfolding place place_of
-text_placed tree text None is some = cc
-text_placed tree text (Some path) is some = rw is (node_placed tree path (node_at tree path) refl)
 
 node_path : (tree : List Entry) (path : Path) (node : NodeId) → node_at tree path ≡ Some node → path_at tree node ≡ path
 unfolding node_at path_at

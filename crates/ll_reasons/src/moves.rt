@@ -1,12 +1,12 @@
 //! Why an object isn't renamed or linked.
 
-ghost use Rattle.std.specs.Prelude.{◌≡◌};
+ghost use Rattle.std.specs.Prelude.{◌≡◌, IfSome};
 ghost use Rattle.ll_tree.specs.Trees.{IsNode, place};
 ghost use Rattle.ll_reasons.specs.declared.why.Which.TheVariants.{First, Second};
 ghost use Rattle.ll_reasons.specs.Meant.{path_named, reason_in, text_named};
 ghost use Rattle.ll_reasons.specs.Reasons.{linked_to, moved_to, onto, unlinked, unrenamed};
 
-use crate::objects::nowhere;
+use crate::objects::{nowhere, place_of};
 use crate::paths::text_of;
 use crate::why::{NamedPath, Reason, Which};
 use ll_trace::Op;
@@ -51,15 +51,17 @@ fn moved_to(tree: &Tree, op: &Op, moved: NodeId, exchange: bool) -> Reason
     }
 }
 
-/// Why the object of a call's first path isn't renamed to its second, or the two aren't exchanged.
+/// Why the object of a call's first path, whose place may be known, isn't renamed to its second, or the two aren't
+/// exchanged.
 #[tactic(auto, unfolding(crate::specs::Meant::reason_in, crate::specs::Meant::path_in, crate::specs::Meant::above_by, crate::specs::Reasons::unrenamed))]
-pub fn unrenamed(tree: &Tree, op: &Op, exchange: bool) -> Reason
+pub fn unrenamed(tree: &Tree, op: &Op, exchange: bool, known: Option<Place>) -> Reason
+    requires { IfSome known (λ one. one ≡ place tree.now (text_named op.now First)) }
     ensures { reason_in op.now result ≡ unrenamed tree.now (path_named op.now First)
         (place tree.now (text_named op.now First)) (path_named op.now Second)
         (place tree.now (text_named op.now Second)) exchange }
 {
     let which = Which::First;
-    match tree.place_of(text_of(op, which)) {
+    match place_of(tree, op, known) {
         Place::Node(moved) if moved.is_root() => Reason::Root,
         Place::Node(moved) => moved_to(tree, op, moved, exchange),
         Place::Gap(_) => Reason::Absent(NamedPath { which, above: 0 }),
@@ -82,15 +84,16 @@ fn linked_to(tree: &Tree, op: &Op, linked: NodeId) -> Reason
     }
 }
 
-/// Why the object of a call's first path gets no further name, the second.
+/// Why the object of a call's first path, whose place may be known, gets no further name, the second.
 #[tactic(auto, unfolding(crate::specs::Meant::reason_in, crate::specs::Meant::path_in, crate::specs::Meant::above_by, crate::specs::Reasons::unlinked))]
-pub fn unlinked(tree: &Tree, op: &Op) -> Reason
+pub fn unlinked(tree: &Tree, op: &Op, known: Option<Place>) -> Reason
+    requires { IfSome known (λ one. one ≡ place tree.now (text_named op.now First)) }
     ensures { reason_in op.now result ≡ unlinked tree.now (path_named op.now First)
         (place tree.now (text_named op.now First)) (path_named op.now Second)
         (place tree.now (text_named op.now Second)) }
 {
     let which = Which::First;
-    match tree.place_of(text_of(op, which)) {
+    match place_of(tree, op, known) {
         Place::Node(linked) if linked.is_root() => Reason::Root,
         Place::Node(linked) => linked_to(tree, op, linked),
         Place::Gap(_) => Reason::Absent(NamedPath { which, above: 0 }),

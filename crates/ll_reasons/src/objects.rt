@@ -1,7 +1,8 @@
 //! Why what is at a path isn't what a call wants there.
 
-ghost use Rattle.std.specs.Prelude.{◌≡◌};
+ghost use Rattle.std.specs.Prelude.{◌≡◌, IfSome};
 ghost use Rattle.ll_tree.specs.Trees.{place};
+ghost use Rattle.ll_tree.specs.TreeFacts.{IsPlace};
 ghost use Rattle.ll_reasons.specs.declared.why.Which.TheVariants.{First};
 ghost use Rattle.ll_reasons.specs.Meant.{path_named, reason_in, text_named};
 ghost use Rattle.ll_reasons.specs.Reasons.{no_object, nowhere, unmet};
@@ -11,6 +12,19 @@ use crate::why::{NamedPath, Reason, Which};
 use ll_semantics::Wanted;
 use ll_trace::Op;
 use ll_tree::{Place, Tree};
+
+/// The place of the first path of a call, which may be known.
+#[tactic(auto, using(crate::proofs::Placed::place_inside))]
+pub(crate) fn place_of(tree: &Tree, op: &Op, known: Option<Place>) -> Place
+    requires { IfSome known (λ one. one ≡ place tree.now (text_named op.now First)) }
+    ensures place { result ≡ place tree.now (text_named op.now First) }
+    ensures inside { IsPlace tree.now result }
+{
+    match known {
+        Some(place) => place,
+        None => tree.place_of(text_of(op, Which::First)),
+    }
+}
 
 /// Where the tree ends on the way to a path of a call that isn't there: at the first path, going up, whose directory is
 /// there.
@@ -34,28 +48,30 @@ pub(crate) fn nowhere(tree: &Tree, op: &Op, which: Which) -> Reason
     Reason::Absent(NamedPath { which, above })
 }
 
-/// Why the first path of a call isn't that of an object which the call takes.
+/// Why the first path of a call, whose place may be known, isn't that of an object which the call takes.
 #[tactic(auto, unfolding(crate::specs::Meant::reason_in, crate::specs::Meant::path_in, crate::specs::Meant::above_by, crate::specs::Reasons::no_object))]
-pub fn no_object(tree: &Tree, op: &Op) -> Reason
+pub fn no_object(tree: &Tree, op: &Op, known: Option<Place>) -> Reason
+    requires { IfSome known (λ one. one ≡ place tree.now (text_named op.now First)) }
     ensures { reason_in op.now result ≡ no_object tree.now (path_named op.now First)
         (place tree.now (text_named op.now First)) }
 {
     let which = Which::First;
-    match tree.place_of(text_of(op, which)) {
+    match place_of(tree, op, known) {
         Place::Node(node) => Reason::OfKind(tree.kind(node)),
         Place::Gap(_) => Reason::Absent(NamedPath { which, above: 0 }),
         Place::Nowhere => nowhere(tree, op, which),
     }
 }
 
-/// Why what is at the first path of a call isn't what it wants there.
+/// Why what is at the first path of a call, whose place may be known, isn't what it wants there.
 #[tactic(auto, unfolding(crate::specs::Meant::meaning_unmet))]
-pub fn unmet(tree: &Tree, op: &Op, wanted: Wanted) -> Reason
+pub fn unmet(tree: &Tree, op: &Op, wanted: Wanted, known: Option<Place>) -> Reason
+    requires { IfSome known (λ one. one ≡ place tree.now (text_named op.now First)) }
     ensures { reason_in op.now result ≡ unmet tree.now (path_named op.now First)
         (place tree.now (text_named op.now First)) wanted }
 {
     let which = Which::First;
-    let node = match tree.place_of(text_of(op, which)) {
+    let node = match place_of(tree, op, known) {
         Place::Node(node) => node,
         Place::Gap(_) => return Reason::Absent(NamedPath { which, above: 0 }),
         Place::Nowhere => return nowhere(tree, op, which),

@@ -3,14 +3,14 @@
 use ll_rights::Kind;
 
 /// Which of the paths that a call names: its only one or the first of two, or the second.
-#[derive(Clone, Copy)]
+#[derive(Clone, Copy, PartialEq, Eq)]
 pub enum Which {
     First,
     Second,
 }
 
 /// A path that a call names, or one above it.
-#[derive(Clone, Copy)]
+#[derive(Clone, Copy, PartialEq, Eq)]
 pub struct NamedPath {
     /// The path of the call.
     pub which: Which,
@@ -20,7 +20,7 @@ pub struct NamedPath {
 
 /// Why the policy isn't asked about a call. Each variant stands for the reason of the same name in the definitions; its
 /// paths are those that the call names.
-#[derive(Clone, Copy)]
+#[derive(Clone, Copy, PartialEq, Eq)]
 pub enum Reason {
     /// There is no object of this path.
     Absent(NamedPath),

@@ -1,31 +1,13 @@
 -- The lines of records and answers, from a place on and counted.
-use Rattle.std.proofs.Common.{◌≡◌, ◌∙◌, ℕ, suc, ◌+◌, ◌<◌, List, [], ◌∷◌, ◌++◌, length, drop, get_or, Bool, cond, refl, sym, ap, arith, add-one}
-use Rattle.std.proofs.Math.Seq.{drop-cons}
+use Rattle.std.proofs.Common.{◌≡◌, ◌∙◌, ℕ, suc, List, [], ◌∷◌, ◌++◌, length, Bool, cond, refl, sym, ap, arith}
 use Rattle.std.specs.List.{count_by}
 use Rattle.std.proofs.lemmas.List.Sums.{sum_by-cons}
 use Rattle.ll_trace.specs.declared.record.Record.{Record}
 use Rattle.ll_semantics.specs.declared.answer.Answer.{Answer}
-use Rattle.ll_semantics.specs.Worlds.{judged}
-use Rattle.ll_semantics.proofs.Steps.{length-judged}
-use Rattle.ll_process.specs.Cases.{CaseValue}
-use Rattle.ll_explain.specs.Explained.{text_at}
-use Rattle.ll_report.specs.Longest.{total_of}
-use Rattle.ll_report.specs.TextReports.{told_of}
 use Rattle.ll_report.specs.declared.options.Shown.{Shown}
 use Rattle.ll_report.specs.Report.{ReportLine, Verdict, count_of, is_allowed, is_moot, is_refused, total_text}
 use Rattle.ll_report.specs.Shown.{blocks_from, shown_text}
 use Rattle.ll_report.specs.Lines.{line_of, lines_of, refused_among, verdict_of}
-
-pub lines_of-next : (records : List Record) (answers : List Answer) (k : ℕ) (r : Record) (answer : Answer) → k < length records → k < length answers
-    → lines_of (drop k records) (drop k answers)
-    ≡ line_of (get_or records k r) (get_or answers k answer) ∷ lines_of (drop (k + 1) records) (drop (k + 1) answers)
-unfolding lines_of
-lines_of-next records answers k r answer below below_answers =
-    rw (drop-cons records k r below, drop-cons answers k answer below_answers, add-one k) refl
-
-pub lines_of-nil : (answers : List Answer) → lines_of [] answers ≡ []
-unfolding lines_of
-lines_of-nil answers = refl
 
 -- as many lines as records
 pub lines_of-length : (records : List Record) (answers : List Answer) → length answers ≡ length records → length (lines_of records answers) ≡ length answers
@@ -76,13 +58,3 @@ pub refused_count : (records : List Record) (answers : List Answer) (denied : �
     → denied ≡ count_by (λ answer. is_refused (verdict_of answer)) answers → denied ≡ refused_among records answers
 unfolding refused_among
 refused_count records answers denied lengths is = is ∙ sym (count_of-answers is_refused records answers lengths)
-
--- what is written of a case is its report
-pub is_told : (shown : Shown) (cv : CaseValue) (answers : List Answer) → answers ≡ judged cv.tree cv.abi cv.records →
-    blocks_from shown (text_at cv.tree cv.abi cv.records) 0 (lines_of cv.records answers) ++ total_of answers ≡ (told_of shown cv.tree cv.abi cv.records).text
-unfolding total_of
-is_told shown cv answers are =
-    let explained = text_at cv.tree cv.abi cv.records in
-    whole_text shown explained cv.records answers (blocks_from shown explained 0 (lines_of cv.records answers)) _ (length answers) _ _ _
-    (ap length are ∙ length-judged cv.tree cv.abi cv.records) refl refl refl refl refl refl
-    ∙ ap (λ given. shown_text shown explained (lines_of cv.records given)) are

@@ -1,125 +1,184 @@
 -- A report on its way through a page: what was sent, what the page holds, and what is left.
-use Rattle.std.proofs.Common.{◌≡◌, ◌∙◌, ℕ, ◌+◌, ◌<◌, ◌≤◌, List, [], ◌++◌, Option, Some, arith}
-use Rattle.std.proofs.Common.{length, take, drop, slice_get, min, refl, sym, ap, subst, inl, inr, append_assoc}
-use Rattle.std.specs.Prelude.{unwrap_or}
+use Rattle.std.proofs.Common.{◌≡◌, ◌∙◌, ℕ, ◌+◌, ◌-◌, ◌<◌, ◌≤◌, List, [], ◌++◌, Option, arith}
+use Rattle.std.proofs.Common.{length, take, drop, min, sym, ap, ap₂, subst, append_assoc, take-append-drop}
 use Rattle.std.specs.Io.KnownBytes.{Appends}
-use Rattle.std.proofs.KnownBytes.{Appends-nil, Appends-trans}
-use Rattle.std.proofs.lemmas.Bool.{cases_lt}
-use Rattle.std.proofs.lemmas.List.{append-nil, length-append, take_all}
-use Rattle.ll_trace.specs.declared.record.Record.{Record}
-use Rattle.ll_semantics.specs.declared.answer.Answer.{Answer}
-use Rattle.ll_semantics.specs.Worlds.{judged}
-use Rattle.ll_process.specs.Cases.{CaseValue}
-use Rattle.ll_trails.specs.CaseTrails.{IsAnswerAt}
-use Rattle.ll_report.specs.declared.options.Shown.{Shown}
-use Rattle.ll_explain.specs.Buffers.{Buffered, adding, blank, most_counted}
-use Rattle.ll_explain.proofs.Buffering.{added, held_added, room_added}
-use Rattle.ll_report.specs.Longest.{IsWithin, block_at}
-use Rattle.ll_report.specs.Pages.{HasRoom, Sends}
+use Rattle.std.proofs.KnownBytes.{Appends-trans}
+use Rattle.std.proofs.Math.Seq.{take-append-add}
+use Rattle.std.proofs.lemmas.List.{append-nil, drop-drop, length-append, take_all}
+use Rattle.ll_explain.specs.Buffers.{Buffered, adding, from_byte, holding, most_counted}
+use Rattle.ll_explain.proofs.Buffering.{added, filled}
+use Rattle.ll_report.specs.Pages.{IsPage, Sends}
 use Rattle.ll_report.specs.Writing.{AppendsBeginning}
 use Rattle.ll_report.proofs.Beginnings.{beginning, further}
 
-counted : (room : ℕ) (bytes : List ℕ) → (adding (blank room) bytes).count ≡ min (0 + length bytes) most_counted
-counted room bytes = ap (λ (b : Buffered). b.count) (added room 0 [] bytes (grind arith) (grind arith))
-
--- a text is measured by a buffer of any size
-pub measured : (room : ℕ) (bytes : List ℕ) → (adding (blank room) bytes).count ≡ (adding (blank 0) bytes).count
-measured room bytes = counted room bytes ∙ sym (counted 0 bytes)
-
-pub measured_within : (room count : ℕ) (bytes : List ℕ) (cleared after : Buffered) → cleared ≡ blank room → after ≡ adding cleared bytes → count ≡ after.count
-    → IsWithin count bytes
-measured_within room count bytes cleared after empty is counts =
-    let same : count ≡ (adding (blank 0) bytes).count =
-    counts ∙ ap (λ (b : Buffered). b.count) (is ∙ ap (λ (b : Buffered). adding b bytes) empty) ∙ measured room bytes in
-    omega (arith, same)
-
-pub within_length : (longest : ℕ) (bytes : List ℕ) → IsWithin longest bytes → longest < most_counted → length bytes ≤ longest
-within_length longest bytes within few = omega (arith, counted 0 bytes, within, few)
-
--- the records before a place have texts that are within a length
-abbrev pub AreWithinBefore : ℕ → ℕ → Shown → CaseValue → Type 0
-AreWithinBefore place longest shown case =
-    (k : ℕ) (r : Record) (answer : Answer) → k < place → slice_get case.records k ≡ Some r → IsAnswerAt case k answer
-    → IsWithin longest (block_at shown case k r answer)
-
-pub one_more_within : (shown : Shown) (case : CaseValue) (place longest more after : ℕ) (one : Record) (answer : Answer)
-    → slice_get case.records place ≡ Some one → IsAnswerAt case place answer → AreWithinBefore place longest shown case
-    → IsWithin more (block_at shown case place one answer) → longest ≤ after → more ≤ after → AreWithinBefore (place + 1) after shown case
-one_more_within shown case place longest more after one answer there answered before this at_least as_well k r a below read given =
-    elim (cases_lt k place) [
-      | inl earlier ↦ omega (arith, before k r a earlier read given, at_least)
-      | inr later ↦
-          let here : place ≡ k = omega (arith, later, below) in
-          let same : one ≡ r = ap (λ o. unwrap_or o one) (sym there ∙ ap (slice_get case.records) here ∙ read) in
-          let alike : answer ≡ a = ap (λ o. unwrap_or o answer) (sym answered ∙ ap (slice_get (judged case.tree case.abi case.records)) here ∙ given) in
-          let that : IsWithin more (block_at shown case k r a) =
-          subst (λ (n : ℕ). IsWithin more (block_at shown case n r a)) here
-          (subst (λ (x : Record). IsWithin more (block_at shown case place x a)) same
-          (subst (λ (x : Answer). IsWithin more (block_at shown case place one x)) alike this)) in
-          omega (arith, that, as_well)
-    ]
-
--- Of a whole text a first part is written to an output, the page holds the next, and the rest is left.
-pub record IsBetween (old new : Option (List ℕ)) (room : ℕ) (page : Buffered) (rest whole : List ℕ) : Type 0 where
+-- what a page shows of a part that is added to it without its first bytes
+pub record Shows (room skip : ℕ) (part : List ℕ) (page : Buffered) : Type 0 where
   pub same_room : page.room ≡ room
-  pub fits : length page.held ≤ page.room
-  pub done : List ℕ
-  pub appended : Appends old new done
-  pub split : whole ≡ done ++ (page.held ++ rest)
+  pub held : page.held ≡ take room (drop skip part)
+  pub count : page.count ≡ min (length part) most_counted
 
-pub begins : (old : Option (List ℕ)) (page : Buffered) (whole : List ℕ) → page ≡ blank page.room → IsBetween old old page.room page whole whole
-begins old page whole empty =
-    let none : page.held ≡ [] = ap (λ (b : Buffered). b.held) empty in
+pub shows : (room skip : ℕ) (part : List ℕ) (empty page : Buffered) → skip ≤ most_counted → empty ≡ from_byte skip room → page ≡ adding empty part
+    → Shows room skip part page
+shows room skip part empty page low is_empty is =
+    let all : skip - 0 ≡ skip = omega arith in
+    let counts : 0 + length part ≡ length part = omega arith in
+    let found : page ≡ filled room skip (min (0 + length part) most_counted) (take room (drop (skip - 0) part))
+    = is ∙ ap (λ b. adding b part) is_empty ∙ added room skip 0 [] part (omega arith) (omega arith) low in
     record {
-      same_room = refl;
-      fits = omega (arith, ap length none);
-      done = [];
-      appended = Appends-nil old;
-      split = ap (λ held. held ++ whole) (sym none);
+      same_room = ap (λ (b : Buffered). b.room) found;
+      held = ap (λ (b : Buffered). b.held) found ∙ ap (λ n. take room (drop n part)) all;
+      count = ap (λ (b : Buffered). b.count) found ∙ ap (λ n. min n most_counted) counts;
     }
 
-module _ (old mid new : Option (List ℕ)) (room : ℕ) (page : Buffered) (rest whole : List ℕ) where
-  -- a beginning of what the page holds is written
-  pub cut_short : IsBetween old mid room page rest whole → AppendsBeginning mid new page.held → AppendsBeginning old new whole
-  cut_short between part =
-      beginning old new whole (between.done ++ take part.0 page.held) (drop part.0 page.held ++ rest)
-      (further whole between.done page.held rest part.0 between.split) (Appends-trans old mid new between.done (take part.0 page.held) between.appended part.1)
-
-  -- all that the page holds is written, and nothing is left
-  pub all_sent : IsBetween old mid room page [] whole → Appends mid new page.held → Appends old new whole
-  all_sent between sent =
-      subst (Appends old new) (sym (between.split ∙ ap (λ held. between.done ++ held) (append-nil page.held)))
-      (Appends-trans old mid new between.done page.held between.appended sent)
-
-  -- the next part is put on a page that has room for it
-  pub part_put : (longest : ℕ) (roomy after : Buffered) (part : List ℕ) → IsBetween old mid room page (part ++ rest) whole → HasRoom longest page roomy
-      → Sends mid new page.held roomy.held → length part ≤ longest → after ≡ adding roomy part → IsBetween old new room after rest whole
-  part_put longest roomy after part between has sends short is =
-      let fits : length roomy.held + length part ≤ roomy.room = omega (arith, has.1, short) in
-      let held : after.held ≡ roomy.held ++ part =
-      ap (λ (b : Buffered). b.held) is ∙ held_added roomy part (omega (arith, fits))
-      ∙ take_all roomy.room (roomy.held ++ part) (omega (arith, fits, length-append roomy.held part)) in
-      let same : after.room ≡ roomy.room = ap (λ (b : Buffered). b.room) is ∙ room_added roomy part in
+-- a page that was settled
+pub settled : (page after : Buffered) → 0 < page.room → length page.held ≤ page.room → after ≡ holding page.room page.held → IsPage after ×
+    (after.held ≡ page.held)
+settled page after some fits is =
+    let room = ap (λ (b : Buffered). b.room) is in
+    let held = ap (λ (b : Buffered). b.held) is in (
       record {
-        same_room = same ∙ has.0 ∙ between.same_room;
-        fits = omega (arith, fits, same, ap length held, length-append roomy.held part);
-        done = between.done ++ sends.0;
-        appended = Appends-trans old mid new between.done sends.0 between.appended sends.1;
-        split = between.split
-            ∙ ap (λ before. between.done ++ (before ++ (part ++ rest))) sends.2
-            ∙ ap (λ text. between.done ++ text)
-            (append_assoc sends.0 roomy.held (part ++ rest) ∙ ap (λ text. sends.0 ++ text) (sym (append_assoc roomy.held part rest)))
-            ∙ sym (append_assoc between.done sends.0 ((roomy.held ++ part) ++ rest))
-            ∙ ap (λ before. (between.done ++ sends.0) ++ (before ++ rest)) (sym held);
-      }
+        all = is ∙ ap₂ holding (sym room) (sym held);
+        room = subst (λ (n : ℕ). 0 < n) (sym room) some;
+        fits = omega (arith, room, ap length held, fits);
+      },
+      held,
+    )
 
--- the last part is put on a page
-pub last_put : (old mid new : Option (List ℕ)) (room : ℕ) (page : Buffered) (whole : List ℕ) (longest : ℕ) (roomy after : Buffered) (last left : List ℕ)
-    → IsBetween old mid room page (left ++ last) whole → left ≡ [] → HasRoom longest page roomy → Sends mid new page.held roomy.held → length last ≤ longest
-    → after ≡ adding roomy last → IsBetween old new room after [] whole
-last_put old mid new room page whole longest roomy after last left between none has sends short is =
-    part_put old mid new room page [] whole longest roomy after last
-    (subst (λ text. IsBetween old mid room page text whole) (ap (λ text. text ++ last) none ∙ sym (append-nil last)) between) has sends short is
+-- Of a part that was written up to a byte before, some more is written.
+pub record IsMidway (old new : Option (List ℕ)) (part : List ℕ) (skip written : ℕ) : Type 0 where
+  pub sent : List ℕ
+  pub appended : Appends old new sent
+  pub split : drop skip part ≡ sent ++ drop written part
+  pub within : written ≤ length part
 
-pub all_begun : (old new : Option (List ℕ)) (whole : List ℕ) → Appends old new whole → AppendsBeginning old new whole
-all_begun old new whole appended = beginning old new whole whole [] (sym (append-nil whole)) appended
+module _ (old mid new : Option (List ℕ)) (part : List ℕ) (skip written room : ℕ) (held : List ℕ) where
+  split_on : (sent : List ℕ) → drop skip part ≡ sent ++ drop written part → held ≡ take room (drop written part)
+      → drop skip part ≡ sent ++ (held ++ drop (written + room) part)
+  split_on sent split is =
+      split
+      ∙ ap (λ l. sent ++ l) (sym (take-append-drop room (drop written part)))
+      ∙ ap₂ (λ a b. sent ++ (a ++ b)) (sym is) (drop-drop room written part)
+
+  -- a beginning of what the page holds is written
+  pub cut_midway : IsMidway old mid part skip written → held ≡ take room (drop written part) → AppendsBeginning mid new held
+      → AppendsBeginning old new (drop skip part)
+  cut_midway so_far is cut =
+      beginning old new (drop skip part) (so_far.sent ++ take cut.0 held) (drop cut.0 held ++ drop (written + room) part)
+      (further (drop skip part) so_far.sent held (drop (written + room) part) cut.0 (split_on so_far.sent so_far.split is))
+      (Appends-trans old mid new so_far.sent (take cut.0 held) so_far.appended cut.1)
+
+  sent_on : (sent : List ℕ) → drop skip part ≡ sent ++ drop written part → held ≡ take room (drop written part)
+      → drop skip part ≡ (sent ++ held) ++ drop (written + room) part
+  sent_on sent split is = split_on sent split is ∙ sym (append_assoc sent held (drop (written + room) part))
+
+  -- all that it holds is written, but no more
+  pub stopped : IsMidway old mid part skip written → held ≡ take room (drop written part) → Appends mid new held → AppendsBeginning old new (drop skip part)
+  stopped so_far is all =
+      beginning old new (drop skip part) (so_far.sent ++ held) (drop (written + room) part) (sent_on so_far.sent so_far.split is)
+      (Appends-trans old mid new so_far.sent held so_far.appended all)
+
+  pub goes_on : IsMidway old mid part skip written → held ≡ take room (drop written part) → Appends mid new held → written + room ≤ length part
+      → IsMidway old new part skip (written + room)
+  goes_on so_far is all within = record {
+    sent = so_far.sent ++ held;
+    appended = Appends-trans old mid new so_far.sent held so_far.appended all;
+    split = sent_on so_far.sent so_far.split is;
+    within = within;
+  }
+
+pub wholly_sent : (old new : Option (List ℕ)) (text held : List ℕ) → Sends old new text held → AppendsBeginning old new text
+wholly_sent old new text held sends = beginning old new text sends.0 held sends.2 sends.1
+
+-- a part is added behind what a page holds
+module _ (page after : Buffered) (part : List ℕ) (is_page : IsPage page) (small : page.room < most_counted) (is : after ≡ adding page part) where
+  put : after ≡ filled page.room 0 (min (length page.held + length part) most_counted) (take page.room (page.held ++ part))
+  put =
+      let fits = is_page.fits in
+      is ∙ ap (λ b. adding b part) is_page.all ∙ added page.room 0 (length page.held) page.held part fits (omega (arith, fits, small)) (omega arith)
+      ∙ ap (λ n. filled page.room 0 (min (length page.held + length part) most_counted) (take page.room (page.held ++ drop n part))) none where
+        none : 0 - length page.held ≡ 0
+        none = omega arith
+
+  pub put_room : after.room ≡ page.room
+  put_room = ap (λ (b : Buffered). b.room) put
+
+  -- there was room for all of it
+  pub put_whole : after.count ≤ page.room → IsPage after × (page.held ++ part ≡ after.held)
+  put_whole within =
+      let count : after.count ≡ min (length page.held + length part) most_counted = ap (λ (b : Buffered). b.count) put in
+      let all : length (page.held ++ part) ≤ page.room = omega (arith, length-append page.held part, count, within, small) in
+      let held : after.held ≡ page.held ++ part = ap (λ (b : Buffered). b.held) put ∙ take_all page.room (page.held ++ part) all in
+      let counts : min (length page.held + length part) most_counted ≡ length after.held
+      = omega (arith, length-append page.held part, count, within, small, ap length held) in (
+        record {
+          all = put ∙ ap₂ (λ n l. filled page.room 0 n l) counts (take_all page.room (page.held ++ part) all ∙ sym held)
+              ∙ ap (λ n. holding n after.held) (sym put_room);
+          room = subst (λ (n : ℕ). 0 < n) (sym put_room) is_page.room;
+          fits = omega (arith, put_room, ap length held, all);
+        },
+        sym held,
+      )
+
+  -- there was not, so a beginning of it is held
+  pub put_split : page.room < after.count → (page.room - length page.held ≤ length part) ×
+      (page.held ++ part ≡ after.held ++ drop (page.room - length page.held) part)
+  put_split more =
+      let count : after.count ≡ min (length page.held + length part) most_counted = ap (λ (b : Buffered). b.count) put in
+      let fits = is_page.fits in
+      let room : length page.held + (page.room - length page.held) ≡ page.room = omega (arith, fits) in
+      let held : after.held ≡ page.held ++ take (page.room - length page.held) part =
+      ap (λ (b : Buffered). b.held) put ∙ ap (λ n. take n (page.held ++ part)) (sym room) ∙ take-append-add page.held part (page.room - length page.held) in (
+        omega (arith, count, more, fits),
+        ap (λ l. page.held ++ l) (sym (take-append-drop (page.room - length page.held) part))
+            ∙ sym (append_assoc page.held (take (page.room - length page.held) part) (drop (page.room - length page.held) part))
+            ∙ ap (λ l. l ++ drop (page.room - length page.held) part) (sym held),
+      )
+
+-- a text goes out in two pieces, of which the first is what was held
+module _ (old mid new : Option (List ℕ)) (text held rest : List ℕ) (split : text ≡ held ++ rest) where
+  pub cut_first : AppendsBeginning old mid held → AppendsBeginning old mid text
+  cut_first cut =
+      beginning old mid text (take cut.0 held) (drop cut.0 held ++ rest) (further text [] held rest cut.0 split) cut.1
+
+  pub cut_second : Appends old mid held → AppendsBeginning mid new rest → AppendsBeginning old new text
+  cut_second first cut =
+      beginning old new text (held ++ take cut.0 rest) (drop cut.0 rest)
+      (split ∙ ap (λ l. held ++ l) (sym (take-append-drop cut.0 rest)) ∙ sym (append_assoc held (take cut.0 rest) (drop cut.0 rest)))
+      (Appends-trans old mid new held (take cut.0 rest) first cut.1)
+
+  pub sends_both : (left : List ℕ) → Appends old mid held → Sends mid new rest left → Sends old new text left
+  sends_both left first sends = (
+    held ++ sends.0,
+    Appends-trans old mid new held sends.0 first sends.1,
+    split ∙ ap (λ l. held ++ l) sends.2 ∙ sym (append_assoc held sends.0 left),
+  )
+
+-- of a text so much is held or left, and the next part of it goes to the page
+module _ (old mid new : Option (List ℕ)) (text held part rest : List ℕ) (so_far : Sends old mid text (held ++ (part ++ rest))) where
+  pub cut_part : AppendsBeginning mid new (held ++ part) → AppendsBeginning old new text
+  cut_part cut =
+      beginning old new text (so_far.0 ++ take cut.0 (held ++ part)) (drop cut.0 (held ++ part) ++ rest)
+      (further text so_far.0 (held ++ part) rest cut.0 (so_far.2 ∙ ap (λ l. so_far.0 ++ l) (sym (append_assoc held part rest))))
+      (Appends-trans old mid new so_far.0 (take cut.0 (held ++ part)) so_far.1 cut.1)
+
+  pub part_sent : (after : List ℕ) → Sends mid new (held ++ part) after → Sends old new text (after ++ rest)
+  part_sent after sends = (
+    so_far.0 ++ sends.0,
+    Appends-trans old mid new so_far.0 sends.0 so_far.1 sends.1,
+    so_far.2 ∙ ap (λ l. so_far.0 ++ l) (sym (append_assoc held part rest) ∙ ap (λ l. l ++ rest) sends.2 ∙ append_assoc sends.0 after rest)
+        ∙ sym (append_assoc so_far.0 sends.0 (after ++ rest)),
+  )
+
+-- what is held is the last
+module _ (old mid new : Option (List ℕ)) (text held : List ℕ) (so_far : Sends old mid text (held ++ [])) where
+  last_held : text ≡ so_far.0 ++ held
+  last_held = so_far.2 ∙ ap (λ l. so_far.0 ++ l) (append-nil held)
+
+  pub all_sent : Appends mid new held → Appends old new text
+  all_sent sent = subst (Appends old new) (sym last_held) (Appends-trans old mid new so_far.0 held so_far.1 sent)
+
+  pub cut_last : AppendsBeginning mid new held → AppendsBeginning old new text
+  cut_last cut =
+      beginning old new text (so_far.0 ++ take cut.0 held) (drop cut.0 held)
+      (last_held ∙ ap (λ l. so_far.0 ++ l) (sym (take-append-drop cut.0 held)) ∙ sym (append_assoc so_far.0 (take cut.0 held) (drop cut.0 held)))
+      (Appends-trans old mid new so_far.0 (take cut.0 held) so_far.1 cut.1)

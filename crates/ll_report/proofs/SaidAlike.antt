@@ -1,5 +1,5 @@
 -- What is said of a record that all versions say the same of.
-use Rattle.std.proofs.Common.{◌≡◌, ◌∙◌, ℕ, ◌<◌, ◌+◌, List, [], ◌∷◌, ◌++◌, Bool, true, false, ◌&&◌, length, drop, get_or, map, refl, sym, ap, subst, ⊎_elim}
+use Rattle.std.proofs.Common.{◌≡◌, ◌∙◌, ℕ, ◌<◌, List, [], ◌∷◌, ◌++◌, Bool, true, false, ◌&&◌, length, map, refl, sym, ap, ⊎_elim}
 use Rattle.std.proofs.Common.{append_assoc, arith}
 use Rattle.std.specs.Prelude.{bytes_eq, codes}
 use Rattle.std.specs.List.{list_all}
@@ -10,20 +10,21 @@ use Rattle.ll_trace.specs.declared.record.Record.{Record}
 use Rattle.ll_report.specs.declared.options.Shown.{Shown}
 use Rattle.ll_report.specs.declared.spans.Form.{Form}
 use Rattle.ll_report.specs.declared.spans.Form.TheVariants.{Answers, Explanations}
-use Rattle.ll_report.specs.Alike.{AreSaid, IsSaid}
 use Rattle.ll_report.specs.Found.{Found, answer_at}
 use Rattle.ll_report.specs.Lines.{line_of, verdict_of}
 use Rattle.ll_report.specs.Report.{is_refused, line_text, verdict_text}
 use Rattle.ll_report.specs.Rows.{explanations_said, is_refused_under_some, is_row_left_out, row_text, told_of}
 use Rattle.ll_report.specs.Shown.{behind_line, is_left_out}
 use Rattle.ll_report.specs.Spans.{agree, alone_text, versions_text}
-use Rattle.ll_report.proofs.SpansLeft.{next_of}
 
--- one version more says the same as those that are left
-pub one_alike : {X : Type 0} (said : Found → X) (same : X) (founds : List Found) (k : ℕ) (found : Found)
-    → (AreSaid said same (drop k founds) → AreSaid said same founds)
-    → k < length founds → found ≡ get_or founds k found → said found ≡ same → AreSaid said same (drop (k + 1) founds) → AreSaid said same founds
-one_alike said same founds k found so_far below is says rest = so_far (subst (AreSaid said same) (sym (next_of founds k found below is)) (says, rest))
+-- each of these says the same
+abbrev pub AreSaid : {X : Type 0} → (Found → X) → X → List Found → Type 0
+AreSaid said same [] = Unit {0}
+AreSaid said same (found ∷ others) = (said found ≡ same) × AreSaid said same others
+
+-- there is a version, and all say the same
+abbrev pub IsSaid : {X : Type 0} → (Found → X) → X → List Found → Type 0
+IsSaid said same founds = (0 < length founds) × AreSaid said same founds
 
 module _ {X : Type 0} (said : Found → X) (text : X → List ℕ) (same : X) where
   texts_alike : (founds : List Found) → AreSaid said same founds
@@ -73,14 +74,6 @@ left_out_alike shown founds place answer are = rw (
 ) refl
 
 -- a text, a line behind it and what is behind the line, taken together in another way
--- four texts are appended one after another
-pub four_appended : (start first second third fourth a b c d : List ℕ) → first ≡ start ++ a → second ≡ first ++ b → third ≡ second ++ c → fourth ≡ third ++ d
-    → fourth ≡ start ++ (a ++ b ++ c ++ d)
-four_appended start first second third fourth a b c d is_first is_second is_third is_fourth =
-    is_fourth ∙ ap (λ (text : List ℕ). text ++ d) (is_third ∙ ap (λ (text : List ℕ). text ++ c) (is_second ∙ ap (λ (text : List ℕ). text ++ b) is_first))
-    ∙ append_assoc ((start ++ a) ++ b) c d ∙ append_assoc (start ++ a) b (c ++ d) ∙ append_assoc start a (b ++ (c ++ d))
-    ∙ ap (λ (text : List ℕ). start ++ text) (sym (append_assoc (a ++ b) c d ∙ append_assoc a b (c ++ d)))
-
 joined : (before told blank verdict end behind : List ℕ)
     → (before ++ (told ++ blank ++ verdict ++ end)) ++ behind ≡ before ++ (told ++ (blank ++ verdict) ++ end ++ behind)
 joined before told blank verdict end behind =

@@ -1,26 +1,31 @@
--- What is kept of a case to show its records: the answers to them, and their explanations where these are shown.
--- Source: docs/FORMATS.md, "Explanations".
-use Rattle.std.specs.Prelude.{◌≡◌, ℕ, List, Some, if◌then◌else◌, length, slice_get}
+-- What the report under one version is made of, by what was found of the records.
+-- Source: docs/FORMATS.md, "The report" and "Explanations".
+use Rattle.std.specs.Prelude.{ℕ, List, count_by, length}
+use Rattle.ll_tree.specs.Trees.{Entry}
+use Rattle.ll_trace.specs.declared.record.Record.{Record}
 use Rattle.ll_semantics.specs.declared.answer.Answer.{Answer}
-use Rattle.ll_semantics.specs.Worlds.{judged}
-use Rattle.ll_process.specs.Cases.{CaseValue}
-use Rattle.ll_trails.specs.CaseTrails.{IsAnswerAt}
-use Rattle.ll_explanations.specs.Explained.{Explains}
-use Rattle.ll_explanations.specs.declared.explanation.Explanation.{Explanation}
+use Rattle.ll_explanations.specs.FindingValues.{FindingValue}
+use Rattle.ll_explanations.specs.Findings.{answer_in}
+use Rattle.ll_explain.specs.Told.{text_told}
 use Rattle.ll_report.specs.declared.options.Shown.{Shown}
-use Rattle.ll_report.specs.declared.blocks.Blocks.{Blocks}
+use Rattle.ll_report.specs.Lines.{line_of, verdict_of}
+use Rattle.ll_report.specs.Made.{Made, rows_of}
+use Rattle.ll_report.specs.Report.{is_allowed, is_moot, is_refused, total_text}
+use Rattle.ll_report.specs.Shown.{block_text}
 
--- each of these explains the answer to the record at its place
-abbrev pub ExplainAll : CaseValue → List Explanation → Type 0
-ExplainAll case explanations =
-    (place : ℕ) (e : Explanation) (answer : Answer) → slice_get explanations place ≡ Some e → IsAnswerAt case place answer → Explains case place answer e
+-- what is shown of the record at a place
+abbrev pub block_of : Shown → List Entry → List Record → FindingValue → ℕ → Record → List ℕ
+block_of shown tree records finding place r = block_text shown (line_of r (answer_in finding place)) (text_told tree records finding place)
 
--- the explanations of all records of a case where explanations are shown, and none where they aren't
-pub record AreExplanations (shown : Shown) (case : CaseValue) (explanations : List Explanation) : Type 0 where
-  pub as_many : length explanations ≡ (if shown.explanations then length case.records else 0)
-  pub each : ExplainAll case explanations
+-- the last line, by the answers
+unfoldable pub total_of : List Answer → List ℕ
+total_of answers =
+    total_text (length answers) (count_by (λ answer. is_allowed (verdict_of answer)) answers)
+    (count_by (λ answer. is_refused (verdict_of answer)) answers) (count_by (λ answer. is_moot (verdict_of answer)) answers)
 
--- the answers and the explanations are those of the case
-pub record AreOfCase (blocks : Blocks) : Type 0 where
-  pub answers : blocks.answers.now ≡ judged blocks.case.now.tree blocks.case.now.abi blocks.case.now.records
-  pub explanations : AreExplanations blocks.shown blocks.case.now blocks.explanations.now
+-- what is shown of each record, and the last line
+abbrev pub blocks_made : Shown → List Entry → List Record → FindingValue → Made
+blocks_made shown tree records finding = record {
+  shown = rows_of (block_of shown tree records finding) 0 records;
+  last = total_of finding.answers;
+}

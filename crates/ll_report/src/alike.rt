@@ -1,42 +1,44 @@
-//! What all versions say alike of a record.
+//! What versions find alike of a record.
 
-ghost use Rattle.std.specs.Prelude.{IfSome};
-ghost use Rattle.ll_report.specs.Alike.{IsSaid};
-ghost use Rattle.ll_report.specs.Found.{answer_at, explanation_at};
+ghost use Rattle.std.specs.Bool.{OnTrue};
+ghost use Rattle.ll_report.specs.Alike.{AnswerAs, AreAlike, ExplainAs};
 
-use crate::found::Finding;
-use ll_process::Answer;
+use ll_explanations::Finding;
 
-/// The answer of all versions to the record at a place, where they answer alike.
-pub(crate) fn common_answer(findings: &[Finding], place: usize) -> Option<Answer>
-    ensures { IfSome result
-        (λ answer. IsSaid (λ found. answer_at found place) answer findings.now) }
+/// Whether all of these answer the record at a place as one does.
+fn answer_as(one: &Finding, findings: &[Finding], place: usize) -> bool
+    ensures { OnTrue result (AnswerAs one.now findings.now place) }
 {
-    let Some(first) = findings.first() else {
-        return None;
-    };
-    let answer = first.answer(place);
+    let answer = one.answer(place);
     for finding in findings {
         if finding.answer(place) != answer {
-            return None;
+            return false;
         }
     }
-    Some(answer)
+    true
 }
 
-/// The explanation of all versions of the record at a place, where they explain alike.
-pub(crate) fn common_explanation(findings: &[Finding], place: usize) -> Option<&[u8]>
-    ensures { IfSome result
-        (λ explanation. IsSaid (λ found. explanation_at found place) explanation.now findings.now) }
+/// Whether all of these explain the record at a place by the same value as one does.
+fn explain_as(one: &Finding, findings: &[Finding], place: usize) -> bool
+    ensures { OnTrue result (ExplainAs one.now findings.now place) }
 {
-    let Some(first) = findings.first() else {
-        return None;
-    };
-    let explanation = first.explanation(place);
     for finding in findings {
-        if finding.explanation(place) != explanation {
-            return None;
+        if !finding.explains_as(one, place) {
+            return false;
         }
     }
-    Some(explanation)
+    true
+}
+
+/// Whether all versions answer the record at a place alike, and explain it by the same value if explanations are
+/// kept. There is a version then.
+pub(crate) fn are_alike(findings: &[Finding], explains: bool, place: usize) -> bool
+    ensures { OnTrue result (AreAlike explains findings.now place) }
+{
+    match findings.split_first() {
+        Some((first, others)) => {
+            answer_as(first, others, place) && (!explains || explain_as(first, others, place))
+        }
+        None => false,
+    }
 }

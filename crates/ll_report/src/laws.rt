@@ -1,9 +1,18 @@
-//! What holds by the definitions alone.
+//! What holds by the definitions, and of findings.
 
 ghost use Rattle.std.specs.Prelude.{◌≡◌, ℕ, List, [], codes};
+ghost use Rattle.ll_rights.specs.declared.abi.Abi.{Abi as Version};
 ghost use Rattle.ll_rights.specs.declared.abi.Abi.TheVariants.{V4};
+ghost use Rattle.ll_tree.specs.Trees.{Entry};
 ghost use Rattle.ll_tree.specs.WorkedTree.{worked_tree};
+ghost use Rattle.ll_trace.specs.declared.record.Record.{Record as OneRecord};
 ghost use Rattle.ll_semantics.specs.Worlds.{judged};
+ghost use Rattle.ll_explanations.specs.FindingValues.{FindingValue};
+ghost use Rattle.ll_explanations.specs.Findings.{Finds};
+ghost use Rattle.ll_explanations.specs.TakenLater.{AreTakenLater};
+ghost use Rattle.ll_report.specs.declared.options.Shown.{Shown};
+ghost use Rattle.ll_report.specs.Found.{found_under};
+ghost use Rattle.ll_report.specs.Versions.{found_in};
 ghost use Rattle.ll_report.specs.Lines.{lines_of};
 ghost use Rattle.ll_report.specs.Report.{report_text};
 ghost use Rattle.ll_report.specs.Spans.{spans_of};
@@ -20,4 +29,13 @@ pub fn empty_report()
 pub fn spans_give_back_what_was_said()
     ensures { (oldest : ℕ) (said : List (List ℕ))
         → all_spread_out (spans_of oldest said) ≡ numbered_from oldest said }
+{}
+
+/// What a finding says is what is found by the definitions, also by the records as an older version takes them.
+#[tactic(auto, using(crate::proofs::FoundJudged::found_as_judged))]
+pub fn findings_say_what_is_found()
+    ensures { (shown : Shown) (tree : List Entry) (abi : Version) (records later : List OneRecord)
+        (finding : FindingValue) → Finds shown.explanations tree abi records finding
+        → AreTakenLater later records
+        → found_in shown.explanations tree later finding ≡ found_under shown tree records abi }
 {}

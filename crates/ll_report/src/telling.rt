@@ -1,54 +1,60 @@
-//! In which form explanations are told.
+//! How what is found of a record under one version is told.
 
-ghost use Rattle.std.specs.Prelude.{◌≡◌, ◌++◌, ◌<◌, OnOk, length};
-ghost use Rattle.ll_explain.specs.Explained.{text_at};
-ghost use Rattle.ll_trails.specs.CaseTrails.{AreTrailsAt, IsAnswerAt};
+ghost use Rattle.std.specs.Prelude.{◌≡◌};
+ghost use Rattle.ll_explain.specs.Buffers.{adding};
+ghost use Rattle.ll_explain.specs.Told.{text_told};
+ghost use Rattle.ll_report.specs.Scratches.{verdict_told};
 
-use ll_explain::push_explanation;
-use ll_process::{Answer, Case};
-use ll_rules::NoMemory;
-use ll_trails::TraceOrigins;
-use std::alloc::Global;
+use crate::report::push_verdict;
+use ll_explain::{TextBuffer, push_found};
+use ll_explanations::Finding;
+use ll_trace::Record;
+use ll_tree::Tree;
 
-/// A form in which explanations are told.
+/// How what is found of a record under a version is told, by the tree and the records at hand.
 pub trait Telling {
     ghost use Rattle.std.specs.Prelude.{ℕ, List};
-    ghost use Rattle.ll_rights.specs.declared.abi.Abi.{Abi as Version};
     ghost use Rattle.ll_tree.specs.Trees.{Entry};
     ghost use Rattle.ll_trace.specs.declared.record.Record.{Record as OneRecord};
+    ghost use Rattle.ll_explanations.specs.FindingValues.{FindingValue};
 
-    ghost told: { List Entry → Version → List OneRecord → ℕ → List ℕ };
+    ghost told: { List Entry → List OneRecord → FindingValue → ℕ → List ℕ };
 
-    /// Adds the text of the explanation of the record at a place, by where all that its process has comes from.
-    fn push(
-        alloc: Global,
-        text: &mut Vec<u8>,
-        case: &Case,
-        trails: &TraceOrigins,
-        place: usize,
-        answer: Answer,
-    ) -> Result<(), NoMemory>
-        requires place { place < length case.now.records }
-        requires answer { IsAnswerAt case.now place answer }
-        requires trails { AreTrailsAt case.now place trails.now }
-        ensures { OnOk result (text.new.items
-            ≡ text.old.items ++ told case.now.tree case.now.abi case.now.records place) };
+    /// Adds what is told of the record at a place.
+    fn push(text: &mut TextBuffer, tree: &Tree, records: &[Record], finding: &Finding, place: usize)
+        ensures { text.new ≡ adding text.old (told tree.now records.now finding.now place) };
 }
 
-/// Explanations as the lines behind those of records.
+/// Answers, as they stand behind records.
+pub struct Verdicts;
+
+impl Telling for Verdicts {
+    ghost told = { verdict_told };
+
+    fn push(
+        text: &mut TextBuffer,
+        _tree: &Tree,
+        _records: &[Record],
+        finding: &Finding,
+        place: usize,
+    ) {
+        push_verdict(text, &finding.answer(place));
+    }
+}
+
+/// Explanations, as the lines behind those of records.
 pub struct InWords;
 
 impl Telling for InWords {
-    ghost told = { text_at };
+    ghost told = { text_told };
 
     fn push(
-        alloc: Global,
-        text: &mut Vec<u8>,
-        case: &Case,
-        trails: &TraceOrigins,
+        text: &mut TextBuffer,
+        tree: &Tree,
+        records: &[Record],
+        finding: &Finding,
         place: usize,
-        answer: Answer,
-    ) -> Result<(), NoMemory> {
-        push_explanation(alloc, text, case, trails, place, answer)
+    ) {
+        push_found(text, tree, records, finding, place);
     }
 }

@@ -1,18 +1,15 @@
-use Rattle.std.proofs.Common.{◌∙◌, ap}
 use Rattle.std.proofs.lemmas.List.{get_or_default}
-use Rattle.ll_explain.specs.Buffers.{adding}
-use Rattle.ll_explain.proofs.LinesSaid.{all_said, left_next, left_none}
+use Rattle.ll_explain.proofs.LinesSaid.{said_next, said_last}
 use Rattle.ll_explain.proofs.objections.push_lines.Goals as goal
 
 pub loop-one-preserved : goal.loop-one-preserved
 loop-one-preserved c =
     let all = c.args.all.now in
     let there = c.loop-one-test.true in
-    left_next c.args.tree.now c.args.records.now c.loop-one.text _ _ c.loop-one.before all c.loop-one.one-index _
+    said_next c.args.tree.now c.args.records.now c.loop-one.text _ _ c.loop-one.before all c.loop-one.one-index _
     there (get_or_default all c.loop-one.one-index _ _ there) c.loop-one.invariant c.push_next.ensures
 
 pub returns : goal.returns
-returns c layers made =
-    left_none c.args.tree.now c.args.records.now c.loop-one.text _ _ c.loop-one.before c.args.all.now c.loop-one.one-index
+returns c =
+    said_last c.args.tree.now c.args.records.now c.loop-one.text _ _ c.loop-one.before c.args.all.now c.loop-one.one-index
     c.loop-one-test.false c.loop-one.invariant c.push_ending.ensures
-    ∙ ap (adding c.args.text.now) (all_said c.args.tree.now c.args.records.now layers c.args.all.now made)

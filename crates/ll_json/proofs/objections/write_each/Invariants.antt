@@ -1,9 +1,9 @@
-use Rattle.std.proofs.Common.{◌≡◌, ◌++◌, drop}
-use Rattle.ll_json.proofs.LayersTold.{left}
+use Rattle.std.proofs.Common.{◌≡◌, drop}
+use Rattle.ll_json.specs.Writing.{writing}
+use Rattle.ll_json.specs.Layering.{objections_from}
 use Rattle.ll_json.proofs.objections.write_each.Given as goal
 
 -- what is written and what is left make the whole
 abbrev pub invariant-loop-one : goal.invariant-loop-one
 invariant-loop-one l =
-    (l.out.before ≡ l.fn.out.before)
-    × (l.out.tokens ++ left l.tree l.records l.before (drop l.one-index l.all) ≡ l.fn.out.tokens ++ left l.tree l.records 0 l.all)
+    writing l.out (objections_from l.tree l.records l.before (drop l.one-index l.all)) ≡ writing l.fn.out (objections_from l.tree l.records 0 l.all)

@@ -1,24 +1,26 @@
-use Rattle.std.proofs.Common.{◌∙◌, ◌++◌, List, ℕ, ap, arith}
-use Rattle.ll_report.specs.Found.{Found}
-use Rattle.ll_report.specs.Rows.{refused_under_some}
-use Rattle.ll_json.specs.Parts.{line_text}
-use Rattle.ll_json.specs.Reports.{kept_of, totals_from, totals_json}
-use Rattle.ll_json.specs.Rows.{rows_from}
-use Rattle.ll_json.proofs.RowsTold.{rows_are}
+use Rattle.std.proofs.Common.{◌≡◌, ◌∙◌, ℕ, List, ap₂, length, subst, sym}
+use Rattle.std.specs.Prelude.{count_by}
+use Rattle.std.specs.List.{range_with_len}
+use Rattle.std.proofs.lemmas.Result.{IfOk-weaker}
+use Rattle.ll_trace.specs.declared.record.Record.{Record}
+use Rattle.ll_explanations.specs.FindingValues.{FindingValue}
+use Rattle.ll_report.specs.Made.{Made, text_of}
+use Rattle.ll_report.specs.Told.{Told}
+use Rattle.ll_report.specs.Versions.{some_refuses}
+use Rattle.ll_json.specs.Reports.{IsJsonReport}
+use Rattle.ll_json.proofs.RowsTold.{report_is}
 use Rattle.ll_json.proofs.report.json_report.Goals as goal
 
 pub returns : goal.returns
-returns c tree versions same have =
-    let shown = c.args.shown in
-    let oldest : ℕ = c.args.oldest in
-    let records = c.args.records.now in
-    let last : List Found → List ℕ = λ (founds : List Found). line_text (totals_json (totals_from oldest founds) c.args.program.now) in
-    record {
-      text = c.in_ok-push_last.ensures
-          ∙ ap (λ (text : List ℕ). text ++ last c.args.findings.now) c.in_ok-push_rows.ensures
-          ∙ ap (λ (text : List ℕ). (text ++ rows_from shown oldest c.args.findings.now 0 records) ++ last c.args.findings.now) c.new-bytes.ensures.items
-          ∙ ap (λ (founds : List Found). rows_from shown oldest founds 0 records ++ last founds) same
-          ∙ ap (λ (lines : List ℕ). lines ++ last (kept_of shown tree versions))
-          (rows_are shown tree oldest _ versions have 0 records (omega arith));
-      refused = c.refused_under_some.ensures ∙ ap (λ (founds : List Found). refused_under_some founds records) same;
-    }
+returns c =
+    let a = c.args in
+    let tree = a.located.tree in
+    let later : List Record = a.located.trace in
+    let told : Made → ℕ → Told = λ (made : Made) (refused : ℕ). record { text = text_of made; refused = refused } in
+    let count : List FindingValue → List Record → ℕ = λ (findings : List FindingValue) (records : List Record).
+    count_by (some_refuses findings) (range_with_len 0 (length records)) in
+    let refused : c.refused_under_some-refused.result ≡ count a.findings.items later =
+    c.refused_under_some-refused.ensures ∙ ap₂ count c.deref.ensures.value c.records.ensures.value in
+    IfOk-weaker c.of-2.result _ _ (λ report is versions found.
+    subst (λ (r : Told). IsJsonReport a.shown tree a.oldest versions later a.program.now r) (sym (is ∙ ap₂ told c.in_ok-rows.ensures refused))
+    (report_is a.shown a.oldest tree versions later a.findings.items found a.program.now)) c.of-2.ensures

@@ -7,13 +7,13 @@ use Rattle.ll_explain.specs.Words.{word_for}
 use Rattle.ll_explanations.specs.Sets.{rights_in}
 use Rattle.ll_json.proofs.Enclosing.{array_tokens}
 use Rattle.ll_json.proofs.NamesTold.{file_names}
-use Rattle.ll_json.proofs.Telling.{told_3, told_as}
+use Rattle.ll_json.proofs.Writing.{wrote_3, wrote_as}
 use Rattle.ll_json.proofs.rights.write_rights.Goals as goal
 
 pub returns : goal.returns
 returns c =
-    told_as c.args.out.now c.end_array.new.out _ _
+    wrote_as c.args.out.now c.end_array.new.self _ _
     (ap (λ (names : List Token). token.begin_array ∷ (names ++ token.end_array ∷ [])) (file_names c.args.rights c.all.result.now c.all.ensures)
     ∙ array_tokens (map (λ right. string (word_for (files.name_of right))) (rights_in c.args.rights)))
-    (told_3 c.args.out.now c.begin_array.new.out c.write_names.new.out c.end_array.new.out _ _ _
-    c.in_ok-begin_array.ensures c.in_ok-write_names.ensures c.in_ok-end_array.ensures)
+    (wrote_3 c.args.out.now c.begin_array.new.self c.write_names.new.out c.end_array.new.self _ _ _
+    c.begin_array.ensures c.write_names.ensures c.end_array.ensures)

@@ -1,0 +1,27 @@
+use Rattle.std.proofs.Common.{List, ap, refl, subst, sym}
+use Rattle.ll_rights.specs.Abis.{number_of}
+use Rattle.ll_tree.specs.Trees.{Entry}
+use Rattle.ll_command.specs.declared.command.TheConstants.{VERSION}
+use Rattle.ll_json.specs.Judged.{AreFound}
+use Rattle.ll_json.specs.Reports.{IsJsonReport}
+use Rattle.ll_audit.specs.ShownReports.{IsReportInJson, versions_by}
+use Rattle.ll_audit.proofs.AsJson.{same_report}
+use Rattle.ll_audit.proofs.auditing.json_by.Goals as goal
+
+pub into_json-requires : goal.into_json-requires
+into_json-requires g c = c.in_ok-all.ensures.few
+
+pub returns-clause-report : goal.returns-clause-report
+returns-clause-report g c =
+    let options = c.args.audit.now.options.now in
+    let all = c.in_ok-all.all in
+    let report = c.in_ok-report.report in
+    let versions = versions_by options c.args.trace in
+    let oldest = number_of options.abis.oldest in
+    let found : AreFound options.shown.explanations all.located.tree all.located.trace versions all.findings.items =
+    subst (λ (entries : List Entry). AreFound options.shown.explanations entries all.located.trace versions all.findings.items)
+    (sym c.in_ok-all.ensures.tree) c.in_ok-all.ensures.findings in
+    subst (IsReportInJson options c.args.tree c.args.trace) (sym c.new.ensures)
+    (same_report options.shown c.args.tree oldest oldest versions all.located.trace c.args.trace VERSION.now report refl c.in_ok-all.ensures.records
+    (subst (λ (entries : List Entry). IsJsonReport options.shown entries oldest versions all.located.trace VERSION.now report)
+    c.in_ok-all.ensures.tree (c.in_ok-report.ensures versions found)))

@@ -1,0 +1,55 @@
+//! The threads of an audit: how many they are, and who is told of each job.
+
+ghost use Rattle.std.specs.Prelude.{◌≡◌, IfOk, IfErr};
+ghost use Rattle.ll_semantics.specs.Worlds.{judged};
+ghost use Rattle.ll_pool.specs.Crews.{IsCrew};
+ghost use Rattle.ll_audit.specs.Causes.{IsWant};
+
+use crate::fault::Fault;
+use ll_pool::{Gate, collect_whole, run};
+use ll_process::{Answer, Case};
+use ll_trace::{Located, ProcessId, Trace};
+use ll_tree::Tree;
+use std::alloc::{AllocError, Global};
+use std::sync::Wait;
+use std::thread::Threads;
+
+/// The threads that read and judge, and the gate that is told of each job.
+#[derive(Drop)]
+pub(crate) struct Workers<'a, R, G> {
+    pub(crate) rt: &'a R,
+    pub(crate) alloc: Global,
+    /// How many judge.
+    pub(crate) count: u64,
+    pub(crate) gate: &'a G,
+}
+
+impl<'a, R: Threads + Wait + Sync, G: Gate + Sync> Workers<'a, R, G> {
+    /// A tree and a trace, with the place of each record's first path, which the workers look up.
+    pub(crate) fn located(&self, tree: Tree, trace: Trace) -> Result<Located, AllocError>
+        ensures tree { IfOk result (λ located. located.tree ≡ tree) }
+        ensures trace { IfOk result (λ located. located.trace ≡ trace) }
+    {
+        Located::of_by(self.rt, self.alloc, tree, trace, self.count as usize)
+    }
+
+    /// The answers to all records of a case, whose work is cut at these processes.
+    pub(crate) fn answers(&self, case: &Case, cuts: &[bool]) -> Result<Vec<Answer>, Fault>
+        requires { IsCrew self.now.count }
+        ensures answers { IfOk result
+            (λ answers. answers.items ≡ judged case.now.tree case.now.abi case.now.records) }
+        ensures fault { IfErr result IsWant }
+    {
+        let count = self.count as usize;
+        let pieces = run(self.rt, self.alloc, case, count, cuts, self.gate)?;
+        Ok(collect_whole(self.alloc, case, pieces)?)
+    }
+}
+
+/// A gate that lets every job through at once.
+#[derive(Clone, Copy, Debug)]
+pub struct Idle;
+
+impl Gate for Idle {
+    fn begun(&self, _process: ProcessId) {}
+}

@@ -1,0 +1,63 @@
+//! Whether two explanations are the same value.
+
+ghost use Rattle.std.specs.Prelude.{◌≡◌, true};
+
+use crate::condition::Condition;
+use crate::explanation::Explanation;
+use crate::objection::{LayerObjection, Objection};
+use ll_reasons::Reason;
+
+/// Whether two objections of layers are the same.
+fn is_same_objection(one: &LayerObjection, other: &LayerObjection) -> bool
+    ensures { result ≡ true → one.now ≡ other.now }
+{
+    one == other
+}
+
+/// Whether two conditions are the same.
+fn is_same_condition(one: &Condition, other: &Condition) -> bool
+    ensures { result ≡ true → one.now ≡ other.now }
+{
+    one == other
+}
+
+/// Whether two reasons are the same.
+fn is_same_reason(one: &Option<Reason>, other: &Option<Reason>) -> bool
+    ensures { result ≡ true → one.now ≡ other.now }
+{
+    one == other
+}
+
+/// Whether lists of objections are the same.
+fn are_same_objections(all: &[LayerObjection], others: &[LayerObjection]) -> bool
+    ensures { result ≡ true → all.now ≡ others.now }
+{
+    if all.len() != others.len() {
+        return false;
+    }
+    for (place, one) in all.iter().enumerate() {
+        if !is_same_objection(one, &others[place]) {
+            return false;
+        }
+    }
+    true
+}
+
+/// Whether two explanations are the same.
+pub(crate) fn is_same(one: &Explanation, other: &Explanation) -> bool
+    ensures { result ≡ true → one.now ≡ other.now }
+{
+    match (one, other) {
+        (Explanation::Nothing, Explanation::Nothing) => true,
+        (Explanation::Objections(all), Explanation::Objections(others)) => {
+            are_same_objections(all.as_slice(), others.as_slice())
+        }
+        (Explanation::Failure(condition), Explanation::Failure(other)) => {
+            is_same_condition(condition, other)
+        }
+        (Explanation::Mootness(reason), Explanation::Mootness(other)) => {
+            is_same_reason(reason, other)
+        }
+        _ => false,
+    }
+}

@@ -1,0 +1,153 @@
+-- The rows that are made of findings are the lines of what is judged.
+use Rattle.std.proofs.Common.{◌≡◌, ◌∙◌, ℕ, Bool, true, false, List, [], ◌∷◌, ◌++◌, Option, Some, None}
+use Rattle.std.proofs.Common.{refl, sym, ap, ap₂, inl, inr}
+use Rattle.std.specs.Prelude.{if◌then◌else◌, option_and_then, slice_get, unwrap_or}
+use Rattle.std.proofs.lemmas.Bool.{cases_Bool}
+use Rattle.json.specs.Print.{print}
+use Rattle.json.specs.Token as token
+use Rattle.json.specs.Token.{Token}
+use Rattle.json.specs.Tree.{json_tokens}
+use Rattle.ll_tree.specs.Trees.{Entry}
+use Rattle.ll_trace.specs.declared.op.Op.{Op}
+use Rattle.ll_trace.specs.declared.record.Record.{Record}
+use Rattle.ll_semantics.specs.declared.answer.Answer.{Answer}
+use Rattle.ll_semantics.specs.declared.answer.Answer.TheVariants.{Allowed, Moot, Refused}
+use Rattle.ll_semantics.specs.Worlds.{judged}
+use Rattle.ll_reasons.specs.Explanations as meant
+use Rattle.ll_reasons.specs.Explanations.{explained_at, origins_at}
+use Rattle.ll_reasons.specs.Objections.{Objection}
+use Rattle.ll_reasons.specs.Objections as objecting
+use Rattle.ll_explanations.specs.FindingValues.{FindingValue}
+use Rattle.ll_explanations.specs.Findings.{Finds, answer_in, said_in}
+use Rattle.ll_explanations.specs.Kept.{if_said, is_silent}
+use Rattle.ll_explanations.specs.Meanings.{AreMade, explanation_in, objection_in}
+use Rattle.ll_explanations.specs.TakenLater.{AreTakenLater}
+use Rattle.ll_explanations.specs.declared.explanation.Explanation.{Explanation}
+use Rattle.ll_explanations.specs.declared.explanation.Explanation.TheVariants.{Nothing, Objections, Failure, Mootness}
+use Rattle.ll_explanations.specs.declared.objection.LayerObjection.{LayerObjection}
+use Rattle.ll_explanations.proofs.FindingTells.{tells}
+use Rattle.ll_explain.specs.Words.{line_of}
+use Rattle.ll_explain.proofs.FindingSays.{line_there, opened_there}
+use Rattle.ll_json.specs.Layering.{head_of, next_tokens, objections_from, opening}
+use Rattle.ll_json.specs.Parts.{named_tokens}
+use Rattle.ll_json.specs.Records.{answer_members, layers_json, members_at, members_of_both, members_with, why_members}
+use Rattle.ll_json.specs.Rows.{members_tokens, said_of}
+use Rattle.ll_json.specs.Spans.{members_text}
+use Rattle.ll_json.specs.Values.{answer_tokens, layers_tokens, plain_members}
+use Rattle.ll_json.specs.Versions.{Version}
+use Rattle.ll_json.specs.Why.{objection_json}
+use Rattle.ll_json.proofs.Meant.{answer_means}
+
+-- ---- of records only lines are written, and paths that they open
+
+module _ (tree : List Entry) (later records : List Record) (are : AreTakenLater later records) where
+  made_there : (made : Option ℕ) → line_of (option_and_then (slice_get later) made) ≡ line_of (option_and_then (slice_get records) made)
+  made_there None = refl
+  made_there (Some k) = line_there later records are k
+
+  head_there : (number : ℕ) (made : Option ℕ) → head_of later number made ≡ head_of records number made
+  unfolding head_of
+  head_there number made = rw (made_there made) refl
+
+  objection_there : (o : Objection) → objection_json later o ≡ objection_json records o
+  unfolding objection_json
+  objection_there (objecting.missing rights path) = refl
+  objection_there (objecting.closed rights port) = refl
+  objection_there (objecting.gained object rights directory) = refl
+  objection_there objecting.mounting = refl
+  objection_there (objecting.kept right place) = rw (line_there later records are place, opened_there later records are place) refl
+
+  opening_there : (before : ℕ) (one : LayerObjection) → opening later before one ≡ opening records before one
+  unfolding opening
+  opening_there before one = rw (head_there one.layer one.made) refl
+
+  next_there : (before : ℕ) (one : LayerObjection) → next_tokens tree later before one ≡ next_tokens tree records before one
+  unfolding next_tokens
+  next_there before one =
+      ap₂ (λ (opened said : List Token). opened ++ said) (opening_there before one) (ap json_tokens (objection_there (objection_in tree one.objection)))
+
+  objections_there : (before : ℕ) (all : List LayerObjection) → objections_from tree later before all ≡ objections_from tree records before all
+  unfolding objections_from
+  objections_there before [] = refl
+  objections_there before (one ∷ more) = ap₂ (λ (first rest : List Token). first ++ rest) (next_there before one) (objections_there one.layer more)
+
+  layers_there : (numbers : List ℕ) (e : Explanation) → layers_tokens tree later numbers e ≡ layers_tokens tree records numbers e
+  unfolding layers_tokens
+  layers_there numbers Nothing = refl
+  layers_there numbers (Objections all) = ap (λ (ts : List Token). token.begin_array ∷ (ts ++ token.end_array ∷ [])) (objections_there 0 all)
+  layers_there numbers (Failure condition) = refl
+  layers_there numbers (Mootness reason) = refl
+
+  answer_there : (op : Op) (answer : Answer) (e : Explanation) → answer_tokens tree later op answer e ≡ answer_tokens tree records op answer e
+  unfolding answer_tokens
+  answer_there op Allowed e = refl
+  answer_there op Moot e = refl
+  answer_there op (Refused error numbers) e = rw (layers_there numbers e) refl
+
+-- ---- what a version says of a record
+
+-- an answer whose explanation says nothing
+plain : (records : List Record) (layers : List ℕ) (tree : List Entry) (op : Op) (answer : Answer) (e : Explanation) → is_silent e ≡ true
+    → named_tokens (plain_members answer) ≡ named_tokens (answer_members records layers answer (explanation_in tree op e))
+unfolding answer_members layers_json why_members explanation_in
+plain records layers tree op Allowed Nothing silent = refl
+plain records layers tree op Moot Nothing silent = refl
+plain records layers tree op (Refused error numbers) Nothing silent = refl
+plain records layers tree op Allowed (Mootness None) silent = refl
+plain records layers tree op Moot (Mootness None) silent = refl
+plain records layers tree op (Refused error numbers) (Mootness None) silent = refl
+plain records layers tree op answer (Mootness (Some reason)) silent = cc
+plain records layers tree op answer (Objections all) silent = cc
+plain records layers tree op answer (Failure condition) silent = cc
+
+bare : (records : List Record) (layers : List ℕ) (answer : Answer) → plain_members answer ≡ answer_members records layers answer meant.nothing
+unfolding answer_members layers_json why_members
+bare records layers Allowed = refl
+bare records layers Moot = refl
+bare records layers (Refused error numbers) = refl
+
+module _ (tree : List Entry) (version : Version) (place : ℕ) (r : Record) (answer : Answer)
+    (there : slice_get version.records place ≡ Some r) (answered : slice_get (judged tree version.abi version.records) place ≡ Some answer) where
+  pub members_are : (explains : Bool) → members_at explains tree version place ≡ members_with explains tree version place r answer
+  unfolding members_at
+  members_are explains =
+      ap (λ (found : Option Record). members_of_both explains tree version place found (slice_get (judged tree version.abi version.records) place)) there
+      ∙ ap (λ (given : Option Answer). members_of_both explains tree version place (Some r) given) answered
+
+  module _ (later : List Record) (are : AreTakenLater later version.records) (finding : FindingValue) where
+    abbrev layers : List ℕ
+    layers = (origins_at tree version.abi version.records place r.process.0).layers
+
+    -- what is written of a value that may say nothing
+    value_means : (e : Explanation) → AreMade layers e
+        → members_tokens tree later answer (if_said e (r.op, e)) ≡ named_tokens (answer_members version.records layers answer (explanation_in tree r.op e))
+    value_means e made = elim (cases_Bool (is_silent e)) [
+      | inl silent ↦ rw silent (plain version.records layers tree r.op answer e silent)
+      | inr says ↦ rw says (answer_there tree later version.records are r.op answer e ∙ answer_means tree version.records layers r.op answer e made)
+    ]
+
+    explained : Finds true tree version.abi version.records finding
+        → members_tokens tree later answer (said_in later finding place) ≡ named_tokens (members_with true tree version place r answer)
+    explained finds =
+        let told = tells tree version.abi version.records later finding finds are place r answer there answered in
+        ap (members_tokens tree later answer) told.1 ∙ value_means told.0 told.2.made
+        ∙ ap (λ (why : meant.Explanation). named_tokens (answer_members version.records layers answer why)) told.2.means
+
+    members_told : (explains : Bool) → Finds explains tree version.abi version.records finding
+        → members_tokens tree later answer (if explains then said_in later finding place else None)
+        ≡ named_tokens (members_with explains tree version place r answer)
+    members_told true finds = explained finds
+    members_told false finds = ap named_tokens (bare version.records layers answer)
+
+    answer_is : (explains : Bool) → Finds explains tree version.abi version.records finding → answer_in finding place ≡ answer
+    answer_is explains finds =
+        ap (λ (answers : List Answer). unwrap_or (slice_get answers place) Moot) finds.answers
+        ∙ ap (λ (given : Option Answer). unwrap_or given Moot) answered
+
+    pub said_is : (explains : Bool) → Finds explains tree version.abi version.records finding
+        → said_of explains tree later place finding ≡ members_text (members_at explains tree version place)
+    unfolding said_of
+    said_is explains finds =
+        ap (λ (ts : List Token). print (ts ++ token.end_object ∷ []))
+        (ap (λ (given : Answer). members_tokens tree later given (if explains then said_in later finding place else None)) (answer_is explains finds)
+        ∙ members_told explains finds ∙ ap named_tokens (sym (members_are explains)))

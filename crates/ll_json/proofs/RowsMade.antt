@@ -1,0 +1,36 @@
+-- The rows of a report.
+use Rattle.std.proofs.Common.{◌≡◌, ◌∙◌, ℕ, Bool, true, false, List, [], Some, length, map, sym, ap}
+use Rattle.std.specs.Prelude.{if◌then◌else◌, slice_get}
+use Rattle.ll_tree.specs.Trees.{Entry}
+use Rattle.ll_trace.specs.declared.record.Record.{Record}
+use Rattle.ll_explanations.specs.FindingValues.{FindingValue}
+use Rattle.ll_explain.specs.Buffers.{Buffered, adding}
+use Rattle.ll_explain.proofs.Buffering.{adding_nothing}
+use Rattle.ll_report.specs.declared.options.Shown.{Shown}
+use Rattle.ll_report.specs.Made.{Made, row_at}
+use Rattle.ll_report.specs.Rows.{is_row_left_out}
+use Rattle.ll_report.proofs.Making.{length-rows, row_at_place}
+use Rattle.ll_report.specs.Versions.{answers_in}
+use Rattle.ll_json.specs.Rows.{json_made, line_of, row_text, said_of}
+
+module _ (shown : Shown) (oldest : ℕ) (tree : List Entry) (records : List Record) (findings : List FindingValue) (program : List ℕ) (made : Made)
+    (is : json_made shown oldest tree records findings program ≡ made) where
+  pub as_many : length made.shown ≡ length records
+  as_many = sym (ap (λ (m : Made). length m.shown) is) ∙ length-rows (row_text shown oldest tree records findings) 0 records
+
+  module _ (place : ℕ) (r : Record) (there : slice_get records place ≡ Some r) where
+    row_there : row_at made place ≡ row_text shown oldest tree records findings place r
+    row_there =
+        sym (ap (λ (m : Made). row_at m place) is)
+        ∙ row_at_place (row_text shown oldest tree records findings) place records r (json_made shown oldest tree records findings program).last there
+
+    abbrev line : List ℕ
+    line = line_of oldest r (map (said_of shown.explanations tree records place) findings)
+
+    pub nothing_added : (text : Buffered) → is_row_left_out shown (answers_in findings) place ≡ true → text ≡ adding text (row_at made place)
+    nothing_added text out =
+        adding_nothing text ∙ ap (adding text) (sym (row_there ∙ ap (λ (b : Bool). if b then [] else line) out))
+
+    pub line_added : (text after : Buffered) → is_row_left_out shown (answers_in findings) place ≡ false → after ≡ adding text line
+        → after ≡ adding text (row_at made place)
+    line_added text after out added = added ∙ ap (adding text) (sym (row_there ∙ ap (λ (b : Bool). if b then [] else line) out))

@@ -1,0 +1,89 @@
+use Rattle.std.proofs.Common.{◌≡◌, ◌∙◌, ◌<◌, ◌≤◌, List, ℕ, Bool, Some, ap, ap₂, arith, false, get_or, length, map, subst, sym, true}
+use Rattle.std.specs.Prelude.{slice_get}
+use Rattle.std.proofs.lemmas.Option.{slice_get-get_or}
+use Rattle.ll_trace.specs.declared.reader.TheConstants.{MOST_RECORDS}
+use Rattle.ll_trace.specs.declared.record.Record.{Record}
+use Rattle.ll_trails.proofs.AtPlaces.{read_there}
+use Rattle.ll_explain.specs.Buffers.{adding}
+use Rattle.ll_explanations.specs.FindingValues.{FindingValue}
+use Rattle.ll_report.specs.Alike.{AreAlike}
+use Rattle.ll_report.specs.Rows.{is_row_left_out}
+use Rattle.ll_report.specs.Versions.{answers_in}
+use Rattle.ll_json.specs.Rows.{line_of, said_of}
+use Rattle.ll_json.specs.Fitting.{IsReady}
+use Rattle.ll_json.proofs.RowsMade.{as_many, line_added, nothing_added}
+use Rattle.ll_json.proofs.report.JsonRowsRows.push_row.Goals as goal
+
+pub bounds-records-place : goal.bounds-records-place
+bounds-records-place c =
+    let rows = c.self.inside in
+    subst (λ (n : ℕ). c.args.place < n)
+    (as_many rows.shown rows.oldest rows.located.tree rows.located.trace rows.findings.items rows.program.now c.args.self.now c.self.view_is
+    ∙ ap (λ (rs : List Record). length rs) (sym c.records-records.ensures.value)) c.requires
+
+pub offset_bounds-records-place : goal.offset_bounds-records-place
+offset_bounds-records-place c =
+    let rows = c.self.inside in
+    let few : length rows.located.trace ≤ MOST_RECORDS = c.records-records.ensures.few in
+    let below : c.args.place < length rows.located.trace = subst (λ (n : ℕ). c.args.place < n)
+    (as_many rows.shown rows.oldest rows.located.tree rows.located.trace rows.findings.items rows.program.now c.args.self.now c.self.view_is) c.requires in
+    omega (arith, few, below)
+
+pub is_left_out-requires-clause-alike : goal.is_left_out-requires-clause-alike
+is_left_out-requires-clause-alike c apart =
+    let rows = c.self.inside in
+    let below : c.args.place < length rows.located.trace = subst (λ (n : ℕ). c.args.place < n)
+    (as_many rows.shown rows.oldest rows.located.tree rows.located.trace rows.findings.items rows.program.now c.args.self.now c.self.view_is) c.requires in
+    subst (λ (findings : List FindingValue). AreAlike false findings c.args.place) (sym c.deref.ensures.value)
+    (c.self.invariant.3.alike c.args.place below apart)
+
+pub returns-then-is_left_out-clause-row : goal.returns-then-is_left_out-clause-row
+returns-then-is_left_out-clause-row c =
+    let rows = c.self.inside in
+    let many = as_many rows.shown rows.oldest rows.located.tree rows.located.trace rows.findings.items rows.program.now c.args.self.now c.self.view_is in
+    let below : c.args.place < length rows.located.trace = subst (λ (n : ℕ). c.args.place < n) many c.requires in
+    let there = read_there rows.located.trace c.records-records.result.now c.args.place c.index-records-place.result
+    c.records-records.ensures.value below c.index-records-place.is in
+    let out : is_row_left_out rows.shown (answers_in rows.findings.items) c.args.place ≡ true =
+    ap (λ (findings : List FindingValue). is_row_left_out rows.shown (answers_in findings) c.args.place) (sym c.deref.ensures.value)
+    ∙ sym c.is_left_out.ensures.out ∙ c.if-is_left_out.true in
+    nothing_added rows.shown rows.oldest rows.located.tree rows.located.trace rows.findings.items rows.program.now c.args.self.now c.self.view_is
+    c.args.place c.index-records-place.result there c.args.text.now out
+
+pub bounds-alike-place : goal.bounds-alike-place
+bounds-alike-place c =
+    let rows = c.self.inside in
+    let many = as_many rows.shown rows.oldest rows.located.tree rows.located.trace rows.findings.items rows.program.now c.args.self.now c.self.view_is in
+    subst (λ (n : ℕ). c.args.place < n)
+    (many ∙ sym c.self.invariant.2.many ∙ ap (λ (alike : List Bool). length alike) (sym c.as_slice-alike.ensures.value)) c.requires
+
+pub push_line-requires-clause-ready : goal.push_line-requires-clause-ready
+push_line-requires-clause-ready c =
+    let rows = c.self.inside in
+    let many = as_many rows.shown rows.oldest rows.located.tree rows.located.trace rows.findings.items rows.program.now c.args.self.now c.self.view_is in
+    let alike = c.as_slice-alike.result.now in
+    let below : c.args.place < length alike = subst (λ (n : ℕ). c.args.place < n)
+    (many ∙ sym c.self.invariant.2.many ∙ ap (λ (alike : List Bool). length alike) (sym c.as_slice-alike.ensures.value)) c.requires in
+    let flag = get_or alike c.args.place false in
+    let there : slice_get rows.alike.items c.args.place ≡ Some flag =
+    ap (λ (flags : List Bool). slice_get flags c.args.place) (sym c.as_slice-alike.ensures.value) ∙ slice_get-get_or alike c.args.place false below in
+    subst (λ (said : List (List ℕ)). IsReady rows.texts.said.room said flag)
+    (ap₂ (λ (records : List Record) (findings : List FindingValue).
+    map (said_of rows.shown.explanations rows.located.tree records c.args.place) findings) (sym c.records-records.ensures.value) (sym c.deref-2.ensures.value))
+    (c.self.invariant.2.each c.args.place flag there)
+
+pub returns-clause-row : goal.returns-clause-row
+returns-clause-row c =
+    let rows = c.self.inside in
+    let many = as_many rows.shown rows.oldest rows.located.tree rows.located.trace rows.findings.items rows.program.now c.args.self.now c.self.view_is in
+    let below : c.args.place < length rows.located.trace = subst (λ (n : ℕ). c.args.place < n) many c.requires in
+    let r = c.index-records-place.result in
+    let there = read_there rows.located.trace c.records-records.result.now c.args.place r c.records-records.ensures.value below c.index-records-place.is in
+    let out : is_row_left_out rows.shown (answers_in rows.findings.items) c.args.place ≡ false =
+    ap (λ (findings : List FindingValue). is_row_left_out rows.shown (answers_in findings) c.args.place) (sym c.deref.ensures.value)
+    ∙ sym c.is_left_out.ensures.out ∙ c.if-is_left_out.false in
+    line_added rows.shown rows.oldest rows.located.tree rows.located.trace rows.findings.items rows.program.now c.args.self.now c.self.view_is
+    c.args.place r there c.args.text.now _ out
+    (c.push_line.ensures.text ∙ ap₂ (λ (records : List Record) (findings : List FindingValue).
+    adding c.args.text.now (line_of rows.oldest r (map (said_of rows.shown.explanations rows.located.tree records c.args.place) findings)))
+    c.records-records.ensures.value c.deref-2.ensures.value)

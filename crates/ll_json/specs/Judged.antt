@@ -1,0 +1,19 @@
+-- Findings of versions, as they are when the oldest version takes the records.
+-- Source: docs/FORMATS.md, "Several versions".
+use Rattle.std.specs.Prelude.{Bool, List}
+use Rattle.std.specs.List.{AllZip}
+use Rattle.ll_tree.specs.Trees.{Entry}
+use Rattle.ll_trace.specs.declared.record.Record.{Record}
+use Rattle.ll_explanations.specs.FindingValues.{FindingValue}
+use Rattle.ll_explanations.specs.Findings.{Finds}
+use Rattle.ll_explanations.specs.TakenLater.{AreTakenLater}
+use Rattle.ll_json.specs.Versions.{Version}
+
+-- it is found under a version, and these are the version's records as they are taken later
+pub record IsFound (explains : Bool) (tree : List Entry) (later : List Record) (version : Version) (finding : FindingValue) : Type 0 where
+  pub finds : Finds explains tree version.abi version.records finding
+  pub taken : AreTakenLater later version.records
+
+-- of each version there is what is found
+abbrev pub AreFound : Bool → List Entry → List Record → List Version → List FindingValue → Type 0
+AreFound explains tree later = AllZip (IsFound explains tree later)

@@ -1,0 +1,255 @@
+-- What rows say, by the findings.
+use Rattle.std.proofs.Common.{◌≡◌, ◌∙◌, ℕ, ◌+◌, ◌<◌, ◌≤◌, Bool, true, false, ◌||◌, List, [], ◌∷◌, ◌++◌, length, map, drop, slice_get, All, refl, sym}
+use Rattle.std.proofs.Common.{ap, ap₂, arith, codes, cond, inl, inr, subst, get_or}
+use Rattle.std.specs.Prelude.{count_by, unwrap_or, not, ◌&&◌}
+use Rattle.std.specs.List.{list_any, range_with_len}
+use Rattle.std.proofs.lemmas.Bool.{cases_lt, false≢true}
+use Rattle.std.proofs.lemmas.List.{drop_more, drop_all}
+use Rattle.std.proofs.lemmas.List.Elements.{All-cons, All-head, All-tail, All-weaker}
+use Rattle.std.proofs.lemmas.List.Sums.{sum_by-cons}
+use Rattle.std.proofs.lemmas.Option.{slice_get_past, unwrap_or-slice_get}
+use Rattle.std.proofs.lemmas.List.FromFn.{get_or-map-range_with_len, length-map-range_with_len}
+use Rattle.ll_tree.specs.Trees.{Entry}
+use Rattle.ll_trace.specs.declared.record.Record.{Record}
+use Rattle.ll_explanations.specs.FindingValues.{FindingValue}
+use Rattle.ll_explanations.specs.Findings.{answer_in, kept_at, said_by}
+use Rattle.ll_explain.specs.Told.{said_text, text_told}
+use Rattle.ll_report.specs.declared.options.Shown.{Shown}
+use Rattle.ll_report.specs.declared.spans.Form.TheVariants.{Answers, Explanations}
+use Rattle.ll_report.specs.Alike.{AnswerAs, AreAlike}
+use Rattle.ll_report.specs.Found.{Found, answer_at, explanation_at}
+use Rattle.ll_report.specs.Lines.{line_of, verdict_of}
+use Rattle.ll_report.specs.Report.{is_refused, line_text, verdict_text}
+use Rattle.ll_report.specs.Rows.{answers_said, explanations_said, is_refused_under_some, is_row_left_out, row_text, told_of, total_under_text, totals_from}
+use Rattle.ll_report.specs.Scratches.{told_under, verdict_told}
+use Rattle.ll_report.specs.Shown.{behind_line, is_left_out}
+use Rattle.ll_report.specs.Spans.{agree, versions_text}
+use Rattle.ll_report.specs.Versions.{answered, answers_in, found_in, founds_in, some_refuses}
+use Rattle.ll_report.proofs.SaidAlike.{AreSaid, IsSaid, left_out_alike, row_left_out, row_written, versions_alike}
+
+-- ---- what is said of findings, whichever way they are seen
+
+pub any_map : {A B : Type 0} (test : B → Bool) (f : A → B) (xs : List A) → list_any test (map f xs) ≡ list_any (λ x. test (f x)) xs
+any_map test f [] = refl
+any_map test f (x ∷ xs) = ap (λ rest. test (f x) || rest) (any_map test f xs)
+
+pub map_map : {A B C : Type 0} (g : B → C) (f : A → B) (xs : List A) → map g (map f xs) ≡ map (λ x. g (f x)) xs
+map_map g f [] = refl
+map_map g f (x ∷ xs) = ap (λ rest. g (f x) ∷ rest) (map_map g f xs)
+
+pub map_same : {A B : Type 0} (f g : A → B) (xs : List A) → ((x : A) → f x ≡ g x) → map f xs ≡ map g xs
+map_same f g [] same = refl
+map_same f g (x ∷ xs) same = ap₂ (λ y ys. y ∷ ys) (same x) (map_same f g xs same)
+
+module _ (findings : List FindingValue) (place : ℕ) where
+  pub refused_alone : is_refused_under_some (answers_in findings) place ≡ some_refuses findings place
+  refused_alone = any_map (λ found. is_refused (verdict_of (answer_at found place))) answered findings
+
+  abbrev pub all_answer : List (List ℕ)
+  all_answer = map (λ finding. verdict_text (verdict_of (answer_in finding place))) findings
+
+  pub answered_alone : answers_said (answers_in findings) place ≡ all_answer
+  answered_alone = map_map (λ found. verdict_text (verdict_of (answer_at found place))) answered findings
+
+  module _ (explains : Bool) (tree : List Entry) (records : List Record) where
+    pub refused_in : is_refused_under_some (founds_in explains tree records findings) place ≡ some_refuses findings place
+    refused_in = any_map (λ found. is_refused (verdict_of (answer_at found place))) (found_in explains tree records) findings
+
+    pub answered_in : answers_said (founds_in explains tree records findings) place ≡ all_answer
+    answered_in = map_map (λ found. verdict_text (verdict_of (answer_at found place))) (found_in explains tree records) findings
+
+    pub same_left_out : (shown : Shown) → is_row_left_out shown (answers_in findings) place ≡ is_row_left_out shown
+        (founds_in explains tree records findings) place
+    same_left_out shown =
+        ap₂ (λ (refused : Bool) (texts : List (List ℕ)). (shown.refused_alone && not refused) || (shown.differing_alone && agree texts))
+        (refused_alone ∙ sym refused_in) (answered_alone ∙ sym answered_in)
+
+-- ---- explanations
+
+-- what is said of no record is nothing
+past_none : (tree : List Entry) (records : List Record) (finding : FindingValue) (place : ℕ) → length records ≤ place → text_told tree records finding
+    place ≡ []
+past_none tree records finding place past =
+    ap (λ r. said_text tree records (said_by r (kept_at finding place))) (slice_get_past records place past)
+
+pub explained_in : (tree : List Entry) (records : List Record) (finding : FindingValue) (place : ℕ)
+    → explanation_at (found_in true tree records finding) place ≡ text_told tree records finding place
+explained_in tree records finding place = elim (cases_lt place (length records)) [
+  | inl below ↦
+      unwrap_or-slice_get (map (text_told tree records finding) (range_with_len 0 (length records))) place []
+      ∙ get_or-map-range_with_len (text_told tree records finding) 0 (length records) place place [] below (omega arith)
+  | inr past ↦
+      ap (λ o. unwrap_or o []) (slice_get_past (map (text_told tree records finding) (range_with_len 0 (length records))) place
+      (omega (arith, past, length-map-range_with_len (text_told tree records finding) 0 (length records))))
+      ∙ sym (past_none tree records finding place past)
+]
+
+pub explanations_in : (tree : List Entry) (records : List Record) (findings : List FindingValue) (place : ℕ)
+    → explanations_said (founds_in true tree records findings) place ≡ told_under text_told tree records findings place
+explanations_in tree records findings place =
+    map_map (λ found. explanation_at found place) (found_in true tree records) findings
+    ∙ map_same (λ finding. explanation_at (found_in true tree records finding) place) (λ finding. text_told tree records finding place) findings
+    (λ finding. explained_in tree records finding place)
+
+-- the same value says the same
+pub same_text : (tree : List Entry) (records : List Record) (one other : FindingValue) (place : ℕ) → kept_at one place ≡ kept_at other place
+    → text_told tree records one place ≡ text_told tree records other place
+same_text tree records one other place same = ap (λ kept. said_text tree records (said_by (slice_get records place) kept)) same
+
+-- ---- records of which all versions find the same
+
+alike_said : {X : Type 0} (said : Found → X) (seen : FindingValue → Found) (same : X) (findings : List FindingValue)
+    → All (λ finding. said (seen finding) ≡ same) findings → AreSaid said same (map seen findings)
+alike_said said seen same [] all = tt
+alike_said said seen same (finding ∷ others) all = (
+  All-head (λ f. said (seen f) ≡ same) finding others all,
+  alike_said said seen same others (All-tail (λ f. said (seen f) ≡ same) finding others all),
+)
+
+pub weaker : (explains : Bool) (findings : List FindingValue) (place : ℕ) → AreAlike explains findings place → AreAlike false findings place
+weaker explains [] place are = are
+weaker explains (first ∷ others) place are = (are.0, λ is. absurd (false≢true is))
+
+answer_so : (seen : FindingValue → Found) (place : ℕ) → ((f : FindingValue) → answer_at (seen f) place ≡ answer_in f place)
+    → (one : FindingValue) (others : List FindingValue) → AnswerAs one others place
+    → IsSaid (λ (found : Found). answer_at found place) (answer_in one place) (map seen (one ∷ others))
+answer_so seen place same one others are = (
+  omega arith,
+  alike_said (λ (found : Found). answer_at found place) seen (answer_in one place) (one ∷ others)
+      (All-cons (λ f. answer_at (seen f) place ≡ answer_in one place) one others (same one)
+      (All-weaker (λ f. answer_in f place ≡ answer_in one place) (λ f. answer_at (seen f) place ≡ answer_in one place) (λ f is. same f ∙ is) others are)),
+)
+
+-- whether it is left out
+pub alike_out : (shown : Shown) (explains : Bool) (findings : List FindingValue) (place : ℕ) (one : FindingValue) (others : List FindingValue)
+    → findings ≡ one ∷ others → AreAlike explains findings place
+    → is_left_out shown (verdict_of (answer_in one place)) ≡ is_row_left_out shown (answers_in findings) place
+alike_out shown explains findings place one others is are =
+    sym (left_out_alike shown (answers_in (one ∷ others)) place (answer_in one place)
+    (answer_so answered place (λ f. refl) one others (subst (λ fs. AreAlike explains fs place) is are).0))
+    ∙ ap (λ fs. is_row_left_out shown (answers_in fs) place) (sym is)
+
+module _ (tree : List Entry) (records : List Record) (place oldest : ℕ) (one : FindingValue) (others : List FindingValue) where
+  behind_same : (explains : Bool) → AreAlike explains (one ∷ others) place
+      → behind_line explains (text_told tree records one place)
+      ≡ behind_line explains (versions_text Explanations oldest (explanations_said (founds_in explains tree records (one ∷ others)) place))
+  behind_same false are = refl
+  behind_same true are =
+      let said : FindingValue → Type 0 = λ f. explanation_at (found_in true tree records f) place ≡ text_told tree records one place in
+      let all : All said (one ∷ others) =
+      All-cons said one others (explained_in tree records one place)
+      (All-weaker (λ f. kept_at f place ≡ kept_at one place) said (λ f same. explained_in tree records f place ∙ same_text tree records f one place same) others
+      (are.1 refl)) in
+      sym (versions_alike (λ (found : Found). explanation_at found place) (λ (text : List ℕ). text) (text_told tree records one place) Explanations oldest
+      (founds_in true tree records (one ∷ others)) (
+        omega arith,
+        alike_said (λ (found : Found). explanation_at found place) (found_in true tree records) (text_told tree records one place)
+            (one ∷ others) all,
+      ))
+
+  module _ (shown : Shown) (r : Record) (are : AreAlike shown.explanations (one ∷ others) place) where
+    said : IsSaid (λ (found : Found). answer_at found place) (answer_in one place) (founds_in shown.explanations tree records (one ∷ others))
+    said = answer_so (found_in shown.explanations tree records) place (λ f. refl) one others are.0
+
+    pub row_hidden : is_left_out shown (verdict_of (answer_in one place)) ≡ true
+        → [] ≡ row_text shown oldest (founds_in shown.explanations tree records (one ∷ others)) place (told_of r)
+    row_hidden out = sym (row_left_out shown oldest (founds_in shown.explanations tree records (one ∷ others)) place r (answer_in one place) said out)
+
+    pub row_shown : is_left_out shown (verdict_of (answer_in one place)) ≡ false
+        → line_text (line_of r (answer_in one place)) ++ behind_line shown.explanations (text_told tree records one place)
+        ≡ row_text shown oldest (founds_in shown.explanations tree records (one ∷ others)) place (told_of r)
+    row_shown shows =
+        ap (λ behind. line_text (line_of r (answer_in one place)) ++ behind) (behind_same shown.explanations are)
+        ∙ row_written shown oldest (founds_in shown.explanations tree records (one ∷ others)) place r (answer_in one place) said [] shows
+
+-- ---- records about which versions may differ
+
+-- why one is left out, or is not
+module _ (shown : Shown) (findings : List FindingValue) (place : ℕ) (tree : List Entry) (records : List Record) where
+  left_out : is_row_left_out shown (answers_in findings) place
+      ≡ ((shown.refused_alone && not (some_refuses findings place)) || (shown.differing_alone && agree (told_under verdict_told tree records findings place)))
+  left_out =
+      ap₂ (λ (refused : Bool) (texts : List (List ℕ)). (shown.refused_alone && not refused) || (shown.differing_alone && agree texts))
+      (refused_alone findings place) (answered_alone findings place)
+
+  pub passed_over : (shown.refused_alone && not (some_refuses findings place)) ≡ true → true ≡ is_row_left_out shown (answers_in findings) place
+  passed_over is = sym (left_out ∙ ap (λ b. b || (shown.differing_alone && agree (told_under verdict_told tree records findings place))) is)
+
+  pub kept_in : (shown.refused_alone && not (some_refuses findings place)) ≡ false → shown.differing_alone ≡ false
+      → false ≡ is_row_left_out shown (answers_in findings) place
+  kept_in is all =
+      sym (left_out ∙ ap₂ (λ a b. a || (b && agree (told_under verdict_told tree records findings place))) is all)
+
+  pub as_agreed : (shown.refused_alone && not (some_refuses findings place)) ≡ false → shown.differing_alone ≡ true
+      → agree (told_under verdict_told tree records findings place) ≡ is_row_left_out shown (answers_in findings) place
+  as_agreed is differing =
+      sym (left_out ∙ ap₂ (λ a b. a || (b && agree (told_under verdict_told tree records findings place))) is differing)
+
+module _ (shown : Shown) (oldest : ℕ) (tree : List Entry) (records : List Record) (findings : List FindingValue) (place : ℕ) (r : Record) where
+  abbrev founds : List Found
+  founds = founds_in shown.explanations tree records findings
+
+  pub apart_out : is_row_left_out shown (answers_in findings) place ≡ true → [] ≡ row_text shown oldest founds place (told_of r)
+  apart_out out =
+      let hidden : is_row_left_out shown founds place ≡ true = sym (same_left_out findings place shown.explanations tree records shown) ∙ out in
+      sym (rw hidden refl)
+
+  pub apart_shown : (behind : List ℕ) → is_row_left_out shown (answers_in findings) place ≡ false
+      → behind ≡ behind_line shown.explanations (versions_text Explanations oldest (explanations_said founds place))
+      → told_of r ++ versions_text Answers oldest (told_under verdict_told tree records findings place) ++ codes "\n" ++ behind
+      ≡ row_text shown oldest founds place (told_of r)
+  apart_shown behind shows is =
+      let seen : is_row_left_out shown founds place ≡ false = sym (same_left_out findings place shown.explanations tree records shown) ∙ shows in
+      ap₂ (λ (texts : List (List ℕ)) (l : List ℕ). told_of r ++ versions_text Answers oldest texts ++ codes "\n" ++ l)
+      (sym (answered_in findings place shown.explanations tree records)) is
+      ∙ sym (rw seen refl)
+
+pub behind_told : (explains : Bool) (oldest : ℕ) (tree : List Entry) (records : List Record) (findings : List FindingValue) (place : ℕ) → explains ≡ true
+    → versions_text Explanations oldest (told_under text_told tree records findings place)
+    ≡ behind_line explains (versions_text Explanations oldest (explanations_said (founds_in explains tree records findings) place))
+behind_told true oldest tree records findings place is = ap (versions_text Explanations oldest) (sym (explanations_in tree records findings place))
+behind_told false oldest tree records findings place is = absurd (false≢true is)
+
+pub behind_none : (explains : Bool) (text : List ℕ) → explains ≡ false → [] ≡ behind_line explains text
+behind_none true text is = absurd (false≢true (sym is))
+behind_none false text is = refl
+
+-- ---- the totals and the count of refused records
+
+pub totals_next : (findings : List FindingValue) (k abi : ℕ) (finding : FindingValue) → k < length findings → finding ≡ get_or findings k finding
+    → totals_from abi (answers_in (drop k findings))
+    ≡ total_under_text abi (answered finding) ++ totals_from (abi + 1) (answers_in (drop (k + 1) findings))
+unfolding totals_from
+totals_next findings k abi finding below is =
+    ap (λ fs. totals_from abi (answers_in fs)) (drop_more findings k finding below ∙ ap (λ f. f ∷ drop (k + 1) findings) (sym is))
+
+pub totals_last : (findings : List FindingValue) (k abi : ℕ) → length findings ≤ k → totals_from abi (answers_in (drop k findings)) ≡ []
+unfolding totals_from
+totals_last findings k abi past = ap (λ fs. totals_from abi (answers_in fs)) (drop_all k findings past)
+
+pub same_totals : (explains : Bool) (tree : List Entry) (records : List Record) (abi : ℕ) (findings : List FindingValue)
+    → totals_from abi (answers_in findings) ≡ totals_from abi (founds_in explains tree records findings)
+unfolding totals_from
+same_totals explains tree records abi [] = refl
+same_totals explains tree records abi (finding ∷ others) =
+    ap (λ rest. total_under_text abi (answered finding) ++ rest) (same_totals explains tree records (abi + 1) others)
+
+count_same : (p q : ℕ → Bool) → ((n : ℕ) → p n ≡ q n) → (xs : List ℕ) → count_by p xs ≡ count_by q xs
+count_same p q same [] = refl
+count_same p q same (x ∷ xs) =
+    omega (
+      arith,
+      count_same p q same xs,
+      sum_by-cons (λ (n : ℕ). cond (p n) 1 0) x xs,
+      sum_by-cons (λ (n : ℕ). cond (q n) 1 0) x xs,
+      one,
+    ) where
+      one : cond {A = ℕ} (p x) 1 0 ≡ cond (q x) 1 0
+      one = ap {B = ℕ} (λ (b : Bool). cond b 1 0) (same x)
+
+pub same_refused : (explains : Bool) (tree : List Entry) (records : List Record) (findings : List FindingValue) (count : ℕ)
+    → count_by (some_refuses findings) (range_with_len 0 count)
+    ≡ count_by (is_refused_under_some (founds_in explains tree records findings)) (range_with_len 0 count)
+same_refused explains tree records findings count =
+    count_same (some_refuses findings) (is_refused_under_some (founds_in explains tree records findings))
+    (λ place. sym (refused_in findings place explains tree records)) (range_with_len 0 count)

@@ -1,9 +1,0 @@
-use Rattle.std.proofs.Common.{drop}
-use Rattle.ll_report.specs.Alike.{AreSaid}
-use Rattle.ll_report.specs.Found.{answer_at}
-use Rattle.ll_report.proofs.alike.common_answer.Given as goal
-
--- where the versions that are left say the same, all do
-abbrev pub invariant-loop-finding : goal.invariant-loop-finding
-invariant-loop-finding l =
-    AreSaid (λ found. answer_at found l.place) l.answer (drop l.finding-index l.findings) → AreSaid (λ found. answer_at found l.place) l.answer l.findings

@@ -1,0 +1,17 @@
+use Rattle.std.proofs.Common.{rules, ◌∙◌, ◌+◌, ◌<◌, length, sym, ap}
+use Rattle.ll_explain.specs.Buffers.{adding}
+use Rattle.ll_explain.proofs.Buffering.{goes_on}
+use Rattle.ll_report.specs.Made.{Made, row_at}
+use Rattle.ll_report.proofs.Making.{left, left_next}
+use Rattle.ll_report.proofs.paged.push_all.Goals as goal
+
+pub loop-place-preserved : goal.loop-place-preserved
+loop-place-preserved g c =
+    let made : Made = g.R.Rows.made_of c.args.rows.now in
+    let same = c.loop-place.invariant.0 in
+    let below : c.loop-place.place < length made.shown = search rules in (
+      c.push_row.ensures.made ∙ same,
+      goes_on c.loop-place.text c.push_row.new.text _ (row_at made c.loop-place.place) (left made (c.loop-place.place + 1))
+          (ap (adding c.loop-place.text) (sym (left_next made c.loop-place.place below)) ∙ c.loop-place.invariant.1)
+          (c.push_row.ensures.row ∙ ap (λ (m : Made). adding c.loop-place.text (row_at m c.loop-place.place)) same),
+    )

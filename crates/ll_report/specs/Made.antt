@@ -1,0 +1,27 @@
+-- What a report is made of: what is shown of each record, one after another, and the last lines.
+-- Source: docs/FORMATS.md, "The report".
+use Rattle.std.specs.Prelude.{◌+◌, ◌++◌, ℕ, List, [], ◌∷◌, slice_get, unwrap_or}
+use Rattle.std.specs.List.{flat_map}
+use Rattle.ll_trace.specs.declared.record.Record.{Record}
+
+-- a row is what is shown of a record, which may be nothing
+pub record Made : Type 0 where
+  pub shown : List (List ℕ)
+  pub last : List ℕ
+
+-- the whole text
+abbrev pub text_of : Made → List ℕ
+text_of made = flat_map (λ row. row) made.shown ++ made.last
+
+-- the row at a place
+abbrev pub row_at : Made → ℕ → List ℕ
+row_at made place = unwrap_or (slice_get made.shown place) []
+
+-- The rows of records, the first of which is at a place of the trace. A row is given by the place of its record and the record.
+unfoldable pub rows_of : (ℕ → Record → List ℕ) → ℕ → List Record → List (List ℕ)
+rows_of row place [] = []
+rows_of row place (r ∷ others) = row place r ∷ rows_of row (place + 1) others
+
+-- the row at a place, or the last lines where there are fewer rows
+abbrev pub part_at : Made → ℕ → List ℕ
+part_at made place = unwrap_or (slice_get made.shown place) made.last

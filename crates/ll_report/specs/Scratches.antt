@@ -1,0 +1,37 @@
+-- What is kept to compare what versions say.
+-- Source: docs/FORMATS.md, "Several versions"; the buffers are the code's own.
+use Rattle.std.specs.Prelude.{◌≡◌, ◌<◌, ◌≤◌, ℕ, Bool, true, false, List, All, length, map, slice_get, unwrap_or}
+use Rattle.ll_tree.specs.Trees.{Entry}
+use Rattle.ll_trace.specs.declared.record.Record.{Record}
+use Rattle.ll_explanations.specs.FindingValues.{FindingValue}
+use Rattle.ll_explanations.specs.Findings.{answer_in}
+use Rattle.ll_report.specs.Alike.{AreAlike}
+use Rattle.ll_report.specs.Lines.{verdict_of}
+use Rattle.ll_report.specs.Report.{verdict_text}
+
+-- of each record whether versions may differ about it, and how long a text can be held
+pub record ScratchValue : Type 0 where
+  pub apart : List Bool
+  pub room : ℕ
+
+abbrev pub is_apart : ScratchValue → ℕ → Bool
+is_apart scratch place = unwrap_or (slice_get scratch.apart place) false
+
+-- how an answer is told
+abbrev pub verdict_told : List Entry → List Record → FindingValue → ℕ → List ℕ
+verdict_told tree records finding place = verdict_text (verdict_of (answer_in finding place))
+
+-- what is told of the record at a place under each version
+abbrev pub told_under : (List Entry → List Record → FindingValue → ℕ → List ℕ) → List Entry → List Record → List FindingValue → ℕ → List (List ℕ)
+told_under told tree records findings place = map (λ finding. told tree records finding place) findings
+
+-- each of these texts can be held
+abbrev pub FitIn : ℕ → List (List ℕ) → Type 0
+FitIn room texts = All (λ text. length text ≤ room) texts
+
+-- versions find alike of a record, or what they say of it can be held
+pub record Suits (told : List Entry → List Record → FindingValue → ℕ → List ℕ) (explains : Bool) (tree : List Entry) (records : List Record)
+    (findings : List FindingValue) (scratch : ScratchValue) : Type 0 where
+  pub alike : (place : ℕ) → place < length records → is_apart scratch place ≡ false → AreAlike explains findings place
+  pub verdicts : (place : ℕ) → is_apart scratch place ≡ true → FitIn scratch.room (told_under verdict_told tree records findings place)
+  pub texts : (place : ℕ) → is_apart scratch place ≡ true → FitIn scratch.room (told_under told tree records findings place)

@@ -1,0 +1,79 @@
+//! What versions say of a record.
+
+ghost use Rattle.std.specs.Prelude.{◌≡◌, ◌<◌, ◌≤◌, ◌^◌, [], false, get_or, length, true};
+ghost use Rattle.ll_explain.specs.Buffers.{adding};
+ghost use Rattle.ll_report.specs.Alike.{AreAlike};
+ghost use Rattle.ll_report.specs.Scratches.{FitIn, told_under, verdict_told};
+
+use crate::alike::are_alike;
+use crate::telling::{Telling, Verdicts};
+use ll_explain::TextBuffer;
+use ll_explanations::Finding;
+use ll_trace::Record;
+use ll_tree::Tree;
+
+/// What versions found of the record at a place, the oldest first, with what it takes to tell it.
+#[derive(Clone, Copy)]
+pub struct Sayings<'f> {
+    pub tree: &'f Tree,
+    pub records: &'f [Record],
+    pub findings: &'f [Finding],
+    pub place: usize,
+}
+
+impl<'f> Sayings<'f> {
+    /// Adds what a version says.
+    pub fn push<T: Telling>(&self, text: &mut TextBuffer, version: usize)
+        requires { version < length self.now.findings.now }
+        ensures { text.new ≡ adding text.old (get_or (told_under T.told self.now.tree.now
+            self.now.records.now self.now.findings.now self.now.place) version []) }
+    {
+        let finding = &self.findings[version];
+        T::push(text, self.tree, self.records, finding, self.place);
+    }
+
+    /// The length of the longest text that a version says, or another length that is greater. A length from 2 ^ 63 on
+    /// says nothing.
+    fn longest<T: Telling>(&self, measure: &mut TextBuffer, least: usize) -> usize
+        requires { measure.old.room ≡ 0 }
+        ensures least { least ≤ result }
+        ensures fit { result < 2 ^ 63 → FitIn result (told_under T.told self.now.tree.now
+            self.now.records.now self.now.findings.now self.now.place) }
+        ensures room { measure.new.room ≡ 0 }
+    {
+        let mut longest = least;
+        for finding in self.findings {
+            measure.clear();
+            T::push(measure, self.tree, self.records, finding, self.place);
+            longest = longest.max(measure.count());
+        }
+        longest
+    }
+
+    /// Whether versions may differ about the record, and then a length that no text of it exceeds.
+    pub(crate) fn measured<T: Telling>(
+        &self,
+        measure: &mut TextBuffer,
+        explains: bool,
+        least: usize,
+    ) -> (bool, usize)
+        requires { measure.old.room ≡ 0 }
+        ensures least { least ≤ result.1 }
+        ensures alike { result.0 ≡ false
+            → AreAlike explains self.now.findings.now self.now.place }
+        ensures verdicts { result.0 ≡ true → result.1 < 2 ^ 63 → FitIn result.1
+            (told_under verdict_told self.now.tree.now self.now.records.now
+            self.now.findings.now self.now.place) }
+        ensures texts { result.0 ≡ true → result.1 < 2 ^ 63 → FitIn result.1
+            (told_under T.told self.now.tree.now self.now.records.now
+            self.now.findings.now self.now.place) }
+        ensures room { measure.new.room ≡ 0 }
+    {
+        if are_alike(self.findings, explains, self.place) {
+            return (false, least);
+        }
+        let verdicts = self.longest::<Verdicts>(measure, least);
+        let length = self.longest::<T>(measure, verdicts);
+        (true, length)
+    }
+}

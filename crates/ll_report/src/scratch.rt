@@ -1,0 +1,120 @@
+//! What is kept to compare what versions say of a record.
+
+ghost use Rattle.std.specs.Prelude.{◌≡◌, ◌<◌, ◌^◌, IfOk, bytes_eq, get_or, length, nat_eq, []};
+ghost use Rattle.ll_report.specs.Scratches.{FitIn, Suits, is_apart, told_under};
+
+use crate::sayings::Sayings;
+use crate::telling::Telling;
+use ll_explain::TextBuffer;
+use ll_explanations::Finding;
+use ll_trace::Record;
+use ll_tree::Tree;
+use std::alloc::{AllocError, Global};
+use std::marker::Model;
+
+/// Which records versions may differ about, and two buffers with room for whatever a version says of one of these. So
+/// comparing what they say takes no memory.
+#[derive(Drop)]
+pub struct Scratch {
+    apart: Vec<bool>,
+    one: TextBuffer,
+    other: TextBuffer,
+}
+
+impl Model for Scratch {
+    ghost use Rattle.std.specs.Prelude.{◌≡◌};
+    ghost use Rattle.ll_report.specs.Scratches.{ScratchValue};
+
+    ghost Value = { ScratchValue };
+
+    ghost view = { λ scratch.
+        record { apart = scratch.apart.items; room = scratch.one.room } };
+
+    ghost invariant = { λ scratch. scratch.other.room ≡ scratch.one.room };
+}
+
+impl Scratch {
+    /// For what versions find of these records, and say in a form.
+    pub fn of<T: Telling>(
+        alloc: Global,
+        tree: &Tree,
+        records: &[Record],
+        findings: &[Finding],
+        explains: bool,
+    ) -> Result<Scratch, AllocError>
+        ensures { IfOk result (Suits T.told explains tree.now records.now findings.now) }
+    {
+        let mut measure = TextBuffer::measure(alloc);
+        let mut apart = Vec::with_capacity(alloc, records.len())?;
+        let mut longest = 0;
+        for place in 0..records.len() {
+            let sayings = Sayings {
+                tree,
+                records,
+                findings,
+                place,
+            };
+            let (is_apart, length) = sayings.measured::<T>(&mut measure, explains, longest);
+            apart.push(is_apart)?;
+            longest = length;
+        }
+        Ok(Scratch {
+            apart,
+            one: TextBuffer::new(alloc, longest)?,
+            other: TextBuffer::new(alloc, longest)?,
+        })
+    }
+
+    /// Whether versions may differ about the record at a place.
+    pub fn is_apart(&self, place: usize) -> bool
+        ensures { result ≡ is_apart self.now place }
+    {
+        match self.apart.get(place) {
+            Some(is_apart) => *is_apart,
+            None => false,
+        }
+    }
+
+    /// Whether two versions say the same of a record.
+    pub fn same<T: Telling>(&mut self, sayings: &Sayings<'_>, one: usize, other: usize) -> bool
+        requires one { one < length sayings.now.findings.now }
+        requires other { other < length sayings.now.findings.now }
+        requires fit { FitIn self.old.room (told_under T.told sayings.now.tree.now
+            sayings.now.records.now sayings.now.findings.now sayings.now.place) }
+        ensures same { result ≡ bytes_eq (get_or (told_under T.told sayings.now.tree.now
+            sayings.now.records.now sayings.now.findings.now sayings.now.place) one [])
+            (get_or (told_under T.told sayings.now.tree.now
+            sayings.now.records.now sayings.now.findings.now sayings.now.place) other []) }
+        ensures scratch { self.new ≡ self.old }
+    {
+        hold::<T>(&mut self.one, sayings, one);
+        hold::<T>(&mut self.other, sayings, other);
+        self.one.held() == self.other.held()
+    }
+
+    /// Whether a version says nothing of a record.
+    pub fn is_silent<T: Telling>(&mut self, sayings: &Sayings<'_>, version: usize) -> bool
+        requires within { version < length sayings.now.findings.now }
+        requires fit { FitIn self.old.room (told_under T.told sayings.now.tree.now
+            sayings.now.records.now sayings.now.findings.now sayings.now.place) }
+        ensures silent { result ≡ nat_eq (length (get_or (told_under T.told sayings.now.tree.now
+            sayings.now.records.now sayings.now.findings.now sayings.now.place) version [])) 0 }
+        ensures scratch { self.new ≡ self.old }
+    {
+        hold::<T>(&mut self.one, sayings, version);
+        self.one.held().is_empty()
+    }
+}
+
+/// Holds what a version says of a record, and nothing else.
+fn hold<T: Telling>(text: &mut TextBuffer, sayings: &Sayings<'_>, version: usize)
+    requires within { version < length sayings.now.findings.now }
+    requires fit { FitIn text.old.room (told_under T.told sayings.now.tree.now
+        sayings.now.records.now sayings.now.findings.now sayings.now.place) }
+    ensures held { text.new.held ≡ get_or (told_under T.told sayings.now.tree.now
+        sayings.now.records.now sayings.now.findings.now sayings.now.place) version [] }
+    ensures room { text.new.room ≡ text.old.room }
+{
+    text.clear();
+    sayings.push::<T>(text, version);
+}

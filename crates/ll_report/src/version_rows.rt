@@ -1,0 +1,150 @@
+//! The report over several versions, as rows.
+
+ghost use Rattle.std.specs.Prelude.{◌≡◌, ◌+◌, ◌<◌, ◌^◌, IfOk, length};
+ghost use Rattle.ll_explain.specs.Buffers.{adding};
+ghost use Rattle.ll_report.specs.Rows.{refused_under_some, rows_text, total_under_text, totals_from};
+ghost use Rattle.ll_report.specs.Versions.{answered, answers_in, founds_in, rows_made};
+
+use crate::made::Rows;
+use crate::options::Shown;
+use crate::report::Totals;
+use crate::row_report::RowReport;
+use crate::rows::{Row, refused_under_some};
+use crate::sayings::Sayings;
+use crate::scratch::Scratch;
+use crate::telling::InWords;
+use ll_explain::TextBuffer;
+use ll_explanations::Finding;
+use ll_trace::Located;
+use std::alloc::{AllocError, Global};
+use std::marker::Model;
+
+/// What is shown of the records of a trace over versions of which the oldest has this number, by what was found under
+/// each.
+#[derive(Drop)]
+pub struct VersionRows {
+    located: Located,
+    findings: Vec<Finding>,
+    shown: Shown,
+    oldest: u64,
+    scratch: Scratch,
+}
+
+impl Model for VersionRows {
+    ghost use Rattle.std.specs.Prelude.{◌+◌, ◌<◌, ◌^◌, length};
+    ghost use Rattle.ll_explain.specs.Told.{text_told};
+    ghost use Rattle.ll_report.specs.Made.{Made};
+    ghost use Rattle.ll_report.specs.Scratches.{Suits};
+    ghost use Rattle.ll_report.specs.Versions.{founds_in, rows_made};
+
+    ghost Value = { Made };
+
+    ghost view = { λ rows. rows_made rows.shown rows.oldest (founds_in rows.shown.explanations
+        rows.located.tree rows.located.trace rows.findings.items) rows.located.trace };
+
+    ghost invariant = { λ rows.
+        Suits text_told rows.shown.explanations rows.located.tree rows.located.trace
+        rows.findings.items rows.scratch
+        × (rows.oldest + length rows.findings.items < 2 ^ 64) };
+}
+
+impl VersionRows {
+    /// The rows of a trace.
+    pub fn of(
+        alloc: Global,
+        located: Located,
+        findings: Vec<Finding>,
+        shown: Shown,
+        oldest: u64,
+    ) -> Result<VersionRows, AllocError>
+        requires { oldest + length findings.items < 2 ^ 64 }
+        ensures { IfOk result (λ rows. rows ≡ rows_made shown oldest (founds_in shown.explanations
+            located.tree located.trace findings.items) located.trace) }
+    {
+        let scratch = Scratch::of::<InWords>(
+            alloc,
+            &located.tree,
+            located.trace.records(),
+            &findings,
+            shown.explanations,
+        )?;
+        Ok(VersionRows {
+            located,
+            findings,
+            shown,
+            oldest,
+            scratch,
+        })
+    }
+}
+
+/// Adds the last line of a version.
+fn push_total_under(text: &mut TextBuffer, abi: u64, finding: &Finding)
+    ensures { text.new ≡ adding text.old (total_under_text abi (answered finding.now)) }
+{
+    Totals::of(finding.answers()).push_under(text, abi);
+}
+
+/// Adds the last lines, one a version, of which the first has this number.
+fn push_totals(text: &mut TextBuffer, oldest: u64, findings: &[Finding])
+    requires { oldest + length findings.now < 2 ^ 64 }
+    ensures { text.new ≡ adding text.old (totals_from oldest (answers_in findings.now)) }
+{
+    let mut abi = oldest;
+    for finding in findings {
+        push_total_under(text, abi, finding);
+        abi += 1;
+    }
+}
+
+impl Rows for VersionRows {
+    ghost made_of = { λ made. made };
+
+    fn count(&self) -> usize {
+        self.located.trace.records().len()
+    }
+
+    fn push_row(&mut self, text: &mut TextBuffer, place: usize) {
+        let located = &self.located;
+        let records = located.trace.records();
+        if let Some(record) = records.get(place) {
+            let row = Row {
+                shown: self.shown,
+                oldest: self.oldest,
+                record,
+                sayings: Sayings {
+                    tree: &located.tree,
+                    records,
+                    findings: &self.findings,
+                    place,
+                },
+            };
+            row.push_to(text, &mut self.scratch);
+        }
+    }
+
+    fn push_last(&mut self, text: &mut TextBuffer) {
+        push_totals(text, self.oldest, &self.findings);
+    }
+}
+
+/// The report over versions of which the oldest has this number, by what was found under each, as much as is shown of
+/// it.
+pub fn report_over(
+    alloc: Global,
+    located: Located,
+    findings: Vec<Finding>,
+    shown: Shown,
+    oldest: u64,
+) -> Result<RowReport<VersionRows>, AllocError>
+    requires { oldest + length findings.items < 2 ^ 64 }
+    ensures text { IfOk result (λ report. report.text ≡ rows_text shown oldest (founds_in
+        shown.explanations located.tree located.trace findings.items) located.trace) }
+    ensures refused { IfOk result (λ report. report.refused ≡ refused_under_some (founds_in
+        shown.explanations located.tree located.trace findings.items) located.trace) }
+{
+    let refused = refused_under_some(&findings, located.trace.records().len());
+    let rows = VersionRows::of(alloc, located, findings, shown, oldest)?;
+    let report = RowReport::of(alloc, rows, refused)?;
+    Ok(report)
+}
