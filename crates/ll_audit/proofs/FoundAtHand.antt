@@ -1,11 +1,10 @@
 -- What a report says by the tree and the records at hand is what is found of the records as each version takes them.
-use Rattle.std.proofs.Common.{◌≡◌, ◌∙◌, ℕ, ◌+◌, List, [], ◌∷◌, ◌++◌, ap, ap₂, arith, length, map, refl}
+use Rattle.std.proofs.Common.{◌≡◌, List, [], ◌∷◌, ap, ap₂, map, refl}
 use Rattle.ll_rights.specs.declared.abi.Abi.{Abi}
 use Rattle.ll_tree.specs.Trees.{Entry}
 use Rattle.ll_trace.specs.declared.record.Record.{Record}
 use Rattle.ll_explanations.specs.FindingValues.{FindingValue}
 use Rattle.ll_report.specs.Found.{Found}
-use Rattle.ll_report.specs.Rows.{row_text, rows_from, told_of}
 use Rattle.ll_report.specs.Versions.{founds_in}
 use Rattle.ll_report.proofs.FoundJudged.{found_as_judged}
 use Rattle.ll_report.specs.declared.options.Options.{Options}
@@ -34,15 +33,3 @@ module _ (options : Options) (tree : List Entry) (records : List Record) where
   -- what is found under the versions that are asked for
   pub found_each : found_of options.shown tree (versions_by options records) ≡ findings options tree records
   found_each = found_by (versions_in options.abis)
-
--- the report tells alike of records of which it tells the same
-pub same_rows : (shown : Shown) (oldest : ℕ) (founds : List Found) (place : ℕ) (records others : List Record) → map told_of records ≡ map told_of others
-    → rows_from shown oldest founds place records ≡ rows_from shown oldest founds place others
-unfolding rows_from
-same_rows shown oldest founds place [] [] same = refl
-same_rows shown oldest founds place [] (other ∷ others) same = absurd (omega (arith, ap length same))
-same_rows shown oldest founds place (r ∷ records) [] same = absurd (omega (arith, ap length same))
-same_rows shown oldest founds place (r ∷ records) (other ∷ others) same =
-    let first : told_of r ≡ told_of other = cc in
-    let later : map told_of records ≡ map told_of others = cc in
-    ap₂ (λ (told rest : List ℕ). row_text shown oldest founds place told ++ rest) first (same_rows shown oldest founds (place + 1) records others later)

@@ -5,6 +5,7 @@ ghost use Rattle.ll_explain.specs.Buffers.{adding, blank, from_byte, holding};
 
 use std::alloc::{AllocError, Global};
 use std::marker::Model;
+use std::mem;
 
 /// A buffer for a text, of a size that is fixed beforehand. It has a window over the text: it leaves out the first bytes,
 /// as many as it was told, holds the next, as many as it has room for, and counts all. So adding to it takes no memory
@@ -92,6 +93,14 @@ impl TextBuffer {
     {
         let TextBuffer { bytes, .. } = self;
         bytes
+    }
+
+    /// Takes the buffer out of its place, and leaves one without room there. This takes no memory.
+    pub fn take(&mut self) -> TextBuffer
+        ensures { result ≡ self.old }
+    {
+        let empty = TextBuffer::measure(*self.bytes.allocator());
+        mem::replace(self, empty)
     }
 
     /// Makes the buffer as it was when nothing was added.

@@ -9,8 +9,6 @@ pub mod NumbersTold
 pub mod LinesTold
 pub mod Meant
 pub mod SpansSaid
-pub mod Holding
-pub mod Rooms
 pub mod SaidAlike
 pub mod RowsMade
 pub mod Judged

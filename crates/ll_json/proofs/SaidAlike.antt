@@ -1,8 +1,8 @@
--- What all versions say alike.
-use Rattle.std.proofs.Common.{◌≡◌, ◌∙◌, ◌+◌, ◌<◌, ◌≤◌, ℕ, Bool, true, false, List, [], ◌∷◌, ◌++◌, Option, None, drop, get_or, length, map, refl, sym, ap, ap₂}
+-- What versions say of a record that they find the same of.
+use Rattle.std.proofs.Common.{◌≡◌, ℕ, Bool, true, false, List, [], ◌∷◌, ◌++◌, Option, None, map, refl, sym, ap, ap₂}
 use Rattle.std.specs.Prelude.{bytes_eq, slice_get}
 use Rattle.std.specs.List.{list_all}
-use Rattle.std.proofs.lemmas.List.{drop_all, drop_more}
+use Rattle.std.proofs.lemmas.List.Elements.{All-head, All-tail}
 use Rattle.std.proofs.lemmas.Slice.Eq.{bytes_eq-Decides}
 use Rattle.json.specs.Print.{print}
 use Rattle.json.specs.Token as token
@@ -12,10 +12,14 @@ use Rattle.ll_semantics.specs.declared.answer.Answer.{Answer}
 use Rattle.ll_explanations.specs.FindingValues.{FindingValue}
 use Rattle.ll_explanations.specs.Findings.{answer_in, kept_at, said_by}
 use Rattle.ll_explanations.specs.declared.explained.Explained.{Explained}
+use Rattle.ll_report.specs.Alike.{AnswerAs, AreAlike, ExplainAs}
+use Rattle.ll_report.specs.Scratches.{told_under}
+use Rattle.ll_report.specs.Spans.{agree}
 use Rattle.ll_json.specs.Rows.{members_tokens, said_of}
+use Rattle.ll_json.specs.Telling.{members_told}
 
 -- what two findings say of a record that they answer and explain alike
-pub said_alike : (explains : Bool) (place : ℕ) (one other : FindingValue) → answer_in one place ≡ answer_in other place
+said_alike : (explains : Bool) (place : ℕ) (one other : FindingValue) → answer_in one place ≡ answer_in other place
     → (explains ≡ true → kept_at one place ≡ kept_at other place) → (tree : List Entry) (records : List Record)
     → said_of explains tree records place one ≡ said_of explains tree records place other
 unfolding said_of
@@ -26,15 +30,22 @@ said_alike true place one other answered explained tree records =
 said_alike false place one other answered explained tree records =
     ap (λ (answer : Answer). print (members_tokens tree records answer None ++ token.end_object ∷ [])) answered
 
-module _ {X : Type 0} (said : X → List ℕ) (first : X) where
-  -- these say the same as the first
-  abbrev pub AreAlike : List X → Type 0
-  AreAlike others = list_all (λ (other : List ℕ). bytes_eq (said first) other) (map said others) ≡ true
+-- each of these says the same as one does
+all_alike : (explains : Bool) (tree : List Entry) (records : List Record) (place : ℕ) (one : FindingValue) (others : List FindingValue)
+    → AnswerAs one others place → (explains ≡ true → ExplainAs one others place)
+    → list_all (λ (other : List ℕ). bytes_eq (said_of explains tree records place one) other) (map (said_of explains tree records place) others) ≡ true
+all_alike explains tree records place one [] answered explained = refl
+all_alike explains tree records place one (other ∷ more) answered explained =
+    let answers : FindingValue → Type 0 = λ f. answer_in f place ≡ answer_in one place in
+    let keeps : FindingValue → Type 0 = λ f. kept_at f place ≡ kept_at one place in
+    let said : FindingValue → List ℕ = said_of explains tree records place in
+    let same : said one ≡ said other =
+    said_alike explains place one other (sym (All-head answers other more answered)) (λ is. sym (All-head keeps other more (explained is))) tree records in
+    let here : bytes_eq (said one) (said other) ≡ true = (bytes_eq-Decides (said one) (said other)).1 same in
+    rw here (all_alike explains tree records place one more (All-tail answers other more answered) (λ is. All-tail keeps other more (explained is)))
 
-  -- one more does
-  pub one_more : (others : List X) (k : ℕ) (other : X) → k < length others → other ≡ get_or others k other → said first ≡ said other
-      → (AreAlike (drop k others) → AreAlike others) → AreAlike (drop (k + 1) others) → AreAlike others
-  one_more others k other there is same so_far rest =
-      let here : bytes_eq (said first) (said other) ≡ true = (bytes_eq-Decides (said first) (said other)).1 same in
-      so_far (ap (λ (xs : List X). list_all (λ (other : List ℕ). bytes_eq (said first) other) (map said xs))
-      (drop_more others k other there ∙ ap (λ (x : X). x ∷ drop (k + 1) others) (sym is)) ∙ rw here rest)
+-- where versions find the same, they say the same
+pub agree_alike : (explains : Bool) (tree : List Entry) (records : List Record) (findings : List FindingValue) (place : ℕ)
+    → AreAlike explains findings place → agree (told_under (members_told explains) tree records findings place) ≡ true
+agree_alike explains tree records [] place are = refl
+agree_alike explains tree records (one ∷ others) place are = all_alike explains tree records place one others are.0 are.1

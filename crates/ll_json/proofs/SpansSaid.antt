@@ -1,51 +1,73 @@
 -- The answers of the versions that are left.
-use Rattle.std.proofs.Common.{◌≡◌, ◌∙◌, ℕ, ◌+◌, Bool, true, false, ◌&&◌, List, [], ◌∷◌, ◌++◌, length, refl, sym, ap, append-nil, append_assoc, codes, arith}
-use Rattle.std.specs.Prelude.{bytes_eq, if◌then◌else◌}
+use Rattle.std.proofs.Common.{◌≡◌, ◌∙◌, ℕ, ◌+◌, ◌<◌, ◌≤◌, Bool, true, false, ◌&&◌, List, [], ◌∷◌, ◌++◌, drop, get_or, length, refl, sym, ap}
+use Rattle.std.proofs.Common.{append-nil, append_assoc, codes, arith}
+use Rattle.std.specs.Prelude.{bytes_eq, if◌then◌else◌, nat_lt}
 use Rattle.std.specs.List.{list_all}
-use Rattle.std.proofs.lemmas.Bool.{false≢true}
+use Rattle.std.proofs.lemmas.Bool.{false≢true, lt-ltb}
+use Rattle.std.proofs.lemmas.List.{drop_all, drop_more}
 use Rattle.json.specs.Print.{print}
 use Rattle.ll_explain.specs.Buffers.{Buffered, adding}
 use Rattle.ll_explain.proofs.Buffering.{adding_nothing}
 use Rattle.ll_report.specs.Spans.{Span, agree, spans_from, spans_of}
+use Rattle.ll_report.proofs.SpansLeft.{spans_from-last, spans_from-other, spans_from-same}
 use Rattle.ll_json.specs.Rows.{separated, span_text, versions_tokens}
 use Rattle.ll_json.proofs.Tokens.{put_2}
 
-module _ (behind : Bool) (first last : ℕ) (said : List ℕ) where
-  abbrev here : Span
-  here = record { first = first; last = last; said = said }
+abbrev comma : Bool → List ℕ
+comma behind = if behind then codes "," else []
 
-  abbrev comma : List ℕ
-  comma = if behind then codes "," else []
+-- what is before the members, and the members
+pub span_added : (behind : Bool) (first last : ℕ) (said : List ℕ) (start middle end : Buffered)
+    → middle ≡ adding start (comma behind ++ (print (versions_tokens first last) ++ codes ",")) → end ≡ adding middle said
+    → end ≡ adding start (comma behind ++ span_text (record { first = first; last = last; said = said }))
+span_added behind first last said start middle end fronted added =
+    let front : List ℕ = print (versions_tokens first last) ++ codes "," in
+    put_2 start middle end (comma behind ++ front) said fronted added
+    ∙ ap (adding start) (append_assoc (comma behind) front said
+    ∙ ap (λ (t : List ℕ). comma behind ++ t) (append_assoc (print (versions_tokens first last)) (codes ",") said))
 
-  abbrev own : List ℕ
-  own = comma ++ span_text here
+separated_more : (behind : Bool) (span : Span) (others : List Span)
+    → separated behind (span ∷ others) ≡ (comma behind ++ span_text span) ++ separated true others
+unfolding separated
+separated_more behind span others = sym (append_assoc (comma behind) (span_text span) (separated true others))
 
-  abbrev front : List ℕ
-  front = print (versions_tokens first last) ++ codes ","
+separated_one : (behind : Bool) (span : Span) → separated behind (span ∷ []) ≡ comma behind ++ span_text span
+unfolding separated
+separated_one behind span = ap (λ (t : List ℕ). comma behind ++ t) (append-nil (span_text span))
 
-  -- what is before the members, and the members
-  pub span_added : (start middle end : Buffered) → middle ≡ adding start (comma ++ front) → end ≡ adding middle said → end ≡ adding start own
-  span_added start middle end fronted added =
-      put_2 start middle end (comma ++ front) said fronted added
-      ∙ ap (adding start) (append_assoc comma front said ∙ ap (λ (t : List ℕ). comma ++ t) (append_assoc (print (versions_tokens first last)) (codes ",") said))
+-- an answer is behind another one, unless it is that of the oldest version
+module _ (texts : List (List ℕ)) where
+  -- what is written of a span that has come so far, and of those behind it
+  abbrev pub left : ℕ → ℕ → ℕ → ℕ → List ℕ
+  left version first last current =
+      separated (nat_lt 0 current) (spans_from (record { first = first; last = last; said = get_or texts current [] }) (drop version texts))
 
-  pub goes_on : (next : List ℕ) (others : List (List ℕ)) → bytes_eq said next ≡ true
-      → separated behind (spans_from (record { first = first; last = last + 1; said = said }) others) ≡ separated behind (spans_from here (next ∷ others))
-  unfolding spans_from
-  goes_on next others same = rw same refl
+  abbrev pub span_of : ℕ → ℕ → ℕ → List ℕ
+  span_of first last current = comma (nat_lt 0 current) ++ span_text (record { first = first; last = last; said = get_or texts current [] })
 
-  pub ends_here : (next : List ℕ) (others : List (List ℕ)) (text after whole : Buffered) → bytes_eq said next ≡ false → after ≡ adding text own
-      → whole ≡ adding after (separated true (spans_from (record { first = last + 1; last = last + 1; said = next }) others))
-      → whole ≡ adding text (separated behind (spans_from here (next ∷ others)))
-  unfolding spans_from separated
-  ends_here next others text after whole differs written rest =
-      let more : List ℕ = separated true (spans_from (record { first = last + 1; last = last + 1; said = next }) others) in
-      put_2 text after whole own more written rest
-      ∙ ap (adding text) (append_assoc comma (span_text here) more ∙ rw differs refl)
+  pub left_same : (version first last current : ℕ) → version < length texts → bytes_eq (get_or texts current []) (get_or texts version []) ≡ true
+      → left version first last current ≡ left (version + 1) first (last + 1) current
+  left_same version first last current below same =
+      ap (separated (nat_lt 0 current))
+      (ap (spans_from (record { first = first; last = last; said = get_or texts current [] })) (drop_more texts version [] below)
+      ∙ spans_from-same first last (get_or texts current []) (get_or texts version []) (drop (version + 1) texts) same)
 
-  pub is_last : own ≡ separated behind (spans_from here [])
-  unfolding spans_from separated
-  is_last = ap (λ (t : List ℕ). comma ++ t) (sym (append-nil (span_text here)))
+  pub left_other : (version first last current : ℕ) → version < length texts → 0 < version
+      → bytes_eq (get_or texts current []) (get_or texts version []) ≡ false
+      → left version first last current ≡ span_of first last current ++ left (version + 1) (last + 1) (last + 1) version
+  left_other version first last current below later differs =
+      let rest : List Span = spans_from (record { first = last + 1; last = last + 1; said = get_or texts version [] }) (drop (version + 1) texts) in
+      ap (separated (nat_lt 0 current))
+      (ap (spans_from (record { first = first; last = last; said = get_or texts current [] })) (drop_more texts version [] below)
+      ∙ spans_from-other first last (get_or texts current []) (get_or texts version []) (drop (version + 1) texts) differs)
+      ∙ separated_more (nat_lt 0 current) (record { first = first; last = last; said = get_or texts current [] }) rest
+      ∙ ap (λ (b : Bool). span_of first last current ++ separated b rest) (sym (lt-ltb 0 version later))
+
+  pub left_last : (version first last current : ℕ) → length texts ≤ version → left version first last current ≡ span_of first last current
+  left_last version first last current past =
+      let span : Span = record { first = first; last = last; said = get_or texts current [] } in
+      ap (separated (nat_lt 0 current)) (ap (spans_from span) (drop_all version texts past) ∙ spans_from-last span)
+      ∙ separated_one (nat_lt 0 current) span
 
 -- where all say the same, there is one span
 both : (first rest : Bool) → first && rest ≡ true → (first ≡ true) × (rest ≡ true)
@@ -61,13 +83,14 @@ one_span first last newest said (other ∷ others) many same =
     let (here, rest) = both (bytes_eq said other) (list_all (λ (other : List ℕ). bytes_eq said other) others) same in
     rw here (one_span first (last + 1) newest said others (omega (arith, many)) rest)
 
-pub one_answer : (oldest newest : ℕ) (said : List ℕ) (others : List (List ℕ)) → newest ≡ oldest + length others → agree (said ∷ others) ≡ true
-    → (if false then codes "," else []) ++ span_text (record { first = oldest; last = newest; said = said })
-    ≡ separated false (spans_of oldest (said ∷ others))
-one_answer oldest newest said others many same =
-    is_last false oldest newest said ∙ ap (separated false)
-    (one_span oldest newest newest said [] (omega arith) refl ∙ sym (one_span oldest oldest newest said others many same))
+pub one_answer : (oldest newest : ℕ) (texts : List (List ℕ)) → 0 < length texts → newest + 1 ≡ oldest + length texts → agree texts ≡ true
+    → span_of texts oldest newest 0 ≡ separated false (spans_of oldest texts)
+one_answer oldest newest [] some many same = absurd (omega (arith, some))
+one_answer oldest newest (said ∷ others) some many same =
+    sym (ap (separated false) (one_span oldest oldest newest said others (omega (arith, many)) same)
+    ∙ separated_one false (record { first = oldest; last = newest; said = said }))
 
-pub no_answer : (oldest : ℕ) (text : Buffered) → text ≡ adding text (separated false (spans_of oldest []))
+pub no_answer : (oldest : ℕ) (texts : List (List ℕ)) (text : Buffered) → length texts ≡ 0 → text ≡ adding text (separated false (spans_of oldest texts))
 unfolding separated
-no_answer oldest text = adding_nothing text
+no_answer oldest [] text none = adding_nothing text
+no_answer oldest (said ∷ others) text none = absurd (omega (arith, none))

@@ -10,7 +10,5 @@ pub mod Numbers
 pub mod Spans
 pub mod Reports
 pub mod Rows
-pub mod SaidAt
-pub mod Fitting
-pub mod Ready
+pub mod Telling
 pub mod Judged

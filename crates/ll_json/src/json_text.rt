@@ -7,9 +7,7 @@ ghost use Rattle.ll_explain.specs.Buffers.{adding};
 ghost use Rattle.ll_json.specs.Writing.{begun, comma_behind, writing};
 
 use ll_explain::{TextBuffer, push_escaped, push_number, push_words};
-use std::alloc::Global;
 use std::marker::Model;
-use std::mem;
 
 /// JSON that is put into a buffer, token by token. It places the commas and the colons, and leaves it to its caller
 /// which tokens follow one another.
@@ -25,13 +23,6 @@ impl Model for JsonText {
     ghost Value = { Written };
 
     ghost view = { λ out. record { text = out.text; after_value = out.after_value } };
-}
-
-/// Takes a text out of its place.
-pub(crate) fn taken(alloc: Global, text: &mut TextBuffer) -> TextBuffer
-    ensures { result ≡ text.old }
-{
-    mem::replace(text, TextBuffer::measure(alloc))
 }
 
 /// Adds a text between quotes, as JSON writes it.

@@ -1,7 +1,6 @@
 //! The report as JSON Lines, record after record of a trace that was judged.
 #![tactic(auto, unfolding(crate::specs::Writing::writing))]
 
-mod alike;
 mod answers;
 mod conditions;
 mod json_text;
@@ -10,7 +9,6 @@ mod objections;
 mod reasons;
 mod report;
 mod rights;
-mod room;
 mod rows;
 mod said;
 mod spans;

@@ -1,21 +1,19 @@
 //! The report as JSON: a line for each record that is shown, and one with the totals of each version.
 
 ghost use Rattle.std.specs.Prelude.{◌≡◌, ◌+◌, ◌<◌, ◌^◌, IfOk, List, length};
+ghost use Rattle.ll_report.specs.Scratches.{Suits};
 ghost use Rattle.ll_json.specs.Judged.{AreFound};
 ghost use Rattle.ll_json.specs.Reports.{IsJsonReport};
 ghost use Rattle.ll_json.specs.Rows.{json_made};
+ghost use Rattle.ll_json.specs.Telling.{members_told};
 ghost use Rattle.ll_json.specs.Versions.{Version};
 
-use crate::alike::alike_records;
-use crate::room::longest;
-use crate::said::RecordAt;
-use crate::spans::Texts;
+use crate::rows::push_line;
+use crate::said::{BareMembers, Members};
 use crate::totals::push_last;
 use ll_explain::TextBuffer;
 use ll_explanations::Finding;
-use ll_report::{
-    RowReport, Rows, Sayings, Scratch, Shown, Verdicts, is_left_out, refused_under_some,
-};
+use ll_report::{RowReport, Rows, Sayings, Scratch, Shown, is_left_out, refused_under_some};
 use ll_trace::Located;
 use std::alloc::{AllocError, Global};
 use std::marker::Model;
@@ -25,23 +23,20 @@ use std::marker::Model;
 /// All memory for the lines is there already.
 #[derive(Drop)]
 pub struct JsonRows<'p> {
-    alloc: Global,
     located: Located,
     findings: Vec<Finding>,
     shown: Shown,
     oldest: u64,
     program: &'p str,
-    verdicts: Scratch,
-    alike: Vec<bool>,
-    texts: Texts,
+    scratch: Scratch,
 }
 
 impl<'p> Model for JsonRows<'p> {
-    ghost use Rattle.std.specs.Prelude.{◌≡◌, ◌+◌, ◌<◌, ◌^◌, false, length};
+    ghost use Rattle.std.specs.Prelude.{◌+◌, ◌<◌, ◌^◌, length};
     ghost use Rattle.ll_report.specs.Made.{Made};
-    ghost use Rattle.ll_report.specs.Scratches.{Suits, verdict_told};
+    ghost use Rattle.ll_report.specs.Scratches.{Suits};
     ghost use Rattle.ll_json.specs.Rows.{json_made};
-    ghost use Rattle.ll_json.specs.Ready.{AreReady};
+    ghost use Rattle.ll_json.specs.Telling.{members_told};
 
     ghost Value = { Made };
 
@@ -49,11 +44,26 @@ impl<'p> Model for JsonRows<'p> {
         rows.findings.items rows.program.now };
 
     ghost invariant = { λ rows. (rows.oldest + length rows.findings.items < 2 ^ 64)
-        × (rows.texts.next.room ≡ rows.texts.said.room)
-        × AreReady rows.shown.explanations rows.located.tree rows.located.trace
-        rows.findings.items rows.texts.said.room rows.alike.items
-        × Suits verdict_told false rows.located.tree rows.located.trace rows.findings.items
-        rows.verdicts };
+        × Suits (members_told rows.shown.explanations) rows.shown.explanations
+        rows.located.tree rows.located.trace rows.findings.items rows.scratch };
+}
+
+/// For what versions find of the records of a trace, and say with explanations or without.
+fn scratch_for(
+    alloc: Global,
+    located: &Located,
+    findings: &[Finding],
+    explains: bool,
+) -> Result<Scratch, AllocError>
+    ensures { IfOk result (Suits (members_told explains) explains located.now.tree
+        located.now.trace findings.now) }
+{
+    let records = located.trace.records();
+    if explains {
+        Scratch::of::<Members>(alloc, &located.tree, records, findings, true)
+    } else {
+        Scratch::of::<BareMembers>(alloc, &located.tree, records, findings, false)
+    }
 }
 
 impl<'p> JsonRows<'p> {
@@ -70,31 +80,14 @@ impl<'p> JsonRows<'p> {
         ensures { IfOk result (λ rows. rows ≡ json_made shown oldest located.tree located.trace
             findings.items program.now) }
     {
-        let records = located.trace.records();
-        let alike = alike_records(alloc, shown.explanations, &findings, records.len())?;
-        let room = longest(
-            alloc,
-            &located.tree,
-            records,
-            shown.explanations,
-            &findings,
-            &alike,
-        );
-        let texts = Texts {
-            said: TextBuffer::new(alloc, room)?,
-            next: TextBuffer::new(alloc, room)?,
-        };
-        let verdicts = Scratch::of::<Verdicts>(alloc, &located.tree, records, &findings, false)?;
+        let scratch = scratch_for(alloc, &located, &findings, shown.explanations)?;
         Ok(JsonRows {
-            alloc,
             located,
             findings,
             shown,
             oldest,
             program,
-            verdicts,
-            alike,
-            texts,
+            scratch,
         })
     }
 }
@@ -116,30 +109,21 @@ impl<'p> Rows for JsonRows<'p> {
             findings: &self.findings,
             place,
         };
-        if is_left_out(self.shown, &sayings, &mut self.verdicts) {
+        if is_left_out(self.shown, &sayings, &mut self.scratch) {
             return;
         }
-        let record = RecordAt {
-            alloc: self.alloc,
-            tree: &located.tree,
-            records,
-            explains: self.shown.explanations,
-            place,
-        };
-        let alike = self.alike.as_slice();
-        let is_alike = alike[place];
-        record.push_line(
+        push_line(
             text,
+            &mut self.scratch,
+            &sayings,
             found,
-            &mut self.texts,
-            is_alike,
             self.oldest,
-            &self.findings,
+            self.shown.explanations,
         );
     }
 
     fn push_last(&mut self, text: &mut TextBuffer) {
-        push_last(self.alloc, text, self.oldest, &self.findings, self.program);
+        push_last(text, self.oldest, &self.findings, self.program);
     }
 }
 

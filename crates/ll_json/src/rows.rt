@@ -1,22 +1,23 @@
 //! The lines of records.
 
-ghost use Rattle.std.specs.Prelude.{◌≡◌, ◌+◌, ◌<◌, ◌^◌, false, length, map};
+ghost use Rattle.std.specs.Prelude.{◌≡◌, ◌+◌, ◌<◌, ◌^◌, false, length, true};
 ghost use Rattle.json.specs.Print.{print};
 ghost use Rattle.ll_explain.specs.Buffers.{adding};
-ghost use Rattle.ll_report.specs.Spans.{spans_of};
-ghost use Rattle.ll_json.specs.Rows.{head_tokens, line_of, separated};
-ghost use Rattle.ll_json.specs.Fitting.{IsReady};
+ghost use Rattle.ll_report.specs.Alike.{AreAlike};
+ghost use Rattle.ll_report.specs.Sayings.{said_by};
+ghost use Rattle.ll_report.specs.Scratches.{FitIn, is_apart};
+ghost use Rattle.ll_report.specs.Spans.{agree};
+ghost use Rattle.ll_json.specs.Rows.{head_tokens, line_of};
+ghost use Rattle.ll_json.specs.Telling.{members_told};
 ghost use Rattle.ll_json.specs.Writing.{writing};
-ghost use Rattle.ll_json.specs.SaidAt.{said_at};
 
-use crate::json_text::{JsonText, taken};
-use crate::said::RecordAt;
-use crate::spans::Texts;
+use crate::json_text::JsonText;
+use crate::said::{BareMembers, Members};
+use crate::spans::push_answers;
 use crate::words::{write_number, write_text};
 use ll_explain::{TextBuffer, push_words};
-use ll_explanations::Finding;
+use ll_report::{Sayings, Scratch, Telling};
 use ll_trace::Record;
-use std::alloc::Global;
 
 /// Writes which record a line is about.
 fn write_head(out: &mut JsonText, found: &Record)
@@ -31,63 +32,57 @@ fn write_head(out: &mut JsonText, found: &Record)
 }
 
 /// Adds which record a line is about.
-fn push_head(alloc: Global, text: &mut TextBuffer, found: &Record)
+fn push_head(text: &mut TextBuffer, found: &Record)
     ensures { text.new ≡ adding text.old (print (head_tokens found.now)) }
 {
-    let mut out = JsonText::behind(taken(alloc, text));
+    let mut out = JsonText::behind(text.take());
     write_head(&mut out, found);
     *text = out.into_text();
 }
 
-impl<'t> RecordAt<'t> {
-    /// Adds the answers of neighbouring versions, of which the oldest has this number. If it isn't known that all say
-    /// the same, what they say is printed into two buffers, and compared.
-    fn push_answers(
-        &self,
-        text: &mut TextBuffer,
-        texts: &mut Texts,
-        is_alike: bool,
-        oldest: u64,
-        findings: &[Finding],
-    )
-        requires few { oldest + length findings.now < 2 ^ 64 }
-        requires rooms { texts.old.next.room ≡ texts.old.said.room }
-        requires ready { IsReady texts.old.said.room (map (said_at self.now)
-            findings.now) is_alike }
-        ensures text { text.new ≡ adding text.old (separated false (spans_of oldest
-            (map (said_at self.now)
-            findings.now))) }
-        ensures said { texts.new.said.room ≡ texts.old.said.room }
-        ensures next { texts.new.next.room ≡ texts.old.next.room }
-    {
-        if is_alike {
-            self.push_common(text, oldest, findings);
-        } else {
-            self.push_spans(text, texts, oldest, findings);
-        }
-    }
+/// Adds the line of a record, with the answers of neighbouring versions, of which the oldest has this number.
+fn push_line_as<T: Telling>(
+    text: &mut TextBuffer,
+    scratch: &mut Scratch,
+    sayings: &Sayings<'_>,
+    found: &Record,
+    oldest: u64,
+)
+    requires few { oldest + length sayings.now.findings.now < 2 ^ 64 }
+    requires same { is_apart scratch.old sayings.now.place ≡ false
+        → agree (said_by T.told sayings.now) ≡ true }
+    requires fit { is_apart scratch.old sayings.now.place ≡ true
+        → FitIn scratch.old.room (said_by T.told sayings.now) }
+    ensures text { text.new
+        ≡ adding text.old (line_of oldest found.now (said_by T.told sayings.now)) }
+    ensures scratch { scratch.new ≡ scratch.old }
+{
+    push_head(text, found);
+    push_answers::<T>(text, scratch, sayings, oldest);
+    push_words(text, "]}\n");
+}
 
-    /// Adds the line of the record.
-    pub(crate) fn push_line(
-        &self,
-        text: &mut TextBuffer,
-        found: &Record,
-        texts: &mut Texts,
-        is_alike: bool,
-        oldest: u64,
-        findings: &[Finding],
-    )
-        requires few { oldest + length findings.now < 2 ^ 64 }
-        requires rooms { texts.old.next.room ≡ texts.old.said.room }
-        requires ready { IsReady texts.old.said.room (map (said_at self.now)
-            findings.now) is_alike }
-        ensures text { text.new ≡ adding text.old (line_of oldest found.now (map (said_at self.now)
-            findings.now)) }
-        ensures said { texts.new.said.room ≡ texts.old.said.room }
-        ensures next { texts.new.next.room ≡ texts.old.next.room }
-    {
-        push_head(self.alloc, text, found);
-        self.push_answers(text, texts, is_alike, oldest, findings);
-        push_words(text, "]}\n");
+/// Adds the line of a record, with explanations or without. The oldest version has this number.
+pub(crate) fn push_line(
+    text: &mut TextBuffer,
+    scratch: &mut Scratch,
+    sayings: &Sayings<'_>,
+    found: &Record,
+    oldest: u64,
+    explains: bool,
+)
+    requires few { oldest + length sayings.now.findings.now < 2 ^ 64 }
+    requires alike { is_apart scratch.old sayings.now.place ≡ false
+        → AreAlike explains sayings.now.findings.now sayings.now.place }
+    requires fit { is_apart scratch.old sayings.now.place ≡ true
+        → FitIn scratch.old.room (said_by (members_told explains) sayings.now) }
+    ensures text { text.new ≡ adding text.old
+        (line_of oldest found.now (said_by (members_told explains) sayings.now)) }
+    ensures scratch { scratch.new ≡ scratch.old }
+{
+    if explains {
+        push_line_as::<Members>(text, scratch, sayings, found, oldest);
+    } else {
+        push_line_as::<BareMembers>(text, scratch, sayings, found, oldest);
     }
 }

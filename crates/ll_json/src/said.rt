@@ -1,21 +1,21 @@
-//! What a version says of a record: the members of its answer, with its explanation.
+//! What a version says of a record: the members of its answer, with its explanation or without.
 
-ghost use Rattle.std.specs.Prelude.{◌≡◌, ◌∷◌, ◌++◌, [], None, if◌then◌else◌, option_map};
+ghost use Rattle.std.specs.Prelude.{◌≡◌, ◌∷◌, ◌++◌, [], None, if◌then◌else◌, false, option_map, true};
 ghost use Rattle.json.specs.Token as token;
 ghost use Rattle.ll_explain.specs.Buffers.{adding};
 ghost use Rattle.ll_explanations.specs.Findings.{said_in};
-ghost use Rattle.ll_json.specs.Rows.{members_tokens, said_tokens};
+ghost use Rattle.ll_json.specs.Rows.{members_tokens, said_of, said_tokens};
+ghost use Rattle.ll_json.specs.Telling.{members_by_value, members_told};
 ghost use Rattle.ll_json.specs.Writing.{writing};
-ghost use Rattle.ll_json.specs.SaidAt.{said_at};
 
 use crate::answers::{write_answer_members, write_plain_members};
-use crate::json_text::{JsonText, taken};
+use crate::json_text::JsonText;
 use ll_explain::TextBuffer;
 use ll_explanations::{Explanation, Finding};
+use ll_report::Telling;
 use ll_semantics::Answer;
 use ll_trace::{Op, Record};
 use ll_tree::Tree;
-use std::alloc::Global;
 
 /// Writes the members of an answer, with the explanation of the call, if there is one.
 fn write_members(
@@ -53,34 +53,74 @@ fn explained_if<'f>(
     }
 }
 
-/// A record by its place, with the tree and the records at hand, and whether explanations are shown.
-#[derive(Drop)]
-pub(crate) struct RecordAt<'t> {
-    pub(crate) alloc: Global,
-    pub(crate) tree: &'t Tree,
-    pub(crate) records: &'t [Record],
-    pub(crate) explains: bool,
-    pub(crate) place: usize,
+/// Writes what a version says of the record at a place, to the end of the object.
+fn write_said(
+    out: &mut JsonText,
+    explains: bool,
+    tree: &Tree,
+    records: &[Record],
+    finding: &Finding,
+    place: usize,
+)
+    ensures { out.new
+        ≡ writing out.old (said_tokens explains tree.now records.now place finding.now) }
+{
+    let said = explained_if(explains, finding, records, place);
+    write_members(out, tree, records, finding.answer(place), said);
+    out.end_object();
 }
 
-impl<'t> RecordAt<'t> {
-    /// Writes what a version says of the record, to the end of the object.
-    fn write_said(&self, out: &mut JsonText, finding: &Finding)
-        ensures { out.new ≡ writing out.old (said_tokens self.now.explains self.now.tree.now
-            self.now.records.now self.now.place finding.now) }
-    {
-        let said = explained_if(self.explains, finding, self.records, self.place);
-        let answer = finding.answer(self.place);
-        write_members(out, self.tree, self.records, answer, said);
-        out.end_object();
-    }
+/// Adds what a version says of the record at a place, to the end of the object.
+fn push_said(
+    text: &mut TextBuffer,
+    explains: bool,
+    tree: &Tree,
+    records: &[Record],
+    finding: &Finding,
+    place: usize,
+)
+    ensures { text.new
+        ≡ adding text.old (said_of explains tree.now records.now place finding.now) }
+{
+    let mut out = JsonText::behind(text.take());
+    write_said(&mut out, explains, tree, records, finding, place);
+    *text = out.into_text();
+}
 
-    /// Adds what a version says of the record, to the end of the object.
-    pub(crate) fn push_said(&self, text: &mut TextBuffer, finding: &Finding)
-        ensures { text.new ≡ adding text.old (said_at self.now finding.now) }
-    {
-        let mut out = JsonText::behind(taken(self.alloc, text));
-        self.write_said(&mut out, finding);
-        *text = out.into_text();
+/// The members of answers, with their explanations.
+pub(crate) struct Members;
+
+impl Telling for Members {
+    ghost told = { members_told true };
+
+    ghost by_value = { members_by_value true };
+
+    fn push(
+        text: &mut TextBuffer,
+        tree: &Tree,
+        records: &[Record],
+        finding: &Finding,
+        place: usize,
+    ) {
+        push_said(text, true, tree, records, finding, place);
+    }
+}
+
+/// The members of answers, without explanations.
+pub(crate) struct BareMembers;
+
+impl Telling for BareMembers {
+    ghost told = { members_told false };
+
+    ghost by_value = { members_by_value false };
+
+    fn push(
+        text: &mut TextBuffer,
+        tree: &Tree,
+        records: &[Record],
+        finding: &Finding,
+        place: usize,
+    ) {
+        push_said(text, false, tree, records, finding, place);
     }
 }

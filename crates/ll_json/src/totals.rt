@@ -9,12 +9,11 @@ ghost use Rattle.ll_json.specs.Parts.{array_of, line_text, values_tokens};
 ghost use Rattle.ll_json.specs.Reports.{total_json, total_with, totals_from, totals_json};
 ghost use Rattle.ll_json.specs.Writing.{writing};
 
-use crate::json_text::{JsonText, taken};
+use crate::json_text::JsonText;
 use crate::words::{write_number, write_text};
 use ll_explain::{TextBuffer, push_words};
 use ll_explanations::Finding;
 use ll_report::Totals;
-use std::alloc::Global;
 
 /// Begins the totals of a version by its number and how many answers there are.
 fn write_head(out: &mut JsonText, abi: u64, totals: &Totals)
@@ -97,18 +96,12 @@ fn write_last(out: &mut JsonText, oldest: u64, findings: &[Finding], program: &s
 }
 
 /// Adds the last line.
-pub(crate) fn push_last(
-    alloc: Global,
-    text: &mut TextBuffer,
-    oldest: u64,
-    findings: &[Finding],
-    program: &str,
-)
+pub(crate) fn push_last(text: &mut TextBuffer, oldest: u64, findings: &[Finding], program: &str)
     requires { oldest + length findings.now < 2 ^ 64 }
     ensures { text.new ≡ adding text.old
         (line_text (totals_json (totals_from oldest (answers_in findings.now)) program.now)) }
 {
-    let mut out = JsonText::behind(taken(alloc, text));
+    let mut out = JsonText::behind(text.take());
     write_last(&mut out, oldest, findings, program);
     *text = out.into_text();
     push_words(text, "\n");

@@ -16,3 +16,4 @@ pub mod Spans
 pub mod SpansSpread
 pub mod Rows
 pub mod Versions
+pub mod ByValue

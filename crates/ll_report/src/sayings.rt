@@ -32,6 +32,21 @@ impl<'f> Sayings<'f> {
         T::push(text, self.tree, self.records, finding, self.place);
     }
 
+    /// Whether two versions answer and explain the record by the same values, and so say the same.
+    pub(crate) fn find_alike<T: Telling>(&self, one: usize, other: usize) -> bool
+        requires one { one < length self.now.findings.now }
+        requires other { other < length self.now.findings.now }
+        ensures { result ≡ true → get_or (told_under T.told self.now.tree.now
+            self.now.records.now self.now.findings.now self.now.place) one []
+            ≡ get_or (told_under T.told self.now.tree.now
+            self.now.records.now self.now.findings.now self.now.place) other [] }
+    {
+        let first = &self.findings[one];
+        let second = &self.findings[other];
+        first.answer(self.place) == second.answer(self.place)
+            && first.explains_as(second, self.place)
+    }
+
     /// The length of the longest text that a version says, or another length that is greater. A length from 2 ^ 63 on
     /// says nothing.
     fn longest<T: Telling>(&self, measure: &mut TextBuffer, least: usize) -> usize

@@ -87,6 +87,9 @@ impl Scratch {
             sayings.now.records.now sayings.now.findings.now sayings.now.place) other []) }
         ensures scratch { self.new ≡ self.old }
     {
+        if sayings.find_alike::<T>(one, other) {
+            return true;
+        }
         hold::<T>(&mut self.one, sayings, one);
         hold::<T>(&mut self.other, sayings, other);
         self.one.held() == self.other.held()

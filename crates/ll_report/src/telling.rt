@@ -4,6 +4,7 @@ ghost use Rattle.std.specs.Prelude.{◌≡◌};
 ghost use Rattle.ll_explain.specs.Buffers.{adding};
 ghost use Rattle.ll_explain.specs.Told.{text_told};
 ghost use Rattle.ll_report.specs.Scratches.{verdict_told};
+ghost use Rattle.ll_report.specs.ByValue.{text_by_value, verdict_by_value};
 
 use crate::report::push_verdict;
 use ll_explain::{TextBuffer, push_found};
@@ -13,16 +14,23 @@ use ll_tree::Tree;
 
 /// How what is found of a record under a version is told, by the tree and the records at hand.
 pub trait Telling {
-    ghost use Rattle.std.specs.Prelude.{ℕ, List};
+    ghost use Rattle.std.specs.Prelude.{◌≡◌, ℕ, List};
     ghost use Rattle.ll_tree.specs.Trees.{Entry};
     ghost use Rattle.ll_trace.specs.declared.record.Record.{Record as OneRecord};
     ghost use Rattle.ll_explanations.specs.FindingValues.{FindingValue};
+    ghost use Rattle.ll_explanations.specs.Findings.{answer_in, kept_at};
 
     ghost told: { List Entry → List OneRecord → FindingValue → ℕ → List ℕ };
 
     /// Adds what is told of the record at a place.
     fn push(text: &mut TextBuffer, tree: &Tree, records: &[Record], finding: &Finding, place: usize)
         ensures { text.new ≡ adding text.old (told tree.now records.now finding.now place) };
+
+    // Where two findings answer and explain a record by the same values, they are told alike.
+    ghost by_value: { (tree : List Entry) → (records : List OneRecord)
+        → (one : FindingValue) → (other : FindingValue) → (place : ℕ)
+        → answer_in one place ≡ answer_in other place → kept_at one place ≡ kept_at other place
+        → told tree records one place ≡ told tree records other place };
 }
 
 /// Answers, as they stand behind records.
@@ -30,6 +38,8 @@ pub struct Verdicts;
 
 impl Telling for Verdicts {
     ghost told = { verdict_told };
+
+    ghost by_value = { verdict_by_value };
 
     fn push(
         text: &mut TextBuffer,
@@ -47,6 +57,8 @@ pub struct InWords;
 
 impl Telling for InWords {
     ghost told = { text_told };
+
+    ghost by_value = { text_by_value };
 
     fn push(
         text: &mut TextBuffer,

@@ -7,8 +7,9 @@ use Rattle.ll_tree.specs.Trees.{Entry}
 use Rattle.ll_report.specs.Found.{Found}
 use Rattle.ll_report.specs.Rows.{is_refused_under_some, refused_under_some, rows_text, told_of, totals_from}
 use Rattle.ll_report.specs.Versions.{founds_in}
+use Rattle.ll_report.proofs.RowsLeft.{same_rows}
 use Rattle.ll_audit.specs.ShownReports.{IsReportOver, findings, versions_by}
-use Rattle.ll_audit.proofs.FoundAtHand.{found_each, same_founds, same_rows}
+use Rattle.ll_audit.proofs.FoundAtHand.{found_each, same_founds}
 use Rattle.ll_audit.proofs.VersionByVersion.{same_told}
 use Rattle.ll_audit.proofs.auditing.text_over.Goals as goal
 

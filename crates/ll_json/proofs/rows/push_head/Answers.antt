@@ -5,4 +5,4 @@ use Rattle.ll_json.proofs.rows.push_head.Goals as goal
 pub returns : goal.returns
 returns c =
     printed_behind c.args.text.now _ _ c.behind-out.result c.write_head.new.out (head_tokens c.args.found.now)
-    c.taken.ensures c.behind-out.ensures c.write_head.ensures c.into_text.ensures
+    c.take.ensures c.behind-out.ensures c.write_head.ensures c.into_text.ensures

@@ -1,6 +1,4 @@
-use Rattle.std.proofs.Common.{◌≡◌, ◌∙◌, ◌<◌, ◌≤◌, List, ℕ, Bool, Some, ap, ap₂, arith, false, get_or, length, map, subst, sym, true}
-use Rattle.std.specs.Prelude.{slice_get}
-use Rattle.std.proofs.lemmas.Option.{slice_get-get_or}
+use Rattle.std.proofs.Common.{◌≡◌, ◌∙◌, ◌<◌, ◌≤◌, List, ℕ, ap, ap₂, arith, false, length, map, subst, sym, true}
 use Rattle.ll_trace.specs.declared.reader.TheConstants.{MOST_RECORDS}
 use Rattle.ll_trace.specs.declared.record.Record.{Record}
 use Rattle.ll_trails.proofs.AtPlaces.{read_there}
@@ -8,9 +6,11 @@ use Rattle.ll_explain.specs.Buffers.{adding}
 use Rattle.ll_explanations.specs.FindingValues.{FindingValue}
 use Rattle.ll_report.specs.Alike.{AreAlike}
 use Rattle.ll_report.specs.Rows.{is_row_left_out}
+use Rattle.ll_report.specs.Scratches.{FitIn, ScratchValue, is_apart, told_under}
 use Rattle.ll_report.specs.Versions.{answers_in}
+use Rattle.ll_report.proofs.RowsSaid.{weaker}
 use Rattle.ll_json.specs.Rows.{line_of, said_of}
-use Rattle.ll_json.specs.Fitting.{IsReady}
+use Rattle.ll_json.specs.Telling.{members_told}
 use Rattle.ll_json.proofs.RowsMade.{as_many, line_added, nothing_added}
 use Rattle.ll_json.proofs.report.JsonRowsRows.push_row.Goals as goal
 
@@ -35,7 +35,7 @@ is_left_out-requires-clause-alike c apart =
     let below : c.args.place < length rows.located.trace = subst (λ (n : ℕ). c.args.place < n)
     (as_many rows.shown rows.oldest rows.located.tree rows.located.trace rows.findings.items rows.program.now c.args.self.now c.self.view_is) c.requires in
     subst (λ (findings : List FindingValue). AreAlike false findings c.args.place) (sym c.deref.ensures.value)
-    (c.self.invariant.3.alike c.args.place below apart)
+    (weaker rows.shown.explanations rows.findings.items c.args.place (c.self.invariant.1.alike c.args.place below apart))
 
 pub returns-then-is_left_out-clause-row : goal.returns-then-is_left_out-clause-row
 returns-then-is_left_out-clause-row c =
@@ -50,27 +50,24 @@ returns-then-is_left_out-clause-row c =
     nothing_added rows.shown rows.oldest rows.located.tree rows.located.trace rows.findings.items rows.program.now c.args.self.now c.self.view_is
     c.args.place c.index-records-place.result there c.args.text.now out
 
-pub bounds-alike-place : goal.bounds-alike-place
-bounds-alike-place c =
+pub push_line-requires-clause-alike : goal.push_line-requires-clause-alike
+push_line-requires-clause-alike c together =
     let rows = c.self.inside in
-    let many = as_many rows.shown rows.oldest rows.located.tree rows.located.trace rows.findings.items rows.program.now c.args.self.now c.self.view_is in
-    subst (λ (n : ℕ). c.args.place < n)
-    (many ∙ sym c.self.invariant.2.many ∙ ap (λ (alike : List Bool). length alike) (sym c.as_slice-alike.ensures.value)) c.requires
+    let below : c.args.place < length rows.located.trace = subst (λ (n : ℕ). c.args.place < n)
+    (as_many rows.shown rows.oldest rows.located.tree rows.located.trace rows.findings.items rows.program.now c.args.self.now c.self.view_is) c.requires in
+    subst (λ (findings : List FindingValue). AreAlike rows.shown.explanations findings c.args.place) (sym c.deref.ensures.value)
+    (c.self.invariant.1.alike c.args.place below
+    (ap (λ (scratch : ScratchValue). is_apart scratch c.args.place) (sym c.is_left_out.ensures.scratch) ∙ together))
 
-pub push_line-requires-clause-ready : goal.push_line-requires-clause-ready
-push_line-requires-clause-ready c =
+pub push_line-requires-clause-fit : goal.push_line-requires-clause-fit
+push_line-requires-clause-fit c apart =
     let rows = c.self.inside in
-    let many = as_many rows.shown rows.oldest rows.located.tree rows.located.trace rows.findings.items rows.program.now c.args.self.now c.self.view_is in
-    let alike = c.as_slice-alike.result.now in
-    let below : c.args.place < length alike = subst (λ (n : ℕ). c.args.place < n)
-    (many ∙ sym c.self.invariant.2.many ∙ ap (λ (alike : List Bool). length alike) (sym c.as_slice-alike.ensures.value)) c.requires in
-    let flag = get_or alike c.args.place false in
-    let there : slice_get rows.alike.items c.args.place ≡ Some flag =
-    ap (λ (flags : List Bool). slice_get flags c.args.place) (sym c.as_slice-alike.ensures.value) ∙ slice_get-get_or alike c.args.place false below in
-    subst (λ (said : List (List ℕ)). IsReady rows.texts.said.room said flag)
-    (ap₂ (λ (records : List Record) (findings : List FindingValue).
-    map (said_of rows.shown.explanations rows.located.tree records c.args.place) findings) (sym c.records-records.ensures.value) (sym c.deref-2.ensures.value))
-    (c.self.invariant.2.each c.args.place flag there)
+    let told : List Record → List FindingValue → List (List ℕ) = λ (records : List Record) (findings : List FindingValue).
+    told_under (members_told rows.shown.explanations) rows.located.tree records findings c.args.place in
+    let held : FitIn rows.scratch.room (told rows.located.trace rows.findings.items) =
+    c.self.invariant.1.texts c.args.place (ap (λ (scratch : ScratchValue). is_apart scratch c.args.place) (sym c.is_left_out.ensures.scratch) ∙ apart) in
+    subst (λ (scratch : ScratchValue). FitIn scratch.room (told c.records-records.result.now c.deref.result.now)) (sym c.is_left_out.ensures.scratch)
+    (subst (λ (texts : List (List ℕ)). FitIn rows.scratch.room texts) (ap₂ told (sym c.records-records.ensures.value) (sym c.deref.ensures.value)) held)
 
 pub returns-clause-row : goal.returns-clause-row
 returns-clause-row c =
@@ -86,4 +83,4 @@ returns-clause-row c =
     c.args.place r there c.args.text.now _ out
     (c.push_line.ensures.text ∙ ap₂ (λ (records : List Record) (findings : List FindingValue).
     adding c.args.text.now (line_of rows.oldest r (map (said_of rows.shown.explanations rows.located.tree records c.args.place) findings)))
-    c.records-records.ensures.value c.deref-2.ensures.value)
+    c.records-records.ensures.value c.deref.ensures.value)

@@ -1,0 +1,28 @@
+-- How the answer to a record under one version is told: by its members, with its explanation or without.
+-- Source: docs/FORMATS.md, "The report as JSON".
+use Rattle.std.specs.Prelude.{◌≡◌, ◌∷◌, ◌++◌, [], ℕ, Bool, true, false, List, None, Option, slice_get}
+use Rattle.std.proofs.Common.{ap, ap₂}
+use Rattle.ll_tree.specs.Trees.{Entry}
+use Rattle.ll_trace.specs.declared.record.Record.{Record}
+use Rattle.json.specs.Print.{print}
+use Rattle.json.specs.Token as token
+use Rattle.ll_semantics.specs.declared.answer.Answer.{Answer}
+use Rattle.ll_explanations.specs.FindingValues.{FindingValue}
+use Rattle.ll_explanations.specs.Findings.{answer_in, kept_at, said_by}
+use Rattle.ll_explanations.specs.declared.explained.Explained.{Explained}
+use Rattle.ll_json.specs.Rows.{members_tokens, said_of}
+
+abbrev pub members_told : Bool → List Entry → List Record → FindingValue → ℕ → List ℕ
+members_told explains tree records finding place = said_of explains tree records place finding
+
+-- findings that answer and explain a record by the same values are told alike
+pub members_by_value : (explains : Bool) (tree : List Entry) (records : List Record) (one other : FindingValue) (place : ℕ)
+    → answer_in one place ≡ answer_in other place → kept_at one place ≡ kept_at other place
+    → members_told explains tree records one place ≡ members_told explains tree records other place
+unfolding said_of
+members_by_value true tree records one other place answered explained =
+    ap₂ (λ (answer : Answer) (kept : Option Explained).
+    print (members_tokens tree records answer (said_by (slice_get records place) kept) ++ token.end_object ∷ []))
+    answered explained
+members_by_value false tree records one other place answered explained =
+    ap (λ (answer : Answer). print (members_tokens tree records answer None ++ token.end_object ∷ [])) answered
