@@ -2,8 +2,7 @@
 
 ghost use Rattle.std.specs.Prelude.{◌≡◌, ◌<◌};
 ghost use Rattle.ll_trace.specs.Processes.{process_count};
-ghost use Rattle.ll_process.specs.Cases.{BeginsAs};
-ghost use Rattle.ll_process.specs.AgreesOnce.{BeginsAs-once};
+ghost use Rattle.ll_process.specs.{Cases.BeginsAs, AgreesOnce.BeginsAs-once};
 
 use crate::case::Case;
 use ll_state::OwnState;

@@ -1,7 +1,7 @@
 //! One process's own records, one after another.
 
-ghost use Rattle.std.specs.Prelude.{◌≡◌, Some, IfOk, OnOk, slice_get};
-ghost use Rattle.ll_trace.specs.declared.record.Record.{Record as OneRecord};
+ghost use Rattle.std.specs.Prelude.{◌≡◌, ◌<◌, Some, IfOk, IfSome, OnOk, length, slice_get};
+ghost use Rattle.ll_trace.specs.{declared.record.Record.Record as OneRecord, FirstPlaces.first_place};
 ghost use Rattle.ll_semantics.specs.declared.ruleset_outcome.RulesetOutcome.{RulesetOutcome as OneOutcome};
 ghost use Rattle.ll_semantics.specs.CallContexts.{CallContext, answer_to, state_then};
 ghost use Rattle.ll_state.specs.Agreement.{IsMet, Agrees};
@@ -11,9 +11,41 @@ ghost use Rattle.ll_process.specs.Own.{IsOwn, Meets, Leaves};
 
 use crate::case::Case;
 use ll_rules::NoMemory;
-use ll_semantics::Answer;
+use ll_semantics::{Answer, RulesetOutcome};
 use ll_state::OwnState;
-use ll_trace::{Op, ProcessId};
+use ll_trace::{Op, ProcessId, wants_at_a_path};
+use ll_tree::Place;
+
+/// What the rulebook says of a call, the record at a place. It says nothing of most calls, for which it isn't asked.
+#[tactic(auto, unfolding(ll_semantics::specs::RulesetOutcomes::OutcomeFits, ll_semantics::specs::RulesetOutcomes::is_on_rulesets, ll_semantics::specs::RulesetOutcomes::enforced))]
+fn outcome_at(case: &Case, index: u32, op: &Op) -> RulesetOutcome
+    requires { index < length case.now.records }
+    ensures { (ctx : CallContext) → ((outcome : OneOutcome) →
+        slice_get case.now.outcomes index ≡ Some outcome → OutcomeFits ctx op.now outcome)
+        → OutcomeFits ctx op.now result }
+{
+    match op {
+        Op::Create { .. }
+        | Op::CreateEmpty { .. }
+        | Op::AddPath { .. }
+        | Op::AddPort { .. }
+        | Op::CloseRs { .. }
+        | Op::Restrict { .. } => *case.outcome(index as usize),
+        _ => RulesetOutcome::ByState,
+    }
+}
+
+/// The place of the first path of a call, the record at a place, if the call names a path whose place is known.
+fn known_place(case: &Case, index: u32, op: &Op) -> Option<Place>
+    ensures { IfSome result (λ one. (r : OneRecord) → slice_get case.now.records index ≡ Some r
+        → one ≡ first_place case.now.tree r.op) }
+{
+    match op {
+        wants_at_a_path!() | Op::OpenFile { .. } | Op::Rename { .. } | Op::Link { .. } =>
+            case.known_place(index as usize),
+        _ => None,
+    }
+}
 
 /// The answer to the record at a place if it meets this.
 fn judge_met(
@@ -36,9 +68,9 @@ fn judge_met(
         → Agrees ctx.tree ctx.layers own.new (state_then ctx r.op)) }
 {
     let op = &case.record(index as usize).op;
-    let outcome = case.outcome(index as usize);
-    let known = case.known_place(index as usize);
-    own.answer_call(case.tree(), case.layers(), op, outcome, known)
+    let outcome = outcome_at(case, index, op);
+    let known = known_place(case, index, op);
+    own.answer_call(case.tree(), case.layers(), op, &outcome, known)
 }
 
 /// The answer to one of a process's own records. A start took effect when its process began.
