@@ -1,8 +1,9 @@
 //! The system's files, and standard input, as a source.
 
-ghost use Rattle.std.specs.Prelude.{◌≡◌, ◌≤◌, IfOk, None, vec_len};
+ghost use Rattle.std.specs.Prelude.{◌≡◌, ◌≤◌, ◌<◌, ◌+◌, ◌-◌, ◌^◌, Err, IfOk, None, length, vec_len};
 
 use ll_audit::{LARGEST_FILE, Source, SourceFault};
+use ll_lines::blocks::LineBlocks;
 use std::alloc::Global;
 use std::fs::File;
 use std::io;
@@ -25,6 +26,24 @@ impl<'a, R: Files + Input> FileSource<'a, R> {
     {
         FileSource { rt, failures: 0 }
     }
+
+    /// What was read of a file; one that can't be read is counted.
+    fn counted<T>(&mut self, read: io::Result<T>) -> Result<T, SourceFault>
+        requires { self.old.failures < 2 ^ 64 - 1 }
+        ensures unread { result ≡ Err SourceFault.Unread
+            → self.new.failures ≡ self.old.failures + 1 }
+        ensures kept { self.old.failures ≤ self.new.failures }
+        ensures at_most_one { self.new.failures ≤ self.old.failures + 1 }
+    {
+        match read {
+            Ok(read) => Ok(read),
+            Err(error) if error.kind() == ErrorKind::OutOfMemory => Err(SourceFault::Memory),
+            Err(_) => {
+                self.failures += 1;
+                Err(SourceFault::Unread)
+            }
+        }
+    }
 }
 
 impl<R: Files + Input> Source for FileSource<'_, R> {
@@ -33,14 +52,13 @@ impl<R: Files + Input> Source for FileSource<'_, R> {
     ghost failed = { λ source. source.failures };
 
     fn bytes_of(&mut self, alloc: Global, name: &str) -> Result<Vec<u8>, SourceFault> {
-        match read(self.rt, alloc, name) {
-            Ok(bytes) => Ok(bytes),
-            Err(error) if error.kind() == ErrorKind::OutOfMemory => Err(SourceFault::Memory),
-            Err(_) => {
-                self.failures += 1;
-                Err(SourceFault::Unread)
-            }
-        }
+        let read = read(self.rt, alloc, name);
+        self.counted(read)
+    }
+
+    fn blocks_of(&mut self, alloc: Global, name: &str) -> Result<LineBlocks, SourceFault> {
+        let read = read_blocks(self.rt, alloc, name);
+        self.counted(read)
     }
 
     fn failures(&self) -> u64 {
@@ -56,6 +74,17 @@ fn read<R: Files + Input>(rt: &R, alloc: Global, name: &str) -> io::Result<Vec<u
         read_all(alloc, rt.reader())
     } else {
         read_all(alloc, File::open(rt, name)?)
+    }
+}
+
+/// The bytes of a file, or those of standard input, in blocks of whole lines.
+fn read_blocks<R: Files + Input>(rt: &R, alloc: Global, name: &str) -> io::Result<LineBlocks>
+    ensures { IfOk result (λ blocks. length blocks ≤ LARGEST_FILE) }
+{
+    if name == STANDARD_INPUT {
+        LineBlocks::read(alloc, &mut rt.reader(), LARGEST_FILE)
+    } else {
+        LineBlocks::read(alloc, &mut File::open(rt, name)?, LARGEST_FILE)
     }
 }
 

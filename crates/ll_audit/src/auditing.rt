@@ -1,10 +1,10 @@
 //! The audit of a trace against a tree.
 
-ghost use Rattle.std.specs.Prelude.{◌≡◌, IfOk, IfErr};
+ghost use Rattle.std.specs.Prelude.{◌≡◌, ◌≢◌, ℕ, List, IfOk, IfErr};
+ghost use Rattle.ll_lines.specs.declared.fault.Cause.TheVariants.{Memory as NoMemoryLeft};
 ghost use Rattle.ll_tree.specs.TreeReading.{IsTreeOf};
 ghost use Rattle.ll_trace.specs.Records.{IsTrace};
-ghost use Rattle.ll_report.specs.Shown.{IsShownReportOn};
-ghost use Rattle.ll_report.specs.Told.{told_by};
+ghost use Rattle.ll_report.specs.{Shown.IsShownReportOn, Told.told_by};
 ghost use Rattle.ll_pool.specs.Crews.{IsCrew};
 ghost use Rattle.ll_audit.specs.Audits.{IsFaultOf, IsReport};
 ghost use Rattle.ll_audit.specs.ShownReports.{IsReportBy, IsReportInJson, IsReportOver, IsReportWith, IsTextReport, taken};
@@ -16,6 +16,8 @@ use crate::inputs::Inputs;
 use crate::ranging::{Audit, Audited};
 use crate::report_text::{Form, ReportText};
 use crate::workers::Workers;
+use ll_lines::ReadFault;
+use ll_lines::blocks::LineBlocks;
 use ll_pool::Gate;
 use ll_process::Case;
 use ll_report::{ALL_LINES, Format, Options, Report, text_report};
@@ -113,10 +115,10 @@ pub(crate) fn audit_inputs<R: Threads + Wait + Sync, G: Gate + Sync>(
     options: &Options,
     cut: Cut,
 ) -> Result<ReportText, Fault>
-    ensures report { IfOk result (IsReportWith options.now inputs.tree.items inputs.trace.items) }
+    ensures report { IfOk result (IsReportWith options.now inputs.tree.items inputs.trace) }
     ensures crew { IfOk result (λ _. IsCrew workers.now.count) }
     ensures fault { IfErr result
-        (IsFaultOf workers.now.count inputs.tree.items inputs.trace.items) }
+        (IsFaultOf workers.now.count inputs.tree.items inputs.trace) }
 {
     let files = files_in(workers, inputs)?;
     report_by(workers, files, options, cut)
@@ -127,6 +129,21 @@ pub(crate) fn audit_inputs<R: Threads + Wait + Sync, G: Gate + Sync>(
 struct Files {
     tree: Tree,
     trace: Trace,
+}
+
+/// The tree that a file reads as, if there may be this many workers.
+fn first_tree<R: Threads + Wait + Sync, G: Gate + Sync>(
+    workers: &Workers<'_, R, G>,
+    tree: &[u8],
+) -> Result<Tree, Fault>
+    ensures tree { IfOk result (IsTreeOf tree.now) }
+    ensures crew { IfOk result (λ _. IsCrew workers.now.count) }
+    ensures fault { (trace : List ℕ) → IfErr result (IsFaultOf workers.now.count tree.now trace) }
+{
+    if workers.count == 0 || workers.count > 64 {
+        return Err(Fault::Workers);
+    }
+    tree_of(workers.alloc, tree)
 }
 
 /// What two files read as, by this many workers.
@@ -140,10 +157,7 @@ fn files_of<R: Threads + Wait + Sync, G: Gate + Sync>(
     ensures crew { IfOk result (λ _. IsCrew workers.now.count) }
     ensures fault { IfErr result (IsFaultOf workers.now.count tree.now trace.now) }
 {
-    if workers.count == 0 || workers.count > 64 {
-        return Err(Fault::Workers);
-    }
-    let tree = tree_of(workers.alloc, tree)?;
+    let tree = first_tree(workers, tree)?;
     let trace = trace_of(workers, trace)?;
     Ok(Files { tree, trace })
 }
@@ -154,12 +168,14 @@ fn files_in<R: Threads + Wait + Sync, G: Gate + Sync>(
     inputs: Inputs,
 ) -> Result<Files, Fault>
     ensures tree { IfOk result (λ files. IsTreeOf inputs.tree.items files.tree) }
-    ensures trace { IfOk result (λ files. IsTrace inputs.trace.items files.trace) }
+    ensures trace { IfOk result (λ files. IsTrace inputs.trace files.trace) }
     ensures crew { IfOk result (λ _. IsCrew workers.now.count) }
-    ensures fault { IfErr result
-        (IsFaultOf workers.now.count inputs.tree.items inputs.trace.items) }
+    ensures fault { IfErr result (IsFaultOf workers.now.count inputs.tree.items inputs.trace) }
 {
-    files_of(workers, &inputs.tree, &inputs.trace)
+    let Inputs { tree, trace } = inputs;
+    let tree = first_tree(workers, &tree)?;
+    let trace = trace_in(workers, trace)?;
+    Ok(Files { tree, trace })
 }
 
 /// A trace as its rulesets are to be taken under a version.
@@ -186,6 +202,17 @@ fn tree_of(alloc: Global, bytes: &[u8]) -> Result<Tree, Fault>
     }
 }
 
+/// Why an audit has no trace.
+fn trace_fault(fault: ReadFault) -> Fault
+    ensures memory { fault.cause ≡ NoMemoryLeft → result ≡ Fault.Memory }
+    ensures bad { fault.cause ≢ NoMemoryLeft → result ≡ Fault.Trace fault }
+{
+    match fault.cause {
+        Cause::Memory => Fault::Memory,
+        _ => Fault::Trace(fault),
+    }
+}
+
 /// The trace that a file reads as.
 fn trace_of<R: Threads + Wait + Sync, G: Gate + Sync>(
     workers: &Workers<'_, R, G>,
@@ -196,10 +223,21 @@ fn trace_of<R: Threads + Wait + Sync, G: Gate + Sync>(
 {
     match Trace::read_by(workers.rt, workers.alloc, bytes, workers.count as usize) {
         Ok(trace) => Ok(trace),
-        Err(fault) => match fault.cause {
-            Cause::Memory => Err(Fault::Memory),
-            _ => Err(Fault::Trace(fault)),
-        },
+        Err(fault) => Err(trace_fault(fault)),
+    }
+}
+
+/// The trace that a file reads as whose bytes are in blocks; they are given back.
+fn trace_in<R: Threads + Wait + Sync, G: Gate + Sync>(
+    workers: &Workers<'_, R, G>,
+    blocks: LineBlocks,
+) -> Result<Trace, Fault>
+    ensures trace { IfOk result (IsTrace blocks) }
+    ensures fault { IfErr result (IsTraceFault blocks) }
+{
+    match Trace::read_blocks_by(workers.rt, workers.alloc, blocks, workers.count as usize) {
+        Ok(trace) => Ok(trace),
+        Err(fault) => Err(trace_fault(fault)),
     }
 }
 

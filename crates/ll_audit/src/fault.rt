@@ -1,8 +1,7 @@
 //! Why an audit gives no report.
 
 ghost use Rattle.std.specs.Prelude.{◌≡◌};
-ghost use Rattle.ll_audit.specs.declared.fault.Fault.TheVariants.{Memory};
-ghost use Rattle.ll_audit.specs.Causes.{fault_of_pool};
+ghost use Rattle.ll_audit.specs.{declared.fault.Fault.TheVariants.Memory, Causes.fault_of_pool};
 
 use ll_pool::PoolFault;
 use ll_rules::NoMemory;

@@ -2,27 +2,18 @@
 
 ghost use Rattle.std.specs.Prelude.{◌≡◌, ◌++◌, ◌≤◌, ℕ, List, Ok, length};
 ghost use Rattle.std.specs.List.{flat_map};
-ghost use Rattle.ll_rights.specs.declared.abi.Abi.{Abi as Version};
-ghost use Rattle.ll_rights.specs.declared.net.TheConstants.{LARGEST_PORT};
+ghost use Rattle.ll_rights.specs.{declared.abi.Abi.Abi as Version, declared.net.TheConstants.LARGEST_PORT};
 ghost use Rattle.ll_rights.specs.Abis.{number_of};
-ghost use Rattle.ll_lines.specs.Lines.{Line};
-ghost use Rattle.ll_lines.specs.declared.path.TheConstants.{LONGEST_PATH};
-ghost use Rattle.ll_tree.specs.declared.tree.TheConstants.{MOST_NODES};
-ghost use Rattle.ll_tree.specs.Trees.{Entry};
+ghost use Rattle.ll_lines.specs.{Lines.Line, declared.path.TheConstants.LONGEST_PATH};
+ghost use Rattle.ll_tree.specs.{declared.tree.TheConstants.MOST_NODES, Trees.Entry};
 ghost use Rattle.ll_rules.specs.declared.domain.TheConstants.{MOST_LAYERS};
 ghost use Rattle.ll_trace.specs.declared.reader.TheConstants.{MOST_PROCESSES, MOST_RECORDS};
-ghost use Rattle.ll_trace.specs.declared.record.Record.{Record};
-ghost use Rattle.ll_trace.specs.Entries.{entry_at};
-ghost use Rattle.ll_trace.specs.Records.{entry_of};
+ghost use Rattle.ll_trace.specs.{declared.record.Record.Record, Entries.entry_at, Records.entry_of};
 ghost use Rattle.ll_semantics.specs.declared.answer.Answer.{Answer};
-ghost use Rattle.ll_report.specs.Lines.{line_of};
-ghost use Rattle.ll_report.specs.Rows.{rows_from};
-ghost use Rattle.ll_report.specs.declared.report.Report.{Report as Made};
-ghost use Rattle.ll_report.specs.Told.{told_by};
+ghost use Rattle.ll_report.specs.{Lines.line_of, Rows.rows_from, declared.report.Report.Report as Made, Told.told_by};
 ghost use Rattle.ll_report.specs.declared.options.Options.{Options as Asked};
 ghost use Rattle.ll_rights.specs.AbiRanges.{IsRising, versions_in};
-ghost use Rattle.ll_audit.specs.declared.source.TheConstants.{LARGEST_FILE};
-ghost use Rattle.ll_audit.specs.Audits.{IsReport};
+ghost use Rattle.ll_audit.specs.{declared.source.TheConstants.LARGEST_FILE, Audits.IsReport};
 ghost use Rattle.ll_audit.specs.ShownReports.{IsReportOver, IsReportWith, findings, plain_options, total_at};
 ghost use Rattle.ll_trace.specs.SaidByName.{SaysOperation};
 

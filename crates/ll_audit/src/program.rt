@@ -26,7 +26,7 @@ use std::thread::Threads;
 /// one; 2 where the words are wrong; 3 where a file can't be read or doesn't read; 4 where memory or
 /// a thread is missing, or the output can't be written, which may leave a beginning of the report
 /// there. The report, the help and the version go to `out`, and what is wrong to `err`. If that can't be written
-/// the status stays.
+/// the status stays. The memory of a report that was written is not given back, since a program ends with it.
 pub fn front<R: Threads + Wait + Sync, S: Source, O: Write, E: Write, G: Gate + Sync>(
     rt: &R,
     alloc: Global,

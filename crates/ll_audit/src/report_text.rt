@@ -2,9 +2,7 @@
 
 ghost use Rattle.std.specs.Prelude.{◌≡◌, IfOk, OnOk};
 ghost use Rattle.std.specs.Io.KnownBytes.{Appends};
-ghost use Rattle.ll_report.specs.Report.{report_status};
-ghost use Rattle.ll_report.specs.Told.{told_by};
-ghost use Rattle.ll_report.specs.Writing.{AppendsBeginning};
+ghost use Rattle.ll_report.specs.{Report.report_status, Told.told_by, Writing.AppendsBeginning};
 ghost use Rattle.ll_audit.specs.ReportTexts.{told_in};
 
 use ll_json::JsonRows;

@@ -4,6 +4,7 @@ ghost use Rattle.std.specs.Prelude.{◌≡◌, ◌+◌, ◌-◌, ◌^◌, ◌<�
 ghost use Rattle.std.specs.Str.{bytes_eq};
 ghost use Rattle.ll_audit.specs.Files.{Files, bytes_of, files_of};
 
+use ll_lines::blocks::LineBlocks;
 use std::alloc::Global;
 
 /// The most bytes that a file may have. A source over files gives no more, so that there is a bound on what a
@@ -37,6 +38,24 @@ pub trait Source {
         ensures kept { failed self.old ≤ failed self.new }
         ensures at_most_one { failed self.new ≤ failed self.old + 1 }
         ensures same_files { files self.new ≡ files self.old };
+
+    /// The bytes of the file of a name, as `bytes_of` gives them, in blocks of whole lines, so that the memory of each can be
+    /// given back once its lines are read. A source that has no blocks gives the file in one.
+    fn blocks_of(&mut self, alloc: Global, name: &str) -> Result<LineBlocks, SourceFault>
+        requires { failed self.old < 2 ^ 64 - 1 }
+        ensures bytes { IfOk result (λ blocks. IfSome (files self.old)
+            (λ known. bytes_of known name.now ≡ Some blocks)) }
+        ensures unread { result ≡ Err SourceFault.Unread
+            → failed self.new ≡ failed self.old + 1 }
+        ensures kept { failed self.old ≤ failed self.new }
+        ensures at_most_one { failed self.new ≤ failed self.old + 1 }
+        ensures same_files { files self.new ≡ files self.old }
+    {
+        match self.bytes_of(alloc, name) {
+            Ok(bytes) => Ok(LineBlocks::whole(alloc, bytes)),
+            Err(fault) => Err(fault),
+        }
+    }
 
     /// How many files could not be read so far.
     fn failures(&self) -> u64

@@ -6,8 +6,7 @@ mod setting;
 
 ghost use Rattle.std.specs.Prelude.{All};
 ghost use Rattle.ll_tree.specs.Trees.{IsNode};
-ghost use Rattle.ll_rules.specs.InTree.{AreInTree};
-ghost use Rattle.ll_rules.specs.KeptLayers.{IsDomainOf};
+ghost use Rattle.ll_rules.specs.{InTree.AreInTree, KeptLayers.IsDomainOf};
 
 use crate::checks::setting::{Layers, deep_tree, layers_of, objects_at};
 use crate::stopwatch::{nanoseconds, quicker};

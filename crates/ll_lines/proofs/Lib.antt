@@ -5,3 +5,4 @@ pub mod ReadingLemmas
 pub mod PathLaws
 pub mod CutLemmas
 pub mod NumberLemmas
+pub mod BlockLemmas

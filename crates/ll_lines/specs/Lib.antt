@@ -9,3 +9,4 @@ pub mod LineByLine
 pub mod OneWay
 pub mod Paths
 pub mod PathTexts
+pub mod Blocks

@@ -1,6 +1,7 @@
 //! JSON Lines: the lines of a file, numbers, and why a file does not read; and paths as text.
 #![tactic(auto)]
 
+pub mod blocks;
 mod fault;
 pub mod lines;
 pub mod numbers;

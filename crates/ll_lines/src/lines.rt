@@ -9,7 +9,7 @@ use memchr::memchr;
 use std::alloc::{AllocError, Global};
 use std::marker::Model;
 
-const LINE_FEED: u8 = b'\n';
+pub(crate) const LINE_FEED: u8 = b'\n';
 
 /// A line that isn't blank, without its line feed. The first line of a file has the number 1.
 #[derive(Drop)]
@@ -56,6 +56,17 @@ impl<'a> FilledLines<'a> {
     {
         FilledLines {
             number: 0,
+            rest: bytes,
+        }
+    }
+
+    /// The lines of bytes that come behind so many lines.
+    pub(crate) fn behind(number: u64, bytes: &'a [u8]) -> FilledLines<'a>
+        requires { number + length bytes.now < 2 ^ 64 }
+        ensures { result ≡ filled_from (number + 1) bytes.now }
+    {
+        FilledLines {
+            number,
             rest: bytes,
         }
     }
@@ -152,7 +163,8 @@ fn cut_behind_line(bytes: &[u8], place: usize) -> (&[u8], &[u8])
     }
 }
 
-fn count_line_feeds(bytes: &[u8]) -> u64
+/// How many line feeds there are.
+pub(crate) fn count_line_feeds(bytes: &[u8]) -> u64
     ensures count { result ≡ line_feeds bytes.now }
     ensures few { result ≤ length bytes.now }
 {

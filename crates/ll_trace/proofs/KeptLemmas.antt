@@ -1,5 +1,7 @@
 -- What the reader keeps says which pids are live, and which process each names.
 use Rattle.std.proofs.Common.{◌≡◌, ℕ, ◌+◌, Bool, true, false, List, [], ◌∷◌, Option, Some, None, cond, eqb, refl, ap, ◌∙◌}
+use Rattle.std.specs.FinMap.{FinMap, empty, get, get-empty}
+use Rattle.std.specs.Ordering.{nat_cmp}
 use Rattle.ll_trace.specs.declared.op.Op.{Op}
 use Rattle.ll_trace.specs.declared.op.Op.TheVariants.{Exit}
 use Rattle.ll_trace.specs.declared.reader.Owner.{Owner}
@@ -86,3 +88,7 @@ noted_same old entry kept starts stays = record {
   };
   records = refl;
 }
+
+-- no pid has a process before the first entry
+pub nobody : (owners : FinMap nat_cmp Owner) (pid : ℕ) → owners ≡ empty → get owners pid ≡ None
+nobody owners pid none = rw none (get-empty nat_cmp pid)

@@ -1,8 +1,7 @@
 -- What the reader of a trace keeps beside the records: for each pid its latest process, and whether that one still runs.
 -- Source: docs/FORMATS.md, "The trace file".
 use Rattle.std.specs.Prelude.{◌≡◌, ℕ, ◌+◌, ◌==◌, Bool, true, false, List, [], ◌∷◌, map, reverse, Option, Some, None, option_map, if◌then◌else◌}
-use Rattle.std.specs.Ordering.{nat_cmp}
-use Rattle.std.specs.BTreeMap.{get}
+use Rattle.std.specs.FinMap.{get}
 use Rattle.ll_trace.specs.declared.reader.Entry as declared
 use Rattle.ll_trace.specs.declared.reader.Owner.{Owner}
 use Rattle.ll_trace.specs.declared.reader.Reader.{Reader}
@@ -40,7 +39,7 @@ past reader = reverse (entries reader)
 -- the owners and the count are those of a past
 pub record Follows (reader : Reader) (past : List Entry) : Type 0 where
   pub count : reader.processes ≡ process_count past
-  pub owners : (pid : ℕ) → get nat_cmp reader.owners pid ≡ owner_of past pid
+  pub owners : (pid : ℕ) → get reader.owners pid ≡ owner_of past pid
 
 -- all that is kept agrees with the entries
 pub record IsKept (reader : Reader) : Type 0 where
@@ -58,12 +57,12 @@ pub record IsNoted (old new : Reader) (entry : Entry) : Type 0 where
 
 -- one process more, which has the pid
 pub record Begins (old new : Reader) (pid : ℕ) : Type 0 where
-  pub owners : (q : ℕ) → get nat_cmp new.owners q ≡ (if pid == q then Some (record { process = record { 0 = old.processes }; running = true }) else get nat_cmp old.owners q)
+  pub owners : (q : ℕ) → get new.owners q ≡ (if pid == q then Some (record { process = record { 0 = old.processes }; running = true }) else get old.owners q)
   pub count : new.processes ≡ old.processes + 1
   pub records : new.records.items ≡ old.records.items
 
 -- the process of the pid runs no more
 pub record Stops (old new : Reader) (pid : ℕ) : Type 0 where
-  pub owners : (q : ℕ) → get nat_cmp new.owners q ≡ (if pid == q then stopped (get nat_cmp old.owners q) else get nat_cmp old.owners q)
+  pub owners : (q : ℕ) → get new.owners q ≡ (if pid == q then stopped (get old.owners q) else get old.owners q)
   pub count : new.processes ≡ old.processes
   pub records : new.records.items ≡ old.records.items

@@ -1,7 +1,7 @@
 //! The reading of a trace file by several threads: each reads parts of the lines as entries, and one
 //! thread admits them in the order of the file.
 
-ghost use Rattle.std.specs.Prelude.{◌≡◌, ◌++◌, ◌∷◌, [], ℕ, List, flat_map, OnOk, OnErr, IfOk, IfErr};
+ghost use Rattle.std.specs.Prelude.{◌≡◌, ◌≤◌, ◌++◌, ◌∷◌, [], ℕ, List, flat_map, OnOk, OnErr, IfOk, IfErr};
 ghost use Rattle.std.specs.List.{AllZip};
 ghost use Rattle.ll_lines.specs.Lines.{Line, filled_lines};
 ghost use Rattle.ll_lines.specs.LineView.{line_view};
@@ -13,6 +13,7 @@ ghost use Rattle.ll_trace.specs.Parts.{Covers, IsReadOf};
 
 use crate::reader::{Entry, Reader, entry_of};
 use json::Scratch;
+use ll_lines::blocks::LineBlock;
 use ll_lines::lines::{FileLine, FilledLines};
 use ll_lines::{Cause, ReadFault};
 use rayon::prelude::*;
@@ -123,6 +124,49 @@ fn read_parts<R: Threads + Sync>(
         )
         .with_min_len(1)
         .collect(rt, alloc)
+}
+
+/// Blocks of lines, each read by itself, by at most this many threads.
+fn read_each<R: Threads + Sync>(
+    rt: &R,
+    alloc: Global,
+    blocks: Vec<LineBlock>,
+    workers: usize,
+) -> Result<Vec<PartRead>, AllocError>
+    requires { 1 ≤ workers }
+    ensures { IfOk result (λ parts. AllZip IsReadOf blocks.items parts.items) }
+{
+    let least = blocks.len() / workers + 1;
+    blocks
+        .into_par_iter()
+        .map(
+            |block: LineBlock| -> PartRead
+                ensures { IsReadOf block result }
+            { read_part(alloc, block.lines()) },
+        )
+        .with_min_len(least)
+        .collect(rt, alloc)
+}
+
+/// Reads blocks of lines by at most this many threads, which give the memory of each block back.
+pub(crate) fn read_blocks_by<R: Threads + Sync>(
+    rt: &R,
+    alloc: Global,
+    blocks: Vec<LineBlock>,
+    workers: usize,
+) -> Result<Reader, ReadFault>
+    requires { 1 ≤ workers }
+    ensures gives { GivesReading entries result
+        (read_lines trace_file [] (flat_map (λ block. block) blocks.items)) }
+    ensures kept { IfOk result IsKept }
+{
+    match read_each(rt, alloc, blocks, workers) {
+        Ok(parts) => admit_all(alloc, parts),
+        Err(_) => Err(ReadFault {
+            line: 1,
+            cause: Cause::Memory,
+        }),
+    }
 }
 
 /// Reads a file in at most this many parts: its records, or the first fault of its first faulty line.

@@ -1,8 +1,7 @@
 //! The paths of records.
 
 ghost use Rattle.std.specs.Prelude.{◌≡◌, IfOk, IsTrue, is_some};
-ghost use Rattle.ll_lines.specs.Paths.{path_of};
-ghost use Rattle.ll_lines.specs.Readers.{Gives};
+ghost use Rattle.ll_lines.specs.{Paths.path_of, Readers.Gives};
 ghost use Rattle.ll_trace.specs.Members.{path_in};
 
 use ll_lines::Cause;

@@ -1,10 +1,8 @@
 //! The reading of a trace file, record after record.
 
-ghost use Rattle.std.specs.Prelude.{◌≡◌, ◌+◌, ◌<◌, ◌∷◌, [], List, OnOk, IfOk, IfErr, None, Ok, unwrap_or};
-ghost use Rattle.ll_lines.specs.declared.fault.Cause.TheVariants.{Memory};
-ghost use Rattle.ll_lines.specs.Readers.{Gives};
-ghost use Rattle.ll_lines.specs.LineView.{line_view};
-ghost use Rattle.ll_lines.specs.LineByLine.{with_entry, with_line, reading, GivesReading};
+ghost use Rattle.std.specs.Prelude.{◌≡◌, ◌+◌, ◌<◌, ◌∷◌, ◌++◌, [], List, OnOk, IfOk, IfErr, None, Ok, flat_map, unwrap_or};
+ghost use Rattle.ll_lines.specs.{declared.fault.Cause.TheVariants.Memory, Readers.Gives, Lines.Line, LineView.line_view};
+ghost use Rattle.ll_lines.specs.LineByLine.{with_entry, with_line, read_lines, reading, GivesReading, MeetsFault};
 ghost use Rattle.ll_trace.specs.declared.reader.TheConstants.{MOST_PROCESSES};
 ghost use Rattle.ll_trace.specs.Entries.{Entry as Seen, entry_at, is_live as is_live_in, is_unknown as is_unknown_in, is_twice as is_twice_in, is_too_many, is_end_of, misplacement, process_count, started_pid, trace_file};
 ghost use Rattle.ll_trace.specs.Records.{process_of};
@@ -14,11 +12,12 @@ use crate::op::Op;
 use crate::operations::operation_of;
 use crate::record::{ProcessId, Record};
 use json::Scratch;
+use ll_lines::blocks::LineBlock;
 use ll_lines::lines::{FileLine, FilledLines};
 use ll_lines::{Cause, ReadFault};
 use ll_members::{Name, number_of, read_members};
+use ll_shared::SharedMap;
 use std::alloc::Global;
-use std::collections::BTreeMap;
 
 /// The most records of a trace.
 pub const MOST_RECORDS: usize = 1_000_000;
@@ -45,7 +44,7 @@ struct Owner {
 #[derive(Drop)]
 pub(crate) struct Reader {
     records: Vec<Record>,
-    owners: BTreeMap<u64, Owner>,
+    owners: SharedMap<Owner>,
     processes: u32,
 }
 
@@ -87,13 +86,14 @@ fn is_unknown(entry: &Entry, owner: Option<Owner>) -> bool
 }
 
 impl Reader {
+    #[tactic(auto, using(crate::proofs::KeptLemmas::nobody))]
     pub(crate) fn new(alloc: Global) -> Reader
         ensures kept { IsKept result }
         ensures empty { entries result ≡ [] }
     {
         Reader {
             records: Vec::new(alloc),
-            owners: BTreeMap::new(alloc),
+            owners: SharedMap::new(alloc),
             processes: 0,
         }
     }
@@ -109,7 +109,7 @@ impl Reader {
         requires { IsKept self.now }
         ensures { result ≡ owner_of (past self.now) pid }
     {
-        self.owners.get(&pid).copied()
+        self.owners.get(pid).copied()
     }
 
     #[tactic(auto, using(crate::proofs::KeptLemmas::is_running))]
@@ -237,7 +237,7 @@ impl Reader {
         ensures ok { OnOk result (Stops self.old self.new pid) }
         ensures err { IfErr result (λ cause. cause ≡ Memory) }
     {
-        if let Some(owner) = self.owners.get(&pid).copied() {
+        if let Some(owner) = self.owners.get(pid).copied() {
             let stopped = Owner {
                 process: owner.process,
                 running: false,
@@ -257,18 +257,51 @@ fn process_or_first(owner: Option<Owner>) -> ProcessId
     }
 }
 
+/// Admits the entries of lines as records, up to the first fault.
+fn take_lines(
+    alloc: Global,
+    reader: &mut Reader,
+    lines: FilledLines,
+    scratch: &mut Scratch,
+) -> Result<(), ReadFault>
+    requires { IsKept reader.old }
+    ensures admitted { OnOk result ((others : List Line)
+        → read_lines trace_file (entries reader.old) (lines.entry ++ others)
+        ≡ read_lines trace_file (entries reader.new) others) }
+    ensures fault { IfErr result (λ fault. (others : List Line)
+        → MeetsFault fault.line fault.cause
+        (read_lines trace_file (entries reader.old) (lines.entry ++ others))) }
+    ensures kept { OnOk result (IsKept reader.new) }
+{
+    for line in lines {
+        if let Err(cause) = reader.take(alloc, &line, scratch) {
+            return Err(line.fault(cause));
+        }
+    }
+    Ok(())
+}
+
 /// Reads a file line after line: its records, or the first fault of its first faulty line.
-#[tactic(auto, using(crate::proofs::RecordLemmas::line_by_line))]
 pub(crate) fn read_all(alloc: Global, bytes: &[u8]) -> Result<Reader, ReadFault>
     ensures gives { GivesReading entries result (reading trace_file bytes.now) }
     ensures kept { IfOk result IsKept }
 {
     let mut reader = Reader::new(alloc);
     let mut scratch = Scratch::new(alloc);
-    for line in FilledLines::new(bytes) {
-        if let Err(cause) = reader.take(alloc, &line, &mut scratch) {
-            return Err(line.fault(cause));
-        }
+    take_lines(alloc, &mut reader, FilledLines::new(bytes), &mut scratch)?;
+    Ok(reader)
+}
+
+/// Reads blocks of lines one after another, and gives the memory of each back.
+pub(crate) fn read_blocks(alloc: Global, blocks: Vec<LineBlock>) -> Result<Reader, ReadFault>
+    ensures gives { GivesReading entries result
+        (read_lines trace_file [] (flat_map (λ block. block) blocks.items)) }
+    ensures kept { IfOk result IsKept }
+{
+    let mut reader = Reader::new(alloc);
+    let mut scratch = Scratch::new(alloc);
+    for block in blocks {
+        take_lines(alloc, &mut reader, block.lines(), &mut scratch)?;
     }
     Ok(reader)
 }

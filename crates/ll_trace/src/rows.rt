@@ -4,8 +4,7 @@
 ghost use Rattle.std.specs.Prelude.{codes, [], ◌∷◌, true, false};
 ghost use Rattle.ll_lines.specs.declared.fault.Cause.TheVariants.{Json, Field, BadPath, UnknownProcess, Twice};
 ghost use Rattle.ll_lines.specs.Reading.{IsBad};
-ghost use Rattle.ll_trace.specs.Entries.{trace_file};
-ghost use Rattle.ll_trace.specs.Records.{IsTrace};
+ghost use Rattle.ll_trace.specs.{Entries.trace_file, Records.IsTrace};
 ghost use Rattle.std.specs.Prelude.{◌≡◌};
 ghost use Rattle.ll_rights.specs.declared.abi.Abi.{Abi as Version};
 ghost use Rattle.ll_rights.specs.Rights as files;

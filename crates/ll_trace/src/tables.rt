@@ -1,8 +1,7 @@
 //! The processes of a trace, looked up by their numbers.
 
 ghost use Rattle.std.specs.Prelude.{◌≡◌, ◌+◌, ◌<◌, ◌^◌, [], ◌∷◌, ◌++◌, length, OnOk, IfOk, if◌then◌else◌};
-ghost use Rattle.ll_trace.specs.RecordFacts.{AreRecords};
-ghost use Rattle.ll_trace.specs.Indexed.{Indexes};
+ghost use Rattle.ll_trace.specs.{RecordFacts.AreRecords, Indexed.Indexes};
 
 use crate::record::{ProcessId, Record};
 use std::alloc::{AllocError, Global};

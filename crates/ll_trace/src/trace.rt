@@ -1,19 +1,17 @@
 //! A trace that was read.
 
 ghost use Rattle.std.specs.Prelude.{◌≡◌, ◌≢◌, ◌<◌, ◌≤◌, length, option_map, All, IfOk, IfErr, IfSome};
-ghost use Rattle.ll_lines.specs.declared.fault.Cause.TheVariants.{Memory};
-ghost use Rattle.ll_lines.specs.Reading.{IsBad};
+ghost use Rattle.ll_lines.specs.{declared.fault.Cause.TheVariants.Memory, Reading.IsBad};
 ghost use Rattle.ll_trace.specs.declared.reader.TheConstants.{MOST_PROCESSES, MOST_RECORDS};
-ghost use Rattle.ll_trace.specs.Entries.{trace_file};
-ghost use Rattle.ll_trace.specs.RecordFacts.{AreRecords};
-ghost use Rattle.ll_trace.specs.Records.{IsTrace};
+ghost use Rattle.ll_trace.specs.{Entries.trace_file, RecordFacts.AreRecords, Records.IsTrace};
 ghost use Rattle.ll_trace.specs.BestEffort.{records_at_best_effort};
 ghost use Rattle.ll_trace.specs.Processes.{process_count, parent_of, own_records, started_at};
 
-use crate::parts::read_all_by;
-use crate::reader::{Reader, read_all};
+use crate::parts::{read_all_by, read_blocks_by};
+use crate::reader::{Reader, read_all, read_blocks};
 use crate::record::{ProcessId, Record};
 use crate::tables::{Tables, index};
+use ll_lines::blocks::LineBlocks;
 use ll_lines::{Cause, ReadFault};
 use ll_rights::Abi;
 use std::alloc::Global;
@@ -87,6 +85,31 @@ impl Trace {
             return Trace::read(alloc, bytes);
         }
         Trace::of(alloc, read_all_by(rt, alloc, bytes, workers)?)
+    }
+
+    /// Reads a trace file in blocks as [`Trace::read_by`] does, and gives the memory of each block back once its lines are
+    /// read.
+    #[tactic(auto, using(ll_lines::proofs::ReadingLemmas::good_from_reading, ll_lines::proofs::ReadingLemmas::bad_from_fault))]
+    pub fn read_blocks_by<R: Threads + Sync>(
+        rt: &R,
+        alloc: Global,
+        blocks: LineBlocks,
+        workers: usize,
+    ) -> Result<Trace, ReadFault>
+        ensures good { IfOk result (λ trace. IsTrace blocks trace) }
+        ensures bad { IfErr result
+            (λ fault. fault.cause ≢ Memory → IsBad trace_file blocks fault) }
+    {
+        let Ok(blocks) = blocks.into_blocks(alloc) else {
+            return Err(ReadFault {
+                line: 1,
+                cause: Cause::Memory,
+            });
+        };
+        if workers <= 1 {
+            return Trace::of(alloc, read_blocks(alloc, blocks)?);
+        }
+        Trace::of(alloc, read_blocks_by(rt, alloc, blocks, workers)?)
     }
 
     /// The trace with the records that were read.

@@ -1,7 +1,6 @@
 //! What holds of what is kept of a case's processes.
 
-ghost use Rattle.ll_trails.specs.CaseTrails.{TrailsBegin};
-ghost use Rattle.ll_trails.specs.Objecting.{ObjectToTheSame};
+ghost use Rattle.ll_trails.specs.{CaseTrails.TrailsBegin, Objecting.ObjectToTheSame};
 
 /// What is kept of no process is what is kept before the first record, whichever the case.
 #[tactic(auto, using(crate::proofs::AtPlaces::begins_at))]

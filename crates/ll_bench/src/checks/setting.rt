@@ -2,8 +2,7 @@
 
 ghost use Rattle.std.specs.Prelude.{All, IfOk};
 ghost use Rattle.ll_tree.specs.Trees.{IsNode};
-ghost use Rattle.ll_rules.specs.InTree.{AreInTree};
-ghost use Rattle.ll_rules.specs.KeptLayers.{IsDomainOf};
+ghost use Rattle.ll_rules.specs.{InTree.AreInTree, KeptLayers.IsDomainOf};
 
 use crate::checks::filtered::FilteredLayer;
 use anyhow::{Context, Result};
