@@ -12,9 +12,13 @@ use Rattle.clap.specs.ValueTests.{is_unsigned_in}
 use Rattle.clap.specs.Words.{App, FailsBy, HasKind, HasMatchesOf, IsAmong, Kinds, Row, Text, fault_of, found_of, is_simple, is_simple_and_free, kind_of}
 use Rattle.clap.specs.Words.{matches_of, rows_of}
 use Rattle.clap.proofs.OnLiterals.{clap_on_literals}
+use Rattle.clap.proofs.WalkLemmas.{first_value-rows}
 use Rattle.clap.proofs.ValueTestLemmas.{accepts-Accepts, Accepts-accepts}
 use Rattle.clap.specs.declared.error.kind.ErrorKind.TheVariants.{DisplayHelp, DisplayVersion, ValueValidation}
 use Rattle.ll_command.specs.Command.{AreWrong, AskForText, command, faults, is_misuse, number_in, request_if, request_in, request_of, with_misuse}
+
+-- the first value that the matches give an argument is the first of its rows
+pub ruleset first_in_rows = (first_value-rows, tt)
 
 -- what a getter reads of a text is the number in it
 pub number_in-read : (E : Type 0) (G : List ℕ → Result ℕ E → Type 0) (text : List ℕ) (read : Option ℕ)

@@ -17,6 +17,7 @@ use Rattle.ll_rights.specs.Abis.{all_versions, version_of}
 use Rattle.ll_report.specs.declared.options.Format.{Format}
 use Rattle.ll_report.specs.declared.options.Format.TheVariants.{Json, Text as Plain}
 use Rattle.ll_report.specs.declared.options.Shown.{Shown}
+use Rattle.ll_report.specs.declared.options.TheConstants.{ALL_LINES}
 use Rattle.ll_pool.specs.Crews.{IsCrew}
 use Rattle.ll_rights.specs.AbiRanges.{Range, range_from}
 use Rattle.ll_command.specs.declared.command.Run.{Run}
@@ -81,6 +82,15 @@ pub record Request : Type 0 where
   pub grain : ℕ
   pub tree : Text
   pub trace : Text
+
+-- an audit under one version, with all lines of the report as text
+abbrev pub plainly : Effort → Abi → Options
+plainly effort abi = record { abis = record { oldest = abi; newest = abi }; effort = effort; shown = ALL_LINES; format = Plain }
+
+-- such an audit by this many workers, with this grain
+abbrev pub plain_request : Abi → ℕ → ℕ → Text → Text → Request
+plain_request abi workers grain tree trace =
+    record { options = plainly AsRecorded abi; workers = workers; grain = grain; tree = tree; trace = trace }
 
 -- the version whose number a digit is
 abbrev pub version_at : ℕ → Option Abi

@@ -1,6 +1,6 @@
 //! The command line.
 
-ghost use Rattle.std.specs.Prelude.{◌≡◌, ◌⊎◌, [], IfOk, IfSome, MatchResult, Some, false, is_some, map, option_map, string_bytes};
+ghost use Rattle.std.specs.Prelude.{if◌then◌else◌, ◌≡◌, ◌⊎◌, [], IfOk, IfSome, MatchResult, Some, false, is_some, map, option_map, string_bytes};
 ghost use Rattle.clap.specs.Words.{HasKind, app_of, fault_of, first_of, found_of, kind_of, matches_of, rows_of, rule_of};
 ghost use Rattle.clap.specs.declared.error.kind.ErrorKind.TheVariants.{OutOfMemory};
 ghost use Rattle.ll_pool.specs.Crews.{IsCrew};
@@ -273,6 +273,7 @@ fn number(matches: &ArgMatches<'_>, name: &str) -> Option<u64>
 }
 
 /// The text that the matches give an argument.
+#[tactic(auto, using(crate::proofs::CommandLine::first_in_rows))]
 fn text<'a>(matches: &ArgMatches<'a>, name: &str) -> Option<&'a str>
     ensures { option_map (λ text. text.now) result
         ≡ first_of name.now (rows_of (found_of matches.now)) }
@@ -309,26 +310,12 @@ fn shown(matches: &ArgMatches<'_>) -> Shown
     }
 }
 
-/// How the matches ask to take rulesets.
-fn effort(matches: &ArgMatches<'_>) -> Effort
-    ensures { result ≡ spec.effort_in (rows_of (found_of matches.now)) }
+/// One of two values, by whether the matches have a flag.
+fn by_flag<T: Copy>(matches: &ArgMatches<'_>, name: &str, with: T, without: T) -> T
+    ensures { result ≡ (if spec.flag_at name.now (rows_of (found_of matches.now)) then with
+        else without) }
 {
-    if flag(matches, "best-effort") {
-        Effort::Best
-    } else {
-        Effort::AsRecorded
-    }
-}
-
-/// In which form the matches ask for the report.
-fn format(matches: &ArgMatches<'_>) -> Format
-    ensures { result ≡ spec.format_in (rows_of (found_of matches.now)) }
-{
-    if flag(matches, "json") {
-        Format::Json
-    } else {
-        Format::Text
-    }
+    if flag(matches, name) { with } else { without }
 }
 
 /// What the matches ask of an audit under some versions.
@@ -337,9 +324,9 @@ fn options(abis: AbiRange, matches: &ArgMatches<'_>) -> Options
 {
     Options {
         abis,
-        effort: effort(matches),
+        effort: by_flag(matches, "best-effort", Effort::Best, Effort::AsRecorded),
         shown: shown(matches),
-        format: format(matches),
+        format: by_flag(matches, "json", Format::Json, Format::Text),
     }
 }
 

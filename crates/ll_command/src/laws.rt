@@ -3,10 +3,9 @@
 ghost use Rattle.std.specs.Prelude.{◌≡◌, ◌++◌, ◌∷◌, ◌↔◌, List, [], Some, IsSome, codes, false, option_map, true};
 ghost use Rattle.clap.specs.declared.error.kind.ErrorKind.TheVariants as kind;
 ghost use Rattle.ll_rights.specs.declared.abi.Abi.TheVariants.{V1, V4, V5};
-ghost use Rattle.ll_report.specs.declared.options.Format.TheVariants.{Json, Text as Plain};
-ghost use Rattle.ll_trace.specs.declared.trace.Effort.TheVariants.{AsRecorded, Best};
-ghost use Rattle.ll_report.specs.declared.options.TheConstants.{ALL_LINES};
-ghost use Rattle.ll_command.specs.Command.{Text, faults, newer_digit, request_of};
+ghost use Rattle.ll_report.specs.declared.options.Format.TheVariants.{Json};
+ghost use Rattle.ll_trace.specs.declared.trace.Effort.TheVariants.{Best};
+ghost use Rattle.ll_command.specs.Command.{Text, faults, newer_digit, plain_request, plainly, request_of};
 
 /// What some command lines ask for, and what is wrong with others.
 #[tactic(auto, unfolding(clap::proofs::OnLiterals::clap_on_literals, crate::specs::Command::command, crate::specs::Command::faults, crate::specs::Command::request_in, crate::specs::Command::request_of, ll_rights::specs::Abis::all_versions))]
@@ -14,44 +13,15 @@ pub fn command_lines()
     // Without `--workers` and `--grain` there is one worker, and the grain is 64.
     ensures short { request_of
         (codes "landaudit" ∷ codes "--abi" ∷ codes "4" ∷ codes "t" ∷ codes "r" ∷ [])
-        ≡ Some (record {
-          options =
-              record {
-                abis = record { oldest = V4; newest = V4 };
-                effort = AsRecorded;
-                shown = ALL_LINES;
-                format = Plain;
-              };
-          workers = 1;
-          grain = 64;
-          tree = codes "t";
-          trace = codes "r";
-        }) }
+        ≡ Some (plain_request V4 1 64 (codes "t") (codes "r")) }
     ensures long { request_of
         (codes "landaudit" ∷ codes "--abi=5" ∷ codes "t" ∷ codes "--workers" ∷ codes "64"
         ∷ codes "r" ∷ codes "--grain=0" ∷ [])
-        ≡ Some (record {
-          options =
-              record {
-                abis = record { oldest = V5; newest = V5 };
-                effort = AsRecorded;
-                shown = ALL_LINES;
-                format = Plain;
-              };
-          workers = 64;
-          grain = 0;
-          tree = codes "t";
-          trace = codes "r";
-        }) }
+        ≡ Some (plain_request V5 64 0 (codes "t") (codes "r")) }
     ensures best_effort { option_map (λ asked. asked.options)
         (request_of (codes "landaudit" ∷ codes "--best-effort" ∷ codes "--abi"
         ∷ codes "1" ∷ codes "t" ∷ codes "r" ∷ []))
-        ≡ Some (record {
-          abis = record { oldest = V1; newest = V1 };
-          effort = Best;
-          shown = ALL_LINES;
-          format = Plain;
-        }) }
+        ≡ Some (plainly Best V1) }
     ensures refused { option_map (λ asked. asked.options.shown)
         (request_of (codes "landaudit" ∷ codes "--abi" ∷ codes "4" ∷ codes "--refused"
         ∷ codes "t" ∷ codes "r" ∷ []))

@@ -5,11 +5,11 @@ use Rattle.std.specs.Prelude.{All}
 use Rattle.std.specs.List.{flat_map}
 use Rattle.std.proofs.lemmas.Bool.{ne_eqb}
 use Rattle.std.proofs.lemmas.List.{drop_all, drop_more}
-use Rattle.std.proofs.lemmas.List.Elements.{All-head, All-tail}
 use Rattle.ll_tree.specs.Trees.{Entry}
 use Rattle.ll_trace.specs.declared.record.Record.{Record}
 use Rattle.ll_reasons.specs.Objections.{Objection}
 use Rattle.ll_explanations.specs.Meanings.{IsMade, by_layer, in_front, objection_in}
+use Rattle.ll_explanations.proofs.Grouping.{Groups, fronted, grouped, later_of, same_of}
 use Rattle.ll_explanations.specs.declared.objection.LayerObjection.{LayerObjection}
 use Rattle.ll_explain.specs.Buffers.{Buffered, adding}
 use Rattle.ll_explain.specs.Lines.{ending, head_of, lines_from, next_text, opening}
@@ -33,32 +33,11 @@ module _ (tree : List Entry) (records : List Record) where
       written ∙ ap (adding text) (sym (ap (lines_from tree records before) (drop_all k all end))) ∙ so_far
 
   module _ (layers : List ℕ) where
-    abbrev Groups : Type 0
-    Groups = List (ℕ × List Objection)
-
     abbrev texts : List Objection → List ℕ
     texts objections = flat_map (behind (codes "; ")) (map (objection_text records) objections)
 
     abbrev lines : Groups → List ℕ
     lines groups = flat_map (layer_text records layers) groups
-
-    -- the objections of this layer that follow, and the groups behind them
-    abbrev same_of : ℕ → Groups → List Objection
-    same_of layer [] = []
-    same_of layer (g ∷ gs) = cond (eqb g.0 layer) g.1 []
-
-    abbrev later_of : ℕ → Groups → Groups
-    later_of layer [] = []
-    later_of layer (g ∷ gs) = cond (eqb g.0 layer) gs (g ∷ gs)
-
-    fronted : (layer : ℕ) (objection : Objection) (groups : Groups)
-        → in_front layer objection groups ≡ (layer, objection ∷ same_of layer groups) ∷ later_of layer groups
-    unfolding in_front
-    fronted layer objection [] = refl
-    fronted layer objection (g ∷ gs) = go (eqb g.0 layer) where
-      go : (b : Bool) → cond b ((layer, objection ∷ g.1) ∷ gs) ((layer, objection ∷ []) ∷ g ∷ gs) ≡ (layer, objection ∷ cond b g.1 []) ∷ cond b gs (g ∷ gs)
-      go true = refl
-      go false = refl
 
     -- what is to be said of groups behind an objection of this layer
     abbrev rest_of : ℕ → Groups → List ℕ
@@ -105,28 +84,20 @@ module _ (tree : List Entry) (records : List Record) where
       go false = on_the_next (ending before) (head_of records one.layer one.made) said (texts os) (codes "\n") (lines gs)
           ∙ ap (λ h. ending before ++ (((h ++ (said ++ texts os)) ++ codes "\n") ++ lines gs)) (headed one made)
 
-    said_from : (before : ℕ) (all : List LayerObjection) → All (IsMade layers) all → lines_from tree records before all ≡ rest_of before (by_layer tree all)
-    unfolding lines_from by_layer
-    said_from before [] made = refl
-    said_from before (one ∷ more) made =
-        let o = objection_in tree one.objection in
-        let groups = by_layer tree more in
-        let here : IsMade layers one = All-head (IsMade layers) one more made in
-        ap (λ t. next_text tree records before one ++ t)
-        (said_from one.layer more (All-tail (IsMade layers) one more made) ∙ rest_is one.layer groups here.0)
-        ∙ one_said before one (same_of one.layer groups) (later_of one.layer groups) here
-        ∙ ap (rest_of before) (sym (fronted one.layer o groups))
+    next_said : (before : ℕ) (one : LayerObjection) (groups : Groups) → IsMade layers one →
+        next_text tree records before one ++ rest_of one.layer groups ≡ rest_of before (in_front one.layer (objection_in tree one.objection) groups)
+    next_said before one groups made =
+        ap (λ t. next_text tree records before one ++ t) (rest_is one.layer groups made.0)
+        ∙ one_said before one (same_of one.layer groups) (later_of one.layer groups) made
+        ∙ ap (rest_of before) (sym (fronted one.layer (objection_in tree one.objection) groups))
 
-    begun : (layer : ℕ) (os : List Objection) (gs : Groups) → 0 < layer → rest_of 0 ((layer, os) ∷ gs) ≡ lines ((layer, os) ∷ gs)
+    begun : (one : LayerObjection) (groups : Groups) → IsMade layers one →
+        rest_of 0 (in_front one.layer (objection_in tree one.objection) groups) ≡ lines (in_front one.layer (objection_in tree one.objection) groups)
     unfolding ending
-    begun layer os gs positive = rw (ne_eqb layer 0 (λ zero. absurd (omega (arith, zero, positive)))) refl
+    begun one groups made =
+        rw (fronted one.layer (objection_in tree one.objection) groups, ne_eqb one.layer 0 (λ zero. absurd (omega (arith, zero, made.0)))) refl
 
     pub all_said : (all : List LayerObjection) → All (IsMade layers) all → lines_from tree records 0 all ≡ lines (by_layer tree all)
-    unfolding lines_from by_layer ending
-    all_said [] made = refl
-    all_said (one ∷ more) made =
-        let o = objection_in tree one.objection in
-        let groups = by_layer tree more in
-        said_from 0 (one ∷ more) made ∙ ap (rest_of 0) (fronted one.layer o groups)
-        ∙ begun one.layer (o ∷ same_of one.layer groups) (later_of one.layer groups) (All-head (IsMade layers) one more made).0
-        ∙ ap lines (sym (fronted one.layer o groups))
+    unfolding lines_from ending
+    all_said =
+        grouped tree layers (next_text tree records) (lines_from tree records) rest_of lines (λ before. refl) (λ before one more. refl) next_said refl begun

@@ -35,14 +35,15 @@ fn push_unknown(text: &mut TextBuffer, abi: Abi, rights: Fs)
     push_unknown_rights(text, rights);
 }
 
-/// Says that a version has no rules for ports.
-fn push_portless(text: &mut TextBuffer, abi: Abi)
-    ensures { text.new ≡ adding text.old (codes "ABI " ++ decimal (number_of abi) ++ codes " has no rules for ports") }
+/// Says something of a version.
+fn push_version(text: &mut TextBuffer, abi: Abi, said: &str)
+    ensures { text.new ≡ adding text.old (codes "ABI " ++ decimal (number_of abi) ++ said.now) }
 {
-    push_numbered(text, "ABI ", abi.number(), " has no rules for ports")
+    push_numbered(text, "ABI ", abi.number(), said);
 }
 
 /// Says which rights for files a ruleset doesn't handle.
+#[tactic(auto, using(crate::proofs::Buffering::adding_both))]
 fn push_unhandled(text: &mut TextBuffer, rights: Fs)
     ensures { text.new ≡ adding text.old (codes "the ruleset does not handle " ++ rights_text (rights_in rights)) }
 {
@@ -51,6 +52,7 @@ fn push_unhandled(text: &mut TextBuffer, rights: Fs)
 }
 
 /// Says which rights for ports a ruleset doesn't handle.
+#[tactic(auto, using(crate::proofs::Buffering::adding_both))]
 fn push_unhandled_on_ports(text: &mut TextBuffer, rights: Net)
     ensures { text.new ≡ adding text.old (codes "the ruleset does not handle " ++ port_rights_text (port_rights_in rights)) }
 {
@@ -69,14 +71,14 @@ fn push_path_of_rule(text: &mut TextBuffer, op: &Op)
     }
 }
 
-/// Says which rights are for directories, where the path is that of something else.
+/// Adds the path of the call, if it adds a rule for one, what is said of it, and rights for files.
 #[tactic(auto, using(crate::proofs::Appending::appended_3))]
-fn push_only_for_directories(text: &mut TextBuffer, op: &Op, rights: Fs)
-    ensures { text.new ≡ adding text.old (escape (path_of_rule op.now) ++ codes " is not a directory, and only directories have "
+fn push_said_of_rule(text: &mut TextBuffer, op: &Op, said: &str, rights: Fs)
+    ensures { text.new ≡ adding text.old (escape (path_of_rule op.now) ++ said.now
         ++ rights_text (rights_in rights)) }
 {
     push_path_of_rule(text, op);
-    push_words(text, " is not a directory, and only directories have ");
+    push_words(text, said);
     push_rights(text, rights);
 }
 
@@ -87,12 +89,17 @@ pub(crate) fn push_condition(text: &mut TextBuffer, op: &Op, condition: &Conditi
 {
     match condition {
         Condition::Unknown(abi, rights) => push_unknown(text, *abi, *rights),
-        Condition::Portless(abi) => push_portless(text, *abi),
+        Condition::Portless(abi) => push_version(text, *abi, " has no rules for ports"),
         Condition::Rightless => push_words(text, "no right is named"),
         Condition::Unheld(rs) => push_numbered(text, "ruleset ", *rs, " is not held"),
         Condition::Unhandled(rights) => push_unhandled(text, *rights),
         Condition::UnhandledOnPorts(rights) => push_unhandled_on_ports(text, *rights),
-        Condition::OnlyForDirectories(rights) => push_only_for_directories(text, op, *rights),
+        Condition::OnlyForDirectories(rights) => push_said_of_rule(
+            text,
+            op,
+            " is not a directory, and only directories have ",
+            *rights,
+        ),
         Condition::NoPort(port) => push_numbered(text, "port ", *port, " is above 65535"),
         Condition::Unprivileged => push_words(
             text,

@@ -18,6 +18,7 @@ use ll_trace::{Op, Record};
 use ll_tree::Tree;
 
 /// Adds the line of a condition.
+#[tactic(auto, using(crate::proofs::Buffering::adding_both))]
 fn push_failure(text: &mut TextBuffer, op: &Op, condition: &Condition)
     ensures { text.new
         ≡ adding text.old (alone (condition_text (condition_in op.now condition.now))) }
@@ -28,6 +29,7 @@ fn push_failure(text: &mut TextBuffer, op: &Op, condition: &Condition)
 }
 
 /// Adds the line of a reason.
+#[tactic(auto, using(crate::proofs::Buffering::adding_both))]
 fn push_mootness(text: &mut TextBuffer, op: &Op, reason: &Reason)
     ensures { text.new ≡ adding text.old (alone (reason_text (reason_in op.now reason.now))) }
 {

@@ -13,12 +13,8 @@ ghost use Rattle.ll_reasons.specs.Conditions.{unhandled, unknown};
 ghost use Rattle.ll_reasons.specs.Explanations.{failure, mootness, nothing, objections};
 ghost use Rattle.ll_reasons.specs.Objections.{closed, gained, kept, missing};
 ghost use Rattle.ll_reasons.specs.Reasons.{absent, unsupported, unenforced};
-ghost use Rattle.ll_explanations.specs.FindingValues.{FindingValue};
-ghost use Rattle.ll_explanations.specs.Findings.{Finds};
-ghost use Rattle.ll_explanations.specs.TakenLater.{AreTakenLater};
-ghost use Rattle.ll_explain.specs.Explained.{text_at};
-ghost use Rattle.ll_explain.specs.Told.{text_told};
-ghost use Rattle.ll_explain.specs.Words.{explanation_text};
+ghost use Rattle.ll_explanations.specs.{FindingValues.FindingValue, Findings.Finds, TakenLater.AreTakenLater};
+ghost use Rattle.ll_explain.specs.{Explained.text_at, Told.text_told, Words.explanation_text};
 
 /// A finding says of each record what the definitions say, also by the records as an older version takes them. One
 /// that keeps no explanations says nothing.

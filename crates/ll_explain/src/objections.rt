@@ -3,13 +3,12 @@
 ghost use Rattle.std.specs.Prelude.{◌≡◌, ◌++◌, codes, decimal, option_and_then, slice_get};
 ghost use Rattle.json.specs.Print.{escape};
 ghost use Rattle.ll_lines.specs.PathTexts.{text_of};
-ghost use Rattle.ll_rights.specs.CodeRights.{fs_right};
-ghost use Rattle.ll_rights.specs.Rights.{name_of};
+ghost use Rattle.ll_rights.specs.{CodeRights.fs_right, Rights.name_of};
 ghost use Rattle.ll_tree.specs.Trees.{path_at};
 ghost use Rattle.ll_explanations.specs.Meanings.{objection_in};
 ghost use Rattle.ll_explanations.specs.Sets.{port_rights_in, rights_in};
 ghost use Rattle.ll_explain.specs.Buffers.{adding};
-ghost use Rattle.ll_explain.specs.Lines.{ending, head_of, lines_from, next_text, opening};
+ghost use Rattle.ll_explain.specs.Lines.{ending, head_of, lines_from, opening};
 ghost use Rattle.ll_explain.specs.Words.{line_of, objection_text, path_opened, path_text, port_rights_text, rights_text, word_for};
 
 use crate::buffer::TextBuffer;
@@ -21,6 +20,7 @@ use ll_trace::{Op, Record};
 use ll_tree::{NodeId, Tree};
 
 /// The text of a node's path, and the root's for what is no node of the tree.
+#[tactic(auto, using(crate::proofs::NodeTexts::text_outside))]
 pub fn text_at(tree: &Tree, node: NodeId) -> &str
     ensures { result.now ≡ text_of (path_at tree.now node) }
 {
@@ -171,21 +171,6 @@ fn push_opening(text: &mut TextBuffer, records: &[Record], before: u64, one: &La
     }
 }
 
-/// Says one objection behind those before it.
-#[tactic(auto, using(crate::proofs::Appending::appended_2), unfolding(crate::specs::Lines::next_text))]
-fn push_next(
-    text: &mut TextBuffer,
-    tree: &Tree,
-    records: &[Record],
-    before: u64,
-    one: &LayerObjection,
-)
-    ensures { text.new ≡ adding text.old (next_text tree.now records.now before one.now) }
-{
-    push_opening(text, records, before, one);
-    push_objection(text, tree, records, &one.objection);
-}
-
 /// Adds the lines of all layers that object.
 pub(crate) fn push_lines(
     text: &mut TextBuffer,
@@ -197,7 +182,8 @@ pub(crate) fn push_lines(
 {
     let mut before = 0;
     for one in all {
-        push_next(text, tree, records, before, one);
+        push_opening(text, records, before, one);
+        push_objection(text, tree, records, &one.objection);
         before = one.layer;
     }
     push_ending(text, before);

@@ -65,25 +65,16 @@ fn push_kind(text: &mut TextBuffer, op: &Op, kind: Kind)
 }
 
 /// Adds the two paths of a call, and what is said before, between and behind them.
-fn push_both(text: &mut TextBuffer, op: &Op, between: &str, said: &str)
-    ensures { text.new ≡ adding text.old (path_text (path_named op.now First) ++ between.now
-        ++ path_text (path_named op.now Second) ++ said.now) }
+#[tactic(auto, using(crate::proofs::Buffering::adding_both))]
+fn push_both(text: &mut TextBuffer, op: &Op, before: &str, between: &str, said: &str)
+    ensures { text.new ≡ adding text.old (before.now ++ path_text (path_named op.now First)
+        ++ between.now ++ path_text (path_named op.now Second) ++ said.now) }
 {
-    push_said(text, op, Which::First, between);
-    push_said(text, op, Which::Second, said);
-}
-
-/// Says that a directory and something else would take one another's place.
-fn push_mixed(text: &mut TextBuffer, op: &Op)
-    ensures { text.new ≡ adding text.old
-        (codes "one of " ++ path_text (path_named op.now First) ++ codes " and "
-        ++ path_text (path_named op.now Second) ++ codes " is a directory, the other is not") }
-{
-    push_words(text, "one of ");
+    push_words(text, before);
     push_which(text, op, Which::First);
-    push_words(text, " and ");
+    push_words(text, between);
     push_which(text, op, Which::Second);
-    push_words(text, " is a directory, the other is not");
+    push_words(text, said);
 }
 
 /// Says why the policy isn't asked.
@@ -98,11 +89,23 @@ pub(crate) fn push_reason(text: &mut TextBuffer, op: &Op, reason: &Reason)
         Reason::OfKind(kind) => push_kind(text, op, *kind),
         Reason::Root => push_words(text, "/ stays where it is"),
         Reason::Unmoved => push_said(text, op, Which::First, " would go where it is"),
-        Reason::BeneathItself => push_both(text, op, " would go beneath itself, to ", ""),
+        Reason::BeneathItself => push_both(text, op, "", " would go beneath itself, to ", ""),
         Reason::OverItself => {
-            push_both(text, op, " would take the place of ", ", which it is in")
+            push_both(
+                text,
+                op,
+                "",
+                " would take the place of ",
+                ", which it is in",
+            )
         }
-        Reason::Mixed => push_mixed(text, op),
+        Reason::Mixed => push_both(
+            text,
+            op,
+            "one of ",
+            " and ",
+            " is a directory, the other is not",
+        ),
         Reason::OpenAlready(fd) => push_numbered(text, "descriptor ", *fd, " is open already"),
         Reason::Unopened(fd) => push_numbered(text, "descriptor ", *fd, " is not open"),
         Reason::NotForWriting(fd) => {

@@ -5,8 +5,7 @@ ghost use Rattle.ll_rights.specs.CodeRights.{fs_right, net_right};
 ghost use Rattle.ll_rights.specs.Rights as files;
 ghost use Rattle.ll_rights.specs.NetRights as network;
 ghost use Rattle.ll_explanations.specs.Sets.{port_rights_in, rights_in};
-ghost use Rattle.ll_explain.specs.Buffers.{adding};
-ghost use Rattle.ll_explain.specs.Tables.{listed_alike};
+ghost use Rattle.ll_explain.specs.{Buffers.adding, Tables.listed_alike};
 ghost use Rattle.ll_explain.specs.Words.{behind, listed, port_rights_text, rights_text, word_for};
 
 use crate::buffer::TextBuffer;
@@ -108,6 +107,7 @@ pub fn word_for(name: &str) -> &str
 }
 
 /// Adds a name, behind a comma if it isn't the first.
+#[tactic(auto, using(crate::proofs::Buffering::adding_both), unfolding(crate::specs::Words::behind))]
 fn push_name(text: &mut TextBuffer, name: &str, is_first: bool)
     ensures { text.new
         ≡ adding text.old (if is_first then name.now else behind (codes ", ") name.now) }

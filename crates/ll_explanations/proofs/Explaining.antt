@@ -1,6 +1,6 @@
 -- The explanation of a record by its answer.
-use Rattle.std.proofs.Common.{◌≡◌, ◌≢◌, ◌∙◌, ◌<◌, ℕ, true, false, List, [], ◌∷◌, Some, suc, arith, inl, inr, refl, subst, sym}
-use Rattle.std.specs.Prelude.{◌==◌, length, slice_get}
+use Rattle.std.proofs.Common.{◌≡◌, ◌≢◌, ◌∙◌, ◌<◌, ℕ, true, false, List, [], ◌∷◌, Option, Some, suc, ap, arith, inl, inr, refl, subst, sym}
+use Rattle.std.specs.Prelude.{◌==◌, length, option_map, slice_get}
 use Rattle.std.proofs.lemmas.Bool.{cases_Bool, ne_eqb, true≢false}
 use Rattle.std.proofs.lemmas.Option.{same_Some, slice_get_within}
 use Rattle.ll_rights.specs.declared.abi.Abi.{Abi}
@@ -11,15 +11,22 @@ use Rattle.ll_trace.specs.declared.op.Op.{Op}
 use Rattle.ll_trace.specs.declared.op.Op.TheVariants as calls
 use Rattle.ll_trace.specs.Entries.{is_start}
 use Rattle.ll_semantics.specs.declared.answer.Answer.{Answer}
-use Rattle.ll_semantics.specs.declared.answer.Answer.TheVariants.{Allowed, Refused}
+use Rattle.ll_semantics.specs.declared.answer.Answer.TheVariants.{Allowed, Moot, Refused}
 use Rattle.ll_semantics.specs.Answers.{answer}
 use Rattle.ll_semantics.specs.Worlds.{World, answer_in, judged}
 use Rattle.ll_semantics.specs.CallContexts.{world_at}
 use Rattle.ll_semantics.proofs.Steps.{judged-at, length-judged}
 use Rattle.ll_process.specs.Cases.{CaseValue}
-use Rattle.ll_reasons.specs.Explanations.{domain_at, explained, explained_at, objections, objections_to, origins_at}
-use Rattle.ll_explanations.specs.Explained.{Explains, IsExplanation}
+use Rattle.ll_reasons.specs.declared.why.Reason.{Reason}
+use Rattle.ll_reasons.specs.Conditions.{condition}
+use Rattle.ll_reasons.specs.Explanations.{domain_at, explained, explained_at, failure, mootness, objections, objections_to, origins_at}
+use Rattle.ll_reasons.specs.Meant.{reason_in}
+use Rattle.ll_reasons.specs.Reasons.{reason}
+use Rattle.ll_explanations.specs.Explained.{Explains, IsExplanation, IsExplanationOf}
+use Rattle.ll_explanations.specs.Meanings.{condition_in, explanation_in}
+use Rattle.ll_explanations.specs.declared.condition.Condition.{Condition}
 use Rattle.ll_explanations.specs.declared.explanation.Explanation.{Explanation}
+use Rattle.ll_explanations.specs.declared.explanation.Explanation.TheVariants.{Failure, Mootness}
 
 -- what starts a process is allowed
 start_allowed : (tree : List Entry) (abi : Abi) (w : World) (process : ℕ) (op : Op) → is_start op ≡ true → answer_in tree abi w process op ≡ Allowed
@@ -57,6 +64,26 @@ pub explains : (case : CaseValue) (place : ℕ) (answer : Answer) (found : Recor
     → IsExplanation case place answer found e → Explains case place answer e
 explains case place answer found e read is r eq =
     subst (λ (one : Record). IsExplanation case place answer one e) (same_Some found r (sym read ∙ eq)) is
+
+-- what explains the record there that no layer refuses, and one that is moot
+module _ (tree : List Entry) (abi : Abi) (records : List Record) (place : ℕ) (found r : Record) (read : slice_get records place ≡ Some found)
+    (eq : slice_get records place ≡ Some r) where
+  same_record : found ≡ r
+  same_record = same_Some found r (sym read ∙ eq)
+
+  pub fails : (error : Errno) (told : Condition)
+      → condition_in found.op told ≡ condition abi records (origins_at tree abi records place found.process.0) found.op error
+      → IsExplanationOf tree abi records place (Refused error []) r (Failure told)
+  unfolding explained_at explained explanation_in
+  fails error told is =
+      subst (λ (one : Record). IsExplanationOf tree abi records place (Refused error []) one (Failure told)) same_record
+      (record { means = ap failure is; made = tt })
+
+  pub is_moot : (told : Option Reason) → option_map (reason_in found.op) told ≡ reason tree (origins_at tree abi records place found.process.0) found.op
+      → IsExplanationOf tree abi records place Moot r (Mootness told)
+  unfolding explained_at explained explanation_in
+  is_moot told is =
+      subst (λ (one : Record). IsExplanationOf tree abi records place Moot one (Mootness told)) same_record (record { means = ap mootness is; made = tt })
 
 -- a set without layers
 pub none_of : (numbers : List ℕ) → (length numbers == 0) ≡ true → numbers ≡ []

@@ -1,5 +1,5 @@
 -- What an object would gain, right by right.
-use Rattle.std.proofs.Common.{◌≡◌, ◌∙◌, Bool, true, false, refl}
+use Rattle.std.proofs.Common.{◌≡◌, ◌∙◌, Bool, arith}
 use Rattle.std.specs.Prelude.{not, ◌&&◌, ◌||◌}
 use Rattle.ll_rights.specs.declared.kind.Kind.{Kind}
 use Rattle.ll_rights.specs.Rights as files
@@ -13,16 +13,7 @@ use Rattle.ll_explanations.proofs.Lacking.{lacks-only}
 
 -- lacking on the object, counting, and not lacking in the directory: by whether it is handled, granted on the object and granted in the directory
 won : (handled on counted there : Bool) → ((handled && not on) && counted && not (handled && not there)) ≡ (there && (handled && counted) && not on)
-won true true true true = refl
-won true true true false = refl
-won true true false true = refl
-won true true false false = refl
-won true false true true = refl
-won true false true false = refl
-won true false false true = refl
-won true false false false = refl
-won false on counted true = refl
-won false on counted false = refl
+won handled on counted there = grind arith
 
 module _ (layer : Layer) (kind : Kind) (object directory : Path) where
   pub gainable-by : (one : files.FsRight) (lacking holder file_right lacking_there : Bool) →

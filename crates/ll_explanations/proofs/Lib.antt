@@ -12,3 +12,4 @@ pub mod Explaining
 pub mod TakenLater
 pub mod FindingTells
 pub mod KeepingAll
+pub mod Grouping

@@ -13,7 +13,7 @@ ghost use Rattle.ll_explanations.specs.Sets.{IsOne};
 use crate::confinement::{Confinement, OneLayer, made_by};
 use crate::missing::{Test, passing};
 use crate::moved::{MoveRequest, push_denied, push_held_back};
-use crate::objection::{LayerObjection, Objection};
+use crate::objection::{LayerObjection, Noted, Noting, Objection};
 use crate::ports::{handles_files, lacks_on_port};
 use ll_rights::{Fs, Net};
 use ll_rules::Errno;
@@ -39,7 +39,7 @@ pub(crate) fn missing(layer: &OneLayer, node: NodeId, asked: Fs) -> Option<Objec
     ensures { option_to_list (option_map (objection_in layer.now.ctx.tree.now) result)
         ≡ on_path (path_at layer.now.ctx.tree.now node) (files.has asked) (rules_of layer.now) }
 {
-    let rights = passing(layer, Test::Lacking { node, asked });
+    let rights = passing(Test::Lacking { layer, node, asked });
     if rights.is_empty() {
         return None;
     }
@@ -55,7 +55,11 @@ pub(crate) fn gained(layer: &OneLayer, object: NodeId, directory: NodeId) -> Opt
         (path_at layer.now.ctx.tree.now object) (path_at layer.now.ctx.tree.now directory)
         (rules_of layer.now) }
 {
-    let rights = passing(layer, Test::Gaining { object, directory });
+    let rights = passing(Test::Gaining {
+        layer,
+        object,
+        directory,
+    });
     if rights.is_empty() {
         return None;
     }
@@ -95,11 +99,7 @@ fn mounting(layer: &OneLayer) -> Option<Objection>
 
 /// Adds an objection of a layer.
 #[tactic(auto, using(crate::proofs::Adding::adds_one))]
-fn push_one(
-    all: &mut Vec<LayerObjection>,
-    layer: &OneLayer,
-    objection: Objection,
-) -> Result<(), AllocError>
+fn push_one(all: &mut Noted, layer: &OneLayer, objection: Objection) -> Noting
     ensures { OnOk result (AddsOf layer.now all.old.items all.new.items
         (objection_in layer.now.ctx.tree.now objection ∷ [])) }
 {
@@ -113,11 +113,7 @@ fn push_one(
 
 /// Adds an objection of a layer, if there is one.
 #[tactic(auto, using(crate::proofs::Adding::adds_none))]
-pub(crate) fn push_any(
-    all: &mut Vec<LayerObjection>,
-    layer: &OneLayer,
-    objection: Option<Objection>,
-) -> Result<(), AllocError>
+pub(crate) fn push_any(all: &mut Noted, layer: &OneLayer, objection: Option<Objection>) -> Noting
     ensures { OnOk result (AddsOf layer.now all.old.items all.new.items
         (option_to_list (option_map (objection_in layer.now.ctx.tree.now) objection))) }
 {
@@ -129,11 +125,7 @@ pub(crate) fn push_any(
 
 /// Adds what a layer objects to in what is asked.
 #[tactic(auto, unfolding(crate::specs::Asking::objected))]
-fn push_objections(
-    all: &mut Vec<LayerObjection>,
-    layer: &OneLayer,
-    asked: &Asked,
-) -> Result<(), AllocError>
+fn push_objections(all: &mut Noted, layer: &OneLayer, asked: &Asked) -> Noting
     requires { IsAsked layer.now.ctx.tree.now asked.now }
     ensures { OnOk result (AddsOf layer.now all.old.items all.new.items
         (objected layer.now.ctx.tree.now asked.now (rules_of layer.now))) }
@@ -152,7 +144,7 @@ pub(crate) fn objections_of(
     alloc: Global,
     ctx: &Confinement,
     asked: &Asked,
-) -> Result<Vec<LayerObjection>, AllocError>
+) -> Result<Noted, AllocError>
     requires { IsAsked ctx.now.tree.now asked.now }
     ensures said { IfOk result (λ all. by_layer ctx.now.tree.now all.items
         ≡ objecting (objected ctx.now.tree.now asked.now) (stacked ctx.now)) }

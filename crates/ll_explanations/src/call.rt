@@ -14,7 +14,7 @@ use crate::asked::{Asked, objections_of};
 use crate::confinement::Confinement;
 use crate::kept::kept_by_descriptor;
 use crate::moved::move_request;
-use crate::objection::LayerObjection;
+use crate::objection::Noted;
 use ll_rights::{FsRight, Net};
 use ll_rules::{Errno, LayerSet, Move};
 use ll_semantics::{Wanted, wanted};
@@ -23,7 +23,7 @@ use ll_trace::{Op, PathText};
 use std::alloc::{AllocError, Global};
 
 /// What layers object to, layer after layer, or that memory ran out.
-pub(crate) type Objected = Result<Vec<LayerObjection>, AllocError>;
+pub(crate) type Objected = Result<Noted, AllocError>;
 
 /// What layers object to in what a call wants at a path.
 #[tactic(auto, unfolding(ll_reasons::specs::Objections::to_request, crate::specs::Asking::objected, crate::specs::Meanings::by_layer))]

@@ -2,7 +2,7 @@
 
 ghost use Rattle.std.specs.Prelude.{◌≡◌, ◌&&◌, if◌then◌else◌, not, option_and_then, option_map, slice_get};
 ghost use Rattle.std.specs.FinMap.{get};
-ghost use Rattle.ll_rights.specs.CodeRights.{fs_right, net_right};
+ghost use Rattle.ll_rights.specs.CodeRights.{net_right};
 ghost use Rattle.ll_rights.specs.Rights as files;
 ghost use Rattle.ll_rights.specs.NetRights as network;
 ghost use Rattle.ll_trace.specs.declared.op.Op.{Op};
@@ -12,7 +12,8 @@ ghost use Rattle.ll_reasons.specs.Origins.{Origins};
 ghost use Rattle.ll_trails.specs.TraceOrigins.{Follows};
 ghost use Rattle.ll_explanations.specs.Meanings.{condition_in, path_of_rule};
 
-use ll_rights::{Abi, Fs, FsRight, Net, NetRight};
+use crate::missing::{Test, passing};
+use ll_rights::{Abi, Fs, Net, NetRight};
 use ll_rules::Errno;
 use ll_trace::{Op, Record};
 use ll_trails::ProcessOrigins;
@@ -43,26 +44,12 @@ pub enum Condition {
     Other,
 }
 
-/// Whether a set has a right, and another hasn't.
-fn is_beyond(rights: Fs, whole: Fs, right: FsRight) -> bool
-    ensures { result
-        ≡ (files.has rights (fs_right right) && not (files.has whole (fs_right right))) }
-{
-    rights.has(right) && !whole.has(right)
-}
-
 /// The rights that a set has and another hasn't.
 fn beyond(rights: Fs, whole: Fs) -> Fs
     ensures { (right : files.FsRight)
         → files.has result right ≡ (files.has rights right && not (files.has whole right)) }
 {
-    let mut beyond = Fs::NONE;
-    for right in FsRight::all() {
-        if is_beyond(rights, whole, *right) {
-            beyond = beyond.union(right.set());
-        }
-    }
-    beyond
+    passing(Test::Beyond { rights, whole })
 }
 
 /// A right for ports, where a set has it and another hasn't; else none.
@@ -79,6 +66,7 @@ fn if_beyond(rights: Net, whole: Net, right: NetRight) -> Net
 }
 
 /// The rights for ports that a set has and another hasn't.
+#[tactic(auto, using(crate::proofs::Beyond::ports_beyond))]
 fn beyond_on_ports(rights: Net, whole: Net) -> Net
     ensures { (right : network.NetRight)
         → network.has result right ≡ (network.has rights right && not (network.has whole right)) }

@@ -2,8 +2,7 @@
 
 ghost use Rattle.std.specs.Prelude.{◌≡◌, ◌<◌, All, length, slice_get};
 ghost use Rattle.std.proofs.Props.{props};
-ghost use Rattle.ll_rules.specs.InTree.{AreInTree};
-ghost use Rattle.ll_rules.specs.KeptLayers.{IsDomainOf};
+ghost use Rattle.ll_rules.specs.{InTree.AreInTree, KeptLayers.IsDomainOf};
 
 use ll_rules::{Layer, LayerId};
 use ll_trails::ProcessOrigins;

@@ -6,8 +6,7 @@ ghost use Rattle.ll_process.specs.Cases.{IsCase};
 ghost use Rattle.ll_reasons.specs.Explanations.{origins_at};
 ghost use Rattle.ll_trails.specs.CaseTrails.{AreTrailsAt, IsAnswerAt};
 ghost use Rattle.ll_trails.specs.TraceOrigins.{Follows};
-ghost use Rattle.ll_explanations.specs.Explained.{Explains};
-ghost use Rattle.ll_explanations.specs.Kept.{is_silent};
+ghost use Rattle.ll_explanations.specs.{Explained.Explains, Kept.is_silent};
 
 use crate::call::objections_to;
 use crate::condition::{Condition, condition_of};

@@ -1,4 +1,5 @@
-//! The rights that a layer lacks on a node, and those that an object would gain in a directory, right by right.
+//! The rights that pass a test, right by right: those that a layer lacks on a node, that an object would gain in a
+//! directory, or that one set has and another hasn't.
 
 ghost use Rattle.std.specs.Prelude.{◌≡◌, ◌&&◌, ◌||◌, ◌∷◌, [], not};
 ghost use Rattle.ll_rights.specs.CodeRights.{fs_right};
@@ -13,13 +14,26 @@ use ll_rights::{Fs, FsRight};
 use ll_rules::{Domain, LayerId, check_path};
 use ll_tree::NodeId;
 
-/// A test that rights pass or don't under a layer.
+/// A test that rights pass or don't.
 #[derive(Clone, Copy)]
-pub(crate) enum Test {
-    /// Is it asked, and lacking on a node?
-    Lacking { node: NodeId, asked: Fs },
-    /// Would an object gain it in a directory?
-    Gaining { object: NodeId, directory: NodeId },
+pub(crate) enum Test<'a> {
+    /// Is it asked, and does a layer lack it on a node?
+    Lacking {
+        layer: &'a OneLayer<'a>,
+        node: NodeId,
+        asked: Fs,
+    },
+    /// Would an object gain it in a directory, under a layer?
+    Gaining {
+        layer: &'a OneLayer<'a>,
+        object: NodeId,
+        directory: NodeId,
+    },
+    /// Is it in a set, and not in another?
+    Beyond {
+        rights: Fs,
+        whole: Fs,
+    },
 }
 
 /// The domain of one layer.
@@ -87,26 +101,38 @@ fn is_gained(layer: &OneLayer, object: NodeId, directory: NodeId, right: FsRight
     is_won(lacking, holder, is_file_right(right), lacking_there)
 }
 
-/// Whether a right passes a test under a layer.
-fn does_pass(layer: &OneLayer, test: Test, right: FsRight) -> bool
-    requires { IsTest layer.now.ctx.tree.now test }
-    ensures { result ≡ passes layer.now.ctx.tree.now (rules_of layer.now) test (fs_right right) }
+/// Whether a set has a right, and another hasn't.
+fn is_beyond(rights: Fs, whole: Fs, right: FsRight) -> bool
+    ensures { result
+        ≡ (files.has rights (fs_right right) && not (files.has whole (fs_right right))) }
+{
+    rights.has(right) && !whole.has(right)
+}
+
+/// Whether a right passes a test.
+fn does_pass(test: Test, right: FsRight) -> bool
+    requires { IsTest test }
+    ensures { result ≡ passes test.entry (fs_right right) }
 {
     match test {
-        Test::Lacking { node, asked } => is_missing(layer, node, asked, right),
-        Test::Gaining { object, directory } => is_gained(layer, object, directory, right),
+        Test::Lacking { layer, node, asked } => is_missing(layer, node, asked, right),
+        Test::Gaining {
+            layer,
+            object,
+            directory,
+        } => is_gained(layer, object, directory, right),
+        Test::Beyond { rights, whole } => is_beyond(rights, whole, right),
     }
 }
 
-/// The rights that pass a test under a layer.
-pub(crate) fn passing(layer: &OneLayer, test: Test) -> Fs
-    requires { IsTest layer.now.ctx.tree.now test }
-    ensures { (right : files.FsRight)
-        → files.has result right ≡ passes layer.now.ctx.tree.now (rules_of layer.now) test right }
+/// The rights that pass a test.
+pub(crate) fn passing(test: Test) -> Fs
+    requires { IsTest test }
+    ensures { (right : files.FsRight) → files.has result right ≡ passes test.entry right }
 {
     let mut rights = Fs::NONE;
     for right in FsRight::all() {
-        if does_pass(layer, test, *right) {
+        if does_pass(test, *right) {
             rights = rights.union(right.set());
         }
     }

@@ -2,15 +2,13 @@
 
 ghost use Rattle.std.specs.Prelude.{◌≡◌, if◌then◌else◌, IfSome, is_some, option_map};
 ghost use Rattle.ll_tree.specs.Trees.{place};
-ghost use Rattle.ll_trace.specs.declared.op.Op.{Op};
-ghost use Rattle.ll_trace.specs.FirstPlaces.{first_place};
+ghost use Rattle.ll_trace.specs.{declared.op.Op.Op, FirstPlaces.first_place};
 ghost use Rattle.ll_semantics.specs.Requests.{wanted};
 ghost use Rattle.ll_reasons.specs.declared.why.Which.TheVariants.{First};
 ghost use Rattle.ll_reasons.specs.Meant.{path_named, reason_in, text_named};
 ghost use Rattle.ll_reasons.specs.Origins.{Origins};
 ghost use Rattle.ll_reasons.specs.Reasons.{no_object, not_for_writing, open_already, reason, spelt, unmet, unopened};
-ghost use Rattle.ll_trails.specs.Opened.{opened};
-ghost use Rattle.ll_trails.specs.TraceOrigins.{Follows};
+ghost use Rattle.ll_trails.specs.{Opened.opened, TraceOrigins.Follows};
 
 use ll_reasons::{Reason, no_object, unlinked, unmet, unrenamed};
 use ll_semantics::wanted;

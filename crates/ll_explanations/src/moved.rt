@@ -5,18 +5,15 @@ ghost use Rattle.ll_rights.specs.Rights.{has};
 ghost use Rattle.ll_tree.specs.Trees.{path_at};
 ghost use Rattle.ll_semantics.specs.Fits.{IsFitMove};
 ghost use Rattle.ll_reasons.specs.Objections.{on_crossing, on_directories, on_other_gain, on_path};
-ghost use Rattle.ll_explanations.specs.Adding.{AddsOf};
-ghost use Rattle.ll_explanations.specs.Confined.{rules_of};
-ghost use Rattle.ll_explanations.specs.MoveRequests.{IsMoveRequest};
+ghost use Rattle.ll_explanations.specs.{Adding.AddsOf, Confined.rules_of, MoveRequests.IsMoveRequest};
 ghost use Rattle.ll_explanations.specs.Meanings.{objection_in};
 
 use crate::asked::{gained, missing, push_any};
 use crate::confinement::OneLayer;
-use crate::objection::{LayerObjection, Objection};
+use crate::objection::{Noted, Noting, Objection};
 use ll_rights::Fs;
 use ll_rules::{How, Move, Target, entering, leaving};
 use ll_tree::{NodeId, Tree};
-use std::alloc::AllocError;
 
 /// A move, with its two directories and what it asks of them.
 #[derive(Clone, Copy)]
@@ -70,12 +67,12 @@ fn gained_other(layer: &OneLayer, request: &MoveRequest) -> Option<Objection>
 /// enters.
 #[tactic(auto, using(crate::proofs::Adding::adds_two))]
 fn push_missing(
-    all: &mut Vec<LayerObjection>,
+    all: &mut Noted,
     layer: &OneLayer,
     request: &MoveRequest,
     on_source: Fs,
     on_destination: Fs,
-) -> Result<(), AllocError>
+) -> Noting
     requires { IsMoveRequest layer.now.ctx.tree.now request.now }
     ensures { OnOk result (AddsOf layer.now all.old.items all.new.items
         (on_path (path_at layer.now.ctx.tree.now request.now.source)
@@ -93,11 +90,7 @@ fn push_missing(
 }
 
 /// Adds what a layer lacks of what a move asks of its two directories, in one objection if they are one.
-pub(crate) fn push_denied(
-    all: &mut Vec<LayerObjection>,
-    layer: &OneLayer,
-    request: &MoveRequest,
-) -> Result<(), AllocError>
+pub(crate) fn push_denied(all: &mut Noted, layer: &OneLayer, request: &MoveRequest) -> Noting
     requires { IsMoveRequest layer.now.ctx.tree.now request.now }
     ensures { OnOk result (AddsOf layer.now all.old.items all.new.items
         (on_directories layer.now.ctx.tree.now request.now.attempt (rules_of layer.now))) }
@@ -113,11 +106,7 @@ pub(crate) fn push_denied(
 
 /// Adds what keeps a move from leaving its directory under a layer: where `refer` is missing, and what objects would
 /// gain.
-pub(crate) fn push_held_back(
-    all: &mut Vec<LayerObjection>,
-    layer: &OneLayer,
-    request: &MoveRequest,
-) -> Result<(), AllocError>
+pub(crate) fn push_held_back(all: &mut Noted, layer: &OneLayer, request: &MoveRequest) -> Noting
     requires { IsMoveRequest layer.now.ctx.tree.now request.now }
     ensures { OnOk result (AddsOf layer.now all.old.items all.new.items
         (on_crossing layer.now.ctx.tree.now request.now.attempt (rules_of layer.now))) }

@@ -4,6 +4,7 @@ ghost use Rattle.std.specs.Prelude.{◌≡◌};
 
 use ll_rights::{Fs, FsRight, Net};
 use ll_tree::NodeId;
+use std::alloc::AllocError;
 use std::marker::Model;
 
 /// What a layer objects to in a call. Each variant stands for the objection of the same name in the definitions.
@@ -45,11 +46,17 @@ pub struct LayerObjection {
     pub objection: Objection,
 }
 
+/// Objections that are noted one by one.
+pub(crate) type Noted = Vec<LayerObjection>;
+
+/// That an objection was noted, or that memory ran out.
+pub(crate) type Noting = Result<(), AllocError>;
+
 /// What the layers that refuse a record object to: the objections of one layer stand side by side, and the layers rise.
 /// Contracts see the list.
 #[derive(Drop)]
 pub struct LayerObjections {
-    pub(crate) all: Vec<LayerObjection>,
+    pub(crate) all: Noted,
 }
 
 impl Model for LayerObjections {

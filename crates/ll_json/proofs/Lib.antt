@@ -1,12 +1,10 @@
 pub mod Writing
-pub mod Tokens
 pub mod Enclosing
 pub mod Printed
 pub mod PathsSpelt
 pub mod NamesTold
 pub mod LayersTold
 pub mod NumbersTold
-pub mod LinesTold
 pub mod Meant
 pub mod SpansSaid
 pub mod SaidAlike

@@ -38,12 +38,5 @@ text_of out (t ∷ ts) =
     ∙ ap (adding out.text) (append_assoc (separator out.after_value t) (token_text t) rest)
 
 -- of tokens that are written behind a text
-pub printed : (start text : Buffered) (done : Written) (ts : List Token) → done ≡ writing (begun start) ts → text ≡ done.text
-    → text ≡ adding start (print ts)
-printed start text done ts wrote is = is ∙ ap (λ (out : Written). out.text) wrote ∙ text_of (begun start) ts
-
--- the same of a text that was taken out of its place
-pub printed_behind : (start taken text : Buffered) (first done : Written) (ts : List Token) → taken ≡ start → first ≡ begun taken → done ≡ writing first ts
-    → text ≡ done.text → text ≡ adding start (print ts)
-printed_behind start taken text first done ts is_taken is_first wrote is =
-    printed start text done ts (wrote ∙ ap (λ (out : Written). writing out ts) (is_first ∙ ap begun is_taken)) is
+pub printed : (start : Buffered) (ts : List Token) → (writing (begun start) ts).text ≡ adding start (print ts)
+printed start ts = text_of (begun start) ts

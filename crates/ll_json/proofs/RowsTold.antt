@@ -2,7 +2,7 @@
 use Rattle.std.proofs.Common.{◌≡◌, ◌∙◌, ◌+◌, ◌-◌, ◌<◌, ◌≤◌, ℕ, zero, suc, Bool, true, false}
 use Rattle.std.proofs.Common.{cond, List, [], ◌∷◌, ◌++◌, Some, drop, get_or, length, map}
 use Rattle.std.proofs.Common.{refl, sym, ap, ap₂, subst, append_assoc, arith, codes}
-use Rattle.std.specs.Prelude.{bytes_eq, count_by, fold, if◌then◌else◌, slice_get}
+use Rattle.std.specs.Prelude.{bytes_eq, count_by, if◌then◌else◌, slice_get}
 use Rattle.std.specs.List.{flat_map, range_with_len}
 use Rattle.std.proofs.lemmas.List.Elements.{length_all_zip}
 use Rattle.std.proofs.lemmas.Option.{slice_get-get_or}
@@ -19,15 +19,19 @@ use Rattle.ll_semantics.specs.Worlds.{judged}
 use Rattle.ll_semantics.proofs.Steps.{length-judged}
 use Rattle.ll_explanations.specs.FindingValues.{FindingValue}
 use Rattle.ll_report.specs.declared.options.Shown.{Shown}
+use Rattle.ll_report.specs.Found.{Found, answer_at}
+use Rattle.ll_report.specs.Lines.{verdict_of}
 use Rattle.ll_report.specs.Made.{rows_of, text_of}
+use Rattle.ll_report.specs.Report.{is_refused, verdict_text}
 use Rattle.ll_report.specs.Rows.{answers_said, is_refused_under_some, is_row_left_out}
 use Rattle.ll_report.specs.Spans.{Span, spans_from, spans_of}
 use Rattle.ll_report.proofs.Making.{next_rows}
+use Rattle.ll_report.proofs.RowsSaid.{any_map, count_same, map_map, refused_alone}
 use Rattle.ll_report.specs.Versions.{answers_in, some_refuses}
 use Rattle.ll_json.specs.Judged.{AreFound, IsFound}
 use Rattle.ll_json.specs.Parts.{Named, line_text, named_tokens, values_tokens}
 use Rattle.ll_json.specs.Records.{about, answer_json, answer_members, members_at, members_with, record_json, record_of}
-use Rattle.ll_json.specs.Reports.{IsJsonReport, found_of, lines_from, row_line, said_under, totals_from, totals_json}
+use Rattle.ll_json.specs.Reports.{IsJsonReport, found_of, lines_from, row_line, said_under, total_json, totals_from, totals_json}
 use Rattle.ll_json.specs.Rows.{head_tokens, json_made, line_of, row_text, said_of, separated, span_text, versions_tokens}
 use Rattle.ll_json.specs.Spans.{answers_json, members_text, span_json}
 use Rattle.ll_json.specs.Versions.{Version}
@@ -212,48 +216,42 @@ line_printed r values text is =
 
 -- ---- what is answered under each version
 
-module _ (shown : Shown) (tree : List Entry) (later : List Record) where
-  answers_are : (versions : List Version) (findings : List FindingValue) → AreFound shown.explanations tree later versions findings
-      → (place : ℕ) → answers_said (answers_in findings) place ≡ answers_said (found_of shown tree versions) place
-  answers_are [] [] found place = refl
-  answers_are [] (finding ∷ others) found place = absurd found
-  answers_are (version ∷ newer) [] found place = absurd found
-  answers_are (version ∷ newer) (finding ∷ others) found place = rw (found.0.finds.answers, answers_are newer others found.1 place) refl
+-- what is found, without explanations
+abbrev bare : Found → Found
+bare found = record { answers = found.answers; explanations = [] }
 
-  refused_are : (versions : List Version) (findings : List FindingValue) → AreFound shown.explanations tree later versions findings
-      → (place : ℕ) → is_refused_under_some (answers_in findings) place ≡ is_refused_under_some (found_of shown tree versions) place
-  refused_are [] [] found place = refl
-  refused_are [] (finding ∷ others) found place = absurd found
-  refused_are (version ∷ newer) [] found place = absurd found
-  refused_are (version ∷ newer) (finding ∷ others) found place = rw (found.0.finds.answers, refused_are newer others found.1 place) refl
+bare_totals : (oldest : ℕ) (founds : List Found) → totals_from oldest (map bare founds) ≡ totals_from oldest founds
+unfolding totals_from
+bare_totals oldest [] = refl
+bare_totals oldest (found ∷ others) = ap (λ (totals : List Json). total_json oldest found ∷ totals) (bare_totals (oldest + 1) others)
 
-  some_are : (versions : List Version) (findings : List FindingValue) → AreFound shown.explanations tree later versions findings
-      → (place : ℕ) → some_refuses findings place ≡ is_refused_under_some (found_of shown tree versions) place
-  some_are [] [] found place = refl
-  some_are [] (finding ∷ others) found place = absurd found
-  some_are (version ∷ newer) [] found place = absurd found
-  some_are (version ∷ newer) (finding ∷ others) found place = rw (found.0.finds.answers, some_are newer others found.1 place) refl
+answered_alike : (shown : Shown) (tree : List Entry) (later : List Record) (versions : List Version) (findings : List FindingValue)
+    → AreFound shown.explanations tree later versions findings → answers_in findings ≡ map bare (found_of shown tree versions)
+answered_alike shown tree later [] [] found = refl
+answered_alike shown tree later [] (finding ∷ others) found = absurd found
+answered_alike shown tree later (version ∷ newer) [] found = absurd found
+answered_alike shown tree later (version ∷ newer) (finding ∷ others) found =
+    rw (found.0.finds.answers, answered_alike shown tree later newer others found.1) refl
 
-  totals_are : (oldest : ℕ) (versions : List Version) (findings : List FindingValue) → AreFound shown.explanations tree later versions findings
-      → totals_from oldest (answers_in findings) ≡ totals_from oldest (found_of shown tree versions)
-  unfolding totals_from
-  totals_are oldest [] [] found = refl
-  totals_are oldest [] (finding ∷ others) found = absurd found
-  totals_are oldest (version ∷ newer) [] found = absurd found
-  totals_are oldest (version ∷ newer) (finding ∷ others) found = rw (found.0.finds.answers, totals_are (oldest + 1) newer others found.1) refl
+module _ (shown : Shown) (tree : List Entry) (later : List Record) (versions : List Version) (findings : List FindingValue)
+    (found : AreFound shown.explanations tree later versions findings) where
+  answers_are : (place : ℕ) → answers_said (answers_in findings) place ≡ answers_said (found_of shown tree versions) place
+  answers_are place =
+      ap (λ (founds : List Found). answers_said founds place) (answered_alike shown tree later versions findings found)
+      ∙ map_map (λ (one : Found). verdict_text (verdict_of (answer_at one place))) bare (found_of shown tree versions)
+
+  refused_are : (place : ℕ) → is_refused_under_some (answers_in findings) place ≡ is_refused_under_some (found_of shown tree versions) place
+  refused_are place =
+      ap (λ (founds : List Found). is_refused_under_some founds place) (answered_alike shown tree later versions findings found)
+      ∙ any_map (λ (one : Found). is_refused (verdict_of (answer_at one place))) bare (found_of shown tree versions)
+
+  some_are : (place : ℕ) → some_refuses findings place ≡ is_refused_under_some (found_of shown tree versions) place
+  some_are place = sym (refused_alone findings place) ∙ refused_are place
+
+  totals_are : (oldest : ℕ) → totals_from oldest (answers_in findings) ≡ totals_from oldest (found_of shown tree versions)
+  totals_are oldest = ap (totals_from oldest) (answered_alike shown tree later versions findings found) ∙ bare_totals oldest (found_of shown tree versions)
 
 -- ---- the report
-
-module _ (f g : ℕ → Bool) (same : (n : ℕ) → f n ≡ g n) where
-  counted : (start : ℕ) (ns : List ℕ)
-      → fold (λ (a n : ℕ). a + cond (f n) 1 0) start ns ≡ fold (λ (a n : ℕ). a + cond (g n) 1 0) start ns
-  counted start [] = refl
-  counted start (n ∷ ns) =
-      counted (start + cond (f n) 1 0) ns
-      ∙ ap (λ (b : Bool). fold (λ (a n : ℕ). a + cond (g n) 1 0) (start + cond b 1 0) ns) (same n)
-
-  counts_are : (ns : List ℕ) → count_by f ns ≡ count_by g ns
-  counts_are ns = counted 0 ns
 
 module _ (shown : Shown) (oldest : ℕ) (tree : List Entry) (versions : List Version) (later : List Record) (findings : List FindingValue)
     (found : AreFound shown.explanations tree later versions findings) where
@@ -283,8 +281,9 @@ module _ (shown : Shown) (oldest : ℕ) (tree : List Entry) (versions : List Ver
   })
   report_is program = record {
     text = ap₂ (λ (rows : List ℕ) (totals : List Json). rows ++ line_text (totals_json totals program))
-        (rows_are 0 later (omega arith)) (totals_are shown tree later oldest versions findings found);
-    refused = counts_are _ _ (some_are shown tree later versions findings found) (range_with_len 0 (length later));
+        (rows_are 0 later (omega arith)) (totals_are shown tree later versions findings found oldest);
+    refused = count_same (some_refuses findings) (is_refused_under_some (found_of shown tree versions))
+        (some_are shown tree later versions findings found) (range_with_len 0 (length later));
   }
 
 -- ---- records of which the same is told

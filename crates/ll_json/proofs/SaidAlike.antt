@@ -10,13 +10,16 @@ use Rattle.ll_tree.specs.Trees.{Entry}
 use Rattle.ll_trace.specs.declared.record.Record.{Record}
 use Rattle.ll_semantics.specs.declared.answer.Answer.{Answer}
 use Rattle.ll_explanations.specs.FindingValues.{FindingValue}
-use Rattle.ll_explanations.specs.Findings.{answer_in, kept_at, said_by}
+use Rattle.ll_explanations.specs.Findings as findings
+use Rattle.ll_explanations.specs.Findings.{answer_in, kept_at}
 use Rattle.ll_explanations.specs.declared.explained.Explained.{Explained}
 use Rattle.ll_report.specs.Alike.{AnswerAs, AreAlike, ExplainAs}
-use Rattle.ll_report.specs.Scratches.{told_under}
+use Rattle.ll_report.specs.declared.sayings.Sayings.{Sayings}
+use Rattle.ll_report.specs.Sayings.{said_by}
+use Rattle.ll_report.specs.Scratches.{FitIn, ScratchValue, is_apart, told_under}
 use Rattle.ll_report.specs.Spans.{agree}
 use Rattle.ll_json.specs.Rows.{members_tokens, said_of}
-use Rattle.ll_json.specs.Telling.{members_told}
+use Rattle.ll_json.specs.Telling.{AreComparable, members_told}
 
 -- what two findings say of a record that they answer and explain alike
 said_alike : (explains : Bool) (place : ℕ) (one other : FindingValue) → answer_in one place ≡ answer_in other place
@@ -25,7 +28,7 @@ said_alike : (explains : Bool) (place : ℕ) (one other : FindingValue) → answ
 unfolding said_of
 said_alike true place one other answered explained tree records =
     ap₂ (λ (answer : Answer) (kept : Option Explained).
-    print (members_tokens tree records answer (said_by (slice_get records place) kept) ++ token.end_object ∷ []))
+    print (members_tokens tree records answer (findings.said_by (slice_get records place) kept) ++ token.end_object ∷ []))
     answered (explained refl)
 said_alike false place one other answered explained tree records =
     ap (λ (answer : Answer). print (members_tokens tree records answer None ++ token.end_object ∷ [])) answered
@@ -49,3 +52,13 @@ pub agree_alike : (explains : Bool) (tree : List Entry) (records : List Record) 
     → AreAlike explains findings place → agree (told_under (members_told explains) tree records findings place) ≡ true
 agree_alike explains tree records [] place are = refl
 agree_alike explains tree records (one ∷ others) place are = all_alike explains tree records place one others are.0 are.1
+
+-- what they say can be compared then
+pub comparable : (explains : Bool) (scratch : ScratchValue) (s : Sayings)
+    → (is_apart scratch s.place ≡ false → AreAlike explains s.findings.now s.place)
+    → (is_apart scratch s.place ≡ true → FitIn scratch.room (said_by (members_told explains) s))
+    → AreComparable (members_told explains) scratch s
+comparable explains scratch s alike fit = record {
+  same = λ together. agree_alike explains s.tree.now s.records.now s.findings.now s.place (alike together);
+  fit = fit;
+}

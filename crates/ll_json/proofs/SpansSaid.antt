@@ -11,7 +11,7 @@ use Rattle.ll_explain.proofs.Buffering.{adding_nothing}
 use Rattle.ll_report.specs.Spans.{Span, agree, spans_from, spans_of}
 use Rattle.ll_report.proofs.SpansLeft.{spans_from-last, spans_from-other, spans_from-same}
 use Rattle.ll_json.specs.Rows.{separated, span_text, versions_tokens}
-use Rattle.ll_json.proofs.Tokens.{put_2}
+use Rattle.ll_explain.proofs.Appending.{appended_2}
 
 abbrev comma : Bool → List ℕ
 comma behind = if behind then codes "," else []
@@ -22,7 +22,7 @@ pub span_added : (behind : Bool) (first last : ℕ) (said : List ℕ) (start mid
     → end ≡ adding start (comma behind ++ span_text (record { first = first; last = last; said = said }))
 span_added behind first last said start middle end fronted added =
     let front : List ℕ = print (versions_tokens first last) ++ codes "," in
-    put_2 start middle end (comma behind ++ front) said fronted added
+    appended_2 start middle end (comma behind ++ front) said fronted added
     ∙ ap (adding start) (append_assoc (comma behind) front said
     ∙ ap (λ (t : List ℕ). comma behind ++ t) (append_assoc (print (versions_tokens first last)) (codes ",") said))
 

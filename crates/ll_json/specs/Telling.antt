@@ -8,9 +8,19 @@ use Rattle.json.specs.Print.{print}
 use Rattle.json.specs.Token as token
 use Rattle.ll_semantics.specs.declared.answer.Answer.{Answer}
 use Rattle.ll_explanations.specs.FindingValues.{FindingValue}
-use Rattle.ll_explanations.specs.Findings.{answer_in, kept_at, said_by}
+use Rattle.ll_explanations.specs.Findings as findings
+use Rattle.ll_explanations.specs.Findings.{answer_in, kept_at}
 use Rattle.ll_explanations.specs.declared.explained.Explained.{Explained}
+use Rattle.ll_report.specs.declared.sayings.Sayings.{Sayings}
+use Rattle.ll_report.specs.Sayings.{said_by}
+use Rattle.ll_report.specs.Scratches.{FitIn, ScratchValue, is_apart}
+use Rattle.ll_report.specs.Spans.{agree}
 use Rattle.ll_json.specs.Rows.{members_tokens, said_of}
+
+-- what versions say of a record can be compared, or is known to be the same
+pub record AreComparable (told : List Entry → List Record → FindingValue → ℕ → List ℕ) (scratch : ScratchValue) (sayings : Sayings) : Type 0 where
+  pub same : is_apart scratch sayings.place ≡ false → agree (said_by told sayings) ≡ true
+  pub fit : is_apart scratch sayings.place ≡ true → FitIn scratch.room (said_by told sayings)
 
 abbrev pub members_told : Bool → List Entry → List Record → FindingValue → ℕ → List ℕ
 members_told explains tree records finding place = said_of explains tree records place finding
@@ -22,7 +32,7 @@ pub members_by_value : (explains : Bool) (tree : List Entry) (records : List Rec
 unfolding said_of
 members_by_value true tree records one other place answered explained =
     ap₂ (λ (answer : Answer) (kept : Option Explained).
-    print (members_tokens tree records answer (said_by (slice_get records place) kept) ++ token.end_object ∷ []))
+    print (members_tokens tree records answer (findings.said_by (slice_get records place) kept) ++ token.end_object ∷ []))
     answered explained
 members_by_value false tree records one other place answered explained =
     ap (λ (answer : Answer). print (members_tokens tree records answer None ++ token.end_object ∷ [])) answered

@@ -1,4 +1,5 @@
 //! How a record is answered, and why.
+#![tactic(auto, unfolding(crate::specs::Writing::writing))]
 
 ghost use Rattle.std.specs.Prelude.{◌≡◌, ◌∷◌, [], List, codes, map};
 ghost use Rattle.json.specs.Json.{string};
@@ -24,11 +25,10 @@ use crate::reasons::write_reason;
 use crate::words::{write_number, write_text};
 use ll_explanations::{Condition, Explanation};
 use ll_reasons::Reason;
-use ll_report::error_name;
+use ll_report::{Saying, error_name};
 use ll_rules::{Errno, LayerSet, MOST_LAYERS};
 use ll_semantics::Answer;
-use ll_trace::{Op, Record};
-use ll_tree::Tree;
+use ll_trace::Op;
 
 /// Writes a layer by its number alone.
 fn write_bare_layer(out: &mut JsonText, number: u32)
@@ -62,6 +62,7 @@ fn write_numbers(out: &mut JsonText, numbers: LayerSet)
 }
 
 /// Writes an array of the layers of a set, each by its number alone.
+#[tactic(auto, using(crate::proofs::Writing::writing_both, crate::proofs::Enclosing::values_end))]
 fn write_bare_layers(out: &mut JsonText, numbers: LayerSet)
     ensures { out.new ≡ writing out.old (json_tokens (array_of (map bare_layer numbers))) }
 {
@@ -74,16 +75,15 @@ fn write_bare_layers(out: &mut JsonText, numbers: LayerSet)
 #[tactic(auto, unfolding(crate::specs::Writing::writing, crate::specs::Values::layers_tokens))]
 fn write_layers_of(
     out: &mut JsonText,
-    tree: &Tree,
-    records: &[Record],
+    saying: &Saying<'_>,
     numbers: LayerSet,
     explanation: &Explanation,
 )
     ensures { out.new ≡ writing out.old
-        (layers_tokens tree.now records.now numbers explanation.now) }
+        (layers_tokens saying.now.tree.now saying.now.records.now numbers explanation.now) }
 {
     match explanation {
-        Explanation::Objections(all) => write_layers(out, tree, records, all.as_slice()),
+        Explanation::Objections(all) => write_layers(out, saying, all.as_slice()),
         Explanation::Nothing | Explanation::Failure(_) | Explanation::Mootness(_) => {
             write_bare_layers(out, numbers)
         }
@@ -134,19 +134,18 @@ fn write_refusal(out: &mut JsonText, error: Errno)
 /// Writes how a refused record is answered, and why.
 fn write_refused(
     out: &mut JsonText,
-    tree: &Tree,
-    records: &[Record],
+    saying: &Saying<'_>,
     op: &Op,
     error: Errno,
     numbers: LayerSet,
     explanation: &Explanation,
 )
-    ensures { out.new ≡ writing out.old (answer_tokens tree.now records.now op.now
-        (Refused error numbers) explanation.now) }
+    ensures { out.new ≡ writing out.old (answer_tokens saying.now.tree.now
+        saying.now.records.now op.now (Refused error numbers) explanation.now) }
 {
     write_refusal(out, error);
     out.write_key("layers");
-    write_layers_of(out, tree, records, numbers, explanation);
+    write_layers_of(out, saying, numbers, explanation);
     write_why(out, op, explanation);
 }
 
@@ -164,27 +163,20 @@ fn write_moot(out: &mut JsonText, op: &Op, explanation: &Explanation)
 #[tactic(auto, unfolding(crate::specs::Writing::writing, crate::specs::Values::answer_tokens))]
 pub(crate) fn write_answer_members(
     out: &mut JsonText,
-    tree: &Tree,
-    records: &[Record],
+    saying: &Saying<'_>,
     op: &Op,
     answer: Answer,
     explanation: &Explanation,
 )
-    ensures { out.new ≡ writing out.old
-        (answer_tokens tree.now records.now op.now answer explanation.now) }
+    ensures { out.new ≡ writing out.old (answer_tokens saying.now.tree.now
+        saying.now.records.now op.now answer explanation.now) }
 {
     match answer {
         Answer::Allowed => write_text(out, "answer", "allowed"),
         Answer::Moot => write_moot(out, op, explanation),
-        Answer::Refused(error, numbers) => write_refused(
-            out,
-            tree,
-            records,
-            op,
-            error,
-            numbers,
-            explanation,
-        ),
+        Answer::Refused(error, numbers) => {
+            write_refused(out, saying, op, error, numbers, explanation)
+        }
     }
 }
 

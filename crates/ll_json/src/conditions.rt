@@ -1,18 +1,17 @@
 //! Why calls fail by no layer.
+#![tactic(auto, unfolding(crate::specs::Writing::writing))]
 
 ghost use Rattle.std.specs.Prelude.{◌≡◌, ◌∷◌, [], codes};
-ghost use Rattle.json.specs.Json.{string};
-ghost use Rattle.json.specs.Tree.{json_tokens};
+ghost use Rattle.json.specs.{Json.string, Tree.json_tokens};
 ghost use Rattle.ll_rights.specs.Abis.{number_of};
 ghost use Rattle.ll_explanations.specs.Meanings as meanings;
 ghost use Rattle.ll_explanations.specs.Meanings.{condition_in};
 ghost use Rattle.ll_explanations.specs.Sets.{port_rights_in, rights_in};
-ghost use Rattle.ll_json.specs.Parts.{whole};
-ghost use Rattle.ll_json.specs.Writing.{writing};
+ghost use Rattle.ll_json.specs.{Parts.array_of, Parts.whole, Writing.writing};
 ghost use Rattle.ll_json.specs.Why.{by_condition, condition_json, port_rights_json, rights_json};
 
 use crate::json_text::JsonText;
-use crate::rights::{write_port_rights_as, write_rights_as};
+use crate::rights::{RightSet, write_rights_as};
 use crate::words::{begin_by, write_alone, write_number, write_numbered, write_text};
 use ll_explanations::Condition;
 use ll_rights::{Abi, Fs, Net};
@@ -38,14 +37,22 @@ fn write_portless(out: &mut JsonText, abi: Abi)
     write_numbered(out, "condition", "portless", "abi", abi.number())
 }
 
+/// Writes, by a word for it, which rights a ruleset doesn't handle.
+fn write_unhandled_as<R: RightSet>(out: &mut JsonText, word: &str, rights: R)
+    ensures { out.new ≡ writing out.old (json_tokens
+        (by_condition word.now ((codes "rights", array_of (R.words rights)) ∷ []))) }
+{
+    begin_by(out, "condition", word);
+    write_rights_as(out, "rights", rights);
+    out.end_object();
+}
+
 /// Writes which rights for files a ruleset doesn't handle.
 fn write_unhandled(out: &mut JsonText, rights: Fs)
     ensures { out.new ≡ writing out.old (json_tokens (by_condition (codes "unhandled")
         ((codes "rights", rights_json (rights_in rights)) ∷ []))) }
 {
-    begin_by(out, "condition", "unhandled");
-    write_rights_as(out, "rights", rights);
-    out.end_object();
+    write_unhandled_as(out, "unhandled", rights);
 }
 
 /// Writes which rights for ports a ruleset doesn't handle.
@@ -53,9 +60,7 @@ fn write_unhandled_on_ports(out: &mut JsonText, rights: Net)
     ensures { out.new ≡ writing out.old (json_tokens (by_condition (codes "unhandled_on_ports")
         ((codes "rights", port_rights_json (port_rights_in rights)) ∷ []))) }
 {
-    begin_by(out, "condition", "unhandled_on_ports");
-    write_port_rights_as(out, "rights", rights);
-    out.end_object();
+    write_unhandled_as(out, "unhandled_on_ports", rights);
 }
 
 /// The path of the call, if it adds a rule for one, or no text.
@@ -81,7 +86,7 @@ fn write_only_for_directories(out: &mut JsonText, op: &Op, rights: Fs)
 }
 
 /// Writes why a call fails by no layer.
-#[tactic(auto, unfolding(crate::specs::Writing::writing, ll_explanations::specs::Meanings::condition_in, crate::specs::Why::condition_json))]
+#[tactic(auto, unfolding(ll_explanations::specs::Meanings::condition_in, crate::specs::Why::condition_json))]
 pub(crate) fn write_condition(out: &mut JsonText, op: &Op, condition: &Condition)
     ensures { out.new ≡ writing out.old
         (json_tokens (condition_json (condition_in op.now condition.now))) }

@@ -1,4 +1,5 @@
 //! JSON, put token by token into a buffer of fixed size.
+#![tactic(auto, unfolding(crate::specs::Writing::writing))]
 
 ghost use Rattle.std.specs.Prelude.{◌≡◌, ◌∷◌, ◌++◌, [], codes, decimal, true};
 ghost use Rattle.json.specs.Print.{quoted};
@@ -26,6 +27,7 @@ impl Model for JsonText {
 }
 
 /// Adds a text between quotes, as JSON writes it.
+#[tactic(auto, using(ll_explain::proofs::Buffering::adding_both))]
 fn push_quoted(text: &mut TextBuffer, words: &str)
     ensures { text.new ≡ adding text.old (quoted words.now) }
 {
@@ -35,6 +37,7 @@ fn push_quoted(text: &mut TextBuffer, words: &str)
 }
 
 /// Adds the name of a member, with its colon.
+#[tactic(auto, using(ll_explain::proofs::Buffering::adding_both))]
 fn push_name(text: &mut TextBuffer, name: &str)
     ensures { text.new ≡ adding text.old (quoted name.now ++ codes ":") }
 {
@@ -42,7 +45,7 @@ fn push_name(text: &mut TextBuffer, name: &str)
     push_words(text, ":");
 }
 
-#[tactic(auto, using(crate::proofs::Tokens::put_2, crate::proofs::Tokens::put_3), unfolding(crate::specs::Writing::with_token, crate::specs::Writing::writing))]
+#[tactic(auto, using(ll_explain::proofs::Buffering::adding_both), unfolding(crate::specs::Writing::with_token, crate::specs::Writing::writing))]
 impl JsonText {
     /// JSON behind what a buffer contains.
     pub(crate) fn behind(text: TextBuffer) -> JsonText
@@ -87,19 +90,22 @@ impl JsonText {
         self.after_value = ends;
     }
 
+    /// Puts a bracket, which ends a value.
+    fn end(&mut self, bracket: &str)
+        ensures { self.new ≡ record {
+          text = adding self.old.text bracket.now;
+          after_value = true;
+        } }
+    {
+        push_words(&mut self.text, bracket);
+        self.after_value = true;
+    }
+
     /// Begins an object.
     pub(crate) fn begin_object(&mut self)
         ensures { self.new ≡ writing self.old (token.begin_object ∷ []) }
     {
         self.put("{", false);
-    }
-
-    /// Ends an object.
-    pub(crate) fn end_object(&mut self)
-        ensures { self.new ≡ writing self.old (token.end_object ∷ []) }
-    {
-        push_words(&mut self.text, "}");
-        self.after_value = true;
     }
 
     /// Begins an array.
@@ -109,12 +115,18 @@ impl JsonText {
         self.put("[", false);
     }
 
+    /// Ends an object.
+    pub(crate) fn end_object(&mut self)
+        ensures { self.new ≡ writing self.old (token.end_object ∷ []) }
+    {
+        self.end("}");
+    }
+
     /// Ends an array.
     pub(crate) fn end_array(&mut self)
         ensures { self.new ≡ writing self.old (token.end_array ∷ []) }
     {
-        push_words(&mut self.text, "]");
-        self.after_value = true;
+        self.end("]");
     }
 
     /// Writes the name of a member.

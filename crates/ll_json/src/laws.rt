@@ -1,10 +1,8 @@
 //! What some values say.
 
 ghost use Rattle.std.specs.Prelude.{◌≡◌, ◌∷◌, [], Some, codes, false};
-ghost use Rattle.json.specs.Print.{print};
-ghost use Rattle.json.specs.Tree.{json_tokens};
-ghost use Rattle.ll_rights.specs.declared.abi.Abi.TheVariants.{V4};
-ghost use Rattle.ll_rights.specs.declared.kind.Kind.TheVariants.{Fifo};
+ghost use Rattle.json.specs.{Print.print, Tree.json_tokens};
+ghost use Rattle.ll_rights.specs.{declared.abi.Abi.TheVariants.V4, declared.kind.Kind.TheVariants.Fifo};
 ghost use Rattle.ll_rights.specs.Rights.{other, read_file, refer, truncate, write_file};
 ghost use Rattle.ll_rights.specs.NetRights.{bind_tcp};
 ghost use Rattle.ll_rules.specs.declared.errno.Errno.TheVariants.{XDev};

@@ -1,5 +1,5 @@
 //! The report as JSON Lines, record after record of a trace that was judged.
-#![tactic(auto, unfolding(crate::specs::Writing::writing))]
+#![tactic(auto)]
 
 mod answers;
 mod conditions;

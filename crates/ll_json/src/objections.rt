@@ -1,4 +1,5 @@
 //! What layers object to.
+#![tactic(auto, unfolding(crate::specs::Writing::writing))]
 
 ghost use Rattle.std.specs.Prelude.{◌≡◌, ◌∷◌, ◌++◌, [], true, codes, decimal, option_and_then, slice_get};
 ghost use Rattle.json.specs.Json.{boolean, string};
@@ -17,10 +18,11 @@ ghost use Rattle.ll_json.specs.Writing.{writing};
 ghost use Rattle.ll_json.specs.Why.{objection_json, path_json, port_rights_json, rights_json};
 
 use crate::json_text::JsonText;
-use crate::rights::{write_port_rights_as, write_rights_as};
+use crate::rights::write_rights_as;
 use crate::words::{write_number, write_text};
 use ll_explain::{line_at, line_made, text_at, word_for};
 use ll_explanations::{LayerObjection, Objection};
+use ll_report::Saying;
 use ll_rights::{Fs, FsRight, Net};
 use ll_trace::{Op, Record};
 use ll_tree::{NodeId, Tree};
@@ -44,7 +46,7 @@ fn write_closed(out: &mut JsonText, rights: Net, port: u16)
         ∷ (codes "port", whole port) ∷ []))) }
 {
     out.begin_object();
-    write_port_rights_as(out, "closed", rights);
+    write_rights_as(out, "closed", rights);
     write_number(out, "port", port as u64);
     out.end_object();
 }
@@ -124,20 +126,20 @@ fn write_kept(out: &mut JsonText, records: &[Record], right: FsRight, opened: u3
 
 /// Writes what is objected to.
 #[tactic(auto, unfolding(crate::specs::Writing::writing, crate::specs::Why::objection_json))]
-fn write_objection(out: &mut JsonText, tree: &Tree, records: &[Record], objection: &Objection)
-    ensures { out.new ≡ writing out.old
-        (json_tokens (objection_json records.now (objection_in tree.now objection.now))) }
+fn write_objection(out: &mut JsonText, saying: &Saying<'_>, objection: &Objection)
+    ensures { out.new ≡ writing out.old (json_tokens (objection_json saying.now.records.now
+        (objection_in saying.now.tree.now objection.now))) }
 {
     match objection {
-        Objection::Missing { rights, node } => write_missing(out, tree, *rights, *node),
+        Objection::Missing { rights, node } => write_missing(out, saying.tree, *rights, *node),
         Objection::Closed { rights, port } => write_closed(out, *rights, *port),
         Objection::Gained {
             object,
             rights,
             directory,
-        } => write_gained(out, tree, *object, *rights, *directory),
+        } => write_gained(out, saying.tree, *object, *rights, *directory),
         Objection::Mounting => write_mounting(out),
-        Objection::Kept { right, opened } => write_kept(out, records, *right, *opened),
+        Objection::Kept { right, opened } => write_kept(out, saying.records, *right, *opened),
     }
 }
 
@@ -179,42 +181,35 @@ fn write_opening(out: &mut JsonText, records: &[Record], before: u64, one: &Laye
 
 /// Writes one objection behind those before it.
 #[tactic(auto, unfolding(crate::specs::Writing::writing, crate::specs::Layering::next_tokens))]
-fn write_next(
-    out: &mut JsonText,
-    tree: &Tree,
-    records: &[Record],
-    before: u64,
-    one: &LayerObjection,
-)
-    ensures { out.new ≡ writing out.old (next_tokens tree.now records.now before one.now) }
+fn write_next(out: &mut JsonText, saying: &Saying<'_>, before: u64, one: &LayerObjection)
+    ensures { out.new ≡ writing out.old
+        (next_tokens saying.now.tree.now saying.now.records.now before one.now) }
 {
-    write_opening(out, records, before, one);
-    write_objection(out, tree, records, &one.objection);
+    write_opening(out, saying.records, before, one);
+    write_objection(out, saying, &one.objection);
 }
 
 /// Writes all layers that object.
-fn write_each(out: &mut JsonText, tree: &Tree, records: &[Record], all: &[LayerObjection])
-    ensures { out.new ≡ writing out.old (objections_from tree.now records.now 0 all.now) }
+#[tactic(auto, unfolding(crate::specs::Writing::writing, crate::specs::Layering::objections_from))]
+fn write_each(out: &mut JsonText, saying: &Saying<'_>, all: &[LayerObjection])
+    ensures { out.new ≡ writing out.old
+        (objections_from saying.now.tree.now saying.now.records.now 0 all.now) }
 {
     let mut before = 0;
     for one in all {
-        write_next(out, tree, records, before, one);
+        write_next(out, saying, before, one);
         before = one.layer;
     }
     write_ending(out, before);
 }
 
 /// Writes an array of all layers that object.
-pub(crate) fn write_layers(
-    out: &mut JsonText,
-    tree: &Tree,
-    records: &[Record],
-    all: &[LayerObjection],
-)
+pub(crate) fn write_layers(out: &mut JsonText, saying: &Saying<'_>, all: &[LayerObjection])
     ensures { out.new ≡ writing out.old (token.begin_array
-        ∷ (objections_from tree.now records.now 0 all.now ++ token.end_array ∷ [])) }
+        ∷ (objections_from saying.now.tree.now saying.now.records.now 0 all.now
+        ++ token.end_array ∷ [])) }
 {
     out.begin_array();
-    write_each(out, tree, records, all);
+    write_each(out, saying, all);
     out.end_array();
 }

@@ -1,4 +1,5 @@
 //! Why the policy isn't asked.
+#![tactic(auto, unfolding(crate::specs::Writing::writing))]
 
 ghost use Rattle.std.specs.Prelude.{◌≡◌, ◌∷◌, [], IsTrue, codes, is_some};
 ghost use Rattle.json.specs.Json.{string};
@@ -103,7 +104,7 @@ fn write_both(out: &mut JsonText, op: &Op, word: &str)
 }
 
 /// Writes why the policy isn't asked.
-#[tactic(auto, unfolding(crate::specs::Writing::writing, ll_reasons::specs::Meant::reason_in, crate::specs::Why::reason_json))]
+#[tactic(auto, unfolding(ll_reasons::specs::Meant::reason_in, crate::specs::Why::reason_json))]
 pub(crate) fn write_reason(out: &mut JsonText, op: &Op, reason: &Reason)
     ensures { out.new ≡ writing out.old (json_tokens (reason_json (reason_in op.now reason.now))) }
 {

@@ -1,11 +1,9 @@
 //! The report as JSON: a line for each record that is shown, and one with the totals of each version.
+#![tactic(auto, unfolding(crate::specs::Writing::writing))]
 
 ghost use Rattle.std.specs.Prelude.{◌≡◌, ◌+◌, ◌<◌, ◌^◌, IfOk, List, length};
 ghost use Rattle.ll_report.specs.Scratches.{Suits};
-ghost use Rattle.ll_json.specs.Judged.{AreFound};
-ghost use Rattle.ll_json.specs.Reports.{IsJsonReport};
-ghost use Rattle.ll_json.specs.Rows.{json_made};
-ghost use Rattle.ll_json.specs.Telling.{members_told};
+ghost use Rattle.ll_json.specs.{Judged.AreFound, Reports.IsJsonReport, Rows.json_made, Telling.members_told};
 ghost use Rattle.ll_json.specs.Versions.{Version};
 
 use crate::rows::push_line;
@@ -33,10 +31,8 @@ pub struct JsonRows<'p> {
 
 impl<'p> Model for JsonRows<'p> {
     ghost use Rattle.std.specs.Prelude.{◌+◌, ◌<◌, ◌^◌, length};
-    ghost use Rattle.ll_report.specs.Made.{Made};
-    ghost use Rattle.ll_report.specs.Scratches.{Suits};
-    ghost use Rattle.ll_json.specs.Rows.{json_made};
-    ghost use Rattle.ll_json.specs.Telling.{members_told};
+    ghost use Rattle.ll_report.specs.{Made.Made, Scratches.Suits};
+    ghost use Rattle.ll_json.specs.{Rows.json_made, Telling.members_told};
 
     ghost Value = { Made };
 
@@ -66,32 +62,6 @@ fn scratch_for(
     }
 }
 
-impl<'p> JsonRows<'p> {
-    /// The rows of a report, with room for what is compared when they are printed.
-    pub fn of(
-        alloc: Global,
-        located: Located,
-        findings: Vec<Finding>,
-        shown: Shown,
-        oldest: u64,
-        program: &'p str,
-    ) -> Result<JsonRows<'p>, AllocError>
-        requires { oldest + length findings.items < 2 ^ 64 }
-        ensures { IfOk result (λ rows. rows ≡ json_made shown oldest located.tree located.trace
-            findings.items program.now) }
-    {
-        let scratch = scratch_for(alloc, &located, &findings, shown.explanations)?;
-        Ok(JsonRows {
-            located,
-            findings,
-            shown,
-            oldest,
-            program,
-            scratch,
-        })
-    }
-}
-
 impl<'p> Rows for JsonRows<'p> {
     ghost made_of = { λ made. made };
 
@@ -100,11 +70,11 @@ impl<'p> Rows for JsonRows<'p> {
     }
 
     fn push_row(&mut self, text: &mut TextBuffer, place: usize) {
-        let located = &self.located;
-        let records = located.trace.records();
+        let Located { tree, trace, .. } = &self.located;
+        let records = trace.records();
         let found = &records[place];
         let sayings = Sayings {
-            tree: &located.tree,
+            tree,
             records,
             findings: &self.findings,
             place,
@@ -144,6 +114,14 @@ pub fn json_report<'p>(
         → IsJsonReport shown located.tree oldest versions located.trace program.now report) }
 {
     let refused = refused_under_some(&findings, located.trace.records().len());
-    let rows = JsonRows::of(alloc, located, findings, shown, oldest, program)?;
+    let scratch = scratch_for(alloc, &located, &findings, shown.explanations)?;
+    let rows = JsonRows {
+        located,
+        findings,
+        shown,
+        oldest,
+        program,
+        scratch,
+    };
     RowReport::of(alloc, rows, refused)
 }

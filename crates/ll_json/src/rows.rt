@@ -1,15 +1,13 @@
 //! The lines of records.
+#![tactic(auto, unfolding(crate::specs::Writing::writing))]
 
 ghost use Rattle.std.specs.Prelude.{◌≡◌, ◌+◌, ◌<◌, ◌^◌, false, length, true};
 ghost use Rattle.json.specs.Print.{print};
 ghost use Rattle.ll_explain.specs.Buffers.{adding};
-ghost use Rattle.ll_report.specs.Alike.{AreAlike};
-ghost use Rattle.ll_report.specs.Sayings.{said_by};
+ghost use Rattle.ll_report.specs.{Alike.AreAlike, Sayings.said_by};
 ghost use Rattle.ll_report.specs.Scratches.{FitIn, is_apart};
-ghost use Rattle.ll_report.specs.Spans.{agree};
 ghost use Rattle.ll_json.specs.Rows.{head_tokens, line_of};
-ghost use Rattle.ll_json.specs.Telling.{members_told};
-ghost use Rattle.ll_json.specs.Writing.{writing};
+ghost use Rattle.ll_json.specs.{Telling.AreComparable, Telling.members_told, Writing.writing};
 
 use crate::json_text::JsonText;
 use crate::said::{BareMembers, Members};
@@ -32,6 +30,7 @@ fn write_head(out: &mut JsonText, found: &Record)
 }
 
 /// Adds which record a line is about.
+#[tactic(auto, using(crate::proofs::Printed::printed))]
 fn push_head(text: &mut TextBuffer, found: &Record)
     ensures { text.new ≡ adding text.old (print (head_tokens found.now)) }
 {
@@ -41,6 +40,7 @@ fn push_head(text: &mut TextBuffer, found: &Record)
 }
 
 /// Adds the line of a record, with the answers of neighbouring versions, of which the oldest has this number.
+#[tactic(auto, using(ll_explain::proofs::Buffering::adding_both))]
 fn push_line_as<T: Telling>(
     text: &mut TextBuffer,
     scratch: &mut Scratch,
@@ -49,10 +49,7 @@ fn push_line_as<T: Telling>(
     oldest: u64,
 )
     requires few { oldest + length sayings.now.findings.now < 2 ^ 64 }
-    requires same { is_apart scratch.old sayings.now.place ≡ false
-        → agree (said_by T.told sayings.now) ≡ true }
-    requires fit { is_apart scratch.old sayings.now.place ≡ true
-        → FitIn scratch.old.room (said_by T.told sayings.now) }
+    requires comparable { AreComparable T.told scratch.old sayings.now }
     ensures text { text.new
         ≡ adding text.old (line_of oldest found.now (said_by T.told sayings.now)) }
     ensures scratch { scratch.new ≡ scratch.old }

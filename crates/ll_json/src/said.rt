@@ -1,4 +1,5 @@
 //! What a version says of a record: the members of its answer, with its explanation or without.
+#![tactic(auto, unfolding(crate::specs::Writing::writing))]
 
 ghost use Rattle.std.specs.Prelude.{◌≡◌, ◌∷◌, ◌++◌, [], None, if◌then◌else◌, false, option_map, true};
 ghost use Rattle.json.specs.Token as token;
@@ -12,26 +13,22 @@ use crate::answers::{write_answer_members, write_plain_members};
 use crate::json_text::JsonText;
 use ll_explain::TextBuffer;
 use ll_explanations::{Explanation, Finding};
-use ll_report::Telling;
+use ll_report::{Saying, Telling};
 use ll_semantics::Answer;
 use ll_trace::{Op, Record};
-use ll_tree::Tree;
 
 /// Writes the members of an answer, with the explanation of the call, if there is one.
 fn write_members(
     out: &mut JsonText,
-    tree: &Tree,
-    records: &[Record],
+    saying: &Saying<'_>,
     answer: Answer,
     said: Option<(&Op, &Explanation)>,
 )
-    ensures { out.new ≡ writing out.old (members_tokens tree.now records.now answer
-        (option_map (λ said. (said.0.now, said.1.now)) said.entry)) }
+    ensures { out.new ≡ writing out.old (members_tokens saying.now.tree.now
+        saying.now.records.now answer (option_map (λ said. (said.0.now, said.1.now)) said.entry)) }
 {
     match said {
-        Some((op, explanation)) => {
-            write_answer_members(out, tree, records, op, answer, explanation)
-        }
+        Some((op, explanation)) => write_answer_members(out, saying, op, answer, explanation),
         None => write_plain_members(out, answer),
     }
 }
@@ -53,74 +50,50 @@ fn explained_if<'f>(
     }
 }
 
-/// Writes what a version says of the record at a place, to the end of the object.
-fn write_said(
-    out: &mut JsonText,
-    explains: bool,
-    tree: &Tree,
-    records: &[Record],
-    finding: &Finding,
-    place: usize,
-)
-    ensures { out.new
-        ≡ writing out.old (said_tokens explains tree.now records.now place finding.now) }
+/// Writes what a version says of the record, to the end of the object.
+fn write_said(out: &mut JsonText, explains: bool, saying: &Saying<'_>)
+    ensures { out.new ≡ writing out.old (said_tokens explains saying.now.tree.now
+        saying.now.records.now saying.now.place saying.now.finding.now) }
 {
-    let said = explained_if(explains, finding, records, place);
-    write_members(out, tree, records, finding.answer(place), said);
+    let said = explained_if(explains, saying.finding, saying.records, saying.place);
+    let answer = saying.finding.answer(saying.place);
+    write_members(out, saying, answer, said);
     out.end_object();
 }
 
-/// Adds what a version says of the record at a place, to the end of the object.
-fn push_said(
-    text: &mut TextBuffer,
-    explains: bool,
-    tree: &Tree,
-    records: &[Record],
-    finding: &Finding,
-    place: usize,
-)
-    ensures { text.new
-        ≡ adding text.old (said_of explains tree.now records.now place finding.now) }
+/// Adds what a version says of the record, to the end of the object.
+#[tactic(auto, using(crate::proofs::Printed::printed), unfolding(crate::specs::Rows::said_of))]
+fn push_said(text: &mut TextBuffer, explains: bool, saying: &Saying<'_>)
+    ensures { text.new ≡ adding text.old (said_of explains saying.now.tree.now
+        saying.now.records.now saying.now.place saying.now.finding.now) }
 {
     let mut out = JsonText::behind(text.take());
-    write_said(&mut out, explains, tree, records, finding, place);
+    write_said(&mut out, explains, saying);
     *text = out.into_text();
 }
 
 /// The members of answers, with their explanations.
 pub(crate) struct Members;
 
+/// The members of answers, without explanations.
+pub(crate) struct BareMembers;
+
 impl Telling for Members {
     ghost told = { members_told true };
 
     ghost by_value = { members_by_value true };
 
-    fn push(
-        text: &mut TextBuffer,
-        tree: &Tree,
-        records: &[Record],
-        finding: &Finding,
-        place: usize,
-    ) {
-        push_said(text, true, tree, records, finding, place);
+    fn push(text: &mut TextBuffer, saying: &Saying<'_>) {
+        push_said(text, true, saying);
     }
 }
-
-/// The members of answers, without explanations.
-pub(crate) struct BareMembers;
 
 impl Telling for BareMembers {
     ghost told = { members_told false };
 
     ghost by_value = { members_by_value false };
 
-    fn push(
-        text: &mut TextBuffer,
-        tree: &Tree,
-        records: &[Record],
-        finding: &Finding,
-        place: usize,
-    ) {
-        push_said(text, false, tree, records, finding, place);
+    fn push(text: &mut TextBuffer, saying: &Saying<'_>) {
+        push_said(text, false, saying);
     }
 }

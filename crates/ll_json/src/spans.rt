@@ -1,13 +1,14 @@
 //! The answers of neighbouring versions to a record.
+#![tactic(auto, unfolding(crate::specs::Writing::writing))]
 
 ghost use Rattle.std.specs.Prelude.{◌≡◌, ◌+◌, ◌++◌, ◌<◌, ◌^◌, [], codes, false, get_or, if◌then◌else◌, length, nat_lt, true};
 ghost use Rattle.json.specs.Print.{print};
 ghost use Rattle.ll_explain.specs.Buffers.{adding};
 ghost use Rattle.ll_report.specs.Sayings.{said_by};
-ghost use Rattle.ll_report.specs.Scratches.{FitIn, is_apart};
+ghost use Rattle.ll_report.specs.Scratches.{FitIn};
 ghost use Rattle.ll_report.specs.Spans.{agree, spans_of};
 ghost use Rattle.ll_json.specs.Rows.{separated, span_text, versions_tokens};
-ghost use Rattle.ll_json.specs.Writing.{writing};
+ghost use Rattle.ll_json.specs.{Telling.AreComparable, Writing.writing};
 
 use crate::json_text::JsonText;
 use ll_explain::{TextBuffer, push_words};
@@ -26,6 +27,7 @@ fn write_versions(out: &mut JsonText, first: u64, last: u64)
 }
 
 /// Adds the beginning of an answer.
+#[tactic(auto, using(crate::proofs::Printed::printed))]
 fn push_versions(text: &mut TextBuffer, first: u64, last: u64)
     ensures { text.new ≡ adding text.old (print (versions_tokens first last)) }
 {
@@ -35,6 +37,7 @@ fn push_versions(text: &mut TextBuffer, first: u64, last: u64)
 }
 
 /// Adds the beginning of an answer, behind another one or the first of all, to the comma before its members.
+#[tactic(auto, using(ll_explain::proofs::Buffering::adding_both))]
 fn push_range(text: &mut TextBuffer, behind: bool, first: u64, last: u64)
     ensures { text.new ≡ adding text.old ((if behind then codes "," else [])
         ++ (print (versions_tokens first last) ++ codes ",")) }
@@ -114,10 +117,7 @@ pub(crate) fn push_answers<T: Telling>(
     oldest: u64,
 )
     requires few { oldest + length sayings.now.findings.now < 2 ^ 64 }
-    requires same { is_apart scratch.old sayings.now.place ≡ false
-        → agree (said_by T.told sayings.now) ≡ true }
-    requires fit { is_apart scratch.old sayings.now.place ≡ true
-        → FitIn scratch.old.room (said_by T.told sayings.now) }
+    requires comparable { AreComparable T.told scratch.old sayings.now }
     ensures text { text.new
         ≡ adding text.old (separated false (spans_of oldest (said_by T.told sayings.now))) }
     ensures scratch { scratch.new ≡ scratch.old }

@@ -5,7 +5,7 @@ use ll_explanations::Finding;
 use ll_fixtures::TREE;
 use ll_pool::judge_alone;
 use ll_process::Case;
-use ll_report::{Report, Shown};
+use ll_report::{ALL_LINES, Report, Shown};
 use ll_rights::Abi;
 use ll_trace::{Located, Trace};
 use ll_tree::Tree;
@@ -59,6 +59,18 @@ const REFUSED: &str = "\
 {\"line\":10,\"pid\":10,\"op\":\"add_path\",\"answers\":[{\"abi\":[4,4],\"answer\":\"refused\",\"error\":\"EINVAL\",\"layers\":[]}]}\n\
 {\"totals\":[{\"abi\":4,\"records\":12,\"allowed\":6,\"refused\":5,\"moot\":1}],\"version\":\"7.8.9\"}\n";
 
+/// All lines, with explanations.
+const EXPLANATIONS: Shown = Shown {
+    explanations: true,
+    ..ALL_LINES
+};
+
+/// The lines of refused records, without explanations.
+const REFUSED_LINES: Shown = Shown {
+    refused_alone: true,
+    ..ALL_LINES
+};
+
 /// The report on the trace under ABI 4.
 fn report_on_trace(alloc: Global, shown: Shown) -> Result<Report, Fail> {
     let tree = Tree::read(alloc, TREE.as_bytes())?;
@@ -73,26 +85,12 @@ fn report_on_trace(alloc: Global, shown: Shown) -> Result<Report, Fail> {
 }
 
 #[test]
-fn explained_records(rt: HostRuntime) -> Result<(), Fail> {
-    let shown = Shown {
-        explanations: true,
-        refused_alone: false,
-        differing_alone: false,
-    };
-    let report = report_on_trace(rt.alloc(), shown)?;
-    assert_eq!(rt; str::from_utf8(&report.bytes)?, EXPLAINED);
-    assert_eq!(rt; report.refused, 5);
-    Ok(())
-}
-
-#[test]
-fn refused_records_alone(rt: HostRuntime) -> Result<(), Fail> {
-    let shown = Shown {
-        explanations: false,
-        refused_alone: true,
-        differing_alone: false,
-    };
-    let report = report_on_trace(rt.alloc(), shown)?;
-    assert_eq!(rt; str::from_utf8(&report.bytes)?, REFUSED);
+fn whole_reports(rt: HostRuntime) -> Result<(), Fail> {
+    let explained = report_on_trace(rt.alloc(), EXPLANATIONS)?;
+    assert_eq!(rt; str::from_utf8(&explained.bytes)?, EXPLAINED);
+    assert_eq!(rt; explained.refused, 5);
+    let refused = report_on_trace(rt.alloc(), REFUSED_LINES)?;
+    assert_eq!(rt; str::from_utf8(&refused.bytes)?, REFUSED);
+    assert_eq!(rt; refused.refused, 5);
     Ok(())
 }

@@ -1,13 +1,13 @@
 //! The last line: the totals of each version.
+#![tactic(auto, unfolding(crate::specs::Writing::writing))]
 
 ghost use Rattle.std.specs.Prelude.{◌≡◌, ◌+◌, ◌∷◌, ◌++◌, ◌<◌, ◌^◌, [], codes, decimal, length, map};
 ghost use Rattle.json.specs.Token as token;
 ghost use Rattle.json.specs.Tree.{json_tokens};
 ghost use Rattle.ll_explain.specs.Buffers.{adding};
 ghost use Rattle.ll_report.specs.Versions.{answered, answers_in};
-ghost use Rattle.ll_json.specs.Parts.{array_of, line_text, values_tokens};
+ghost use Rattle.ll_json.specs.{Parts.array_of, Parts.line_text, Parts.values_tokens, Writing.writing};
 ghost use Rattle.ll_json.specs.Reports.{total_json, total_with, totals_from, totals_json};
-ghost use Rattle.ll_json.specs.Writing.{writing};
 
 use crate::json_text::JsonText;
 use crate::words::{write_number, write_text};
@@ -56,21 +56,22 @@ fn write_total(out: &mut JsonText, abi: u64, finding: &Finding)
     write_counts(out, abi, &totals);
 }
 
-/// Writes the totals of versions, of which the first has this number.
+/// Writes the totals of versions, of which the oldest has this number.
 #[tactic(auto, unfolding(crate::specs::Writing::writing, crate::specs::Reports::totals_from))]
-fn write_totals_from(out: &mut JsonText, abi: u64, findings: &[Finding])
-    requires { abi + length findings.now < 2 ^ 64 }
+fn write_totals_from(out: &mut JsonText, oldest: u64, findings: &[Finding])
+    requires { oldest + length findings.now < 2 ^ 64 }
     ensures { out.new ≡ writing out.old
-        (values_tokens (totals_from abi (answers_in findings.now))) }
+        (values_tokens (totals_from oldest (answers_in findings.now))) }
 {
-    let Some((finding, newer)) = findings.split_first() else {
-        return;
-    };
-    write_total(out, abi, finding);
-    write_totals_from(out, abi + 1, newer);
+    let mut abi = oldest;
+    for finding in findings {
+        write_total(out, abi, finding);
+        abi += 1;
+    }
 }
 
 /// Writes a member that is the totals of all versions.
+#[tactic(auto, using(crate::proofs::Writing::writing_both, crate::proofs::Enclosing::values_end))]
 fn write_totals(out: &mut JsonText, oldest: u64, findings: &[Finding])
     requires { oldest + length findings.now < 2 ^ 64 }
     ensures { out.new ≡ writing out.old
@@ -96,6 +97,7 @@ fn write_last(out: &mut JsonText, oldest: u64, findings: &[Finding], program: &s
 }
 
 /// Adds the last line.
+#[tactic(auto, using(crate::proofs::Printed::printed, ll_explain::proofs::Buffering::adding_both))]
 pub(crate) fn push_last(text: &mut TextBuffer, oldest: u64, findings: &[Finding], program: &str)
     requires { oldest + length findings.now < 2 ^ 64 }
     ensures { text.new ≡ adding text.old

@@ -1,9 +1,9 @@
 //! Members that are texts and numbers, and objects of a fixed word.
+#![tactic(auto, unfolding(crate::specs::Writing::writing))]
 
 ghost use Rattle.std.specs.Prelude.{◌≡◌, ◌∷◌, [], decimal};
 ghost use Rattle.json.specs.Token as token;
-ghost use Rattle.json.specs.Json.{string};
-ghost use Rattle.json.specs.Tree.{json_tokens};
+ghost use Rattle.json.specs.{Json.string, Tree.json_tokens};
 ghost use Rattle.ll_json.specs.Parts.{object_of, whole};
 ghost use Rattle.ll_json.specs.Writing.{writing};
 

@@ -28,14 +28,14 @@ use Rattle.ll_lines.specs.declared.fault.Cause.TheVariants.{Json}
 use Rattle.ll_lines.specs.Values.{parsed, data_of, are_in_range, have_range}
 use Rattle.ll_lines.proofs.Values.{in_range}
 use Rattle.ll_members.specs.BothSets.{no_rights, with_rights}
-use Rattle.ll_members.specs.Slots.{spelt, IsLine, ShowMembers, ShowOneMore, AreMissing, rights_of}
+use Rattle.ll_members.specs.Slots.{spelt, IsLine, ShowMembers, Keeps, AreMissing, rights_of}
 use Rattle.ll_members.specs.Plain.{is_unescaped, IsUnescaped, items_of, ReadsBack, ReadBack}
 use Rattle.ll_members.specs.Plain.{BeginsWithNumber, BeginsWithTexts, BeginsWithValue, BeginsWithMember, IsObject}
 use Rattle.ll_members.specs.declared.rights.Rights.{Rights}
 use Rattle.ll_members.specs.declared.row.Members.{Members}
 use Rattle.ll_members.specs.declared.row.Slot.{Slot}
 use Rattle.ll_members.specs.declared.row.Slot.TheVariants.{Text, Number, Truth, Names}
-use Rattle.ll_members.proofs.SlotLemmas.{in_front, in_front-none, in_front-one, get-one_more}
+use Rattle.ll_members.proofs.PassedLemmas.{in_front, in_front-none, in_front-one, get-one_more}
 
 -- bytes that need no escape
 
@@ -232,19 +232,9 @@ number_scanned line rest number scan = record {
   shows = (scan.digits, refl, scan.value);
 }
 
-pub true_scanned : (line rest : List ℕ) → line ≡ codes "true" ++ rest → BeginsWithValue line (Truth true) rest
-unfolding print_from
-true_scanned line rest is = record {
-  value = json.boolean true;
-  is = is;
-  back = record { shallow = omega arith; numbers = tt; fits = refl };
-  shows = refl;
-}
-
-pub false_scanned : (line rest : List ℕ) → line ≡ codes "false" ++ rest → BeginsWithValue line (Truth false) rest
-unfolding print_from
-false_scanned line rest is = record {
-  value = json.boolean false;
+pub truth_scanned : (line rest : List ℕ) (truth : Bool) → line ≡ print (json_tokens (json.boolean truth)) ++ rest → BeginsWithValue line (Truth truth) rest
+truth_scanned line rest truth is = record {
+  value = json.boolean truth;
   is = is;
   back = record { shallow = omega arith; numbers = tt; fits = refl };
   shows = refl;
@@ -263,13 +253,13 @@ list_scanned line inside rest rights is scan = record {
 -- a member
 
 pub member_scanned : (line after inside rest key : List ℕ) (slot : Slot) (before members : Members) → line ≡ quoted key ++ after → after ≡ 58 ∷ inside
-    → (scan : BeginsWithValue inside slot rest) → ShowOneMore key scan.value before members → BeginsWithMember line before members rest
-member_scanned line after inside rest key slot before members is colon scan shown = record {
+    → BeginsWithValue inside slot rest → Keeps key slot before members → BeginsWithMember line before members rest
+member_scanned line after inside rest key slot before members is colon scan kept = record {
   key = key;
   value = scan.value;
   is = is ∙ ap (λ l. quoted key ++ l) (colon ∙ ap (λ l. 58 ∷ l) scan.is);
   back = scan.back;
-  shown = shown;
+  shown = kept.shows scan.value scan.shows;
 }
 
 -- the members, one at a time

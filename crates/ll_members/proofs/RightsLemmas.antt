@@ -1,41 +1,32 @@
 -- The rights that the values of a list stand for, a value at a time.
-use Rattle.std.proofs.Common.{◌≡◌, ℕ, ◌-◌, ◌<◌, Bool, true, false, cond, List, Option, Some, None, Result, refl, sym, ap, ◌∙◌}
+use Rattle.std.proofs.Common.{◌≡◌, ℕ, ◌-◌, ◌<◌, ◌≤◌, Bool, true, false, cond, List, length, Option, Some, None, refl, sym, ap, ◌∙◌, arith}
 use Rattle.std.specs.Prelude.{ok_or}
 use Rattle.json.specs.Token.{Token}
 use Rattle.json.specs.Json as json
 use Rattle.json.specs.Find.{as_str}
-use Rattle.json.proofs.Grammar.{items_more}
-use Rattle.ll_lines.specs.declared.fault.Cause.{Cause}
+use Rattle.json.proofs.Grammar.{items_more, items_end}
 use Rattle.ll_lines.specs.declared.fault.Cause.TheVariants.{Field}
-use Rattle.ll_lines.specs.Fault.{◌>>=◌}
-use Rattle.ll_lines.specs.Members.{fold_texts}
-use Rattle.ll_lines.specs.Values.{data_of_items, is_in_range, are_in_range}
-use Rattle.ll_lines.proofs.Values.{text_in_data}
-use Rattle.ll_members.specs.BothSets.{with_rights}
-use Rattle.ll_members.specs.Slots.{with_text, rights_of, folded, part_of}
-use Rattle.ll_members.specs.Walks.{behind}
+use Rattle.ll_lines.specs.Values.{is_in_range, are_in_range}
+use Rattle.ll_members.specs.BothSets.{no_rights}
+use Rattle.ll_members.specs.Slots.{IsReadFrom, with_text, rights_of, folded, text_from}
+use Rattle.ll_members.specs.Walks.{behind, behind_value, behind_items}
 use Rattle.ll_members.specs.declared.rights.Rights.{Rights}
-use Rattle.ll_members.proofs.WalkLemmas.{skip_item_fails}
+use Rattle.ll_members.specs.declared.row.Slot.{Slot}
+use Rattle.ll_members.proofs.WalkLemmas.{item_fails}
+use Rattle.ll_members.proofs.ShownLemmas.{slot_says}
 
--- no value follows where nothing is behind
-folds_none : (rights : Option Rights) (p : json.Items × List Token) (b : Bool) → are_in_range p.0 ≡ b → cond b (Some p.1) None ≡ None
-    → folded rights (Some p) ≡ None
-folds_none rights p true is none = absurd (let never = none in cc)
-folds_none rights p false is none = rw is refl
+-- a list that does not fit has no rights, and nothing behind it
+none_too : {A B : Type 0} (fits : Bool) (one : A) (other : B) → cond fits (Some one) None ≡ None → cond fits (Some other) None ≡ None
+none_too true one other none = absurd (let never = none in cc)
+none_too false one other none = refl
 
-pub folded-none : (rights : Option Rights) (r : Option (json.Items × List Token)) → behind are_in_range r ≡ None → folded rights r ≡ None
+folded-none : (rights : Option Rights) (r : Option (json.Items × List Token)) → behind are_in_range r ≡ None → folded rights r ≡ None
 folded-none rights None none = refl
-folded-none rights (Some p) none = folds_none rights p (are_in_range p.0) refl none
+folded-none rights (Some p) none = none_too (are_in_range p.0) p.1 (rights_of rights p.0, p.1) none
 
-leaves_none : (rights : Option Rights) (p : json.Items × List Token) (b : Bool) → are_in_range p.0 ≡ b → cond {A = Option (Option Rights × List Token)} b
-    (Some (rights_of rights p.0, p.1)) None ≡ None
-    → behind are_in_range (Some p) ≡ None
-leaves_none rights p true is none = absurd (let never = none in cc)
-leaves_none rights p false is none = rw is refl
-
-pub behind-none : (rights : Option Rights) (r : Option (json.Items × List Token)) → folded rights r ≡ None → behind are_in_range r ≡ None
+behind-none : (rights : Option Rights) (r : Option (json.Items × List Token)) → folded rights r ≡ None → behind are_in_range r ≡ None
 behind-none rights None none = refl
-behind-none rights (Some p) none = leaves_none rights p (are_in_range p.0) refl none
+behind-none rights (Some p) none = none_too (are_in_range p.0) (rights_of rights p.0, p.1) p.1 none
 
 -- the list that was parsed, where its rights are known
 pub record FoundRights (rights : Option Rights) (r : Option (json.Items × List Token)) (all : Option Rights) (ts : List Token) : Type 0 where
@@ -62,37 +53,41 @@ folded-item : (rights : Option Rights) (value : json.Json) (r : Option (json.Ite
 folded-item rights value None fits = refl
 folded-item rights value (Some p) fits = rw fits refl
 
-module _ (p : json.Parse json.Json) where
-  pub rights_more : (rights : Option Rights) (n : ℕ) (ts r : List Token) (value : json.Json) → 0 < n → json.after_end_array ts ≡ None → p ts ≡ Some (value, r)
-      → is_in_range value ≡ true → folded rights (json.items p n ts) ≡ folded (with_text rights (ok_or (as_str value) Field)) (json.items p (n - 1) r)
-  rights_more rights n ts r value some going is fits =
-      ap (folded rights) (items_more p n ts r value some going is) ∙ folded-item rights value (json.items p (n - 1) r) fits
+-- the rights of the values so far, and the tokens that are left of the list
+pub record HasFolded (depth : ℕ) (start left : List Token) (rights : Option Rights) : Type 0 where
+  pub bound : ℕ
+  pub enough : length left ≤ bound
+  pub shorter : length left ≤ length start
+  pub are : folded (Some no_rights) (json.items (json.value depth) (length start) start) ≡ folded rights (json.items (json.value depth) bound left)
 
-  pub rights_fail : (rights : Option Rights) (n : ℕ) (ts : List Token) → json.after_end_array ts ≡ None → behind is_in_range (p ts) ≡ None
-      → folded rights (json.items p n ts) ≡ None
-  rights_fail rights n ts going none = folded-none rights (json.items p n ts) (skip_item_fails p n ts going none)
+pub folded_none : (depth : ℕ) (start : List Token) → HasFolded depth start start (Some no_rights)
+folded_none depth start = record { bound = length start; enough = omega arith; shorter = omega arith; are = refl }
 
--- the set of a list, for files or for the network
+pub folded_more : (depth : ℕ) (start left new : List Token) (rights more : Option Rights) (slot : Slot) → HasFolded depth start left rights
+    → json.after_end_array left ≡ None → IsReadFrom depth left new slot → length new < length left → more ≡ with_text rights (text_from slot)
+    → HasFolded depth start new more
+folded_more depth start left new rights more slot so_far going read shorter is =
+    let n = so_far.bound in
+    let p = json.value depth in
+    let text : more ≡ with_text rights (ok_or (as_str read.value) Field) = is ∙ ap (with_text rights) (sym (slot_says slot (Some read.value) read.shows).0) in
+    record {
+      bound = n - 1;
+      enough = omega (arith, so_far.enough);
+      shorter = omega (arith, so_far.shorter);
+      are = so_far.are ∙ ap (folded rights) (items_more p n left new read.value (omega (arith, so_far.enough)) going read.is)
+          ∙ folded-item rights read.value (json.items p (n - 1) new) read.fits ∙ ap (λ r. folded r (json.items p (n - 1) new)) (sym text);
+    }
 
-none_stays : (items : json.Items) → rights_of None items ≡ None
-none_stays json.no_items = refl
-none_stays (json.item value others) = none_stays others
+pub folded_fails : (depth : ℕ) (start left same : List Token) (rights : Option Rights) → HasFolded depth start left rights
+    → (json.after_end_array left ≡ None) × (same ≡ left) → behind_value depth same ≡ None → behind_items depth start ≡ None
+folded_fails depth start left same rights so_far going none =
+    let p = json.value depth in
+    behind-none (Some no_rights) (json.items p (length start) start)
+    (so_far.are ∙ folded-none rights (json.items p so_far.bound left) (item_fails p so_far.bound left going.0 (rw (← going.1) none)))
 
-module _ {Set : Type 0} (part : Rights → Set) (add : Set → List ℕ → Set) (step : (rights : Rights) (name : List ℕ)
-    → part (with_rights rights name) ≡ add (part rights) name) where
-  abbrev Folds : json.Items → Rights → Type 0
-  Folds items rights = fold_texts add (part rights) (data_of_items items) ≡ part_of part (ok_or (rights_of (Some rights) items) Field)
+pub folded_all : (depth : ℕ) (start left new : List Token) (rights : Option Rights) → HasFolded depth start left rights
+    → json.after_end_array left ≡ Some new → folded (Some no_rights) (json.items (json.value depth) (length start) start) ≡ Some (rights, new)
+folded_all depth start left new rights so_far end =
+    so_far.are ∙ ap (folded rights) (items_end (json.value depth) so_far.bound left new so_far.enough end)
 
-  folds_one : (rights : Rights) (others : json.Items) → ((more : Rights) → Folds others more) → (r : Option (List ℕ))
-      → (ok_or r Field >>= λ name. fold_texts add (add (part rights) name) (data_of_items others))
-      ≡ part_of part (ok_or (rights_of (with_text (Some rights) (ok_or r Field)) others) Field)
-  folds_one rights others rest None = ap (λ (r : Option Rights). part_of part (ok_or r Field)) (sym (none_stays others))
-  folds_one rights others rest (Some name) =
-      ap (λ (whole : Set). fold_texts add whole (data_of_items others)) (sym (step rights name)) ∙ rest (with_rights rights name)
-
-  pub folds : (items : json.Items) (rights : Rights) → Folds items rights
-  unfolding fold_texts
-  folds json.no_items rights = refl
-  folds (json.item value others) rights =
-      ap (λ (r : Result (List ℕ) Cause). r >>= λ name. fold_texts add (add (part rights) name) (data_of_items others)) (text_in_data value)
-      ∙ folds_one rights others (folds others) (as_str value)
+pub ruleset folding = (folded_none, folded_more)

@@ -1,20 +1,16 @@
 -- Passing over the values of a list or of an object, a turn at a time.
-use Rattle.std.proofs.Common.{◌≡◌, ℕ, zero, suc, ◌-◌, ◌<◌, Bool, true, false, cond, List, Option, Some, None, refl, ap, ◌∙◌, arith}
+use Rattle.std.proofs.Common.{◌≡◌, ℕ, zero, suc, ◌<◌, Bool, true, false, cond, List, Option, Some, None, refl, ap, ◌∙◌, arith}
 use Rattle.json.specs.Token.{Token}
 use Rattle.json.specs.Json.{Json, item, member, Parse, parse_map, after_end_array, read_key, items, members}
 use Rattle.json.proofs.Grammar.{items_more, items_fail, members_more, members_fail}
 use Rattle.ll_lines.specs.Values.{is_in_range, are_in_range, have_range}
 use Rattle.ll_members.specs.Walks.{behind}
 
--- what is behind something that was parsed after one value more
-module _ {A : Type 0} (test : A → Bool) (with : A → A) where
-  pub behind-fits : ((a : A) → test (with a) ≡ test a) → (r : Option (A × List Token)) → behind test (parse_map with r) ≡ behind test r
-  behind-fits same None = refl
-  behind-fits same (Some p) = rw (same p.0) refl
-
-  pub behind-fails : ((a : A) → test (with a) ≡ false) → (r : Option (A × List Token)) → behind test (parse_map with r) ≡ None
-  behind-fails unfit None = refl
-  behind-fails unfit (Some p) = rw (unfit p.0) refl
+-- nothing is behind something that was parsed after a value that doesn't fit
+behind-fails : {A : Type 0} (test : A → Bool) (with : A → A) → ((a : A) → test (with a) ≡ false) → (r : Option (A × List Token))
+    → behind test (parse_map with r) ≡ None
+behind-fails test with unfit None = refl
+behind-fails test with unfit (Some p) = rw (unfit p.0) refl
 
 -- what is behind something, where a test of it is another test of its part
 pub behind-map : {A B : Type 0} (test : B → Bool) (part : A → Bool) (with : A → B) → ((a : A) → test (with a) ≡ part a)
@@ -47,39 +43,27 @@ module _ {A : Type 0} (test : A → Bool) where
   is_unfit p e = unfit_if p (test p.0) refl e
 
 module _ (p : Parse Json) where
-  pub skip_item : (n : ℕ) (ts r : List Token) → 0 < n → after_end_array ts ≡ None → behind is_in_range (p ts) ≡ Some r
-      → behind are_in_range (items p n ts) ≡ behind are_in_range (items p (n - 1) r)
-  skip_item n ts r h e f =
-      let j = found is_in_range (p ts) r f in
-      ap (behind are_in_range) (items_more p n ts r j.value h e j.is) ∙ behind-fits are_in_range (item j.value) (λ others. rw j.fits refl) _
-
-  item_fails : (n : ℕ) (ts : List Token) (r : Option (Json × List Token)) → 0 < n → after_end_array ts ≡ None → p ts ≡ r → behind is_in_range r ≡ None
+  item_fails_by : (n : ℕ) (ts : List Token) (r : Option (Json × List Token)) → 0 < n → after_end_array ts ≡ None → p ts ≡ r → behind is_in_range r ≡ None
       → behind are_in_range (items p n ts) ≡ None
-  item_fails n ts None h e is f = ap (behind are_in_range) (items_fail p n ts e is)
-  item_fails n ts (Some q) h e is f =
+  item_fails_by n ts None h e is f = ap (behind are_in_range) (items_fail p n ts e is)
+  item_fails_by n ts (Some q) h e is f =
       let unfit = is_unfit is_in_range q f in
       ap (behind are_in_range) (items_more p n ts q.1 q.0 h e is) ∙ behind-fails are_in_range (item q.0) (λ others. rw unfit refl) _
 
-  pub skip_item_fails : (n : ℕ) (ts : List Token) → after_end_array ts ≡ None → behind is_in_range (p ts) ≡ None → behind are_in_range (items p n ts) ≡ None
+  pub item_fails : (n : ℕ) (ts : List Token) → after_end_array ts ≡ None → behind is_in_range (p ts) ≡ None → behind are_in_range (items p n ts) ≡ None
   unfolding items
-  skip_item_fails zero ts e f = refl
-  skip_item_fails (suc n) ts e f = item_fails (suc n) ts (p ts) (omega arith) e refl f
+  item_fails zero ts e f = refl
+  item_fails (suc n) ts e f = item_fails_by (suc n) ts (p ts) (omega arith) e refl f
 
-  pub skip_member : (n : ℕ) (ts s r : List Token) (k : List ℕ) → 0 < n → read_key ts ≡ Some (Some k, s) → behind is_in_range (p s) ≡ Some r
-      → behind have_range (members p n ts) ≡ behind have_range (members p (n - 1) r)
-  skip_member n ts s r k h e f =
-      let j = found is_in_range (p s) r f in
-      ap (behind have_range) (members_more p n k ts s r j.value h e j.is) ∙ behind-fits have_range (member k j.value) (λ others. rw j.fits refl) _
-
-  member_fails : (n : ℕ) (ts s : List Token) (k : List ℕ) (r : Option (Json × List Token)) → 0 < n → read_key ts ≡ Some (Some k, s) → p s ≡ r
+  member_fails_by : (n : ℕ) (ts s : List Token) (k : List ℕ) (r : Option (Json × List Token)) → 0 < n → read_key ts ≡ Some (Some k, s) → p s ≡ r
       → behind is_in_range r ≡ None → behind have_range (members p n ts) ≡ None
-  member_fails n ts s k None h e is f = ap (behind have_range) (members_fail p n k ts s e is)
-  member_fails n ts s k (Some q) h e is f =
+  member_fails_by n ts s k None h e is f = ap (behind have_range) (members_fail p n k ts s e is)
+  member_fails_by n ts s k (Some q) h e is f =
       let unfit = is_unfit is_in_range q f in
       ap (behind have_range) (members_more p n k ts s q.1 q.0 h e is) ∙ behind-fails have_range (member k q.0) (λ others. rw unfit refl) _
 
-  pub skip_member_fails : (n : ℕ) (ts s : List Token) (k : List ℕ) → read_key ts ≡ Some (Some k, s) → behind is_in_range (p s) ≡ None
+  pub member_fails : (n : ℕ) (ts s : List Token) (k : List ℕ) → read_key ts ≡ Some (Some k, s) → behind is_in_range (p s) ≡ None
       → behind have_range (members p n ts) ≡ None
   unfolding members
-  skip_member_fails zero ts s k e f = refl
-  skip_member_fails (suc n) ts s k e f = member_fails (suc n) ts s k (p s) (omega arith) e refl f
+  member_fails zero ts s k e f = refl
+  member_fails (suc n) ts s k e f = member_fails_by (suc n) ts s k (p s) (omega arith) e refl f

@@ -1,5 +1,5 @@
 -- The members of a line's value, each in the slot of its name.
-use Rattle.std.specs.Prelude.{◌≡◌, ℕ, List, Bool, true, Option, Some, None, codes, get_or, length, option_and_then, ok_or, false, Result, Ok, Err, if◌then◌else◌}
+use Rattle.std.specs.Prelude.{◌≡◌, ℕ, List, ◌∷◌, Bool, true, Option, Some, None, codes, get_or, length, option_and_then, ok_or, false, Result, Ok, Err, if◌then◌else◌}
 use Rattle.std.specs.Str.{bytes_eq}
 use Rattle.json.specs.Token.{Token}
 use Rattle.json.specs.Json as json
@@ -13,6 +13,9 @@ use Rattle.ll_lines.specs.declared.fault.Cause.{Cause}
 use Rattle.ll_lines.specs.declared.fault.Cause.TheVariants.{Field}
 use Rattle.ll_members.specs.BothSets.{with_rights, no_rights}
 use Rattle.ll_members.specs.declared.rights.Rights.{Rights}
+use Rattle.ll_members.specs.Walks.{behind_value}
+use Rattle.ll_members.specs.declared.first.First.{First}
+use Rattle.ll_members.specs.declared.first.First.TheVariants.{Whole, Array, Object}
 use Rattle.ll_members.specs.declared.row.Name.{Name}
 use Rattle.ll_members.specs.declared.row.Name.TheVariants.{Op, Pid, Child, Rs, Fs, Net, Path, From, To, Port, Fd, Mode, Create, Trunc, Kind, Exchange, Nnp, Admin, Driver}
 use Rattle.ll_members.specs.declared.row.Slot.{Slot}
@@ -129,17 +132,31 @@ pub record IsReadFrom (depth : ℕ) (old new : List Token) (slot : Slot) : Type 
   pub fits : is_in_range value ≡ true
   pub shows : Shows slot (Some value)
 
+-- the tokens begin with this: with a value of one token, which a slot shows, or with a bracket
+pub record IsWhole (old new : List Token) (slot : Slot) : Type 0 where
+  pub value : json.Json
+  pub is : (depth : ℕ) → json.value depth old ≡ Some (value, new)
+  pub fits : is_in_range value ≡ true
+  pub shows : Shows slot (Some value)
+  pub no_members : (name : List ℕ) → get name value ≡ None
+
+abbrev pub Begin : First → List Token → List Token → Type 0
+Begin (Whole slot) old new = IsWhole old new slot
+Begin Array old new = old ≡ Token.begin_array ∷ new
+Begin Object old new = old ≡ Token.begin_object ∷ new
+
+-- no value comes next, however deep it may nest
+pub record BeginNoValue (tokens : List Token) : Type 0 where
+  pub none : (depth : ℕ) → behind_value depth tokens ≡ None
+
 -- a member more shows in the slot of its name
 abbrev pub ShowOneMore : List ℕ → json.Json → Members → Members → Type 0
 ShowOneMore key value before after = (name : Name) (r : Option json.Json) → Shows (slot_at before name) r
     → Shows (slot_at after name) (later_or (if bytes_eq key (spelt name) then Some value else None) r)
 
--- the slots after one member more
-pub record Takes (depth : ℕ) (key : List ℕ) (old new : List Token) (before after : Members) : Type 0 where
-  pub value : json.Json
-  pub is : json.value depth old ≡ Some (value, new)
-  pub fits : is_in_range value ≡ true
-  pub shown : ShowOneMore key value before after
+-- whatever value the slot shows, it is a member more under this key
+pub record Keeps (key : List ℕ) (slot : Slot) (before after : Members) : Type 0 where
+  pub shows : (value : json.Json) → Shows slot (Some value) → ShowOneMore key value before after
 
 -- each slot shows the last member of its name
 abbrev pub ShowMembers : Members → json.Members → Type 0
@@ -171,6 +188,10 @@ pub record Hold (members : Members) (value : Data) : Type 0 where
   pub is : value ≡ data_of read
   pub stands : Stands members read
 
+-- what is read of the slots, and of any value whose members they hold
+abbrev pub ReadsOf : {A : Type 0} → Members → (Result A Cause → Type 0) → (Data → Result A Cause) → Type 0
+ReadsOf members Is at = (value : Data) → Hold members value → Is (at value)
+
 -- the value of a line, whose members the slots hold
 pub record IsLine (line : List ℕ) (members : Members) : Type 0 where
   pub value : Data
@@ -180,44 +201,25 @@ pub record IsLine (line : List ℕ) (members : Members) : Type 0 where
 -- what a slot reads as: a text, a number, true or false, a flag, rights
 
 abbrev pub text_from : Slot → Result (List ℕ) Cause
-text_from Missing = Err Field
 text_from (Text text) = Ok text.now
-text_from (Number n) = Err Field
-text_from (Truth b) = Err Field
-text_from (Names rights) = Err Field
-text_from Other = Err Field
+text_from slot = Err Field
 
 abbrev pub number_from : Slot → Result ℕ Cause
-number_from Missing = Err Field
-number_from (Text text) = Err Field
 number_from (Number n) = ok_or n Field
-number_from (Truth b) = Err Field
-number_from (Names rights) = Err Field
-number_from Other = Err Field
+number_from slot = Err Field
 
 abbrev pub truth_from : Slot → Result Bool Cause
-truth_from Missing = Err Field
-truth_from (Text text) = Err Field
-truth_from (Number n) = Err Field
 truth_from (Truth b) = Ok b
-truth_from (Names rights) = Err Field
-truth_from Other = Err Field
+truth_from slot = Err Field
 
 abbrev pub flag_from : Slot → Result Bool Cause
 flag_from Missing = Ok false
-flag_from (Text text) = Err Field
-flag_from (Number n) = Err Field
-flag_from (Truth b) = Ok b
-flag_from (Names rights) = Err Field
-flag_from Other = Err Field
+flag_from slot = truth_from slot
 
 abbrev pub rights_from : Slot → Result Rights Cause
 rights_from Missing = Ok no_rights
-rights_from (Text text) = Err Field
-rights_from (Number n) = Err Field
-rights_from (Truth b) = Err Field
 rights_from (Names rights) = ok_or rights Field
-rights_from Other = Err Field
+rights_from slot = Err Field
 
 -- the rights for files alone, or those for the network
 abbrev pub part_of : {Set : Type 0} → (Rights → Set) → Result Rights Cause → Result Set Cause

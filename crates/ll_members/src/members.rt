@@ -1,12 +1,11 @@
 //! The members that have a slot.
 
 ghost use Rattle.std.specs.Prelude.{◌≡◌};
-ghost use Rattle.serde_json.specs.Data.{Data};
 ghost use Rattle.ll_lines.specs.Readers.{Reads};
 ghost use Rattle.ll_lines.specs.Members.{text_at, number_at, truth_at, flag_at};
 ghost use Rattle.ll_members.specs.declared.rights.Rights.{Rights as RightsOf};
 ghost use Rattle.ll_members.specs.Rights.{fs_at, net_at};
-ghost use Rattle.ll_members.specs.Slots.{Hold, spelt, text_from, number_from, truth_from, flag_from, rights_from, part_of};
+ghost use Rattle.ll_members.specs.Slots.{ReadsOf, spelt, text_from, number_from, truth_from, flag_from, rights_from, part_of};
 
 use crate::rights::Rights;
 use crate::row::{Members, Name, Slot};
@@ -86,8 +85,7 @@ fn net_in(slot: Slot<'_>) -> Result<Net, Cause>
 /// The text of a member.
 #[tactic(auto, using(crate::proofs::ShownLemmas::text_shown))]
 pub fn text_of<'l>(members: &Members<'l>, name: Name) -> Result<&'l str, Cause>
-    ensures { (value : Data) → Hold members.now value
-        → Reads (λ text. text.now) result (text_at (spelt name) value) }
+    ensures { ReadsOf members.now (Reads (λ text. text.now) result) (text_at (spelt name)) }
 {
     text_in(members.at(name))
 }
@@ -95,8 +93,7 @@ pub fn text_of<'l>(members: &Members<'l>, name: Name) -> Result<&'l str, Cause>
 /// The number of a member.
 #[tactic(auto, using(crate::proofs::ShownLemmas::number_shown))]
 pub fn number_of(members: &Members<'_>, name: Name) -> Result<u64, Cause>
-    ensures { (value : Data) → Hold members.now value
-        → Reads (λ number. number) result (number_at (spelt name) value) }
+    ensures { ReadsOf members.now (Reads (λ number. number) result) (number_at (spelt name)) }
 {
     number_in(members.at(name))
 }
@@ -104,8 +101,7 @@ pub fn number_of(members: &Members<'_>, name: Name) -> Result<u64, Cause>
 /// A member that is true or false.
 #[tactic(auto, using(crate::proofs::ShownLemmas::truth_shown))]
 pub fn truth_of(members: &Members<'_>, name: Name) -> Result<bool, Cause>
-    ensures { (value : Data) → Hold members.now value
-        → Reads (λ truth. truth) result (truth_at (spelt name) value) }
+    ensures { ReadsOf members.now (Reads (λ truth. truth) result) (truth_at (spelt name)) }
 {
     truth_in(members.at(name))
 }
@@ -113,8 +109,7 @@ pub fn truth_of(members: &Members<'_>, name: Name) -> Result<bool, Cause>
 /// A member that is true or false, and false where it is missing.
 #[tactic(auto, using(crate::proofs::ShownLemmas::flag_shown))]
 pub fn flag_of(members: &Members<'_>, name: Name) -> Result<bool, Cause>
-    ensures { (value : Data) → Hold members.now value
-        → Reads (λ flag. flag) result (flag_at (spelt name) value) }
+    ensures { ReadsOf members.now (Reads (λ flag. flag) result) (flag_at (spelt name)) }
 {
     flag_in(members.at(name))
 }
@@ -122,7 +117,7 @@ pub fn flag_of(members: &Members<'_>, name: Name) -> Result<bool, Cause>
 /// The rights for files of the member `fs`.
 #[tactic(auto, using(crate::proofs::ShownLemmas::fs_shown))]
 pub fn fs_of(members: &Members<'_>) -> Result<Fs, Cause>
-    ensures { (value : Data) → Hold members.now value → Reads (λ set. set) result (fs_at value) }
+    ensures { ReadsOf members.now (Reads (λ set. set) result) fs_at }
 {
     fs_in(members.at(Name::Fs))
 }
@@ -130,7 +125,7 @@ pub fn fs_of(members: &Members<'_>) -> Result<Fs, Cause>
 /// The rights for the network of the member `net`.
 #[tactic(auto, using(crate::proofs::ShownLemmas::net_shown))]
 pub fn net_of(members: &Members<'_>) -> Result<Net, Cause>
-    ensures { (value : Data) → Hold members.now value → Reads (λ set. set) result (net_at value) }
+    ensures { ReadsOf members.now (Reads (λ set. set) result) net_at }
 {
     net_in(members.at(Name::Net))
 }

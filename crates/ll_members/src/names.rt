@@ -1,7 +1,7 @@
 //! The names of members, and the slot of each.
 
 ghost use Rattle.std.specs.Prelude.{◌≡◌, ◌<◌, length, slice_set, IfSome};
-ghost use Rattle.ll_members.specs.Slots.{spelt, named, place, slot_at, AreMissing};
+ghost use Rattle.ll_members.specs.Slots.{spelt, named, place, slot_at, AreMissing, Keeps};
 
 use crate::row::{Members, NAMES, Name, Slot};
 
@@ -68,7 +68,7 @@ pub(crate) fn name_of(key: &str) -> Option<Name>
 
 impl<'l> Members<'l> {
     /// No members.
-    #[tactic(auto, using(crate::proofs::SlotLemmas::all_missing))]
+    #[tactic(auto, using(crate::proofs::NameLemmas::all_missing))]
     pub(crate) fn none() -> Members<'l>
         ensures { AreMissing result }
     {
@@ -85,10 +85,20 @@ impl<'l> Members<'l> {
     }
 
     /// Keeps what there is of a member.
-    pub(crate) fn put(&mut self, name: Name, slot: Slot<'l>)
+    fn put(&mut self, name: Name, slot: Slot<'l>)
         ensures put { self.new.slots ≡ slice_set self.old.slots (place name) slot.entry }
         ensures size { length self.old.slots ≡ 19 }
     {
         self.slots[name.place()] = slot;
+    }
+
+    /// Keeps a value under the name that its key is, where it is one.
+    #[tactic(auto, using(crate::proofs::NameLemmas::unnamed_kept, crate::proofs::NameLemmas::named_kept))]
+    pub(crate) fn keep(&mut self, key: &str, slot: Slot<'l>)
+        ensures { Keeps key.now slot.entry self.old self.new }
+    {
+        if let Some(name) = name_of(key) {
+            self.put(name, slot);
+        }
     }
 }

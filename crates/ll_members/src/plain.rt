@@ -1,15 +1,13 @@
 //! The scan of a line that is spelt plainly, as a printer of JSON writes it: one object without white space, whose
 //! values are texts, whole numbers, true, false, and lists of texts, and whose texts have no escapes.
 
-ghost use Rattle.std.specs.Prelude.{◌≡◌, ◌∷◌, ◌++◌, ◌<◌, ◌≤◌, length, slice_index, IfSome, IsTrue, Some};
+ghost use Rattle.std.specs.Prelude.{◌≡◌, ◌∷◌, ◌++◌, ◌<◌, ◌≤◌, length, slice_index, IfSome, IsTrue};
 ghost use Rattle.std.specs.List.{list_all, prefix_len};
 ghost use Rattle.std.specs.Char.{is_ascii_digit};
-ghost use Rattle.json.specs.Json.{Json};
-ghost use Rattle.json.specs.Print.{quoted};
+ghost use Rattle.json.specs.{Print.quoted};
 ghost use Rattle.ll_members.specs.Plain.{is_unescaped, IsUnescaped, BeginsWithNumber, BeginsWithTexts, BeginsWithValue, BeginsWithMember, IsObject};
-ghost use Rattle.ll_members.specs.Slots.{Shows, ShowOneMore, AreMissing};
+ghost use Rattle.ll_members.specs.Slots.{AreMissing};
 
-use crate::names::name_of;
 use crate::rights::Rights;
 use crate::row::{Members, Slot};
 use ll_lines::numbers::whole_number;
@@ -124,25 +122,15 @@ fn scan_value<'l>(line: &'l str) -> Option<(Slot<'l>, &'l str)>
     }
 }
 
-/// Keeps a value under the name that its key is, where it is one.
-#[tactic(auto, using(crate::proofs::SlotLemmas::unnamed_shows, crate::proofs::SlotLemmas::named_shows))]
-fn keep<'l>(members: &mut Members<'l>, key: &str, slot: Slot<'l>)
-    ensures { (value : Json) → Shows slot.entry (Some value)
-        → ShowOneMore key.now value members.old members.new }
-{
-    if let Some(name) = name_of(key) {
-        members.put(name, slot);
-    }
-}
-
 /// Takes in a member, and answers what stands behind it.
+#[tactic(auto, using(crate::proofs::PlainLemmas::member_scanned))]
 fn scan_member<'l>(line: &'l str, members: &mut Members<'l>) -> Option<&'l str>
     requires { IsUnescaped line.now }
     ensures { IfSome result (λ rest. BeginsWithMember line.now members.old members.new rest.now) }
 {
     let (key, after) = scan_text(line)?;
     let (slot, rest) = scan_value(behind(after, ':')?)?;
-    keep(members, key, slot);
+    members.keep(key, slot);
     Some(rest)
 }
 

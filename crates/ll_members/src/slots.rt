@@ -1,65 +1,60 @@
 //! The reading of a line into slots.
 
-ghost use Rattle.std.specs.Prelude.{◌≡◌, ◌<◌, length, MatchResult, OnOk, IfErr, Some, None};
+ghost use Rattle.std.specs.Prelude.{◌≡◌, ◌<◌, length, suc, MatchResult, OnOk, IfErr, Some, None};
 ghost use Rattle.json.specs.Json as spec;
-ghost use Rattle.ll_lines.specs.declared.fault.Cause.TheVariants.{Json};
-ghost use Rattle.ll_lines.specs.Members.{value_at};
-ghost use Rattle.ll_lines.specs.Readers.{Fails};
+ghost use Rattle.ll_lines.specs.{declared.fault.Cause.TheVariants.Json, Members.value_at, Readers.Fails};
 ghost use Rattle.ll_members.specs.BothSets.{no_rights};
 ghost use Rattle.ll_members.specs.Walks.{behind_value, behind_items, behind_members};
-ghost use Rattle.ll_members.specs.Slots.{folded, with_text, text_from, IsReadFrom, Takes, AreReadFrom, AreMissing, IsValue, IsLine};
+ghost use Rattle.ll_members.specs.Slots.{folded, with_text, text_from, IsReadFrom, AreReadFrom, AreMissing, IsValue, IsLine};
 
+use crate::first::{First, first_of};
 use crate::members::text_in;
-use crate::names::name_of;
 use crate::plain::scan_line;
 use crate::rights::Rights;
 use crate::row::{Members, Slot};
-use crate::walk::{skip_items, skip_members, skip_value};
-use json::{Reader, Scratch, Token};
+use json::{Reader, Scratch};
 use ll_lines::Cause;
-use ll_lines::numbers::{is_number_in_range, whole_number};
 use simdutf8::compat::from_utf8;
 
 /// How deep the values in a list or an object may nest, where the whole line may do so as deep as `serde_json` reads
 /// it, 127 deep.
 const INNER_DEPTH: usize = 126;
 
+/// How deep values may nest in one that may nest so deep itself.
+fn within(depth: usize) -> Result<usize, Cause>
+    ensures { MatchResult result (λ inner. suc inner ≡ depth)
+        (λ cause. (cause ≡ Json) × (depth ≡ 0)) }
+{
+    depth.checked_sub(1).ok_or(Cause::Json)
+}
+
 /// The next value, as a slot.
 #[cycle(slot)]
+#[tactic(auto, using(crate::proofs::FirstLemmas::slots_read))]
 fn slot_in<'l>(reader: &mut Reader<'l>, depth: usize) -> Result<Slot<'l>, Cause>
     ensures value { MatchResult result (λ slot. IsReadFrom depth reader.old reader.new slot)
         (λ _. behind_value depth reader.old ≡ None) }
     ensures cause { IfErr result (λ cause. cause ≡ Json) }
     ensures shorter { OnOk result (length reader.new < length reader.old) }
 {
-    let token = reader.next().ok_or(Cause::Json)?;
-    match token {
-        Token::String(text) => Ok(Slot::Text(text)),
-        Token::Bool(truth) => Ok(Slot::Truth(truth)),
-        Token::Null => Ok(Slot::Other),
-        Token::Number(text) => if is_number_in_range(text) {
-            Ok(Slot::Number(whole_number(text)))
-        } else {
-            Err(Cause::Json)
-        },
-        Token::EndObject | Token::EndArray | Token::Key(_) | Token::Bad => Err(Cause::Json),
-        Token::BeginArray => if depth == 0 {
-            Err(Cause::Json)
-        } else {
-            let rights = rights_in(reader, depth - 1)?;
+    match first_of(reader)? {
+        First::Whole(slot) => Ok(slot),
+        First::Array => {
+            let inner = within(depth)?;
+            let rights = rights_in(reader, inner)?;
             Ok(Slot::Names(rights))
-        },
-        Token::BeginObject => if depth == 0 {
-            Err(Cause::Json)
-        } else {
-            skip_members(reader, depth - 1)?;
+        }
+        First::Object => {
+            let inner = within(depth)?;
+            skip_members(reader, inner)?;
             Ok(Slot::Other)
-        },
+        }
     }
 }
 
 /// What the values of a list stand for as names of rights, up to the bracket that closes it.
 #[cycle(slot)]
+#[tactic(auto, using(crate::proofs::RightsLemmas::folding))]
 fn rights_in(reader: &mut Reader<'_>, depth: usize) -> Result<Option<Rights>, Cause>
     ensures value { MatchResult result
         (λ rights. folded (Some no_rights)
@@ -77,6 +72,21 @@ fn rights_in(reader: &mut Reader<'_>, depth: usize) -> Result<Option<Rights>, Ca
     Ok(rights)
 }
 
+/// Passes over the members of an object, and the brace that closes it.
+#[cycle(slot)]
+#[tactic(auto, using(crate::proofs::PassedLemmas::passed_none, crate::proofs::PassedLemmas::passed_more, crate::proofs::PassedLemmas::passed_no_value, crate::proofs::PassedLemmas::passed_all))]
+fn skip_members(reader: &mut Reader<'_>, depth: usize) -> Result<(), Cause>
+    ensures value { MatchResult result (λ _. behind_members depth reader.old ≡ Some reader.new)
+        (λ _. behind_members depth reader.old ≡ None) }
+    ensures cause { IfErr result (λ cause. cause ≡ Json) }
+    ensures shorter { OnOk result (length reader.new < length reader.old) }
+{
+    while let Some(_) = reader.next_key()? {
+        slot_in(reader, depth)?;
+    }
+    Ok(())
+}
+
 /// Rights, and what one more value of the list stands for.
 fn with_slot(rights: Option<Rights>, slot: Slot<'_>) -> Option<Rights>
     ensures { result ≡ with_text rights (text_from slot.entry) }
@@ -88,31 +98,8 @@ fn with_slot(rights: Option<Rights>, slot: Slot<'_>) -> Option<Rights>
     }
 }
 
-/// Takes in the value of a key.
-#[tactic(auto, using(crate::proofs::SlotLemmas::takes_unnamed, crate::proofs::SlotLemmas::takes_named))]
-fn take_member<'l>(
-    reader: &mut Reader<'l>,
-    members: &mut Members<'l>,
-    key: &str,
-    depth: usize,
-) -> Result<(), Cause>
-    ensures value { MatchResult result
-        (λ _. Takes depth key.now reader.old reader.new members.old members.new)
-        (λ _. behind_value depth reader.old ≡ None) }
-    ensures cause { IfErr result (λ cause. cause ≡ Json) }
-    ensures shorter { OnOk result (length reader.new < length reader.old) }
-{
-    match name_of(key) {
-        None => skip_value(reader, depth),
-        Some(name) => {
-            let slot = slot_in(reader, depth)?;
-            members.put(name, slot);
-            Ok(())
-        }
-    }
-}
-
 /// Takes in all members of an object, and the brace that closes it.
+#[tactic(auto, using(crate::proofs::PassedLemmas::filling))]
 fn fill<'l>(reader: &mut Reader<'l>, members: &mut Members<'l>, depth: usize) -> Result<(), Cause>
     requires { AreMissing members.old }
     ensures value { MatchResult result
@@ -121,34 +108,27 @@ fn fill<'l>(reader: &mut Reader<'l>, members: &mut Members<'l>, depth: usize) ->
     ensures cause { IfErr result (λ cause. cause ≡ Json) }
 {
     while let Some(key) = reader.next_key()? {
-        take_member(reader, members, key, depth)?;
+        let slot = slot_in(reader, depth)?;
+        members.keep(key, slot);
     }
     Ok(())
 }
 
 /// The next value, with its members in their slots where it is an object.
+#[tactic(auto, using(crate::proofs::FirstLemmas::no_value, crate::proofs::FirstLemmas::no_array, crate::proofs::FirstLemmas::no_object, crate::proofs::FirstLemmas::whole_stands, crate::proofs::FirstLemmas::array_stands, crate::proofs::FirstLemmas::object_stands))]
 fn take_value<'l>(reader: &mut Reader<'l>, members: &mut Members<'l>) -> Result<(), Cause>
     requires { AreMissing members.old }
     ensures value { MatchResult result (λ _. IsValue reader.old reader.new members.new)
         (λ _. behind_value 127 reader.old ≡ None) }
     ensures cause { IfErr result (λ cause. cause ≡ Json) }
 {
-    let token = reader.next().ok_or(Cause::Json)?;
-    match token {
-        Token::String(_) => Ok(()),
-        Token::Bool(_) => Ok(()),
-        Token::Null => Ok(()),
-        Token::Number(text) => if is_number_in_range(text) {
-            Ok(())
-        } else {
-            Err(Cause::Json)
-        },
-        Token::EndObject | Token::EndArray | Token::Key(_) | Token::Bad => Err(Cause::Json),
-        Token::BeginArray => {
-            skip_items(reader, INNER_DEPTH)?;
+    match first_of(reader)? {
+        First::Whole(_) => Ok(()),
+        First::Array => {
+            rights_in(reader, INNER_DEPTH)?;
             Ok(())
         }
-        Token::BeginObject => {
+        First::Object => {
             fill(reader, members, INNER_DEPTH)?;
             Ok(())
         }

@@ -5,8 +5,7 @@ ghost use Rattle.ll_trace.specs.Processes.{process_count, times};
 ghost use Rattle.ll_pool.specs.declared.queue.TheConstants.{PARTS, ROOM};
 ghost use Rattle.ll_pool.specs.Gathered.{ArePiecesOf, processes_in};
 ghost use Rattle.crossbeam_queue.specs.Passes.{view, IsPassOf};
-ghost use Rattle.ll_pool.specs.Rule.{IsBalanced};
-ghost use Rattle.ll_pool.specs.Accounts.{IsAccount};
+ghost use Rattle.ll_pool.specs.{Rule.IsBalanced, Accounts.IsAccount};
 
 use crate::gather::keep;
 use crate::hand::{Busy, EmptyHand, Gate, Pool, QueueHand, Worked};

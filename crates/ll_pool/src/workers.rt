@@ -2,11 +2,9 @@
 
 ghost use Rattle.std.specs.Prelude.{◌≡◌, ◌<◌, ◌+◌, ℕ, List, [], All, OnOk, IfOk, vec_len, ◌++◌, ◌∷◌};
 ghost use Rattle.crossbeam_queue.specs.Passes.{view, IsPassOf};
-ghost use Rattle.ll_pool.specs.declared.queue.TheConstants.{PARTS};
-ghost use Rattle.ll_pool.specs.Accounts.{IsAccount};
+ghost use Rattle.ll_pool.specs.{declared.queue.TheConstants.PARTS, Accounts.IsAccount};
 ghost use Rattle.ll_process.specs.Jobs.{processes_of, AreJobsOf};
-ghost use Rattle.ll_pool.specs.Rule.{ledger};
-ghost use Rattle.ll_pool.specs.declared.workers.PoolFault.TheVariants.{Memory};
+ghost use Rattle.ll_pool.specs.{Rule.ledger, declared.workers.PoolFault.TheVariants.Memory};
 
 use crate::gather::keep_all;
 use crate::hand::{Gate, Pool, QueueHand, Worked, WorkerPromise};

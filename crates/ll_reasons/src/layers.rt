@@ -4,13 +4,10 @@ ghost use Rattle.std.specs.Prelude.{◌≡◌, ℕ, List, ◌∷◌, map, Some, 
 ghost use Rattle.ll_rights.specs.declared.abi.Abi.{Abi};
 ghost use Rattle.ll_tree.specs.Trees.{Entry};
 ghost use Rattle.ll_rules.specs.declared.errno.Errno.{Errno};
-ghost use Rattle.ll_trace.specs.declared.record.Record.{Record};
-ghost use Rattle.ll_trace.specs.declared.op.Op.{Op};
+ghost use Rattle.ll_trace.specs.{declared.record.Record.Record, declared.op.Op.Op};
 ghost use Rattle.ll_semantics.specs.declared.answer.Answer.TheVariants.{Allowed, Refused};
-ghost use Rattle.ll_semantics.specs.States.{Layer};
-ghost use Rattle.ll_semantics.specs.Worlds.{judged};
-ghost use Rattle.ll_reasons.specs.Objections.{Objection};
-ghost use Rattle.ll_reasons.specs.Origins.{Origins};
+ghost use Rattle.ll_semantics.specs.{States.Layer, Worlds.judged};
+ghost use Rattle.ll_reasons.specs.{Objections.Objection, Origins.Origins};
 ghost use Rattle.ll_reasons.specs.Explanations.{objections_to, domain_at, origins_at, objections, explained, explained_at, answer_at, nothing};
 
 /// The layers that are explained are exactly those that refuse, in order: for every call of a process before the

@@ -1,8 +1,7 @@
 //! Why what is at a path isn't what a call wants there.
 
 ghost use Rattle.std.specs.Prelude.{◌≡◌, IfSome};
-ghost use Rattle.ll_tree.specs.Trees.{place};
-ghost use Rattle.ll_tree.specs.TreeFacts.{IsPlace};
+ghost use Rattle.ll_tree.specs.{Trees.place, TreeFacts.IsPlace};
 ghost use Rattle.ll_reasons.specs.declared.why.Which.TheVariants.{First};
 ghost use Rattle.ll_reasons.specs.Meant.{path_named, reason_in, text_named};
 ghost use Rattle.ll_reasons.specs.Reasons.{no_object, nowhere, unmet};

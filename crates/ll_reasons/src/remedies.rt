@@ -2,9 +2,7 @@
 
 ghost use Rattle.std.specs.Prelude.{◌≡◌, ℕ, ◌+◌, Bool, false, not, ◌&&◌, ◌||◌, List, nat_eq, slice_set};
 ghost use Rattle.std.specs.List.{list_any};
-ghost use Rattle.ll_rights.specs.declared.fs.Fs.{Fs};
-ghost use Rattle.ll_rights.specs.declared.kind.Kind.{Kind};
-ghost use Rattle.ll_rights.specs.declared.net.Net.{Net};
+ghost use Rattle.ll_rights.specs.{declared.fs.Fs.Fs, declared.kind.Kind.Kind, declared.net.Net.Net};
 ghost use Rattle.ll_rights.specs.Rights as files;
 ghost use Rattle.ll_rights.specs.NetRights as network;
 ghost use Rattle.ll_lines.specs.Paths.{Path};

@@ -4,8 +4,7 @@
 ghost use Rattle.std.specs.Prelude.{[], ◌∷◌, Some};
 ghost use Rattle.ll_rights.specs.declared.abi.Abi.TheVariants.{V1, V2, V3, V4};
 ghost use Rattle.ll_rules.specs.WorkedRules.{a_f};
-ghost use Rattle.ll_semantics.specs.WorkedWords.{IsAnswered};
-ghost use Rattle.ll_semantics.specs.WorkedLayers.{rule_errors};
+ghost use Rattle.ll_semantics.specs.{WorkedWords.IsAnswered, WorkedLayers.rule_errors};
 ghost use Rattle.ll_semantics.specs.WorkedCalls.{unreferred, gaining, truncating, port_zero, moot_calls};
 ghost use Rattle.ll_reasons.specs.Conditions as conditions;
 ghost use Rattle.ll_reasons.specs.Reasons as reasons;

@@ -1,5 +1,5 @@
 -- Which moves pass where others pass.
-use Rattle.std.proofs.Common.{◌≡◌, ℕ, ◌+◌, Bool, true, false, not, ◌&&◌, ◌||◌, List, [], ◌∷◌, ◌++◌, refl, sym, ap, ◌∙◌, inl, inr}
+use Rattle.std.proofs.Common.{◌≡◌, ℕ, ◌+◌, Bool, true, false, not, ◌&&◌, ◌||◌, List, [], ◌∷◌, ◌++◌, refl, sym, ap, ◌∙◌, inl, inr, arith}
 use Rattle.std.proofs.lemmas.Bool.{cases_Bool, false≢true}
 use Rattle.std.specs.Prelude.{if◌then◌else◌}
 use Rattle.ll_rights.specs.Rights.{FsRight, refer, only, has, is_right, some_right, all_rights, named_rights}
@@ -19,32 +19,23 @@ use Rattle.ll_rules.specs.Checks.{numbers_from, lacks}
 use Rattle.ll_rules.specs.Moves.{lacks_one_of, gains, denies, holds_back, source_of, destination_of, kind_there, asked_of_destination, refused_or, move_verdict}
 use Rattle.ll_tree.proofs.Positions.{same_path, path_eq-same}
 use Rattle.ll_rules.proofs.AskedRights.{some_agree, one_asked}
-use Rattle.ll_rules.proofs.Booleans.{or_false, or_assoc, and_true, and_none}
+use Rattle.ll_rules.proofs.Booleans.{or_assoc, and_true}
 use Rattle.ll_regions.specs.Passing.{passes, lets_pass, is_none, lets_use, renaming, linking, exchanging}
 use Rattle.ll_regions.proofs.RightByRight.{some_or}
 
 -- ---- truths
 
 both_none : (a b c d : Bool) → (not (a || b) && (c && d)) ≡ ((not a && c) && (not b && d))
-both_none true b c d = refl
-both_none false true c d = sym (and_none c)
-both_none false false c d = refl
+both_none a b c d = grind arith
 
 one_more : (a b c : Bool) → ((a && b) && c) ≡ ((b && c) && a)
-one_more true b c = sym (and_true (b && c))
-one_more false b c = sym (and_none (b && c))
+one_more a b c = grind arith
 
 and_last : (a b c : Bool) → ((a && b) && c) ≡ ((a && c) && b)
-and_last true b true = and_true b
-and_last true b false = and_none b
-and_last false b c = refl
+and_last a b c = grind arith
 
 asked_one_of : (x y h g : Bool) → ((x || (y || false)) && h && g) ≡ (((x || false) && h && g) || ((y || false) && h && g))
-asked_one_of true true true true = refl
-asked_one_of true true true false = refl
-asked_one_of true true false g = refl
-asked_one_of true false h g = sym (or_false (h && g))
-asked_one_of false y h g = refl
+asked_one_of x y h g = grind arith
 
 -- ---- layers that refuse by one of two tests
 
@@ -203,25 +194,13 @@ path_eq-turned a b =
     ]
 
 both_ways : (a m d r : Bool) → ((a || m) || (d || r)) ≡ ((a || (d || r)) || (r || (m || a)))
-both_ways true m d r = refl
-both_ways false true true r = refl
-both_ways false true false true = refl
-both_ways false true false false = refl
-both_ways false false true r = refl
-both_ways false false false true = refl
-both_ways false false false false = refl
+both_ways a m d r = grind arith
 
 held_both_ways : (x y g h : Bool) → ((x || y) || (g || h)) ≡ (((x || y) || (g || false)) || ((y || x) || (h || false)))
-held_both_ways true y g h = refl
-held_both_ways false true g h = refl
-held_both_ways false false true h = refl
-held_both_ways false false false h = sym (or_false h)
+held_both_ways x y g h = grind arith
 
 two_moves : (a b w x y : Bool) → ((a && b) && (w || (x && y))) ≡ ((a && (w || x)) && (b && (w || y)))
-two_moves false b w x y = refl
-two_moves true false w x y = sym (and_none (w || x))
-two_moves true true true x y = refl
-two_moves true true false x y = refl
+two_moves a b w x y = grind arith
 
 pub exchange_is_two_renames : (domain : List (RulesOn Path)) (tree : List Entry) (one other : NodeId) → lets_pass domain tree (exchanging one other)
     ≡ (lets_pass domain tree (renaming one (Over other)) && lets_pass domain tree (renaming other (Over one)))

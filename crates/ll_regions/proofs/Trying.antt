@@ -7,7 +7,6 @@ use Rattle.std.proofs.lemmas.Bool.{cases_Bool, and_parts, and_from, eqb-true, fa
 use Rattle.std.proofs.lemmas.Slice.Eq.{bytes_eq-Decides}
 use Rattle.std.proofs.lemmas.List.Elements.{All-from_recursion, recursion_from_All, All-contains, All-cons, Contains-append_right}
 use Rattle.ll_rights.specs.declared.fs.Fs.{Fs}
-use Rattle.ll_rights.specs.declared.net.Net.{Net}
 use Rattle.ll_lines.specs.Paths.{Path, is_prefix, front, path_eq}
 use Rattle.ll_tree.specs.declared.place.NodeId.{NodeId}
 use Rattle.ll_tree.specs.Trees.{Entry, IsNode, path_at}
@@ -16,9 +15,7 @@ use Rattle.ll_tree.proofs.Positions.{is_root}
 use Rattle.ll_rules.proofs.Climbs.{prefix-same, prefix-trans}
 use Rattle.ll_rules.specs.InTree.{node, rule_on_path, AreInTree, all_in_tree}
 use Rattle.ll_rules.specs.Layers.{RulesOn}
-use Rattle.ll_rules.specs.Checks.{refusing, refusing_port}
 use Rattle.ll_regions.specs.Regions.{SameAbove, InOneRegion, ruled_paths, paths_to_try, SameOn, AreOnePort, ruled_ports}
-use Rattle.ll_regions.proofs.Refusals.{refusing-alike, refusing_port-alike}
 
 -- ---- lists
 
@@ -253,22 +250,3 @@ pub both_domains : {L : Type 0} (R : L → Type 0) (a b : List L) → All R (a +
 both_domains R a b each =
     let all = recursion_from_All R (a ++ b) each in
     (All-from_recursion R a (left_part R a b all), All-from_recursion R b (right_part R a b all))
-
-pub paths_enough : (a b : List (RulesOn Path)) (wanted : Fs) (test : List ℕ → List ℕ → Bool)
-    → All (λ tried. test (refusing a tried wanted) (refusing b tried wanted) ≡ true) (paths_to_try (a ++ b)) → (p : Path)
-    → test (refusing a p wanted) (refusing b p wanted) ≡ true
-paths_enough a b wanted test each p =
-    let found = one_path_tried (a ++ b) p in
-    let same = both_domains (SameAbove p found.0) a b found.2 in
-    rw (refusing-alike a p found.0 same.0 wanted, refusing-alike b p found.0 same.1 wanted)
-    (All-contains (λ tried. test (refusing a tried wanted) (refusing b tried wanted) ≡ true) (paths_to_try (a ++ b)) found.0 each found.1)
-
-pub ports_enough : (a b : List (RulesOn Path)) (wanted : Net) (test : List ℕ → List ℕ → Bool) (unruled : ℕ)
-    → All (λ ruled. eqb unruled ruled ≡ false) (ruled_ports (a ++ b))
-    → All (λ tried. test (refusing_port a tried wanted) (refusing_port b tried wanted) ≡ true) (unruled ∷ ruled_ports (a ++ b)) → (k : ℕ)
-    → test (refusing_port a k wanted) (refusing_port b k wanted) ≡ true
-ports_enough a b wanted test unruled none each k =
-    let found = one_port_tried (a ++ b) unruled none k in
-    let same = both_domains (SameOn k found.0) a b found.2 in
-    rw (refusing_port-alike a k found.0 same.0 wanted, refusing_port-alike b k found.0 same.1 wanted)
-    (All-contains (λ tried. test (refusing_port a tried wanted) (refusing_port b tried wanted) ≡ true) (unruled ∷ ruled_ports (a ++ b)) found.0 each found.1)

@@ -2,20 +2,16 @@
 
 ghost use Rattle.std.specs.Prelude.{◌≡◌, ◌++◌, ◌&&◌, ℕ, Bool, true, false, List, All};
 ghost use Rattle.std.specs.List.{Contains};
-ghost use Rattle.ll_rights.specs.declared.fs.Fs.{Fs as FsSet};
-ghost use Rattle.ll_rights.specs.declared.net.Net.{Net as NetSet};
+ghost use Rattle.ll_rights.specs.{declared.fs.Fs.Fs as FsSet, declared.net.Net.Net as NetSet};
 ghost use Rattle.ll_rights.specs.Rights.{has, only, some_right};
 ghost use Rattle.ll_rights.specs.Kinds.{remove_right_of};
 ghost use Rattle.ll_lines.specs.Paths.{Name, Path, front};
 ghost use Rattle.ll_tree.specs.Trees.{Entry, IsNode, path_at, kind_at};
-ghost use Rattle.ll_tree.specs.TreeFacts.{IsTree};
-ghost use Rattle.ll_tree.specs.declared.place.NodeId.{NodeId};
+ghost use Rattle.ll_tree.specs.{TreeFacts.IsTree, declared.place.NodeId.NodeId};
 ghost use Rattle.ll_rules.specs.InTree.{AreInTree, all_in_tree};
-ghost use Rattle.ll_rules.specs.declared.moves.Move.{Move as Attempt};
-ghost use Rattle.ll_rules.specs.declared.moves.Target.{Target as MoveTarget};
+ghost use Rattle.ll_rules.specs.{declared.moves.Move.Move as Attempt, declared.moves.Target.Target as MoveTarget};
 ghost use Rattle.ll_rules.specs.declared.moves.Target.TheVariants.{New, Over};
-ghost use Rattle.ll_rules.specs.Layers.{RulesOn};
-ghost use Rattle.ll_rules.specs.LayerNumbers.{is_among};
+ghost use Rattle.ll_rules.specs.{Layers.RulesOn, LayerNumbers.is_among};
 ghost use Rattle.ll_rules.specs.Checks.{refusing, refusing_port};
 ghost use Rattle.ll_rules.specs.Moves.{move_verdict};
 ghost use Rattle.ll_regions.specs.Regions.{InOneRegion, AreOnePort, paths_to_try, ports_to_try, objects_to_try, IsUnruled, IsUnruledPort, IsUnruledName};

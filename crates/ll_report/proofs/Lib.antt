@@ -1,9 +1,9 @@
 pub mod LayerText
 pub mod LinesLeft
-pub mod ShownText
 pub mod Beginnings
 pub mod Making
 pub mod Paging
+pub mod Sending
 pub mod BlocksMade
 pub mod Holding
 pub mod Suiting

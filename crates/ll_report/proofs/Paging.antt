@@ -103,13 +103,13 @@ module _ (page after : Buffered) (part : List ℕ) (is_page : IsPage page) (smal
   put_room = ap (λ (b : Buffered). b.room) put
 
   -- there was room for all of it
-  pub put_whole : after.count ≤ page.room → IsPage after × (page.held ++ part ≡ after.held)
+  pub put_whole : after.count ≤ after.room → IsPage after × (page.held ++ part ≡ after.held)
   put_whole within =
       let count : after.count ≡ min (length page.held + length part) most_counted = ap (λ (b : Buffered). b.count) put in
-      let all : length (page.held ++ part) ≤ page.room = omega (arith, length-append page.held part, count, within, small) in
+      let all : length (page.held ++ part) ≤ page.room = omega (arith, length-append page.held part, count, within, put_room, small) in
       let held : after.held ≡ page.held ++ part = ap (λ (b : Buffered). b.held) put ∙ take_all page.room (page.held ++ part) all in
       let counts : min (length page.held + length part) most_counted ≡ length after.held
-      = omega (arith, length-append page.held part, count, within, small, ap length held) in (
+      = omega (arith, length-append page.held part, count, within, put_room, small, ap length held) in (
         record {
           all = put ∙ ap₂ (λ n l. filled page.room 0 n l) counts (take_all page.room (page.held ++ part) all ∙ sym held)
               ∙ ap (λ n. holding n after.held) (sym put_room);
@@ -152,6 +152,28 @@ module _ (old mid new : Option (List ℕ)) (text held rest : List ℕ) (split : 
     Appends-trans old mid new held sends.0 first sends.1,
     split ∙ ap (λ l. held ++ l) sends.2 ∙ sym (append_assoc held sends.0 left),
   )
+
+-- a page had no room for a part, so what it held is written, and the rest of the part is to follow
+module _ (page after : Buffered) (part bytes rest : List ℕ) (is_page : IsPage page) (small : page.room < most_counted) (is : after ≡ adding page part)
+    (over : after.room < after.count) (are : bytes ≡ after.held) (remains : rest ≡ drop (page.room - length page.held) part) where
+  more : page.room < after.count
+  more = omega (arith, over, put_room page after part is_page small is)
+
+  pub rest_within : page.room - length page.held ≤ length part
+  rest_within = (put_split page after part is_page small is more).0
+
+  split : page.held ++ part ≡ bytes ++ rest
+  split = (put_split page after part is_page small is more).1 ∙ ap₂ (λ a b. a ++ b) (sym are) (sym remains)
+
+  pub page_cut : (old new : Option (List ℕ)) → AppendsBeginning old new bytes → AppendsBeginning old new (page.held ++ part)
+  page_cut old new = cut_first old new new (page.held ++ part) bytes rest split
+
+  pub rest_cut : (old mid new : Option (List ℕ)) → Appends old mid bytes → AppendsBeginning mid new rest → AppendsBeginning old new (page.held ++ part)
+  rest_cut old mid new = cut_second old mid new (page.held ++ part) bytes rest split
+
+  pub rest_sent : (old mid new : Option (List ℕ)) (left : List ℕ) → Appends old mid bytes → Sends mid new rest left
+      → Sends old new (page.held ++ part) left
+  rest_sent old mid new = sends_both old mid new (page.held ++ part) bytes rest split
 
 -- of a text so much is held or left, and the next part of it goes to the page
 module _ (old mid new : Option (List ℕ)) (text held part rest : List ℕ) (so_far : Sends old mid text (held ++ (part ++ rest))) where

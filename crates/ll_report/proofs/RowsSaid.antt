@@ -1,9 +1,9 @@
 -- What rows say, by the findings.
 use Rattle.std.proofs.Common.{◌≡◌, ◌∙◌, ℕ, ◌+◌, ◌<◌, ◌≤◌, Bool, true, false, ◌||◌, List, [], ◌∷◌, ◌++◌, length, map, drop, slice_get, All, refl, sym}
 use Rattle.std.proofs.Common.{ap, ap₂, arith, codes, cond, inl, inr, subst, get_or}
-use Rattle.std.specs.Prelude.{count_by, unwrap_or, not, ◌&&◌}
+use Rattle.std.specs.Prelude.{count_by, unwrap_or, not, ◌&&◌, ◌⊎◌}
 use Rattle.std.specs.List.{list_any, range_with_len}
-use Rattle.std.proofs.lemmas.Bool.{cases_lt, false≢true}
+use Rattle.std.proofs.lemmas.Bool.{cases_Bool, cases_lt, false≢true}
 use Rattle.std.proofs.lemmas.List.{drop_more, drop_all}
 use Rattle.std.proofs.lemmas.List.Elements.{All-cons, All-head, All-tail, All-weaker}
 use Rattle.std.proofs.lemmas.List.Sums.{sum_by-cons}
@@ -11,12 +11,14 @@ use Rattle.std.proofs.lemmas.Option.{slice_get_past, unwrap_or-slice_get}
 use Rattle.std.proofs.lemmas.List.FromFn.{get_or-map-range_with_len, length-map-range_with_len}
 use Rattle.ll_tree.specs.Trees.{Entry}
 use Rattle.ll_trace.specs.declared.record.Record.{Record}
+use Rattle.ll_semantics.specs.declared.answer.Answer.{Answer}
 use Rattle.ll_explanations.specs.FindingValues.{FindingValue}
 use Rattle.ll_explanations.specs.Findings.{answer_in, kept_at, said_by}
 use Rattle.ll_explain.specs.Told.{said_text, text_told}
 use Rattle.ll_report.specs.declared.options.Shown.{Shown}
 use Rattle.ll_report.specs.declared.spans.Form.TheVariants.{Answers, Explanations}
 use Rattle.ll_report.specs.Alike.{AnswerAs, AreAlike}
+use Rattle.ll_report.specs.Blocks.{block_of}
 use Rattle.ll_report.specs.Found.{Found, answer_at, explanation_at}
 use Rattle.ll_report.specs.Lines.{line_of, verdict_of}
 use Rattle.ll_report.specs.Report.{is_refused, line_text, verdict_text}
@@ -147,20 +149,33 @@ module _ (tree : List Entry) (records : List Record) (place oldest : ℕ) (one :
             (one ∷ others) all,
       ))
 
-  module _ (shown : Shown) (r : Record) (are : AreAlike shown.explanations (one ∷ others) place) where
-    said : IsSaid (λ (found : Found). answer_at found place) (answer_in one place) (founds_in shown.explanations tree records (one ∷ others))
-    said = answer_so (found_in shown.explanations tree records) place (λ f. refl) one others are.0
+  first_shown : (shown : Shown) (r : Record) → AreAlike shown.explanations (one ∷ others) place
+      → block_of shown tree records one place r ≡ row_text shown oldest (founds_in shown.explanations tree records (one ∷ others)) place (told_of r)
+  first_shown shown r are =
+      go (cases_Bool (is_left_out shown (verdict_of answer))) where
+        answer : Answer
+        answer = answer_in one place
 
-    pub row_hidden : is_left_out shown (verdict_of (answer_in one place)) ≡ true
-        → [] ≡ row_text shown oldest (founds_in shown.explanations tree records (one ∷ others)) place (told_of r)
-    row_hidden out = sym (row_left_out shown oldest (founds_in shown.explanations tree records (one ∷ others)) place r (answer_in one place) said out)
+        founds : List Found
+        founds = founds_in shown.explanations tree records (one ∷ others)
 
-    pub row_shown : is_left_out shown (verdict_of (answer_in one place)) ≡ false
-        → line_text (line_of r (answer_in one place)) ++ behind_line shown.explanations (text_told tree records one place)
-        ≡ row_text shown oldest (founds_in shown.explanations tree records (one ∷ others)) place (told_of r)
-    row_shown shows =
-        ap (λ behind. line_text (line_of r (answer_in one place)) ++ behind) (behind_same shown.explanations are)
-        ∙ row_written shown oldest (founds_in shown.explanations tree records (one ∷ others)) place r (answer_in one place) said [] shows
+        said : IsSaid (λ (found : Found). answer_at found place) answer founds
+        said = answer_so (found_in shown.explanations tree records) place (λ f. refl) one others are.0
+
+        go : (is_left_out shown (verdict_of answer) ≡ true) ⊎ (is_left_out shown (verdict_of answer) ≡ false)
+            → block_of shown tree records one place r ≡ row_text shown oldest founds place (told_of r)
+        go (inl out) = rw out (sym (row_left_out shown oldest founds place r answer said out))
+        go (inr shows) =
+            rw shows (ap (λ behind. line_text (line_of r answer) ++ behind) (behind_same shown.explanations are)
+            ∙ row_written shown oldest founds place r answer said [] shows)
+
+-- what is shown of a record of which all versions find the same, is what one of them shows
+pub shown_alike : (shown : Shown) (oldest : ℕ) (tree : List Entry) (records : List Record) (findings : List FindingValue) (place : ℕ) (r : Record)
+    (one : FindingValue) (others : List FindingValue) → findings ≡ one ∷ others → AreAlike shown.explanations findings place
+    → block_of shown tree records one place r ≡ row_text shown oldest (founds_in shown.explanations tree records findings) place (told_of r)
+shown_alike shown oldest tree records findings place r one others is are =
+    first_shown tree records place oldest one others shown r (subst (λ fs. AreAlike shown.explanations fs place) is are)
+    ∙ ap (λ fs. row_text shown oldest (founds_in shown.explanations tree records fs) place (told_of r)) (sym is)
 
 -- ---- records about which versions may differ
 
@@ -234,7 +249,8 @@ same_totals explains tree records abi [] = refl
 same_totals explains tree records abi (finding ∷ others) =
     ap (λ rest. total_under_text abi (answered finding) ++ rest) (same_totals explains tree records (abi + 1) others)
 
-count_same : (p q : ℕ → Bool) → ((n : ℕ) → p n ≡ q n) → (xs : List ℕ) → count_by p xs ≡ count_by q xs
+-- tests that agree count as many
+pub count_same : (p q : ℕ → Bool) → ((n : ℕ) → p n ≡ q n) → (xs : List ℕ) → count_by p xs ≡ count_by q xs
 count_same p q same [] = refl
 count_same p q same (x ∷ xs) =
     omega (

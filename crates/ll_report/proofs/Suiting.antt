@@ -14,8 +14,12 @@ use Rattle.ll_report.specs.Scratches.{FitIn, told_under, verdict_told}
 abbrev pub found_apart : List Bool → ℕ → Bool
 found_apart apart place = unwrap_or (slice_get apart place) false
 
-pub record IsSuitedBefore (told : List Entry → List Record → FindingValue → ℕ → List ℕ) (explains : Bool) (tree : List Entry) (records : List Record)
-    (findings : List FindingValue) (apart : List Bool) (longest place : ℕ) : Type 0 where
+-- how what is found is told
+abbrev pub Telling : Type 0
+Telling = List Entry → List Record → FindingValue → ℕ → List ℕ
+
+pub record IsSuitedBefore (told : Telling) (explains : Bool) (tree : List Entry) (records : List Record) (findings : List FindingValue)
+    (apart : List Bool) (longest place : ℕ) : Type 0 where
   pub as_many : length apart ≡ place
   pub alike : (k : ℕ) → k < place → found_apart apart k ≡ false → AreAlike explains findings k
   pub verdicts : longest < 2 ^ 63 → (k : ℕ) → found_apart apart k ≡ true → FitIn longest (told_under verdict_told tree records findings k)
@@ -44,34 +48,33 @@ apart_here : (apart : List Bool) (one : Bool) → found_apart (apart ++ one ∷ 
 apart_here [] one = refl
 apart_here (first ∷ others) one = apart_here others one
 
-module _ (told : List Entry → List Record → FindingValue → ℕ → List ℕ) (explains : Bool) (tree : List Entry) (records : List Record)
-    (findings : List FindingValue) where
-  module _ (apart after : List Bool) (one : Bool) (longest next place : ℕ) (so_far : IsSuitedBefore told explains tree records findings apart longest place)
-      (pushed : after ≡ apart ++ one ∷ []) (greater : longest ≤ next) where
-    later : (form : List Entry → List Record → FindingValue → ℕ → List ℕ)
-        → (longest < 2 ^ 63 → (k : ℕ) → found_apart apart k ≡ true → FitIn longest (told_under form tree records findings k))
-        → (one ≡ true → next < 2 ^ 63 → FitIn next (told_under form tree records findings place))
-        → next < 2 ^ 63 → (k : ℕ) → found_apart after k ≡ true → FitIn next (told_under form tree records findings k)
-    later form old new small k is = elim (apart_later apart one k (ap (λ a. found_apart a k) (sym pushed) ∙ is)) [
-      | inl before ↦ fits_more (told_under form tree records findings k) longest next greater (old (omega (arith, small, greater)) k before)
-      | inr last ↦
-          subst (λ n. FitIn next (told_under form tree records findings n)) (sym (last.0 ∙ so_far.as_many)) (new last.1 small)
-    ]
+-- one more record is measured
+module _ (told : Telling) (explains : Bool) (tree : List Entry) (records : List Record) (findings : List FindingValue) (apart after : List Bool) (one : Bool)
+    (longest next place : ℕ) (so_far : IsSuitedBefore told explains tree records findings apart longest place) (pushed : after ≡ apart ++ one ∷ [])
+    (greater : longest ≤ next) where
+  later : (form : Telling) → (longest < 2 ^ 63 → (k : ℕ) → found_apart apart k ≡ true → FitIn longest (told_under form tree records findings k))
+      → (one ≡ true → next < 2 ^ 63 → FitIn next (told_under form tree records findings place))
+      → next < 2 ^ 63 → (k : ℕ) → found_apart after k ≡ true → FitIn next (told_under form tree records findings k)
+  later form old new small k is = elim (apart_later apart one k (ap (λ a. found_apart a k) (sym pushed) ∙ is)) [
+    | inl before ↦ fits_more (told_under form tree records findings k) longest next greater (old (omega (arith, small, greater)) k before)
+    | inr last ↦
+        subst (λ n. FitIn next (told_under form tree records findings n)) (sym (last.0 ∙ so_far.as_many)) (new last.1 small)
+  ]
 
-    pub one_more : (one ≡ false → AreAlike explains findings place)
-        → (one ≡ true → next < 2 ^ 63 → FitIn next (told_under verdict_told tree records findings place))
-        → (one ≡ true → next < 2 ^ 63 → FitIn next (told_under told tree records findings place))
-        → IsSuitedBefore told explains tree records findings after next (place + 1)
-    one_more alike verdicts texts = record {
-      as_many = ap length pushed ∙ length-append apart (one ∷ []) ∙ ap (λ n. n + 1) so_far.as_many;
-      alike = λ k below is. elim (cases_lt k place) [
-        | inl before ↦
-            so_far.alike k before (sym (apart_before apart one k (omega (arith, before, so_far.as_many))) ∙ ap (λ a. found_apart a k) (sym pushed) ∙ is)
-        | inr here ↦
-            let same : k ≡ place = omega (arith, here, below) in
-            let none : one ≡ false = sym (apart_here apart one) ∙ ap₂ found_apart (sym pushed) (so_far.as_many ∙ sym same) ∙ is in
-            subst (AreAlike explains findings) (sym same) (alike none)
-      ];
-      verdicts = later verdict_told so_far.verdicts verdicts;
-      texts = later told so_far.texts texts;
-    }
+  pub one_more : (one ≡ false → AreAlike explains findings place)
+      → (one ≡ true → next < 2 ^ 63 → FitIn next (told_under verdict_told tree records findings place))
+      → (one ≡ true → next < 2 ^ 63 → FitIn next (told_under told tree records findings place))
+      → IsSuitedBefore told explains tree records findings after next (place + 1)
+  one_more alike verdicts texts = record {
+    as_many = ap length pushed ∙ length-append apart (one ∷ []) ∙ ap (λ n. n + 1) so_far.as_many;
+    alike = λ k below is. elim (cases_lt k place) [
+      | inl before ↦
+          so_far.alike k before (sym (apart_before apart one k (omega (arith, before, so_far.as_many))) ∙ ap (λ a. found_apart a k) (sym pushed) ∙ is)
+      | inr here ↦
+          let same : k ≡ place = omega (arith, here, below) in
+          let none : one ≡ false = sym (apart_here apart one) ∙ ap₂ found_apart (sym pushed) (so_far.as_many ∙ sym same) ∙ is in
+          subst (AreAlike explains findings) (sym same) (alike none)
+    ];
+    verdicts = later verdict_told so_far.verdicts verdicts;
+    texts = later told so_far.texts texts;
+  }

@@ -3,8 +3,7 @@
 ghost use Rattle.std.specs.Prelude.{◌≡◌, Some, slice_get};
 ghost use Rattle.ll_explain.specs.Buffers.{adding};
 ghost use Rattle.ll_report.specs.Blocks.{block_of, total_of};
-ghost use Rattle.ll_report.specs.Lines.{verdict_of};
-ghost use Rattle.ll_report.specs.Shown.{is_left_out};
+ghost use Rattle.ll_report.specs.{Lines.verdict_of, Shown.is_left_out};
 
 use crate::made::Rows;
 use crate::options::Shown;
@@ -13,6 +12,7 @@ use ll_explain::{TextBuffer, push_found};
 use ll_explanations::Finding;
 use ll_process::{Answer, Case};
 use ll_trace::Record;
+use ll_tree::Tree;
 
 /// Whether an answer's line is left out.
 pub(crate) fn is_hidden(shown: Shown, answer: &Answer) -> bool
@@ -21,30 +21,36 @@ pub(crate) fn is_hidden(shown: Shown, answer: &Answer) -> bool
     shown.refused_alone && !is_refused(answer) || shown.differing_alone
 }
 
+/// Adds what is shown of the record at a place, by what was found of it.
+#[tactic(auto, using(ll_explain::proofs::Buffering::adding_both, ll_explain::proofs::Buffering::adding_nothing))]
+pub(crate) fn push_block(
+    text: &mut TextBuffer,
+    shown: Shown,
+    tree: &Tree,
+    records: &[Record],
+    finding: &Finding,
+    place: usize,
+    record: &Record,
+)
+    ensures { text.new ≡ adding text.old
+        (block_of shown tree.now records.now finding.now place «record».now) }
+{
+    let answer = finding.answer(place);
+    if is_hidden(shown, &answer) {
+        return;
+    }
+    push_line(text, record, &answer);
+    if shown.explanations {
+        push_found(text, tree, records, finding, place);
+    }
+}
+
 /// What is shown of the records of a case, by what was found of them.
 #[derive(Drop)]
 pub struct Blocks {
     pub(crate) case: Case,
     pub(crate) finding: Finding,
     pub(crate) shown: Shown,
-}
-
-impl Blocks {
-    /// Adds what is shown of the record at a place.
-    fn push_block(&self, text: &mut TextBuffer, place: usize, record: &Record)
-        ensures { text.new ≡ adding text.old (block_of self.now.shown self.now.case.tree
-            self.now.case.records self.now.finding place «record».now) }
-    {
-        let answer = self.finding.answer(place);
-        if is_hidden(self.shown, &answer) {
-            return;
-        }
-        push_line(text, record, &answer);
-        if self.shown.explanations {
-            let records = self.case.trace().records();
-            push_found(text, self.case.tree(), records, &self.finding, place);
-        }
-    }
 }
 
 impl Rows for Blocks {
@@ -58,8 +64,18 @@ impl Rows for Blocks {
     }
 
     fn push_row(&mut self, text: &mut TextBuffer, place: usize) {
-        if let Some(record) = self.case.trace().records().get(place) {
-            self.push_block(text, place, record);
+        let tree = self.case.tree();
+        let records = self.case.trace().records();
+        if let Some(record) = records.get(place) {
+            push_block(
+                text,
+                self.shown,
+                tree,
+                records,
+                &self.finding,
+                place,
+                record,
+            );
         }
     }
 

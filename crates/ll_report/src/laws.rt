@@ -1,21 +1,13 @@
 //! What holds by the definitions, and of findings.
 
 ghost use Rattle.std.specs.Prelude.{◌≡◌, ℕ, List, [], codes};
-ghost use Rattle.ll_rights.specs.declared.abi.Abi.{Abi as Version};
-ghost use Rattle.ll_rights.specs.declared.abi.Abi.TheVariants.{V4};
-ghost use Rattle.ll_tree.specs.Trees.{Entry};
-ghost use Rattle.ll_tree.specs.WorkedTree.{worked_tree};
+ghost use Rattle.ll_rights.specs.{declared.abi.Abi.Abi as Version, declared.abi.Abi.TheVariants.V4};
+ghost use Rattle.ll_tree.specs.{Trees.Entry, WorkedTree.worked_tree};
 ghost use Rattle.ll_trace.specs.declared.record.Record.{Record as OneRecord};
 ghost use Rattle.ll_semantics.specs.Worlds.{judged};
-ghost use Rattle.ll_explanations.specs.FindingValues.{FindingValue};
-ghost use Rattle.ll_explanations.specs.Findings.{Finds};
-ghost use Rattle.ll_explanations.specs.TakenLater.{AreTakenLater};
-ghost use Rattle.ll_report.specs.declared.options.Shown.{Shown};
-ghost use Rattle.ll_report.specs.Found.{found_under};
-ghost use Rattle.ll_report.specs.Versions.{found_in};
-ghost use Rattle.ll_report.specs.Lines.{lines_of};
-ghost use Rattle.ll_report.specs.Report.{report_text};
-ghost use Rattle.ll_report.specs.Spans.{spans_of};
+ghost use Rattle.ll_explanations.specs.{FindingValues.FindingValue, Findings.Finds, TakenLater.AreTakenLater};
+ghost use Rattle.ll_report.specs.{declared.options.Shown.Shown, Found.found_under, Versions.found_in, Lines.lines_of};
+ghost use Rattle.ll_report.specs.{Report.report_text, Spans.spans_of};
 ghost use Rattle.ll_report.specs.SpansSpread.{all_spread_out, numbered_from};
 
 /// The report on an empty trace.
@@ -26,6 +18,7 @@ pub fn empty_report()
 
 /// What is said under neighbouring versions is what their spans say, spread out again: each version
 /// stands in one span, under its own number and with what was said under it.
+#[tactic(auto, using(crate::proofs::SpansWhole::spans_whole))]
 pub fn spans_give_back_what_was_said()
     ensures { (oldest : ℕ) (said : List (List ℕ))
         → all_spread_out (spans_of oldest said) ≡ numbered_from oldest said }

@@ -1,4 +1,5 @@
 //! The text of the report.
+#![tactic(auto, using(ll_explain::proofs::Buffering::adding_both))]
 
 ghost use Rattle.std.specs.Prelude.{◌≡◌, ◌++◌, ◌∷◌, [], codes, count_by, decimal, length, if◌then◌else◌};
 ghost use Rattle.ll_explain.specs.Buffers.{adding};

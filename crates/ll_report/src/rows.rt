@@ -3,21 +3,20 @@
 ghost use Rattle.std.specs.Prelude.{◌≡◌, ◌+◌, ◌<◌, ◌^◌, ◌&&◌, count_by, false, length, not, true};
 ghost use Rattle.std.specs.List.{range_with_len};
 ghost use Rattle.ll_explain.specs.Buffers.{adding};
-ghost use Rattle.ll_report.specs.Alike.{AreAlike};
-ghost use Rattle.ll_report.specs.Rows.{is_row_left_out};
+ghost use Rattle.ll_report.specs.{Alike.AreAlike, Rows.is_row_left_out};
 ghost use Rattle.ll_report.specs.Scratches.{FitIn, is_apart, verdict_told};
 ghost use Rattle.ll_report.specs.Sayings.{said_by};
 ghost use Rattle.ll_report.specs.Versions.{answers_in, row_of, some_refuses};
 ghost use Rattle.ll_explain.specs.Told.{text_told};
 
-use crate::blocks::is_hidden;
+use crate::blocks::{is_hidden, push_block};
 use crate::options::Shown;
-use crate::report::{is_refused, push_line, push_record};
+use crate::report::{is_refused, push_record};
 use crate::sayings::Sayings;
 use crate::scratch::Scratch;
 use crate::spans::Form;
 use crate::telling::{InWords, Verdicts};
-use ll_explain::{TextBuffer, push_found, push_words};
+use ll_explain::{TextBuffer, push_words};
 use ll_explanations::Finding;
 use ll_trace::Record;
 
@@ -111,15 +110,13 @@ impl<'f> Row<'f> {
         let Some((first, _)) = self.sayings.findings.split_first() else {
             return;
         };
-        let answer = first.answer(self.sayings.place);
-        if is_hidden(self.shown, &answer) {
-            return;
-        }
-        push_line(text, self.record, &answer);
-        if self.shown.explanations {
-            let Sayings { tree, records, .. } = self.sayings;
-            push_found(text, tree, records, first, self.sayings.place);
-        }
+        let Sayings {
+            tree,
+            records,
+            place,
+            ..
+        } = self.sayings;
+        push_block(text, self.shown, tree, records, first, place, self.record);
     }
 
     /// Adds what is shown of the record, where versions may differ.

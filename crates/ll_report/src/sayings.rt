@@ -6,7 +6,7 @@ ghost use Rattle.ll_report.specs.Alike.{AreAlike};
 ghost use Rattle.ll_report.specs.Scratches.{FitIn, told_under, verdict_told};
 
 use crate::alike::are_alike;
-use crate::telling::{Telling, Verdicts};
+use crate::telling::{Saying, Telling, Verdicts};
 use ll_explain::TextBuffer;
 use ll_explanations::Finding;
 use ll_trace::Record;
@@ -28,8 +28,21 @@ impl<'f> Sayings<'f> {
         ensures { text.new ≡ adding text.old (get_or (told_under T.told self.now.tree.now
             self.now.records.now self.now.findings.now self.now.place) version []) }
     {
-        let finding = &self.findings[version];
-        T::push(text, self.tree, self.records, finding, self.place);
+        self.push_of::<T>(text, &self.findings[version]);
+    }
+
+    /// Adds what is said by a finding.
+    fn push_of<T: Telling>(&self, text: &mut TextBuffer, finding: &'f Finding)
+        ensures { text.new ≡ adding text.old (T.told self.now.tree.now self.now.records.now
+            finding.now self.now.place) }
+    {
+        let saying = Saying {
+            tree: self.tree,
+            records: self.records,
+            finding,
+            place: self.place,
+        };
+        T::push(text, &saying);
     }
 
     /// Whether two versions answer and explain the record by the same values, and so say the same.
@@ -59,7 +72,7 @@ impl<'f> Sayings<'f> {
         let mut longest = least;
         for finding in self.findings {
             measure.clear();
-            T::push(measure, self.tree, self.records, finding, self.place);
+            self.push_of::<T>(measure, finding);
             longest = longest.max(measure.count());
         }
         longest

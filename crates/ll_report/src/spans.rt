@@ -1,10 +1,10 @@
 //! What is said of a record under neighbouring versions.
+#![tactic(auto, using(ll_explain::proofs::Buffering::adding_both))]
 
 ghost use Rattle.std.specs.Prelude.{◌≡◌, ◌+◌, ◌<◌, ◌^◌, [], get_or, length};
 ghost use Rattle.std.specs.List.{flat_map};
 ghost use Rattle.ll_explain.specs.Buffers.{adding};
-ghost use Rattle.ll_report.specs.Scratches.{FitIn};
-ghost use Rattle.ll_report.specs.Sayings.{said_by};
+ghost use Rattle.ll_report.specs.{Scratches.FitIn, Sayings.said_by};
 ghost use Rattle.ll_report.specs.Spans.{agree, alone_text, numbers_text, span_text, spans_of, versions_text};
 
 use crate::sayings::Sayings;

@@ -1,8 +1,7 @@
 //! How what is found of a record under one version is told.
 
 ghost use Rattle.std.specs.Prelude.{◌≡◌};
-ghost use Rattle.ll_explain.specs.Buffers.{adding};
-ghost use Rattle.ll_explain.specs.Told.{text_told};
+ghost use Rattle.ll_explain.specs.{Buffers.adding, Told.text_told};
 ghost use Rattle.ll_report.specs.Scratches.{verdict_told};
 ghost use Rattle.ll_report.specs.ByValue.{text_by_value, verdict_by_value};
 
@@ -11,6 +10,15 @@ use ll_explain::{TextBuffer, push_found};
 use ll_explanations::Finding;
 use ll_trace::Record;
 use ll_tree::Tree;
+
+/// What a version found of the record at a place, with what it takes to tell it.
+#[derive(Clone, Copy)]
+pub struct Saying<'f> {
+    pub tree: &'f Tree,
+    pub records: &'f [Record],
+    pub finding: &'f Finding,
+    pub place: usize,
+}
 
 /// How what is found of a record under a version is told, by the tree and the records at hand.
 pub trait Telling {
@@ -22,9 +30,10 @@ pub trait Telling {
 
     ghost told: { List Entry → List OneRecord → FindingValue → ℕ → List ℕ };
 
-    /// Adds what is told of the record at a place.
-    fn push(text: &mut TextBuffer, tree: &Tree, records: &[Record], finding: &Finding, place: usize)
-        ensures { text.new ≡ adding text.old (told tree.now records.now finding.now place) };
+    /// Adds what is told of the record.
+    fn push(text: &mut TextBuffer, saying: &Saying<'_>)
+        ensures { text.new ≡ adding text.old (told saying.now.tree.now saying.now.records.now
+            saying.now.finding.now saying.now.place) };
 
     // Where two findings answer and explain a record by the same values, they are told alike.
     ghost by_value: { (tree : List Entry) → (records : List OneRecord)
@@ -41,14 +50,8 @@ impl Telling for Verdicts {
 
     ghost by_value = { verdict_by_value };
 
-    fn push(
-        text: &mut TextBuffer,
-        _tree: &Tree,
-        _records: &[Record],
-        finding: &Finding,
-        place: usize,
-    ) {
-        push_verdict(text, &finding.answer(place));
+    fn push(text: &mut TextBuffer, saying: &Saying<'_>) {
+        push_verdict(text, &saying.finding.answer(saying.place));
     }
 }
 
@@ -60,13 +63,13 @@ impl Telling for InWords {
 
     ghost by_value = { text_by_value };
 
-    fn push(
-        text: &mut TextBuffer,
-        tree: &Tree,
-        records: &[Record],
-        finding: &Finding,
-        place: usize,
-    ) {
-        push_found(text, tree, records, finding, place);
+    fn push(text: &mut TextBuffer, saying: &Saying<'_>) {
+        push_found(
+            text,
+            saying.tree,
+            saying.records,
+            saying.finding,
+            saying.place,
+        );
     }
 }

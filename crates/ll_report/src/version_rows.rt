@@ -33,8 +33,7 @@ pub struct VersionRows {
 impl Model for VersionRows {
     ghost use Rattle.std.specs.Prelude.{◌+◌, ◌<◌, ◌^◌, length};
     ghost use Rattle.ll_explain.specs.Told.{text_told};
-    ghost use Rattle.ll_report.specs.Made.{Made};
-    ghost use Rattle.ll_report.specs.Scratches.{Suits};
+    ghost use Rattle.ll_report.specs.{Made.Made, Scratches.Suits};
     ghost use Rattle.ll_report.specs.Versions.{founds_in, rows_made};
 
     ghost Value = { Made };

@@ -1,5 +1,5 @@
 -- The sets of rights for files and those for the network, from their tables.
-use Rattle.std.proofs.Common.{◌≡◌, ◌^◌, ◌<◌, false, ◌||◌, eqb, not, refl, ap, ◌∙◌, lit≤, bit_and, ℕ, List, Option, map, find}
+use Rattle.std.proofs.Common.{◌≡◌, ◌^◌, ◌<◌, false, ◌||◌, eqb, not, refl, ap, lit≤, bit_and, ℕ, List, Option, map, find}
 use Rattle.std.specs.Prelude.{bytes_eq, unwrap_or}
 use Rattle.std.specs.Int.{w32, bit_not}
 use Rattle.ll_rights.specs.declared.fs.Fs.{Fs}
@@ -9,11 +9,10 @@ use Rattle.ll_rights.specs.declared.fs.FsRight.TheVariants as fs
 use Rattle.ll_rights.specs.declared.net.NetRight.{NetRight}
 use Rattle.ll_rights.specs.declared.net.NetRight.TheVariants as net
 use Rattle.ll_rights.specs.CodeRights.{fs_right, net_right}
-use Rattle.ll_rights.specs.Sets.{first_named}
 use Rattle.ll_rights.specs.Rights as files
 use Rattle.ll_rights.specs.NetRights as network
 use Rattle.ll_rights.proofs.Places.{has_place-or}
-use Rattle.ll_rights.proofs.Tables.{IsTable, Stands, first_named_by, has-only, is_empty, is_within, is_lacking}
+use Rattle.ll_rights.proofs.Tables.{IsTable, Stands, named_by, has-only, is_empty, is_within, is_lacking}
 
 -- ---- both are tables
 
@@ -39,17 +38,13 @@ pub fs_named : (text : List ℕ) (all : List FsRight) (found : Option FsRight) �
     found ≡ find (λ right. bytes_eq text (files.name_of (fs_right right))) all
     → files.only (fs_right (unwrap_or found fs.Other)) ≡ files.only (files.right_named text)
 unfolding files.right_named
-fs_named text all found each is =
-    ap files.only (ap (λ one. fs_right (unwrap_or one fs.Other)) is ∙ first_named_by files.row fs_right fs.Other text all
-    ∙ ap (λ rights. first_named files.row files.other rights text) each)
+fs_named text all found each is = ap files.only (named_by files.row fs_right fs.Other files.all_rights text all found each is)
 
 pub net_named : (text : List ℕ) (all : List NetRight) (found : Option NetRight) → map net_right all ≡ network.all_rights →
     found ≡ find (λ right. bytes_eq text (network.name_of (net_right right))) all
     → network.only (net_right (unwrap_or found net.Other)) ≡ network.only (network.right_named text)
 unfolding network.right_named
-net_named text all found each is =
-    ap network.only (ap (λ one. net_right (unwrap_or one net.Other)) is ∙ first_named_by network.row net_right net.Other text all
-    ∙ ap (λ rights. first_named network.row network.other rights text) each)
+net_named text all found each is = ap network.only (named_by network.row net_right net.Other network.all_rights text all found each is)
 
 -- ---- a set of one right has that right and no other
 

@@ -1,16 +1,17 @@
 -- What is supported of sets of rights, from their tables.
-use Rattle.std.proofs.Common.{◌≡◌, ◌≤◌, ℕ, true, false, not, ◌&&◌, ◌||◌, leb, Option, Some, None, refl, ap, ◌∙◌, inl, inr, arith}
+use Rattle.std.proofs.Common.{◌≡◌, ◌≤◌, ℕ, true, false, not, ◌&&◌, ◌||◌, leb, List, filter, Option, Some, None, refl, ap, inl, inr, arith}
 use Rattle.std.proofs.lemmas.Bool.{cases_Bool, le-leb, leb-true}
 use Rattle.ll_rights.specs.declared.abi.Abi.{Abi}
 use Rattle.ll_rights.specs.declared.fs.Fs.{Fs}
 use Rattle.ll_rights.specs.declared.net.Net.{Net}
 use Rattle.ll_rights.specs.Abis.{number_of, is_since, knows_fs, knows_net}
+use Rattle.ll_rights.specs.Sets.{Row}
 use Rattle.ll_rights.specs.BitSets.{bits_of, bits_without}
 use Rattle.ll_rights.specs.Rights as files
 use Rattle.ll_rights.specs.NetRights as network
 use Rattle.ll_rights.specs.Supported.{supported_fs, supported_net}
 use Rattle.ll_rights.proofs.Sets.{fs_table, net_table}
-use Rattle.ll_rights.proofs.Tables.{has-supported, supported-known, supported-lacking, supported-older}
+use Rattle.ll_rights.proofs.Tables.{IsTable, has-supported, supported-known, supported-lacking, supported-older}
 
 -- what is there at a version is there at a newer one
 since_older : (first : Option ℕ) (older newer : Abi) → number_of older ≤ number_of newer → (not (is_since first older) || is_since first newer) ≡ true
@@ -19,6 +20,17 @@ since_older (Some first) older newer le = elim (cases_Bool (leb first (number_of
   | inl there ↦ rw (there, le-leb first (number_of newer) (omega (arith, leb-true first (number_of older) there))) refl
   | inr not_yet ↦ rw not_yet refl
 ]
+
+-- what an older version keeps of what a newer one left of the bits of a table: it takes out what came later
+abbrev lost : {R : Type 0} → (R → Row) → List R → Abi → ℕ
+lost row named abi = bits_of row (filter (λ right. not (is_since (row right).since abi)) named)
+
+older_keeps : {R : Type 0} {row : R → Row} {named : List R} {other : R} (is : IsTable row named other) (older newer : Abi)
+    → number_of older ≤ number_of newer → (bits : ℕ) → bits_without (bits_without bits (lost row named newer)) (lost row named older)
+    ≡ bits_without bits (lost row named older)
+older_keeps {row = row} is older newer le bits =
+    supported-older is (λ right. is_since (row right).since older) (λ right. is_since (row right).since newer)
+    (λ right. since_older (row right).since older newer le) bits
 
 -- ---- what is supported of a set, right by right
 
@@ -49,31 +61,25 @@ net_supported-known abi set known = ap (λ bits. record { 0 = bits }) (supported
 pub fs_supported-older : (older newer : Abi) (set : Fs) → number_of older ≤ number_of newer
     → supported_fs older (supported_fs newer set) ≡ supported_fs older set
 unfolding supported_fs
-fs_supported-older older newer set le =
-    ap (λ bits. record { 0 = bits })
-    (supported-older fs_table (knows_fs older) (knows_fs newer) (λ right. since_older (files.row right).since older newer le) set.0)
+fs_supported-older older newer set le = ap (λ bits. record { 0 = bits }) (older_keeps fs_table older newer le set.0)
 
 pub net_supported-older : (older newer : Abi) (set : Net) → number_of older ≤ number_of newer
     → supported_net older (supported_net newer set) ≡ supported_net older set
 unfolding supported_net
-net_supported-older older newer set le =
-    ap (λ bits. record { 0 = bits })
-    (supported-older net_table (knows_net older) (knows_net newer) (λ right. since_older (network.row right).since older newer le) set.0)
+net_supported-older older newer set le = ap (λ bits. record { 0 = bits }) (older_keeps net_table older newer le set.0)
 
 -- ---- the code takes out what the known rights lack of all named ones
 
-pub fs_supported_lacking : (abi : Abi) (known set : Fs) (taken left : ℕ) → ((right : files.FsRight) → files.has known right ≡ knows_fs abi right) →
-    taken ≡ bits_without (bits_of files.row files.named_rights) known.0 → left ≡ bits_without set.0 taken → record { 0 = left } ≡ supported_fs abi set
+pub fs_supported_lacking : (abi : Abi) (known set : Fs) (taken kept : ℕ) → ((right : files.FsRight) → files.has known right ≡ knows_fs abi right) →
+    taken ≡ bits_without (bits_of files.row files.named_rights) known.0 → kept ≡ bits_without set.0 taken → record { 0 = kept } ≡ supported_fs abi set
 unfolding files.has supported_fs
-fs_supported_lacking abi known set taken left same is_taken is_left =
-    ap (λ bits. record { 0 = bits }) (is_left ∙ ap (bits_without set.0) is_taken
-    ∙ supported-lacking fs_table (knows_fs abi) known.0 (same files.other) same set.0)
+fs_supported_lacking abi known set taken kept same is_taken is_kept =
+    ap (λ bits. record { 0 = bits }) (supported-lacking fs_table (knows_fs abi) known.0 taken set.0 kept (same files.other) same is_taken is_kept)
 
-pub net_supported_lacking : (abi : Abi) (known set : Net) (taken left : ℕ) → ((right : network.NetRight) → network.has known right ≡ knows_net abi right) →
-    taken ≡ bits_without (bits_of network.row network.named_rights) known.0 → left ≡ bits_without set.0 taken → record { 0 = left } ≡ supported_net abi set
+pub net_supported_lacking : (abi : Abi) (known set : Net) (taken kept : ℕ) → ((right : network.NetRight) → network.has known right ≡ knows_net abi right) →
+    taken ≡ bits_without (bits_of network.row network.named_rights) known.0 → kept ≡ bits_without set.0 taken → record { 0 = kept } ≡ supported_net abi set
 unfolding network.has supported_net
-net_supported_lacking abi known set taken left same is_taken is_left =
-    ap (λ bits. record { 0 = bits }) (is_left ∙ ap (bits_without set.0) is_taken
-    ∙ supported-lacking net_table (knows_net abi) known.0 (same network.other) same set.0)
+net_supported_lacking abi known set taken kept same is_taken is_kept =
+    ap (λ bits. record { 0 = bits }) (supported-lacking net_table (knows_net abi) known.0 taken set.0 kept (same network.other) same is_taken is_kept)
 
 pub ruleset supported_sets = (fs_has-supported, fs_supported-known, fs_supported-older, net_has-supported, net_supported-known, net_supported-older)

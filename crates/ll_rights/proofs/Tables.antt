@@ -1,5 +1,6 @@
 -- Sets of rights by any table of rights, from the places of their bits.
-use Rattle.std.proofs.Common.{◌≡◌, ℕ, ◌+◌, ◌^◌, ◌<◌, ◌≤◌, Bool, true, false, not, ◌&&◌, ◌||◌, eqb, List, [], ◌∷◌, ◌++◌, map, filter, get_or, find, refl, sym}
+use Rattle.std.proofs.Common.{◌≡◌, ℕ, ◌+◌, ◌^◌, ◌<◌, ◌≤◌, Bool, true, false, not, ◌&&◌, ◌||◌}
+use Rattle.std.proofs.Common.{eqb, List, [], ◌∷◌, ◌++◌, Option, map, filter, get_or, find, refl, sym}
 use Rattle.std.proofs.Common.{ap, ◌∙◌, arith, bit_and, inl, inr}
 use Rattle.std.specs.Prelude.{bytes_eq, unwrap_or}
 use Rattle.std.specs.Int.{w32, bit_not}
@@ -27,13 +28,20 @@ pub record IsTable {R : Type 0} (row : R → Row) (named : List R) (other : R) :
   pub fits : (row other).bit ≤ 32
 
 -- the first that is named among what the code has is the first of what stands for these
-pub first_named_by : {C R : Type 0} (row : R → Row) (right_of : C → R) (other : C) (text : List ℕ) (among : List C)
+first_named_by : {C R : Type 0} (row : R → Row) (right_of : C → R) (other : C) (text : List ℕ) (among : List C)
     → right_of (unwrap_or (find (λ code. bytes_eq text (row (right_of code)).name) among) other) ≡ first_named row (right_of other) (map right_of among) text
 first_named_by row right_of other text [] = refl
 first_named_by row right_of other text (code ∷ others) = elim (cases_Bool (bytes_eq text (row (right_of code)).name)) [
   | inl same ↦ rw same refl
   | inr differs ↦ rw differs (first_named_by row right_of other text others)
 ]
+
+pub named_by : {C R : Type 0} (row : R → Row) (right_of : C → R) (other : C) (rights : List R) (text : List ℕ) (among : List C) (found : Option C)
+    → map right_of among ≡ rights → found ≡ find (λ code. bytes_eq text (row (right_of code)).name) among
+    → right_of (unwrap_or found other) ≡ first_named row (right_of other) rights text
+named_by row right_of other rights text among found each is =
+    ap (λ one. right_of (unwrap_or one other)) is ∙ first_named_by row right_of other text among
+    ∙ ap (λ all. first_named row (right_of other) all text) each
 
 any-map : {X Y : Type 0} (test : Y → Bool) (f : X → Y) (xs : List X) → list_any (λ x. test (f x)) xs ≡ list_any test (map f xs)
 any-map test f [] = refl
@@ -164,10 +172,11 @@ module _ {R : Type 0} {row : R → Row} {named : List R} {other : R} (is : IsTab
         omega (arith, zero_is)
 
     -- bits that lack just what is known: those of all named rights without those of the known ones
-    pub supported-lacking : (known : ℕ) → has known other ≡ false → ((right : R) → has known right ≡ knows right) →
-        (bits : ℕ) → bits_without bits (bits_without (bits_of row named) known) ≡ supported bits
-    supported-lacking known no_other same bits =
-        ap (bits_without bits) (same_known (bits_without (bits_of row named) known) unknown
+    pub supported-lacking : (known taken set kept : ℕ) → has known other ≡ false → ((right : R) → has known right ≡ knows right)
+        → taken ≡ bits_without (bits_of row named) known → kept ≡ bits_without set taken → kept ≡ supported set
+    supported-lacking known taken set kept no_other same is_taken is_kept =
+        is_kept ∙ ap (bits_without set) is_taken
+        ∙ ap (bits_without set) (same_known (bits_without (bits_of row named) known) unknown
         (has_lacking other ∙ and_false (not (knows other)) (is_right other other) itself)
         (λ right. has_lacking right ∙ sym (has-chosen (λ right. not (knows right)) right)))
       where

@@ -17,8 +17,7 @@ pub struct AbiRange {
 
 impl Model for AbiRange {
     ghost use Rattle.std.specs.Prelude.{◌≤◌};
-    ghost use Rattle.ll_rights.specs.Abis.{number_of};
-    ghost use Rattle.ll_rights.specs.AbiRanges.{Range};
+    ghost use Rattle.ll_rights.specs.{Abis.number_of, AbiRanges.Range};
 
     ghost Value = { Range };
 

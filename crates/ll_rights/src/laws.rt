@@ -2,8 +2,7 @@
 
 ghost use Rattle.std.specs.Prelude.{◌≡◌, ◌-◌, ◌≤◌, ◌&&◌, ◌||◌, Some, false, length, map, not, suc};
 ghost use Rattle.std.specs.List.{range_with_len};
-ghost use Rattle.ll_rights.specs.declared.abi.Abi.{Abi as Version};
-ghost use Rattle.ll_rights.specs.declared.fs.Fs.{Fs as FsSet};
+ghost use Rattle.ll_rights.specs.{declared.abi.Abi.Abi as Version, declared.fs.Fs.Fs as FsSet};
 ghost use Rattle.ll_rights.specs.declared.net.Net.{Net as NetSet};
 ghost use Rattle.ll_rights.specs.Rights as files;
 ghost use Rattle.ll_rights.specs.NetRights as network;

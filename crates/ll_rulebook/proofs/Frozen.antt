@@ -1,14 +1,15 @@
 -- What a list has at each place after one write; what the processes hold after one of them holds or closes a ruleset; and
 -- a ruleset that names a layer stays that layer.
-use Rattle.std.proofs.Common.{◌≡◌, ℕ, suc, zero, ◌<◌, List, [], ◌∷◌, ◌++◌, length, Some, cond, refl, arith, eqb, subst, All, ◌+◌, Option, get_or, inl, inr}
+use Rattle.std.proofs.Common.{◌≡◌, ℕ, suc, zero, ◌<◌, List, [], ◌∷◌, ◌++◌, length, Some}
+use Rattle.std.proofs.Common.{None, cond, refl, arith, eqb, subst, All, ◌+◌, Option, get_or, inl, inr}
 use Rattle.std.proofs.Common.{nat_cmp, length-set, length-append, Result, sym, ◌∙◌, ap, OnOk, OnErr}
 use Rattle.std.proofs.Math.ListN.{set}
 use Rattle.std.proofs.Math.Dec.{eqb-suc-zero, eqb-zero-suc, eqb-suc-suc}
 use Rattle.std.specs.List.{slice_get, AllZip}
 use Rattle.std.proofs.lemmas.Option.{get_or_from_slice_get, slice_get_within, same_Some, slice_get_read, slice_get-map}
-use Rattle.std.specs.FinMap.{FinMap, get}
+use Rattle.std.specs.FinMap.{FinMap, get, empty, get-empty}
 use Rattle.std.proofs.lemmas.Bool.{cases_eq, eq-eqb, ne_eqb}
-use Rattle.ll_rulebook.specs.Stores.{held_by, NowHolds, Stock, AddsRule, Extends, Freezes}
+use Rattle.ll_rulebook.specs.Stores.{held_by, NowHolds, BeginsHolding, Stock, AddsRule, Extends, Freezes}
 use Rattle.ll_trace.proofs.Numbers.{slice_get-push}
 use Rattle.std.specs.Option.{MatchOption}
 use Rattle.std.specs.Result.{IsOkUnless}
@@ -85,6 +86,10 @@ begins_after tables table held same = record {
     | inr old ↦ rw (slice_get-push tables p table, ne_eqb p (length tables) old) refl
   ];
 }
+
+pub start_after : (tables new : List (FinMap nat_cmp ℕ)) (table : FinMap nat_cmp ℕ) → new ≡ tables ++ table ∷ [] → table ≡ empty
+    → BeginsHolding tables new (λ _. None)
+start_after tables new table is none = rw is (begins_after tables table (λ _. None) (λ q. rw none (get-empty nat_cmp q)))
 
 -- all as it was
 pub holds_same : (tables : List (FinMap nat_cmp ℕ)) (process : ℕ) → NowHolds tables tables (length tables) process (held_by tables process)

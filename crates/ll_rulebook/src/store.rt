@@ -1,12 +1,11 @@
 //! The rulesets of a trace, and the layers that they were frozen to.
 
 ghost use Rattle.std.specs.Prelude.{◌≡◌, ℕ, ◌<◌, ◌^◌, [], List, length, All, IfOk, OnOk, OnErr, MatchOption, IsOkUnless};
-ghost use Rattle.ll_rules.specs.Layers.{RulesOn};
-ghost use Rattle.ll_rules.specs.KeptLayers.{GrantsOnPort};
+ghost use Rattle.ll_rules.specs.{Layers.RulesOn, KeptLayers.GrantsOnPort};
 ghost use Rattle.ll_rules.specs.InTree.{AreInTree, IsOfTree};
 ghost use Rattle.ll_rules.specs.RuleFaults.{add_path_fault, add_port_fault};
-ghost use Rattle.ll_rulebook.specs.Stores.{with_created, IsPathAdded, AddsPathRule, AddsPortRule, Freezes};
 ghost use Rattle.ll_rulebook.specs.Kept.{IsFrozenTo};
+ghost use Rattle.ll_rulebook.specs.Stores.{with_created, IsPathAdded, AddsPathRule, AddsPortRule, Freezes};
 
 use ll_rights::{Abi, Fs, Net};
 use ll_rules::{Layer, LayerId, NoMemory, RuleFault, Ruleset};

@@ -57,6 +57,7 @@ impl Tables {
     }
 
     /// One process more, which holds nothing.
+    #[tactic(auto, using(crate::proofs::Frozen::start_after))]
     pub(crate) fn start(&mut self, alloc: Global) -> Result<(), AllocError>
         ensures { OnOk result (BeginsHolding self.old.held.items self.new.held.items (λ _. None)) }
     {

@@ -20,7 +20,7 @@ numbers_from-map test h number [] = refl
 numbers_from-map test h number (x ∷ xs) = ap (λ (rest : List ℕ). cond (test (h x)) (number ∷ []) [] ++ rest) (numbers_from-map test h (number + 1) xs)
 
 -- one layer more
-pub noted_next : {A : Type 0} (test : A → Bool) (all : List A) (place : ℕ) (d : A) (so_far next total : List ℕ) (refuses : Bool) → place < length all
+noted_next : {A : Type 0} (test : A → Bool) (all : List A) (place : ℕ) (d : A) (so_far next total : List ℕ) (refuses : Bool) → place < length all
     → refuses ≡ test (get_or all place d) → next ≡ so_far ++ cond refuses ((place + 1) ∷ []) []
     → so_far ++ numbers_from test (place + 1) (drop place all) ≡ total
     → next ++ numbers_from test (place + 1 + 1) (drop (place + 1) all) ≡ total
@@ -40,7 +40,7 @@ noted_all test all place so_far total done before =
     sym (append-nil so_far) ∙ (rw nothing at before)
 
 -- what is noted stays below the next number
-pub noted_below : (so_far next : List ℕ) (place : ℕ) (refuses : Bool) → next ≡ so_far ++ cond refuses ((place + 1) ∷ []) []
+noted_below : (so_far next : List ℕ) (place : ℕ) (refuses : Bool) → next ≡ so_far ++ cond refuses ((place + 1) ∷ []) []
     → All (λ number. number < place + 1) so_far → All (λ number. number < place + 1 + 1) next
 noted_below so_far next place refuses noted below =
     rw noted (All-append (λ (number : ℕ). number < place + 1 + 1) so_far (cond refuses ((place + 1) ∷ []) [])
@@ -49,6 +49,19 @@ noted_below so_far next place refuses noted below =
     last : (refuses : Bool) → All (λ number. number < place + 1 + 1) (cond refuses ((place + 1) ∷ []) [])
     last true = All-cons (λ (number : ℕ). number < place + 1 + 1) (place + 1) [] (omega arith) (All-nil (λ (number : ℕ). number < place + 1 + 1))
     last false = All-nil (λ (number : ℕ). number < place + 1 + 1)
+
+-- both, where a layer was noted if it refuses
+pub noted_more : {A : Type 0} (test : A → Bool) (all : List A) (place : ℕ) (d : A) (so_far next total : List ℕ) (refuses : Bool) → place < length all
+    → refuses ≡ test (get_or all place d) → next ≡ so_far ++ cond refuses ((place + 1) ∷ []) []
+    → so_far ++ numbers_from test (place + 1) (drop place all) ≡ total → All (λ number. number < place + 1) so_far
+    → record {
+      so_far : next ++ numbers_from test (place + 1 + 1) (drop (place + 1) all) ≡ total;
+      below : All (λ number. number < place + 1 + 1) next;
+    }
+noted_more test all place d so_far next total refuses inside tells noted before low = record {
+  so_far = noted_next test all place d so_far next total refuses inside tells noted before;
+  below = noted_below so_far next place refuses noted low;
+}
 
 -- ---- by the names of layers
 

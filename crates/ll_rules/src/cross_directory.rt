@@ -6,8 +6,7 @@ ghost use Rattle.ll_rights.specs.Rights.{FsRight, has, is_file_right, some_right
 ghost use Rattle.ll_tree.specs.Trees.{IsNode, path_at, kind_at, is_dir};
 ghost use Rattle.ll_tree.specs.TreeFacts.{IsTree, depth_at};
 ghost use Rattle.ll_rules.specs.InTree.{in_tree, all_in_tree, IsTargetIn, IsTargetIn-once};
-ghost use Rattle.ll_rules.specs.Checks.{numbers_where};
-ghost use Rattle.ll_rules.specs.KeptLayers.{granted_on_node};
+ghost use Rattle.ll_rules.specs.{Checks.numbers_where, KeptLayers.granted_on_node};
 ghost use Rattle.ll_rules.specs.Moves.{source_of, destination_of, other_gains, holds_back};
 ghost use Rattle.ll_rules.specs.Lanes.{lane, AreLacking};
 ghost use Rattle.ll_rules.specs.Stacks.{layers_of, stacked};

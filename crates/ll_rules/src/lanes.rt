@@ -3,8 +3,7 @@
 ghost use Rattle.std.specs.Prelude.{◌≡◌, ℕ, ◌<◌, ◌==◌, ◌&&◌, ◌||◌, not, false, true};
 ghost use Rattle.std.specs.Int.{bit_at};
 ghost use Rattle.ll_rights.specs.Rights.{FsRight, has, is_empty, other, bit_of};
-ghost use Rattle.ll_rules.specs.declared.domain.TheConstants.{MOST_LAYERS};
-ghost use Rattle.ll_rules.specs.LayerNumbers.{numbers_passing};
+ghost use Rattle.ll_rules.specs.{declared.domain.TheConstants.MOST_LAYERS, LayerNumbers.numbers_passing};
 ghost use Rattle.ll_rules.specs.Lanes.{named_bits as named, set_of, lane, is_filled};
 
 use crate::LayerSet;

@@ -1,4 +1,5 @@
 //! Sets of the layers of a domain.
+#![tactic(auto, using(crate::proofs::LayerNumbers::places_kept))]
 
 ghost use Rattle.std.specs.Prelude.{◌≡◌, ◌++◌, ◌∷◌, [], ◌≤◌, ◌<◌, ◌==◌, length, All, if◌then◌else◌};
 ghost use Rattle.ll_rules.specs.declared.domain.TheConstants.{MOST_LAYERS};

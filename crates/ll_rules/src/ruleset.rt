@@ -5,8 +5,7 @@ ghost use Rattle.std.specs.Result.{result_err};
 ghost use Rattle.ll_rights.specs.Rights.{FsRight, has, other, is_file_right, no_right};
 ghost use Rattle.ll_rights.specs.NetRights as for_ports;
 ghost use Rattle.ll_tree.specs.Trees.{is_dir};
-ghost use Rattle.ll_rules.specs.Layers.{without_rules};
-ghost use Rattle.ll_rules.specs.KeptLayers.{SameRules, GrantsOnPort};
+ghost use Rattle.ll_rules.specs.{Layers.without_rules, KeptLayers.SameRules, KeptLayers.GrantsOnPort};
 ghost use Rattle.ll_rules.specs.InTree.{in_tree, AreInTree, IsOfTree};
 ghost use Rattle.ll_rules.specs.Rulesets.{has_ports, create_fault, are_file_rights, with_rule_at};
 ghost use Rattle.ll_rules.specs.RuleFaults.{add_path_fault, add_port_fault};
@@ -35,8 +34,7 @@ impl Model for Layer {
     ghost use Rattle.std.specs.FinMap as finite;
     ghost use Rattle.ll_rights.specs.Rights as for_files;
     ghost use Rattle.ll_rights.specs.NetRights as for_ports;
-    ghost use Rattle.ll_rules.specs.Layers.{RulesOn};
-    ghost use Rattle.ll_rules.specs.Filters.{AreMarked};
+    ghost use Rattle.ll_rules.specs.{Layers.RulesOn, Filters.AreMarked};
 
     ghost Value = { RulesOn ℕ };
 

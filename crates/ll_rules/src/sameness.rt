@@ -2,8 +2,7 @@
 
 ghost use Rattle.std.specs.Prelude.{◌≡◌, ℕ, List};
 ghost use Rattle.std.specs.List.{AllZip};
-ghost use Rattle.ll_rights.specs.declared.fs.Fs.{Fs as FsSet};
-ghost use Rattle.ll_rights.specs.declared.net.Net.{Net as NetSet};
+ghost use Rattle.ll_rights.specs.{declared.fs.Fs.Fs as FsSet, declared.net.Net.Net as NetSet};
 ghost use Rattle.ll_lines.specs.Paths.{Path};
 ghost use Rattle.ll_tree.specs.Trees.{Entry};
 ghost use Rattle.ll_rules.specs.declared.moves.Move.{Move as Attempt};

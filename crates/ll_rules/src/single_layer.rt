@@ -6,9 +6,7 @@ ghost use Rattle.ll_rights.specs.Rights.{FsRight, has};
 ghost use Rattle.ll_tree.specs.Trees.{IsNode, path_at};
 ghost use Rattle.ll_tree.specs.TreeFacts.{depth_at};
 ghost use Rattle.ll_rules.specs.InTree.{AreInTree, in_tree, all_in_tree};
-ghost use Rattle.ll_rules.specs.Layers.{granted};
-ghost use Rattle.ll_rules.specs.Checks.{refusing};
-ghost use Rattle.ll_rules.specs.Lanes.{set_of};
+ghost use Rattle.ll_rules.specs.{Layers.granted, Checks.refusing, Lanes.set_of};
 ghost use Rattle.ll_rules.specs.WaysUp.{nodes_up, granted_above};
 
 use crate::climb::{asked_of, left_of};

@@ -2,9 +2,7 @@
 
 ghost use Rattle.std.specs.Prelude.{◌≤◌, length, All};
 ghost use Rattle.std.proofs.Props.{props};
-ghost use Rattle.ll_rules.specs.declared.domain.TheConstants.{MOST_LAYERS};
-ghost use Rattle.ll_rules.specs.InTree.{AreInTree};
-ghost use Rattle.ll_rules.specs.KeptLayers.{IsDomainOf};
+ghost use Rattle.ll_rules.specs.{declared.domain.TheConstants.MOST_LAYERS, InTree.AreInTree, KeptLayers.IsDomainOf};
 
 use crate::{Layer, LayerId};
 use ll_tree::Tree;

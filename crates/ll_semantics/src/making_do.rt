@@ -1,9 +1,7 @@
 //! Rulesets that handle nothing, with which a program at best effort makes do.
 
 ghost use Rattle.std.specs.Prelude.{◌≡◌, ◌≢◌, ℕ, List, None, Some, true, false};
-ghost use Rattle.ll_rights.specs.declared.abi.Abi.{Abi};
-ghost use Rattle.ll_rights.specs.declared.fs.Fs.{Fs};
-ghost use Rattle.ll_rights.specs.declared.net.Net.{Net};
+ghost use Rattle.ll_rights.specs.{declared.abi.Abi.Abi, declared.fs.Fs.Fs, declared.net.Net.Net};
 ghost use Rattle.ll_tree.specs.Trees.{Entry};
 ghost use Rattle.ll_rules.specs.declared.errno.Errno.{Errno};
 ghost use Rattle.ll_rules.specs.Layers.{handles_nothing, without_rules};

@@ -4,8 +4,7 @@ ghost use Rattle.std.specs.Prelude.{◌≡◌, ◌≢◌, ℕ, List};
 ghost use Rattle.ll_rights.specs.declared.abi.Abi.{Abi};
 ghost use Rattle.ll_tree.specs.Trees.{Entry};
 ghost use Rattle.ll_trace.specs.declared.op.Op.{Op};
-ghost use Rattle.ll_semantics.specs.declared.answer.Answer.TheVariants.{Allowed};
-ghost use Rattle.ll_semantics.specs.States.{State};
+ghost use Rattle.ll_semantics.specs.{declared.answer.Answer.TheVariants.Allowed, States.State};
 ghost use Rattle.ll_semantics.specs.Effects.{begins, effect};
 ghost use Rattle.ll_semantics.specs.Worlds.{World, answer_in, step};
 

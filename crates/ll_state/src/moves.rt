@@ -1,8 +1,7 @@
 //! Which renames and links the policy is asked about.
 
 ghost use Rattle.std.specs.Prelude.{◌≡◌, ◌<◌, false, IfSome};
-ghost use Rattle.ll_tree.specs.Trees.{IsNode};
-ghost use Rattle.ll_tree.specs.TreeFacts.{IsPlace};
+ghost use Rattle.ll_tree.specs.{Trees.IsNode, TreeFacts.IsPlace};
 ghost use Rattle.ll_semantics.specs.Fits.{IsFitMove};
 ghost use Rattle.ll_semantics.specs.Moves.{is_root, is_mixed, rename_into, rename_onto, rename_to, rename_move, link_to, link_move};
 

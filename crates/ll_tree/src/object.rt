@@ -2,8 +2,7 @@
 
 ghost use Rattle.std.specs.Prelude.{◌≡◌, IsTrue, IfOk, is_some};
 ghost use Rattle.serde_json.specs.Data.{Data};
-ghost use Rattle.ll_lines.specs.Readers.{Reads};
-ghost use Rattle.ll_lines.specs.Paths.{path_of};
+ghost use Rattle.ll_lines.specs.{Readers.Reads, Paths.path_of};
 ghost use Rattle.ll_members.specs.Slots.{Hold};
 ghost use Rattle.ll_tree.specs.TreeFacts.{named};
 ghost use Rattle.ll_tree.specs.TreeReading.{kind_named, entry_in};

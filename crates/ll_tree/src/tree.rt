@@ -1,14 +1,11 @@
 //! The tree in memory.
 
 ghost use Rattle.std.specs.Prelude.{◌≡◌, ◌≤◌, ◌<◌, [], ◌∷◌, ◌++◌, length, Some, ◌≢◌, IfOk, IfErr, OnOk, OnErr, ◌==◌, ◌&&◌, IsTrue, is_some, IfSome, IfNone};
-ghost use Rattle.std.specs.String.{string_bytes};
-ghost use Rattle.std.specs.Str.{bytes_eq};
+ghost use Rattle.std.specs.{String.string_bytes, Str.bytes_eq};
 ghost use Rattle.serde_json.specs.Data.{Data};
-ghost use Rattle.ll_lines.specs.declared.fault.Cause.TheVariants.{Memory};
-ghost use Rattle.ll_lines.specs.Readers.{Gives};
+ghost use Rattle.ll_lines.specs.{declared.fault.Cause.TheVariants.Memory, Readers.Gives};
 ghost use Rattle.ll_members.specs.Slots.{Hold};
-ghost use Rattle.ll_lines.specs.LineView.{line_view};
-ghost use Rattle.ll_lines.specs.Reading.{IsBad};
+ghost use Rattle.ll_lines.specs.{LineView.line_view, Reading.IsBad};
 ghost use Rattle.ll_lines.specs.LineByLine.{GivesReading, reading, with_line, with_entry};
 ghost use Rattle.ll_tree.specs.declared.tree.TheConstants.{MOST_NODES};
 ghost use Rattle.ll_tree.specs.TreeReading.{IsTreeOf, tree_format};

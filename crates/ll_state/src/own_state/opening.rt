@@ -1,7 +1,6 @@
 //! Calls by which numbers get open, and are closed.
 
-ghost use Rattle.std.specs.Prelude.{◌≡◌};
-ghost use Rattle.std.specs.FinMap.{get};
+ghost use Rattle.std.specs.{Prelude.◌≡◌, FinMap.get};
 ghost use Rattle.ll_trace.specs.declared.op.Op.{Op};
 ghost use Rattle.ll_semantics.specs.CallContexts.{CallContext};
 ghost use Rattle.ll_state.specs.Agreement.{IsMet, Agrees, IsJudged};

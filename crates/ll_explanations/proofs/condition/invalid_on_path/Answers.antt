@@ -1,22 +1,25 @@
 use Rattle.std.proofs.Common.{◌≡◌, ◌∙◌, ap}
 use Rattle.ll_rights.specs.declared.fs.TheConstants.Fs.{FILE}
+use Rattle.ll_rights.specs.Rights as files
 use Rattle.ll_reasons.specs.Conditions.{only_for_directories, unhandled, directory_rights}
 use Rattle.ll_explanations.specs.Meanings.{condition_in, path_of_rule}
 use Rattle.ll_explanations.specs.Sets.{rights_in}
-use Rattle.ll_explanations.proofs.Beyond.{beyond_is, within_by}
+use Rattle.ll_explanations.proofs.Beyond.{all_within, beyond_is, some_beyond}
 use Rattle.ll_explanations.proofs.RightPlaces.{is_file, directory_beyond}
 use Rattle.ll_explanations.proofs.condition.invalid_on_path.Goals as goal
 
 pub returns-then-is_empty : goal.returns-then-is_empty
-unfolding condition_in
+unfolding condition_in rights_in files.some_right files.every_right
 returns-then-is_empty c op =
     let fs = c.args.fs in
-    let rights : rights_in c.beyond.result ≡ directory_rights fs = beyond_is c.beyond.result fs FILE c.beyond.ensures ∙ directory_beyond fs FILE is_file in
-    rw (within_by c.beyond-unhandled.result fs c.args.whole c.beyond-unhandled.ensures c.is_empty.ensures c.if-is_empty.true)
-    (ap (λ rs. only_for_directories rs (path_of_rule op)) rights)
+    let rights : rights_in c.beyond.result ≡ directory_rights fs =
+    beyond_is files.has c.beyond.result fs FILE c.beyond.ensures files.all_rights ∙ directory_beyond fs FILE is_file in
+    ap (λ rs. only_for_directories rs (path_of_rule op)) rights
+    ∙ all_within files.has c.beyond-unhandled.result fs c.args.whole c.beyond-unhandled.ensures files.all_rights
+    (only_for_directories (directory_rights fs) (path_of_rule op)) unhandled c.is_empty.ensures c.if-is_empty.true
 
 pub returns-else-is_empty : goal.returns-else-is_empty
-unfolding condition_in
+unfolding condition_in rights_in files.some_right files.every_right
 returns-else-is_empty c op =
-    rw (within_by c.beyond-unhandled.result c.args.fs c.args.whole c.beyond-unhandled.ensures c.is_empty.ensures c.if-is_empty.false)
-    (ap unhandled (beyond_is c.beyond-unhandled.result c.args.fs c.args.whole c.beyond-unhandled.ensures))
+    some_beyond files.has c.beyond-unhandled.result c.args.fs c.args.whole c.beyond-unhandled.ensures files.all_rights
+    (only_for_directories (directory_rights c.args.fs) (path_of_rule op)) unhandled c.is_empty.ensures c.if-is_empty.false

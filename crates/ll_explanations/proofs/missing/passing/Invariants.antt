@@ -1,8 +1,7 @@
-use Rattle.ll_explanations.specs.Confined.{rules_of}
 use Rattle.ll_explanations.specs.Lacked.{passes}
 use Rattle.ll_explanations.proofs.Lacking.{AreBefore}
 use Rattle.ll_explanations.proofs.missing.passing.Given as goal
 
 -- the rights before the place that pass are in the set
 abbrev pub invariant-loop-right : goal.invariant-loop-right
-invariant-loop-right l = AreBefore (passes l.layer.ctx.tree.now (rules_of l.layer) l.test) l.rights l.right-index
+invariant-loop-right l = AreBefore (passes l.test) l.rights l.right-index

@@ -1,10 +1,9 @@
 use Rattle.std.proofs.Common.{◌≡◌, ◌∙◌, ◌+◌, ◌<◌, ◌≤◌, List, ℕ, [], true, false, get_or, length, sym, ap, arith}
 use Rattle.std.specs.Prelude.{bytes_eq}
-use Rattle.std.proofs.lemmas.List.{length-map}
 use Rattle.ll_explain.specs.Buffers.{adding}
 use Rattle.ll_explain.proofs.Buffering.{goes_on}
-use Rattle.ll_explanations.specs.FindingValues.{FindingValue}
 use Rattle.ll_report.specs.Sayings.{said_by}
+use Rattle.ll_report.proofs.Holding.{each_told}
 use Rattle.ll_json.proofs.SpansSaid.{left, left_last, left_other, left_same, span_of}
 use Rattle.ll_json.proofs.spans.push_spans.Goals as goal
 use Rattle.ll_json.proofs.spans.push_spans.Goals.{then-not-same, else-not-same}
@@ -14,7 +13,7 @@ loop-version-preserved g c =
     let l = c.loop-version in
     let s = c.args.sayings.now in
     let texts : List (List ℕ) = said_by g.T.Telling.told s in
-    let many : length texts ≡ length s.findings.now = length-map s.findings.now (λ (f : FindingValue). g.T.Telling.told s.tree.now s.records.now f s.place) in
+    let many = each_told g.T.Telling.told s in
     let below : l.version < length texts = omega (arith, many, c.loop-version-test.true) in
     let later : 0 < l.version = omega (arith, l.invariant.1) in
     let next : l.last + 1 + 1 ≡ c.args.oldest + (l.version + 1) = omega (arith, l.invariant.3) in
@@ -45,6 +44,5 @@ returns-clause-text g c =
     let l = c.loop-version in
     let s = c.args.sayings.now in
     let texts : List (List ℕ) = said_by g.T.Telling.told s in
-    let many : length texts ≡ length s.findings.now = length-map s.findings.now (λ (f : FindingValue). g.T.Telling.told s.tree.now s.records.now f s.place) in
-    let past : length texts ≤ l.version = omega (arith, many, c.loop-version-test.false) in
+    let past : length texts ≤ l.version = omega (arith, each_told g.T.Telling.told s, c.loop-version-test.false) in
     c.push_span-2.ensures ∙ ap (adding l.text) (sym (left_last texts l.version l.first l.last l.current past)) ∙ l.invariant.4

@@ -1,4 +1,6 @@
-use Rattle.ll_members.proofs.PlainLemmas.{text_scanned, number_scanned, true_scanned, false_scanned, list_scanned}
+use Rattle.std.proofs.Common.{true, false}
+use Rattle.json.specs.Print.{print_from}
+use Rattle.ll_members.proofs.PlainLemmas.{text_scanned, number_scanned, truth_scanned, list_scanned}
 use Rattle.ll_members.proofs.plain.scan_value.Goals as goal
 
 pub returns-in_ok-text-in-34 : goal.returns-in_ok-text-in-34
@@ -10,10 +12,12 @@ returns-in_ok-rights-in-91 c =
     c.in_ok-rights-in-91.ensures
 
 pub returns-in_ok-behind_word-in-116 : goal.returns-in_ok-behind_word-in-116
-returns-in_ok-behind_word-in-116 c = true_scanned c.args.line.now c.in_ok-behind_word-in-116.field-0.now c.in_ok-behind_word-in-116.ensures
+unfolding print_from
+returns-in_ok-behind_word-in-116 c = truth_scanned c.args.line.now c.in_ok-behind_word-in-116.field-0.now true c.in_ok-behind_word-in-116.ensures
 
 pub returns-in_ok-behind_word-in-102 : goal.returns-in_ok-behind_word-in-102
-returns-in_ok-behind_word-in-102 c = false_scanned c.args.line.now c.in_ok-behind_word-in-102.field-0.now c.in_ok-behind_word-in-102.ensures
+unfolding print_from
+returns-in_ok-behind_word-in-102 c = truth_scanned c.args.line.now c.in_ok-behind_word-in-102.field-0.now false c.in_ok-behind_word-in-102.ensures
 
 pub returns-in_ok-number-in_default : goal.returns-in_ok-number-in_default
 returns-in_ok-number-in_default c =

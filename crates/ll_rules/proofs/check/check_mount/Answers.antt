@@ -1,22 +1,15 @@
 use Rattle.std.proofs.Common.{◌∙◌, ℕ, ap, refl, not}
 use Rattle.ll_rights.specs.Rights.{is_empty}
 use Rattle.ll_rules.specs.Layers.{RulesOn}
-use Rattle.ll_rules.proofs.Domains.{refuses_mount, noted_next, noted_all, noted_below, refusing_mount_by_name}
+use Rattle.ll_rules.proofs.Domains.{refuses_mount, noted_more, noted_all, refusing_mount_by_name}
 use Rattle.ll_rules.proofs.check.check_mount.Goals as goal
 
 pub loop-place-preserved : goal.loop-place-preserved
 unfolding refuses_mount
 loop-place-preserved c =
     let tells = c.handles_files-handles.ensures ∙ ap (λ (layer : RulesOn ℕ). not (is_empty layer.handled_files)) c.layer_of.ensures in
-    record {
-      so_far =
-          noted_next (refuses_mount c.args.layers.now) c.layers-ids.result.now c.loop-place.place _ c.loop-place.refusing c.noted-refusing.result _
-          c.handles_files-handles.result
-          c.loop-place-test.true tells c.noted-refusing.ensures c.loop-place.invariant.so_far;
-      below =
-          noted_below c.loop-place.refusing c.noted-refusing.result c.loop-place.place c.handles_files-handles.result c.noted-refusing.ensures
-          c.loop-place.invariant.below;
-    }
+    noted_more (refuses_mount c.args.layers.now) c.layers-ids.result.now c.loop-place.place _ c.loop-place.refusing c.noted-refusing.result _
+    c.handles_files-handles.result c.loop-place-test.true tells c.noted-refusing.ensures c.loop-place.invariant.so_far c.loop-place.invariant.below
 
 pub returns : goal.returns
 returns c =

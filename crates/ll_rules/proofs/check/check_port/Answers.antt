@@ -1,22 +1,16 @@
 use Rattle.std.proofs.Common.{◌∙◌, ℕ, ap, refl}
 use Rattle.ll_rules.specs.Layers.{RulesOn}
 use Rattle.ll_rules.specs.Checks.{lacks_on_port}
-use Rattle.ll_rules.proofs.Domains.{refuses_on_port, noted_next, noted_all, noted_below, refusing_port_by_name}
+use Rattle.ll_rules.proofs.Domains.{refuses_on_port, noted_more, noted_all, refusing_port_by_name}
 use Rattle.ll_rules.proofs.check.check_port.Goals as goal
 
 pub loop-place-preserved : goal.loop-place-preserved
 unfolding refuses_on_port
 loop-place-preserved c =
     let tells = c.refuses_on_port-closed.ensures ∙ ap (λ (layer : RulesOn ℕ). lacks_on_port layer c.args.port c.args.wanted) c.layer_of.ensures in
-    record {
-      so_far =
-          noted_next (refuses_on_port c.args.layers.now c.args.port c.args.wanted) c.layers-ids.result.now c.loop-place.place _ c.loop-place.refusing
-          c.noted-refusing.result _ c.refuses_on_port-closed.result
-          c.loop-place-test.true tells c.noted-refusing.ensures c.loop-place.invariant.so_far;
-      below =
-          noted_below c.loop-place.refusing c.noted-refusing.result c.loop-place.place c.refuses_on_port-closed.result c.noted-refusing.ensures
-          c.loop-place.invariant.below;
-    }
+    noted_more (refuses_on_port c.args.layers.now c.args.port c.args.wanted) c.layers-ids.result.now c.loop-place.place _ c.loop-place.refusing
+    c.noted-refusing.result _ c.refuses_on_port-closed.result c.loop-place-test.true tells c.noted-refusing.ensures c.loop-place.invariant.so_far
+    c.loop-place.invariant.below
 
 pub returns : goal.returns
 returns c =

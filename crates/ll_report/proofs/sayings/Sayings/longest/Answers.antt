@@ -9,11 +9,11 @@ loop-finding-preserved g c =
     let findings : List FindingValue = s.findings.now in
     let told : FindingValue → List ℕ = λ (f : FindingValue). g.T.Telling.told s.tree.now s.records.now f s.place in
     let room = c.loop-finding.measure.room in (
-      room_kept room (told c.finding-item.result) c.clear.new.self c.push.new.text c.clear.ensures c.push.ensures ∙ c.loop-finding.invariant.0,
+      room_kept room (told c.finding-item.result) c.clear.new.self c.push_of.new.text c.clear.ensures c.push_of.ensures ∙ c.loop-finding.invariant.0,
       grind (arith, c.loop-finding.invariant.1, c.max-longest.ensures),
       one_longer told findings c.loop-finding.finding-index c.loop-finding.longest c.count.result c.max-longest.result c.finding-item.result
           c.loop-finding.invariant.2 c.loop-finding-test.true c.finding-item.is
-          (λ small. measured (told c.finding-item.result) c.count.result room c.clear.new.self c.push.new.text c.clear.ensures c.push.ensures
+          (λ small. measured (told c.finding-item.result) c.count.result room c.clear.new.self c.push_of.new.text c.clear.ensures c.push_of.ensures
           c.count.ensures small)
           c.max-longest.ensures,
     )

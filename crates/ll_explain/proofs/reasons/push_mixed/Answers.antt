@@ -1,7 +1,0 @@
-use Rattle.ll_explain.proofs.Appending.{appended_5}
-use Rattle.ll_explain.proofs.reasons.push_mixed.Goals as goal
-
-pub returns : goal.returns
-returns c =
-    appended_5 c.args.text.now _ _ _ _ _ _ _ _ _ _ c.push_words.ensures c.push_which.ensures c.push_words-2.ensures
-    c.push_which-2.ensures c.push_words-3.ensures

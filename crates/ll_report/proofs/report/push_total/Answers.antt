@@ -1,6 +1,0 @@
-use Rattle.ll_explain.proofs.Appending.{appended_3}
-use Rattle.ll_report.proofs.report.push_total.Goals as goal
-
-pub returns : goal.returns
-returns c =
-    appended_3 c.args.text.now _ _ _ _ _ _ c.push_words.ensures c.push_number.ensures c.push_counts.ensures
