@@ -1,5 +1,5 @@
 -- Entries of a part that are admitted one after another are read as its lines are.
-use Rattle.std.proofs.Common.{◌≡◌, ℕ, List, [], ◌∷◌, ◌++◌, Option, Some, None, Ok, Err, refl, sym, ap, ◌∙◌, subst, flat_map}
+use Rattle.std.proofs.Common.{◌≡◌, ℕ, List, [], ◌∷◌, ◌++◌, Option, Some, None, Ok, Err, refl, sym, ap, ◌∙◌, append_assoc, subst, flat_map}
 use Rattle.std.specs.List.{AllZip}
 use Rattle.std.proofs.lemmas.List.Concat.{flat_map-cons}
 use Rattle.ll_lines.specs.declared.fault.Cause.{Cause}
@@ -8,7 +8,7 @@ use Rattle.ll_lines.specs.Lines.{Line}
 use Rattle.ll_lines.specs.LineByLine.{read_lines, with_entry, with_line, MeetsFault}
 use Rattle.ll_lines.specs.Readers.{Fails}
 use Rattle.ll_lines.proofs.MemoryLemmas.{unless-map}
-use Rattle.ll_lines.proofs.ReadingLemmas.{read_lines_next, read_lines_fault, read_lines_end}
+use Rattle.ll_lines.proofs.ReadingLemmas.{read_lines_next, read_lines_fault}
 use Rattle.ll_trace.specs.declared.parts.PartRead.{PartRead}
 use Rattle.ll_trace.specs.declared.reader.Entry as declared
 use Rattle.ll_trace.specs.Entries.{Entry, entry_at, trace_file}
@@ -98,51 +98,61 @@ Goes-fault first now lines others fault goes =
     subst (MeetsFault fault.line fault.cause) (sym (goes.same others ∙ ap (λ ls. read_lines trace_file now (ls ++ others)) rest))
     (meets_line now goes.read.rest others fault goes.read.ends)
 
--- what is left of the parts behind some of them
-pub record Comes (lines : List (List Line)) (now : List Entry) (parts : List PartRead) : Type 0 where
+-- what is left of the parts behind some of them: their lines are read on, whatever comes behind them
+pub record Comes (first : List Entry) (lines : List (List Line)) (now : List Entry) (parts : List PartRead) : Type 0 where
   pub left : List (List Line)
   pub read : AllZip IsReadOf left parts
-  pub same : read_lines trace_file [] (flat_map (λ part. part) lines) ≡ read_lines trace_file now (flat_map (λ part. part) left)
+  pub same : (others : List Line)
+      → read_lines trace_file first (flat_map (λ part. part) lines ++ others) ≡ read_lines trace_file now (flat_map (λ part. part) left ++ others)
+
+-- the lines of the first part come first
+lines_of_next : (some : List Line) (left : List (List Line)) (others : List Line)
+    → flat_map (λ part. part) (some ∷ left) ++ others ≡ some ++ (flat_map (λ part. part) left ++ others)
+lines_of_next some left others =
+    ap (λ (lines : List Line). lines ++ others) (flat_map-cons (λ (part : List Line). part) some left) ∙ append_assoc some (flat_map (λ part. part) left) others
 
 -- a part is admitted
-next_part : (now after : List Entry) (lines left : List (List Line)) (part : PartRead) (parts : List PartRead) → AllZip IsReadOf left (part ∷ parts)
-    → read_lines trace_file [] (flat_map (λ part. part) lines) ≡ read_lines trace_file now (flat_map (λ part. part) left)
+next_part : (first now after : List Entry) (lines left : List (List Line)) (part : PartRead) (parts : List PartRead) → AllZip IsReadOf left (part ∷ parts)
+    → ((others : List Line)
+    → read_lines trace_file first (flat_map (λ part. part) lines ++ others) ≡ read_lines trace_file now (flat_map (λ part. part) left ++ others))
     → ((some others : List Line) → IsReadOf some part → read_lines trace_file now (some ++ others) ≡ read_lines trace_file after others)
-    → Comes lines after parts
-next_part now after lines [] part parts read same admitted = absurd read
-next_part now after lines (some ∷ left) part parts read same admitted = record {
+    → Comes first lines after parts
+next_part first now after lines [] part parts read same admitted = absurd read
+next_part first now after lines (some ∷ left) part parts read same admitted = record {
   left = left;
   read = read.1;
-  same = same ∙ (ap (read_lines trace_file now) (flat_map-cons (λ part. part) some left) ∙ admitted some (flat_map (λ part. part) left) read.0);
+  same = λ others. same others ∙ ap (read_lines trace_file now) (lines_of_next some left others)
+      ∙ admitted some (flat_map (λ part. part) left ++ others) read.0;
 }
 
-pub Comes-next : (now after : List Entry) (lines : List (List Line)) (part : PartRead) (parts : List PartRead) → Comes lines now (part ∷ parts)
+pub Comes-next : (first now after : List Entry) (lines : List (List Line)) (part : PartRead) (parts : List PartRead) → Comes first lines now (part ∷ parts)
     → ((some others : List Line) → IsReadOf some part → read_lines trace_file now (some ++ others) ≡ read_lines trace_file after others)
-    → Comes lines after parts
-Comes-next now after lines part parts comes admitted = next_part now after lines comes.left part parts comes.read comes.same admitted
+    → Comes first lines after parts
+Comes-next first now after lines part parts comes admitted = next_part first now after lines comes.left part parts comes.read comes.same admitted
 
 -- a part meets a fault
-stop_part : (now : List Entry) (left : List (List Line)) (part : PartRead) (parts : List PartRead) (number : ℕ) (cause : Cause)
+stop_part : (now : List Entry) (left : List (List Line)) (others : List Line) (part : PartRead) (parts : List PartRead) (number : ℕ) (cause : Cause)
     → AllZip IsReadOf left (part ∷ parts)
     → ((some others : List Line) → IsReadOf some part → MeetsFault number cause (read_lines trace_file now (some ++ others)))
-    → MeetsFault number cause (read_lines trace_file now (flat_map (λ part. part) left))
-stop_part now [] part parts number cause read meets = absurd read
-stop_part now (some ∷ left) part parts number cause read meets =
-    subst (λ ls. MeetsFault number cause (read_lines trace_file now ls)) (sym (flat_map-cons (λ part. part) some left))
-    (meets some (flat_map (λ part. part) left) read.0)
+    → MeetsFault number cause (read_lines trace_file now (flat_map (λ part. part) left ++ others))
+stop_part now [] others part parts number cause read meets = absurd read
+stop_part now (some ∷ left) others part parts number cause read meets =
+    subst (λ lines. MeetsFault number cause (read_lines trace_file now lines)) (sym (lines_of_next some left others))
+    (meets some (flat_map (λ part. part) left ++ others) read.0)
 
-pub Comes-stop : (now : List Entry) (lines : List (List Line)) (part : PartRead) (parts : List PartRead) (number : ℕ) (cause : Cause)
-    → Comes lines now (part ∷ parts)
+pub Comes-stop : (first now : List Entry) (lines : List (List Line)) (others : List Line) (part : PartRead) (parts : List PartRead) (number : ℕ) (cause : Cause)
+    → Comes first lines now (part ∷ parts)
     → ((some others : List Line) → IsReadOf some part → MeetsFault number cause (read_lines trace_file now (some ++ others)))
-    → MeetsFault number cause (read_lines trace_file [] (flat_map (λ part. part) lines))
-Comes-stop now lines part parts number cause comes meets =
-    subst (MeetsFault number cause) (sym comes.same) (stop_part now comes.left part parts number cause comes.read meets)
+    → MeetsFault number cause (read_lines trace_file first (flat_map (λ part. part) lines ++ others))
+Comes-stop first now lines others part parts number cause comes meets =
+    subst (MeetsFault number cause) (sym (comes.same others)) (stop_part now comes.left others part parts number cause comes.read meets)
 
 -- all parts are admitted
 no_part : (left : List (List Line)) → AllZip IsReadOf left [] → left ≡ []
 no_part [] read = refl
 no_part (some ∷ left) read = absurd read
 
-pub Comes-end : (now : List Entry) (lines : List (List Line)) → Comes lines now [] → read_lines trace_file [] (flat_map (λ part. part) lines) ≡ Ok now
-Comes-end now lines comes =
-    comes.same ∙ (ap (λ ls. read_lines trace_file now (flat_map (λ part. part) ls)) (no_part comes.left comes.read) ∙ read_lines_end trace_file now)
+pub Comes-end : (first now : List Entry) (lines : List (List Line)) (others : List Line) → Comes first lines now []
+    → read_lines trace_file first (flat_map (λ part. part) lines ++ others) ≡ read_lines trace_file now others
+Comes-end first now lines others comes =
+    comes.same others ∙ ap (λ left. read_lines trace_file now (flat_map (λ part. part) left ++ others)) (no_part comes.left comes.read)

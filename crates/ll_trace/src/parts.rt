@@ -1,12 +1,13 @@
 //! The reading of a trace file by several threads: each reads parts of the lines as entries, and one
 //! thread admits them in the order of the file.
 
-ghost use Rattle.std.specs.Prelude.{◌≡◌, ◌≤◌, ◌++◌, ◌∷◌, [], ℕ, List, flat_map, OnOk, OnErr, IfOk, IfErr};
+ghost use Rattle.std.specs.Prelude.{◌≡◌, ◌≢◌, ◌≤◌, ◌<◌, ◌++◌, ◌∷◌, [], ℕ, List, flat_map, OnOk, OnErr, IfOk, IfErr, vec_len};
 ghost use Rattle.std.specs.List.{AllZip};
 ghost use Rattle.ll_lines.specs.Lines.{Line, filled_lines};
 ghost use Rattle.ll_lines.specs.LineView.{line_view};
 ghost use Rattle.ll_lines.specs.LineByLine.{read_lines, reading, GivesReading, MeetsFault};
 ghost use Rattle.ll_lines.specs.Readers.{Fails};
+ghost use Rattle.ll_lines.specs.declared.fault.Cause.TheVariants.{Memory};
 ghost use Rattle.ll_trace.specs.Entries.{entry_at, trace_file};
 ghost use Rattle.ll_trace.specs.Kept.{IsKept, entries};
 ghost use Rattle.ll_trace.specs.Parts.{Covers, IsReadOf};
@@ -18,7 +19,11 @@ use ll_lines::lines::{FileLine, FilledLines};
 use ll_lines::{Cause, ReadFault};
 use rayon::prelude::*;
 use std::alloc::{AllocError, Global};
+use std::mem;
 use std::thread::Threads;
+
+/// The number of blocks that a worker reads before their entries are admitted.
+const BLOCKS_EACH: usize = 8;
 
 /// What a part of the lines reads as: the entries of the lines before the first line that has none,
 /// and the fault of that line.
@@ -88,19 +93,25 @@ fn admit_part(reader: &mut Reader, part: PartRead) -> Result<(), ReadFault>
     }
 }
 
-/// Admits the entries of all parts, one part after another.
-fn admit_all(alloc: Global, parts: Vec<PartRead>) -> Result<Reader, ReadFault>
-    ensures gives { (lines : List (List Line)) → AllZip IsReadOf lines parts.items
-        → GivesReading entries result (read_lines trace_file [] (flat_map (λ part. part) lines)) }
-    ensures kept { IfOk result IsKept }
+/// Admits the entries of parts, one part after another, up to the first fault.
+fn admit_all(reader: &mut Reader, parts: Vec<PartRead>) -> Result<(), ReadFault>
+    requires { IsKept reader.old }
+    ensures admitted { OnOk result ((lines : List (List Line)) (others : List Line)
+        → AllZip IsReadOf lines parts.items
+        → read_lines trace_file (entries reader.old) (flat_map (λ part. part) lines ++ others)
+        ≡ read_lines trace_file (entries reader.new) others) }
+    ensures fault { IfErr result (λ fault. (lines : List (List Line)) (others : List Line)
+        → AllZip IsReadOf lines parts.items
+        → MeetsFault fault.line fault.cause
+        (read_lines trace_file (entries reader.old) (flat_map (λ part. part) lines ++ others))) }
+    ensures kept { OnOk result (IsKept reader.new) }
 {
-    let mut reader = Reader::new(alloc);
     for part in parts {
-        if let Err(fault) = admit_part(&mut reader, part) {
+        if let Err(fault) = admit_part(reader, part) {
             return Err(fault);
         }
     }
-    Ok(reader)
+    Ok(())
 }
 
 /// The parts of a file, each read by itself.
@@ -148,7 +159,29 @@ fn read_each<R: Threads + Sync>(
         .collect(rt, alloc)
 }
 
-/// Reads blocks of lines by at most this many threads, which give the memory of each block back.
+/// The fault of a file for which memory is missing before a line is read.
+pub(crate) fn no_memory() -> ReadFault
+    ensures { result.cause ≡ Memory }
+{
+    ReadFault {
+        line: 1,
+        cause: Cause::Memory,
+    }
+}
+
+/// Takes the next blocks, which are read together: so many for each worker.
+fn next_round(blocks: &mut Vec<LineBlock>, workers: usize) -> Result<Vec<LineBlock>, AllocError>
+    requires { 1 ≤ workers }
+    ensures next { IfOk result (λ round. round.items ++ blocks.new.items ≡ blocks.old.items) }
+    ensures some { IfOk result (λ round. vec_len blocks.old ≢ 0 → 0 < vec_len round) }
+{
+    let many = workers.saturating_mul(BLOCKS_EACH).min(blocks.len());
+    let others = blocks.split_off(many)?;
+    Ok(mem::replace(blocks, others))
+}
+
+/// Reads blocks of lines by at most this many threads, which give the memory of each block back. The records of some
+/// blocks are admitted before the next ones are read, so that few entries are kept.
 pub(crate) fn read_blocks_by<R: Threads + Sync>(
     rt: &R,
     alloc: Global,
@@ -160,13 +193,18 @@ pub(crate) fn read_blocks_by<R: Threads + Sync>(
         (read_lines trace_file [] (flat_map (λ block. block) blocks.items)) }
     ensures kept { IfOk result IsKept }
 {
-    match read_each(rt, alloc, blocks, workers) {
-        Ok(parts) => admit_all(alloc, parts),
-        Err(_) => Err(ReadFault {
-            line: 1,
-            cause: Cause::Memory,
-        }),
+    let mut reader = Reader::new(alloc);
+    let mut left = blocks;
+    while !left.is_empty() {
+        let Ok(round) = next_round(&mut left, workers) else {
+            return Err(no_memory());
+        };
+        let Ok(parts) = read_each(rt, alloc, round, workers) else {
+            return Err(no_memory());
+        };
+        admit_all(&mut reader, parts)?;
     }
+    Ok(reader)
 }
 
 /// Reads a file in at most this many parts: its records, or the first fault of its first faulty line.
@@ -179,11 +217,10 @@ pub(crate) fn read_all_by<R: Threads + Sync>(
     ensures gives { GivesReading entries result (reading trace_file bytes.now) }
     ensures kept { IfOk result IsKept }
 {
-    match read_parts(rt, alloc, bytes, most) {
-        Ok(parts) => admit_all(alloc, parts),
-        Err(_) => Err(ReadFault {
-            line: 1,
-            cause: Cause::Memory,
-        }),
-    }
+    let Ok(parts) = read_parts(rt, alloc, bytes, most) else {
+        return Err(no_memory());
+    };
+    let mut reader = Reader::new(alloc);
+    admit_all(&mut reader, parts)?;
+    Ok(reader)
 }

@@ -7,7 +7,7 @@ ghost use Rattle.ll_trace.specs.{Entries.trace_file, RecordFacts.AreRecords, Rec
 ghost use Rattle.ll_trace.specs.BestEffort.{records_at_best_effort};
 ghost use Rattle.ll_trace.specs.Processes.{process_count, parent_of, own_records, started_at};
 
-use crate::parts::{read_all_by, read_blocks_by};
+use crate::parts::{no_memory, read_all_by, read_blocks_by};
 use crate::reader::{Reader, read_all, read_blocks};
 use crate::record::{ProcessId, Record};
 use crate::tables::{Tables, index};
@@ -101,10 +101,7 @@ impl Trace {
             (λ fault. fault.cause ≢ Memory → IsBad trace_file blocks fault) }
     {
         let Ok(blocks) = blocks.into_blocks(alloc) else {
-            return Err(ReadFault {
-                line: 1,
-                cause: Cause::Memory,
-            });
+            return Err(no_memory());
         };
         if workers <= 1 {
             return Trace::of(alloc, read_blocks(alloc, blocks)?);

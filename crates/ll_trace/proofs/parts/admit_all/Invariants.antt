@@ -10,5 +10,6 @@ use Rattle.ll_trace.proofs.parts.admit_all.Given as goal
 abbrev pub invariant-loop-part : goal.invariant-loop-part
 invariant-loop-part l = record {
   kept : IsKept l.reader;
-  comes : (lines : List (List Line)) → AllZip IsReadOf lines l.fn.parts.items → Comes lines (entries l.reader) (into_iter_items l.part-iterator);
+  comes : (lines : List (List Line)) → AllZip IsReadOf lines l.fn.parts.items
+      → Comes (entries l.fn.reader) lines (entries l.reader) (into_iter_items l.part-iterator);
 }
