@@ -88,11 +88,10 @@ fn places_of(alloc: Global, tree: &Tree, records: &[Record]) -> Result<Vec<Place
     ensures { IfOk result
         (λ places. places.items ≡ map (λ r. first_place tree.now r.op) records.now) }
 {
-    let mut places = Vec::with_capacity(alloc, records.len())?;
-    for record in records {
-        places.push(record.op.first_place(tree))?;
-    }
-    Ok(places)
+    records
+        .iter()
+        .map(|record| record.op.first_place(tree))
+        .collect(alloc)
 }
 
 /// The place of each record's first path, looked up by at most this many threads.
