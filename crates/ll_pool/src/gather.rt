@@ -113,12 +113,10 @@ fn first_double(seen: &[u8]) -> Option<u32>
     ensures none { IfNone result ((process : ℕ) → process < length seen.now
         → slice_index seen.now process ≤ 1) }
 {
-    for process in 0..seen.len() as u32 {
-        if seen[process as usize] > 1 {
-            return Some(process);
-        }
+    match seen.iter().position(|&times| times > 1) {
+        Some(process) => Some(process as u32),
+        None => None,
     }
-    None
 }
 
 /// The first process that is in no piece.
@@ -130,12 +128,10 @@ fn first_absent(seen: &[u8]) -> Option<u32>
     ensures none { IfNone result ((process : ℕ) → process < length seen.now
         → 0 < slice_index seen.now process) }
 {
-    for process in 0..seen.len() as u32 {
-        if seen[process as usize] == 0 {
-            return Some(process);
-        }
+    match seen.iter().position(|&times| times == 0) {
+        Some(process) => Some(process as u32),
+        None => None,
     }
-    None
 }
 
 /// Puts answers in their places.

@@ -2,6 +2,7 @@ use Rattle.std.proofs.Common.{◌≡◌, length, drop}
 use Rattle.ll_pool.specs.Gathered.{placed}
 use Rattle.ll_pool.proofs.gather.place.Given as goal
 
+-- the parts that are left, put in their places, give what all parts give
 abbrev pub invariant-loop-part : goal.invariant-loop-part
 invariant-loop-part l = record {
   len : length l.answers.items ≡ length l.initial.answers.items;
